@@ -1,0 +1,10 @@
+use Rattle.std.proofs.Common.{◌≡◌, ◌<◌, ◌^◌, take}
+use Rattle.std.specs.Str.Parse.{digits_value, AllDigits}
+use Rattle.sdcv_base.proofs.decimals.read_decimal.Given as goal
+
+abbrev pub invariant-loop-byte : goal.invariant-loop-byte
+invariant-loop-byte l = record {
+  value : l.value ≡ digits_value 10 (take l.byte-index l.text);
+  digits : AllDigits 10 (take l.byte-index l.text);
+  small : l.value < 10 ^ l.byte-index;
+}

@@ -1,0 +1,80 @@
+use crate::{
+    Cursor, Fail, FileRec, Host, LimitName, MemHost, Name, ReadFault, Seq, push_decimal,
+    read_decimal,
+};
+use std::alloc::{AllocError, Global};
+use std::test;
+
+// Texts and limits, read by hand: 1 to 20 digits, leading zeros allowed, nothing else.
+#[test]
+fn decimals_are_digits_up_to_a_limit(rt: HostRuntime) -> Result<(), test::Fail> {
+    let cases: [(&[u8], u64, Option<u64>); 9] = [
+        (b"0", 0, Some(0)),
+        (b"007", 7, Some(7)),
+        (b"64", 64, Some(64)),
+        (b"65", 64, None),
+        (b"", 9, None),
+        (b"+1", 9, None),
+        (b"1 ", 9, None),
+        (b"18446744073709551615", u64::MAX, Some(u64::MAX)),
+        (b"000000000000000000001", 9, None),
+    ];
+    for (text, limit, want) in cases {
+        assert_eq!(rt; read_decimal(text, limit), want, "limit {limit}");
+    }
+    let mut out = Vec::new(rt.alloc());
+    push_decimal(rt.alloc(), &mut out, 190)?;
+    push_decimal(rt.alloc(), &mut out, 0)?;
+    assert!(rt; out.as_slice() == b"1900".as_slice());
+    Ok(())
+}
+
+fn file(alloc: Global, name: &[u8], bytes: &[u8]) -> Result<FileRec, AllocError> {
+    Ok(FileRec {
+        name: Name::new(alloc, name)?,
+        bytes: Vec::from_slice(alloc, bytes)?,
+    })
+}
+
+// Of two files of one name the first counts; call 3 is planned to fail after two bytes.
+#[test]
+fn a_host_in_memory_does_as_planned(rt: HostRuntime) -> Result<(), test::Fail> {
+    let alloc = rt.alloc();
+    let mut files = Vec::new(alloc);
+    files.push(file(alloc, b"v", b"first")?)?;
+    files.push(file(alloc, b"v", b"second")?)?;
+    let mut fails = Vec::new(alloc);
+    fails.push(Fail { call: 3, taken: 2 })?;
+    let mut host = MemHost::new(alloc, files, fails, 8)?;
+    assert!(rt; host.read_file(alloc, "v", 5)?.as_slice() == b"first".as_slice());
+    assert!(rt; matches!(host.read_file(alloc, "v", 4), Err(ReadFault::TooLong)));
+    assert!(rt; host.print(b"abc").is_err());
+    assert!(rt; host.print(b"def").is_ok());
+    assert!(rt; host.print(b"too long").is_err());
+    assert!(rt; host.save("c", b"kept").is_ok());
+    assert!(rt; host.save("d", b"not").is_err());
+    assert!(rt; matches!(host.read_file(alloc, "w", 9), Err(ReadFault::Failed)));
+    assert!(rt; host.printed() == b"abdef".as_slice());
+    assert_eq!(rt; host.faults(), 4);
+    assert_eq!(rt; host.asked().len(), 3);
+    assert_eq!(rt; host.saved().len(), 1);
+    Ok(())
+}
+
+#[test]
+fn names_lists_and_cursors_give_what_they_hold(rt: HostRuntime) -> Result<(), test::Fail> {
+    let alloc = rt.alloc();
+    let name = Name::new(alloc, b"a\x07z")?;
+    assert!(rt; name.copy(alloc)? == name);
+    let shown = format!(in alloc; "{name} {}", LimitName::Pairs)?;
+    assert_eq!(rt; shown.as_str(), "a?z pairs");
+    let mut numbers = Seq::new(alloc);
+    numbers.push(5_usize)?;
+    assert_eq!(rt; numbers.copy(alloc)?.at(0), 5);
+    let mut cursor = Cursor::new(b"xy");
+    cursor.bump();
+    assert_eq!(rt; cursor.peek(), Some(b'y'));
+    cursor.skip(1);
+    assert_eq!(rt; cursor.peek(), None);
+    Ok(())
+}
