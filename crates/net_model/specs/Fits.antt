@@ -1,0 +1,44 @@
+-- Claims whose places are those of a design.
+use Rattle.std.specs.Prelude.{◌≡◌, ℕ, ◌<◌, ◌≤◌, List, length, All, Some, slice_get}
+use Rattle.net_model.specs.declared.netlist.Design.{Design}
+use Rattle.net_model.specs.declared.netlist.Gate.{Gate}
+use Rattle.net_model.specs.declared.netlist.Reg.{Reg}
+use Rattle.net_model.specs.declared.claims.Claim.{Claim}
+use Rattle.net_model.specs.declared.claims.Kind.{Kind}
+use Rattle.net_model.specs.declared.claims.Kind.TheVariants.{False, Multi}
+use Rattle.net_model.specs.declared.claims.Start.{Start}
+use Rattle.net_model.specs.declared.claims.Start.TheVariants.{Reg as RegStart, Input as InputStart}
+use Rattle.net_model.specs.declared.claims.End.{End}
+use Rattle.net_model.specs.declared.claims.End.TheVariants.{Reg as RegEnd, Output as OutputEnd}
+use Rattle.net_model.specs.declared.claims.PinRef.{PinRef}
+use Rattle.net_model.specs.declared.claims.PinRef.TheVariants.{Net, GateIn, RegIn, OutPort}
+
+-- the start is a register or an input of the design
+abbrev pub IsStartIn : Design → Start → Type 0
+IsStartIn d (RegStart r) = r < length d.regs
+IsStartIn d (InputStart i) = i < length d.inputs
+
+-- the end is a register or an output of the design
+abbrev pub IsEndIn : Design → End → Type 0
+IsEndIn d (RegEnd r) = r < length d.regs
+IsEndIn d (OutputEnd o) = o < length d.outputs
+
+-- the pin is one of the design; a register's own bit is no pin
+abbrev pub IsPinIn : Design → PinRef → Type 0
+IsPinIn d (Net n) = n < d.nets
+IsPinIn d (GateIn k i) = (g : Gate) × (slice_get d.gates k ≡ Some g) × (i < length g.ins)
+IsPinIn d (RegIn r i) = (reg : Reg) × (slice_get d.regs r ≡ Some reg) × (i < length reg.ins)
+IsPinIn d (OutPort o) = o < length d.outputs
+
+-- a multiplier is from 1 to 16
+abbrev pub IsKindFit : Kind → Type 0
+IsKindFit False = Unit {0}
+IsKindFit (Multi k) = (1 ≤ k) × (k ≤ 16)
+
+-- all places of the claim are in range, and it has at most four through sets
+pub record Fits (d : Design) (claim : Claim) : Type 0 where
+  pub kind : IsKindFit claim.kind
+  pub start : IsStartIn d claim.start
+  pub end_ : IsEndIn d claim.end
+  pub pins : All (All (IsPinIn d)) claim.through
+  pub few : length claim.through ≤ 4

@@ -1,0 +1,81 @@
+-- Toggles, bad cycles, and claims that hold.
+use Rattle.std.specs.Prelude.{◌≡◌, ◌≢◌, ℕ, ◌<◌, ◌≤◌, ◌+◌, ◌-◌, Bool, true, false, List, [], ◌∷◌, Some, slice_get, ◌⊎◌}
+use Rattle.net_model.specs.Cycles.{bit_at, capture, IsRun}
+use Rattle.net_model.specs.Layers.{IsLateCapture}
+use Rattle.net_model.specs.Ternary.{IsTernaryCapture}
+use Rattle.net_model.specs.declared.netlist.Design.{Design}
+use Rattle.net_model.specs.declared.cycles.Cycle.{Cycle}
+use Rattle.net_model.specs.declared.claims.Claim.{Claim}
+use Rattle.net_model.specs.declared.claims.PinRef.{PinRef}
+use Rattle.net_model.specs.declared.terns.Tern.TheVariants.{Unknown}
+use Rattle.net_model.specs.declared.claims.Kind.{Kind}
+use Rattle.net_model.specs.declared.claims.Kind.TheVariants.{False, Multi}
+use Rattle.net_model.specs.declared.claims.Start.{Start}
+use Rattle.net_model.specs.declared.claims.Start.TheVariants.{Reg as RegStart, Input as InputStart}
+
+-- the bit of a start in a cycle
+abbrev pub start_bit : Start → Cycle → Bool
+start_bit (RegStart r) c = bit_at c.bits r
+start_bit (InputStart i) c = bit_at c.ins i
+
+-- the start toggles at t: cycle t - 1 is live, and the start's bit in it, the stale bit, differs from its bit in t;
+-- cycles are live from cycle `live` on
+pub record Toggles (live : ℕ) (start : Start) (run : List Cycle) (t : ℕ) (stale : Bool) : Type 0 where
+  pub before : Cycle
+  pub now : Cycle
+  pub before_at : slice_get run (t - 1) ≡ Some before
+  pub now_at : slice_get run t ≡ Some now
+  pub is_live : live + 1 ≤ t
+  pub stale_is : start_bit start before ≡ stale
+  pub differs : start_bit start now ≢ stale
+
+-- how many captures from the toggle on a claim judges
+abbrev pub judged_count : Kind → ℕ
+judged_count False = 1
+judged_count (Multi k) = k - 1
+
+-- the late capture differs from the capture
+abbrev pub DiffersLate : Design → Claim → Cycle → Bool → Type 0
+DiffersLate d claim c stale = (late : Bool) × IsLateCapture d claim c stale late × (late ≢ capture d claim.end c)
+
+-- the capture differs from the capture in the cycle before
+abbrev pub Changes : Design → Claim → Cycle → Cycle → Type 0
+Changes d claim before c = capture d claim.end c ≢ capture d claim.end before
+
+-- the ternary capture is unknown
+abbrev pub MayGlitch : Design → Claim → Cycle → Type 0
+MayGlitch d claim c = IsTernaryCapture d claim c Unknown
+
+-- bad for a false path: the late capture differs; for a multicycle path: the capture changes, and where the claim has
+-- through sets the late capture differs too (Higuchi's condition for pairs, over the judged captures)
+abbrev pub IsBadPlain : Kind → List (List PinRef) → Design → Claim → Bool → Cycle → Cycle → Type 0
+IsBadPlain False sets d claim stale before c = DiffersLate d claim c stale
+IsBadPlain (Multi k) [] d claim stale before c = Changes d claim before c
+IsBadPlain (Multi k) (set ∷ sets) d claim stale before c = DiffersLate d claim c stale × Changes d claim before c
+
+-- bad where hazards count: the ternary capture is unknown; for a multicycle path without through sets a change is bad too
+abbrev pub IsBadHazard : Kind → List (List PinRef) → Design → Claim → Cycle → Cycle → Type 0
+IsBadHazard False sets d claim before c = MayGlitch d claim c
+IsBadHazard (Multi k) [] d claim before c = MayGlitch d claim c ⊎ Changes d claim before c
+IsBadHazard (Multi k) (set ∷ sets) d claim before c = MayGlitch d claim c
+
+-- a cycle, which comes after another, is bad for the claim, given the stale bit
+abbrev pub IsBadFor : Bool → Design → Claim → Bool → Cycle → Cycle → Type 0
+IsBadFor false d claim stale before c = IsBadPlain claim.kind claim.through d claim stale before c
+IsBadFor true d claim stale before c = IsBadHazard claim.kind claim.through d claim before c
+
+-- the claim is violated at t: its start toggles at t, and cycle t + r of the run is bad for some judged r
+pub record IsViolatedAt (live : ℕ) (d : Design) (claim : Claim) (run : List Cycle) (t : ℕ) : Type 0 where
+  pub stale : Bool
+  pub toggles : Toggles live claim.start run t stale
+  pub r : ℕ
+  pub judged : r < judged_count claim.kind
+  pub before : Cycle
+  pub c : Cycle
+  pub before_at : slice_get run (t + r - 1) ≡ Some before
+  pub c_at : slice_get run (t + r) ≡ Some c
+  pub bad : IsBadFor claim.hazard d claim stale before c
+
+-- the claim holds: no run from reset violates it at any t
+abbrev pub Holds : Design → Claim → Type 0
+Holds d claim = (run : List Cycle) (t : ℕ) → IsRun d run → ¬ IsViolatedAt d.reset_len d claim run t

@@ -1,0 +1,16 @@
+pub mod Form
+pub mod FormLaws
+pub mod Code
+pub mod Layer
+pub mod Args
+pub mod Netlist
+pub mod Rows
+pub mod Cycles
+pub mod Pins
+pub mod Layers
+pub mod Ternary
+pub mod Paths
+pub mod Judge
+pub mod Queries
+pub mod Stimuli
+pub mod Fits

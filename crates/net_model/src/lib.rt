@@ -1,0 +1,26 @@
+//! The model of a synchronous netlist: designs, functions, cycles, runs and timing exceptions, and what they mean.
+//!
+//! It stands on no other part of the tool but lists. What the tool proves is said in the words of `specs/`: begin with
+//! `Netlist` (a sound design), `Cycles` (settled cycles, captures and runs), `Layers` (a start that comes late) and
+//! `Judge` (a claim that holds). The calls here copy and evaluate functions; simulation is left to the crate above.
+#![tactic(auto)]
+
+mod arguments;
+mod claims;
+mod cycles;
+mod functions;
+mod invariants;
+mod netlist;
+mod queries;
+mod terns;
+mod values;
+
+pub use arguments::Args;
+pub use claims::{Claim, End, Kind, PinRef, Start};
+pub use cycles::{Cycle, Stimulus};
+pub use functions::{Func, Node};
+pub use invariants::{InvClause, StateLit};
+pub use netlist::{Design, Fixed, Gate, Reg, RegOut};
+pub use queries::Phase;
+pub use terns::Tern;
+pub use values::Value;
