@@ -1,0 +1,12 @@
+pub mod Order
+pub mod Settling
+pub mod Sources
+pub mod Unique
+pub mod Captures
+pub mod Layered
+pub mod LayerRows
+pub mod LayersOnce
+pub mod LateOnce
+pub mod LateReads
+pub mod Existence
+pub mod OneRun

@@ -1,6 +1,6 @@
 -- The run that a stimulus stands for.
 use Rattle.std.specs.Prelude.{◌≡◌, ℕ, ◌<◌, Bool, List, length, map, Some, slice_get, nat_lt}
-use Rattle.net_model.specs.Cycles.{AreFixedKept, AreResets}
+use Rattle.net_model.specs.Cycles.{AreFixedKept, AreResets, IsRun}
 use Rattle.net_model.specs.declared.netlist.Design.{Design}
 use Rattle.net_model.specs.declared.cycles.Cycle.{Cycle}
 use Rattle.net_model.specs.declared.cycles.Stimulus.{Stimulus}
@@ -21,3 +21,10 @@ pub record IsLawful (d : Design) (s : Stimulus) : Type 0 where
 pub record StandsFor (s : Stimulus) (run : List Cycle) : Type 0 where
   pub state : (c : Cycle) → slice_get run 0 ≡ Some c → c.bits ≡ s.state
   pub inputs : map (λ (c : Cycle). c.ins) run ≡ s.inputs
+
+-- there is exactly one run from reset that the stimulus stands for
+pub record HasOneRun (d : Design) (s : Stimulus) : Type 0 where
+  pub run : List Cycle
+  pub from_reset : IsRun d run
+  pub stands : StandsFor s run
+  pub only : (other : List Cycle) → IsRun d other → StandsFor s other → other ≡ run

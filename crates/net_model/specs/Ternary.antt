@@ -1,5 +1,5 @@
 -- Values that may be unknown, and the layers of a cycle in which the start is unknown (Eichelberger).
-use Rattle.std.specs.Prelude.{◌≡◌, ℕ, zero, suc, Bool, true, false, if◌then◌else◌, nat_eq, List, map, length, Option, Some, None, slice_get, slice_index}
+use Rattle.std.specs.Prelude.{◌≡◌, ◌<◌, ◌↔◌, ℕ, zero, suc, Bool, true, false, if◌then◌else◌, nat_eq, List, map, length, Option, Some, None, slice_get, slice_index}
 use Rattle.net_model.specs.Form.{Form, value}
 use Rattle.net_model.specs.Cycles.{reg_capture, bit_at}
 use Rattle.net_model.specs.Layers.{AreLayers, late_reg_pins, pin_reads}
@@ -18,6 +18,16 @@ use Rattle.net_model.specs.declared.claims.End.TheVariants.{Reg as RegEnd, Outpu
 abbrev pub tern_of : Bool → Tern
 tern_of false = Zero
 tern_of true = One
+
+-- a bit that the value may be
+abbrev pub Completes : Tern → Bool → Type 0
+Completes Zero b = b ≡ false
+Completes One b = b ≡ true
+Completes Unknown b = Unit {0}
+
+-- a value is at most as known as another: each bit that the other may be, it may be
+abbrev pub IsLessKnown : Tern → Tern → Type 0
+IsLessKnown less more = (b : Bool) → Completes more b → Completes less b
 
 -- the value of both, or unknown where they differ
 abbrev pub join : Tern → Tern → Tern
@@ -43,6 +53,11 @@ common (suc k) cell args bits = split (args k) (λ bit. common k cell args (with
 -- the value of a cell, which has at most seven pins: the common value of all completions of its unknown pins, else unknown
 unfoldable pub cell_value : ((ℕ → Bool) → Bool) → (ℕ → Tern) → Tern
 cell_value cell args = common 7 cell args (λ _. false)
+
+-- the law of that value: it is a bit exactly where each completion gives this bit
+abbrev pub IsCommonValue : ((ℕ → Bool) → Bool) → (ℕ → Tern) → Tern → Type 0
+IsCommonValue cell args result =
+    (b : Bool) → (result ≡ tern_of b) ↔ ((bits : ℕ → Bool) → ((i : ℕ) → i < 7 → Completes (args i) (bits i)) → cell bits ≡ b)
 
 -- the value of a gate's function
 abbrev pub tern_value : Form → (ℕ → Tern) → Tern
