@@ -1,0 +1,42 @@
+//! Kinds of bytes, and the bytes at the front of a text.
+ghost use Rattle.std.specs.Prelude.{◌≡◌, ◌≤◌, length, take, drop, slice_index};
+ghost use Rattle.std.specs.List.{prefix_len};
+ghost use Rattle.texts.specs.Bytes as spec;
+
+/// A letter or `_`.
+pub fn is_letter(byte: u8) -> bool
+    ensures { result ≡ spec.is_letter byte }
+{
+    byte.is_ascii_alphabetic() || byte == b'_'
+}
+
+/// A letter, a digit or `_`.
+pub fn is_word(byte: u8) -> bool
+    ensures { result ≡ spec.is_word byte }
+{
+    is_letter(byte) || byte.is_ascii_digit()
+}
+
+/// How many letters, digits and `_` a text begins with.
+pub fn word_len(text: &[u8]) -> usize
+    ensures value { result ≡ prefix_len spec.is_word text.now }
+    ensures within { result ≤ length text.now }
+{
+    text.iter().take_while(|byte| is_word(**byte)).count()
+}
+
+/// What follows the first `count` bytes.
+pub fn after(text: &[u8], count: usize) -> &[u8]
+    requires { count ≤ length text.now }
+    ensures { result.now ≡ drop count text.now }
+{
+    &text[count..]
+}
+
+/// The first `count` bytes.
+pub fn upto(text: &[u8], count: usize) -> &[u8]
+    requires { count ≤ length text.now }
+    ensures { result.now ≡ take count text.now }
+{
+    &text[..count]
+}

@@ -1,0 +1,4 @@
+pub mod Gives
+pub mod Modules
+pub mod Rules
+pub mod Sources

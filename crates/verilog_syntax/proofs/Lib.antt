@@ -1,0 +1,3 @@
+pub mod GivesLemmas
+pub mod ListLemmas
+pub mod ModuleLemmas

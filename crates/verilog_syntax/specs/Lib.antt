@@ -1,0 +1,5 @@
+pub mod Gives
+pub mod Items
+pub mod Lists
+pub mod Modules
+pub mod Names

@@ -1,0 +1,64 @@
+//! What a text declares, in the names that stand in it.
+ghost use Rattle.std.specs.Prelude.{◌≡◌};
+
+use sdcv_base::{Name, Seq};
+use texts::Named;
+
+/// The direction of a port.
+#[derive(Clone, Copy, Debug, PartialEq, Eq)]
+pub enum Dir {
+    Input,
+    Output,
+}
+
+#[derive(Debug, Drop)]
+pub struct PortDecl {
+    pub dir: Dir,
+    pub name: Name,
+}
+
+/// A connection of a pin by its name.
+#[derive(Debug, Drop)]
+pub struct ConnDecl {
+    pub pin: Name,
+    pub net: Name,
+}
+
+/// An instance of the cell or module that `cell` names.
+#[derive(Debug, Drop)]
+pub struct InstDecl {
+    pub cell: Name,
+    pub name: Name,
+    pub conns: Seq<ConnDecl>,
+}
+
+#[derive(Debug, Drop)]
+pub enum ItemDecl {
+    Wires(Seq<Name>),
+    Inst(InstDecl),
+}
+
+/// A module, its ports and items in the order of the text.
+#[derive(Debug, Drop)]
+pub struct ModuleDecl {
+    pub name: Name,
+    pub ports: Seq<PortDecl>,
+    pub items: Seq<ItemDecl>,
+}
+
+impl Named for PortDecl {
+    ghost named = { λ p. p.name };
+
+    fn name(&self) -> &Name {
+        &self.name
+    }
+}
+
+/// A connection goes by its pin.
+impl Named for ConnDecl {
+    ghost named = { λ c. c.pin };
+
+    fn name(&self) -> &Name {
+        &self.pin
+    }
+}
