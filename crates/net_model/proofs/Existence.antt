@@ -1,6 +1,6 @@
 -- Each choice of register bits and input bits has a settled cycle.
-use Rattle.std.proofs.Common.{◌≡◌, ℕ, zero, suc, ◌+◌, ◌<◌, ◌≤◌, Bool, false, List, [], ◌∷◌, ◌++◌, length, set, replicate, Some, refl, ap, subst, sym, ◌∙◌, arith, add-one}
-use Rattle.std.specs.Prelude.{All, Contains, slice_get, flat_map, take}
+use Rattle.std.proofs.Common.{◌≡◌, ℕ, zero, suc, ◌+◌, ◌<◌, ◌≤◌, Bool, false, List, [], ◌∷◌, length, set, replicate, Some, refl, subst, ◌∙◌, arith, add-one}
+use Rattle.std.specs.Prelude.{Contains, slice_get, flat_map, take}
 use Rattle.std.proofs.lemmas.List.{length-replicate}
 use Rattle.std.proofs.lemmas.List.Elements.{Contains-append_left}
 use Rattle.std.proofs.lemmas.Option.{slice_get_within, slice_get-get_or}
@@ -10,13 +10,10 @@ use Rattle.net_model.specs.Netlist.{IsSound, reg_nets}
 use Rattle.net_model.specs.Rows.{pins_of}
 use Rattle.net_model.specs.Cycles.{bit_at, shown, IsSettled}
 use Rattle.net_model.proofs.Settling.{GatesDone, gates_more}
-use Rattle.net_model.proofs.Sources.{InputsDone, inputs_more, RegDone, reg_more, RegsShown, regs_more, ShowsBit, before_reg}
+use Rattle.net_model.proofs.Sources.{InputsDone, inputs_more, RegDone, reg_more, RegsShown, regs_more, ShowsBit}
 use Rattle.net_model.proofs.Unique.{settled_made}
 use Rattle.net_model.specs.declared.netlist.Design.{Design}
-use Rattle.net_model.specs.declared.netlist.Gate.{Gate}
 use Rattle.net_model.specs.declared.netlist.Reg.{Reg}
-use Rattle.net_model.specs.declared.netlist.RegOut.{RegOut}
-use Rattle.net_model.specs.declared.cycles.Cycle.{Cycle}
 
 -- a place below the length has an item
 pub item_at : {X : Type 0} (xs : List X) (k : ℕ) → k < length xs → (x : X) × (slice_get xs k ≡ Some x)

@@ -10,3 +10,4 @@ pub mod LateOnce
 pub mod LateReads
 pub mod Existence
 pub mod OneRun
+pub mod Stretches

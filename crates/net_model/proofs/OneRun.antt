@@ -1,12 +1,12 @@
 -- A lawful stimulus stands for exactly one run.
-use Rattle.std.proofs.Common.{◌≡◌, ℕ, zero, suc, ◌+◌, ◌<◌, ◌≤◌, Bool, false, List, [], ◌∷◌, ◌++◌, map, length, get_or, Option, Some, None, refl, ap, subst, sym, ◌∙◌, arith}
+use Rattle.std.proofs.Common.{◌≡◌, ℕ, zero, suc, ◌+◌, ◌<◌, Bool, false, List, [], ◌∷◌, map, length, get_or, Some, refl, ap, subst, sym, ◌∙◌, arith}
 use Rattle.std.specs.Prelude.{All, slice_get, option_map}
 use Rattle.std.proofs.lemmas.List.{same_lists, get_or_default, length-map}
 use Rattle.std.proofs.lemmas.List.Elements.{All-nil, All-cons, All-head, All-tail}
-use Rattle.std.proofs.lemmas.Option.{slice_get-map, slice_get-get_or, slice_get_within}
+use Rattle.std.proofs.lemmas.Option.{slice_get-map, slice_get-get_or}
 use Rattle.net_model.specs.Netlist.{IsSound}
-use Rattle.net_model.specs.Cycles.{bit_at, capture, IsSettled, IsNext, IsLinked, IsRun, HasFixed}
-use Rattle.net_model.specs.Stimuli.{AreInputs, IsLawful, StandsFor, HasOneRun}
+use Rattle.net_model.specs.Cycles.{bit_at, capture, IsSettled, IsNext, IsRun}
+use Rattle.net_model.specs.Stimuli.{IsLawful, HasOneRun}
 use Rattle.net_model.proofs.Settling.{All-at}
 use Rattle.net_model.proofs.Unique.{settled_same}
 use Rattle.net_model.proofs.Existence.{settled_exists}

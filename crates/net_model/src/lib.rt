@@ -14,6 +14,8 @@ mod laws;
 mod netlist;
 mod queries;
 mod terns;
+#[cfg(test)]
+mod tests;
 mod values;
 
 pub use arguments::Args;
