@@ -8,7 +8,7 @@ use Rattle.net_model.specs.Fits.{IsEndIn}
 use Rattle.net_model.specs.Cycles.{bit_at}
 use Rattle.net_model.specs.Layers.{pin_reads, late_reg_pins, late_reg_capture, capture_over, IsLateCapture}
 use Rattle.net_model.proofs.Settling.{All-at}
-use Rattle.net_model.proofs.Captures.{capture_agrees}
+use Rattle.net_model.proofs.RegCaptures.{capture_agrees}
 use Rattle.net_model.proofs.Layered.{pin_kept}
 use Rattle.net_model.proofs.LayersOnce.{AgreeBelow, layers_once}
 use Rattle.net_model.specs.declared.netlist.Design.{Design}

@@ -11,7 +11,8 @@ use Rattle.net_model.specs.Pins.{is_in, start_outs, start_nets, outs_of_reg}
 use Rattle.net_model.specs.Layers.{row_at, net_at, held_set, layer_pins, AreLayerGates, AreLayersTo}
 use Rattle.net_model.proofs.Settling.{All-at, ReadsPlaces}
 use Rattle.net_model.proofs.Sources.{flat_has, out_contains}
-use Rattle.net_model.proofs.Layered.{pin_kept, first_value}
+use Rattle.net_model.proofs.Layered.{pin_kept}
+use Rattle.net_model.specs.Layers.{first_value}
 use Rattle.net_model.specs.declared.netlist.Design.{Design}
 use Rattle.net_model.specs.declared.netlist.Reg.{Reg}
 use Rattle.net_model.specs.declared.netlist.RegOut.{RegOut}

@@ -2,7 +2,7 @@ pub mod Order
 pub mod Settling
 pub mod Sources
 pub mod Unique
-pub mod Captures
+pub mod RegCaptures
 pub mod Layered
 pub mod LayerRows
 pub mod LayersOnce
@@ -11,3 +11,4 @@ pub mod LateReads
 pub mod Existence
 pub mod OneRun
 pub mod Stretches
+pub mod PinTests

@@ -3,7 +3,7 @@
 -- A row of net values for each layer, of bits or of any other kind of value. In the first one the start shows a late
 -- value. Layer l + 1 takes the pins of through set l + 1 from layer l, so that what is late in the last layer came
 -- through a pin of each set in order.
-use Rattle.std.specs.Prelude.{◌≡◌, ℕ, zero, suc, ◌<◌, ◌≤◌, ◌+◌, Bool, true, false, if◌then◌else◌, List, [], length, All, Contains, Option, Some, None, slice_get, slice_index, slice_index_or, nat_lt}
+use Rattle.std.specs.Prelude.{◌≡◌, ℕ, zero, suc, ◌<◌, ◌≤◌, ◌+◌, ◌-◌, Bool, true, false, if◌then◌else◌, List, [], length, All, Contains, Option, Some, None, slice_get, slice_index, slice_index_or, nat_lt}
 use Rattle.net_model.specs.Form.{value}
 use Rattle.net_model.specs.Netlist.{source_nets}
 use Rattle.net_model.specs.Rows.{Applied}
@@ -33,6 +33,12 @@ net_at blank rows l net = slice_index_or (row_at rows l) net blank
 abbrev pub held_set : List (List PinRef) → ℕ → List PinRef
 held_set sets zero = []
 held_set sets (suc l) = slice_index_or sets l []
+
+-- the value that a net has in a layer before gates are settled: in the layer's set that of the layer before, and
+-- else that of the cycle
+abbrev pub first_value : {V : Type 0} → V → (Bool → V) → List (List PinRef) → List (List V) → ℕ → List Bool → ℕ → V
+first_value blank bit_value sets rows l base n =
+    if is_in (Net n) (held_set sets l) then net_at blank rows (l - 1) n else bit_value (bit_at base n)
 
 -- what an input pin of a net reads in a layer: a pin in the layer's set what it reads in the layer before, and
 -- any other pin its net's value

@@ -19,6 +19,10 @@ gate_nets gates = map (λ (g : Gate). g.out) gates
 abbrev pub source_nets : Design → List ℕ
 source_nets d = d.inputs ++ flat_map reg_nets d.regs
 
+-- the nets that inputs and the registers before register r drive
+abbrev pub before_reg : Design → ℕ → List ℕ
+before_reg d r = d.inputs ++ flat_map reg_nets (take r d.regs)
+
 -- the nets that are driven, one entry for each driver
 abbrev pub driven_nets : Design → List ℕ
 driven_nets d = source_nets d ++ gate_nets d.gates

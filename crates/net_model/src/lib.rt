@@ -6,25 +6,34 @@
 #![tactic(auto)]
 
 mod arguments;
+mod captures;
 mod claims;
 mod cycles;
 mod functions;
 mod invariants;
+mod late_starts;
 mod laws;
+mod layers;
 mod netlist;
+mod pins;
 mod queries;
+mod rows;
 mod terns;
 #[cfg(test)]
 mod tests;
 mod values;
 
 pub use arguments::Args;
+pub use captures::capture_of;
 pub use claims::{Claim, End, Kind, PinRef, Start};
 pub use cycles::{Cycle, Stimulus};
 pub use functions::{Func, Node};
 pub use invariants::{InvClause, StateLit};
+pub use late_starts::make_layers;
 pub use laws::one_run;
+pub use layers::{late_reg_args, layer_pin};
 pub use netlist::{Design, Fixed, Gate, Reg, RegOut};
 pub use queries::Phase;
+pub use rows::{pin_args, settle_gates};
 pub use terns::Tern;
 pub use values::Value;

@@ -1,0 +1,141 @@
+//! The layers of a cycle in which the start comes late, one after another.
+ghost use Rattle.std.specs.Prelude.{◌≡◌, ◌≢◌, ◌<◌, ◌≤◌, ℕ, false, length, map, All, Contains, slice_index};
+ghost use Rattle.net_model.specs.Netlist.{IsSound};
+ghost use Rattle.net_model.specs.Fits.{IsStartIn};
+ghost use Rattle.net_model.specs.Pins.{start_outs, start_nets, late_value};
+ghost use Rattle.net_model.specs.Layers.{row_at, net_at, first_value, AreLayers};
+ghost use Rattle.net_model.specs.declared.netlist.RegOut.{RegOut as OutRecord};
+
+use crate::claims::{Claim, PinRef, Start};
+use crate::layers::settle_layer;
+use crate::netlist::Design;
+use crate::pins::is_held;
+use crate::values::Value;
+use sdcv_base::Seq;
+
+/// The value that a net has in a layer before gates are settled: in the set of the layer that of the layer before, else
+/// that of the cycle.
+fn base_value<V: Value>(
+    sets: &Seq<Seq<PinRef>>,
+    layer: usize,
+    base: &Seq<bool>,
+    rows: &Seq<Seq<V>>,
+    net: usize,
+) -> V
+    requires sets { layer ≤ length sets.now }
+    requires rows { layer < length rows.now }
+    requires low { net < length base.now }
+    requires lens { (m : ℕ) → m ≤ layer → length (row_at rows.now m) ≡ length base.now }
+    ensures { result ≡ first_value (V.bit_value false) V.bit_value sets.now rows.now layer base.now net }
+{
+    if is_held(sets, layer, PinRef::Net(net)) {
+        rows.item(layer - 1).at(net)
+    } else {
+        V::of_bit(base.at(net))
+    }
+}
+
+/// Writes these values.
+fn put_base_row<V: Value>(
+    sets: &Seq<Seq<PinRef>>,
+    layer: usize,
+    base: &Seq<bool>,
+    rows: &mut Seq<Seq<V>>,
+)
+    requires sets { layer ≤ length sets.now }
+    requires rows { layer < length rows.old }
+    requires lens { (m : ℕ) → m ≤ layer → length (row_at rows.old m) ≡ length base.now }
+    ensures count { length rows.new ≡ length rows.old }
+    ensures below { (m : ℕ) → m ≢ layer → row_at rows.new m ≡ row_at rows.old m }
+    ensures len { length (row_at rows.new layer) ≡ length base.now }
+    ensures row { (n : ℕ) → n < length base.now → net_at (V.bit_value false) rows.new layer n ≡ first_value (V.bit_value false) V.bit_value sets.now rows.old layer base.now n }
+{
+    for n in 0..base.len() {
+        let value = base_value(sets, layer, base, rows, n);
+        rows.put_in(layer, n, value);
+    }
+}
+
+/// Writes a late value, or its complement, to the output nets of a register in the first layer.
+fn put_late_reg<V: Value>(design: &Design, r: usize, value: V, inverted: V, rows: &mut Seq<Seq<V>>)
+    requires sound { IsSound design.now }
+    requires in_range { r < length design.now.regs }
+    requires rows { 0 < length rows.old }
+    requires len { length (row_at rows.old 0) ≡ design.now.nets }
+    ensures count { length rows.new ≡ length rows.old }
+    ensures below { (m : ℕ) → m ≢ 0 → row_at rows.new m ≡ row_at rows.old m }
+    ensures len { length (row_at rows.new 0) ≡ design.now.nets }
+    ensures late { All (λ (o : OutRecord). net_at (V.bit_value false) rows.new 0 o.net ≡ late_value value inverted o) (start_outs design.now (Start.Reg r)) }
+    ensures others { (n : ℕ) → ¬ Contains (start_nets design.now (Start.Reg r)) n → net_at (V.bit_value false) rows.new 0 n ≡ net_at (V.bit_value false) rows.old 0 n }
+{
+    let reg = design.regs.item(r);
+    let outs = &reg.outs;
+    for o in 0..outs.len() {
+        let out = outs.at(o);
+        let shown = if out.inverted { inverted } else { value };
+        rows.put_in(0, out.net, shown);
+    }
+}
+
+/// Writes a late value, or its complement, to the nets of a start in the first layer.
+fn put_late<V: Value>(design: &Design, start: &Start, value: V, inverted: V, rows: &mut Seq<Seq<V>>)
+    requires sound { IsSound design.now }
+    requires in_range { IsStartIn design.now start.now }
+    requires rows { 0 < length rows.old }
+    requires len { length (row_at rows.old 0) ≡ design.now.nets }
+    ensures count { length rows.new ≡ length rows.old }
+    ensures below { (m : ℕ) → m ≢ 0 → row_at rows.new m ≡ row_at rows.old m }
+    ensures len { length (row_at rows.new 0) ≡ design.now.nets }
+    ensures late { All (λ (o : OutRecord). net_at (V.bit_value false) rows.new 0 o.net ≡ late_value value inverted o) (start_outs design.now start.now) }
+    ensures others { (n : ℕ) → ¬ Contains (start_nets design.now start.now) n → net_at (V.bit_value false) rows.new 0 n ≡ net_at (V.bit_value false) rows.old 0 n }
+{
+    match start {
+        Start::Reg(r) => put_late_reg(design, *r, value, inverted, rows),
+        Start::Input(i) => put_late_input(design, *i, value, rows),
+    }
+}
+
+/// Writes a late value to the net of an input in the first layer.
+fn put_late_input<V: Value>(design: &Design, i: usize, value: V, rows: &mut Seq<Seq<V>>)
+    requires sound { IsSound design.now }
+    requires in_range { i < length design.now.inputs }
+    requires rows { 0 < length rows.old }
+    requires len { length (row_at rows.old 0) ≡ design.now.nets }
+    ensures count { length rows.new ≡ length rows.old }
+    ensures below { (m : ℕ) → m ≢ 0 → row_at rows.new m ≡ row_at rows.old m }
+    ensures len { length (row_at rows.new 0) ≡ design.now.nets }
+    ensures late { net_at (V.bit_value false) rows.new 0 (slice_index design.now.inputs i) ≡ value }
+    ensures others { (n : ℕ) → n ≢ slice_index design.now.inputs i → net_at (V.bit_value false) rows.new 0 n ≡ net_at (V.bit_value false) rows.old 0 n }
+{
+    let net = design.inputs.at(i);
+    rows.put_in(0, net, value);
+}
+
+/// Makes the layers of a cycle, given its net values, in which the nets of the claim's start show a late value, and the
+/// inverted ones the other value. There is one layer more than the claim has through sets; further rows stay.
+pub fn make_layers<V: Value>(
+    design: &Design,
+    claim: &Claim,
+    value: V,
+    inverted: V,
+    base: &Seq<bool>,
+    rows: &mut Seq<Seq<V>>,
+)
+    requires sound { IsSound design.now }
+    requires start { IsStartIn design.now claim.now.start }
+    requires base { length base.now ≡ design.now.nets }
+    requires rows { length claim.now.through < length rows.old }
+    requires lens { (m : ℕ) → m ≤ length claim.now.through → length (row_at rows.old m) ≡ design.now.nets }
+    ensures count { length rows.new ≡ length rows.old }
+    ensures above { (m : ℕ) → length claim.now.through < m → row_at rows.new m ≡ row_at rows.old m }
+    ensures layers { AreLayers V.applied (V.bit_value false) design.now claim.now.start claim.now.through (late_value value inverted) (map V.bit_value base.now) rows.new }
+{
+    let sets = &claim.through;
+    put_base_row(sets, 0, base, rows);
+    put_late(design, &claim.start, value, inverted, rows);
+    settle_layer(design, sets, 0, rows);
+    for l in 0..sets.len() {
+        put_base_row(sets, l + 1, base, rows);
+        settle_layer(design, sets, l + 1, rows);
+    }
+}
