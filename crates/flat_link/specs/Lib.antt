@@ -1,0 +1,5 @@
+pub mod Each
+pub mod Flats
+pub mod Numbering
+pub mod Parts
+pub mod Ports
