@@ -9,6 +9,8 @@ mod scans;
 mod searches;
 mod spots;
 mod stretches;
+#[cfg(test)]
+mod tests;
 
 pub use scans::{Scan, decide};
 pub use spots::free_bits;
