@@ -1,0 +1,4 @@
+pub mod Advancing
+pub mod Meeting
+pub mod Reaching
+pub mod Levelling
