@@ -1,6 +1,6 @@
 -- Lists of names, one name on.
-use Rattle.std.proofs.Common.{◌≡◌, ℕ, ◌≤◌, Bool, true, false, not, ◌&&◌, ◌||◌, List, [], ◌∷◌, ◌++◌, length, Some, slice_get, unwrap_or, position, refl, sym, ap, ◌∙◌, add_comm, add-one, inl, inr, arith}
-use Rattle.std.proofs.lemmas.Bool.{lt-ltb, le-ltb, cases_lt}
+use Rattle.std.proofs.Common.{◌≡◌, ℕ, ◌≤◌, Bool, true, false, not, ◌&&◌, ◌||◌, List, [], ◌∷◌, ◌++◌, length, Some, slice_get, unwrap_or, position, refl, sym, ap, ◌∙◌, add_comm, add-one, append-nil, append_assoc, subst, inl, inr, arith}
+use Rattle.std.proofs.lemmas.Bool.{lt-ltb, le-ltb, cases_lt, and_parts, or_parts, or_right, not-true}
 use Rattle.std.proofs.lemmas.Bool.Decides.{same_from_decides}
 use Rattle.std.proofs.lemmas.List.Folds.{list_any-append, list_all-append}
 use Rattle.std.proofs.lemmas.List.Sums.{fold-append, prefix_len-le-length}
@@ -112,3 +112,81 @@ place_here n x xs false e further = rw (e, add_comm, add-one) (further refl)
 pub slice_get-place_of : (n : List ℕ) (xs : List (List ℕ)) → is_among n xs ≡ true → slice_get xs (place_of n xs) ≡ Some n
 slice_get-place_of n [] here = absurd cc
 slice_get-place_of n (x ∷ xs) here = place_here n x xs (bytes_eq n x) refl (λ e. slice_get-place_of n xs (rw e at here))
+
+-- the test of new names against names and one more
+fresh_more : (names : List (List ℕ)) (y : List ℕ) (xs : List (List ℕ)) → list_all (λ n. not (is_among n (names ++ y ∷ []))) xs ≡ (list_all (λ n. not (is_among n names)) xs && not (is_among y xs))
+fresh_more names y [] = refl
+fresh_more names y (x ∷ xs) =
+    rw (is_among-push x names y, fresh_more names y xs, bytes_eq-comm x y) (regroup (is_among x names) (bytes_eq y x) (list_all (λ n. not (is_among n names)) xs) (is_among y xs))
+
+regroup_cons : (a b c d : Bool) → ((not a && b) && (not c && d)) ≡ (not c && (b && (d && not a)))
+regroup_cons true b true d = refl
+regroup_cons true true false true = refl
+regroup_cons true true false false = refl
+regroup_cons true false false d = refl
+regroup_cons false true true d = refl
+regroup_cons false true false true = refl
+regroup_cons false true false false = refl
+regroup_cons false false true d = refl
+regroup_cons false false false d = refl
+
+-- the test of a first new name, and of the others after it
+pub are_new-cons : (names : List (List ℕ)) (x : List ℕ) (xs : List (List ℕ)) → are_new names (x ∷ xs) ≡ (not (is_among x names) && are_new (names ++ x ∷ []) xs)
+unfolding are_distinct
+are_new-cons names x xs = rw (fresh_more names x xs) (regroup_cons (is_among x xs) (are_distinct xs) (is_among x names) (list_all (λ n. not (is_among n names)) xs))
+
+and_assoc : (a b c : Bool) → ((a && b) && c) ≡ (a && (b && c))
+and_assoc true b c = refl
+and_assoc false b c = refl
+
+pub are_new-append : (names xs ys : List (List ℕ)) → are_new names (xs ++ ys) ≡ (are_new names xs && are_new (names ++ xs) ys)
+unfolding are_distinct
+are_new-append names [] ys = rw (append-nil names) refl
+are_new-append names (x ∷ xs) ys =
+    are_new-cons names x (xs ++ ys) ∙ ap (λ (b : Bool). not (is_among x names) && b) (are_new-append (names ++ x ∷ []) xs ys) ∙ rw (are_new-cons names x xs, append_assoc names (x ∷ []) xs) (sym (and_assoc (not (is_among x names)) (are_new (names ++ x ∷ []) xs) (are_new (names ++ (x ∷ xs)) ys)))
+
+list_all_true : {A : Type 0} (xs : List A) → list_all (λ (x : A). true) xs ≡ true
+list_all_true [] = refl
+list_all_true (x ∷ xs) = list_all_true xs
+
+and_true : (a b : Bool) → b ≡ true → (a && b) ≡ a
+and_true true b e = e
+and_true false b e = refl
+
+-- against no names, new is distinct
+pub are_new_none : (xs : List (List ℕ)) → are_new [] xs ≡ are_distinct xs
+are_new_none xs = and_true (are_distinct xs) _ (list_all_true xs)
+
+-- names that are all new come after those of the table
+pub with_names_new : (names xs : List (List ℕ)) → are_new names xs ≡ true → with_names names xs ≡ names ++ xs
+with_names_new names [] e = sym (append-nil names)
+with_names_new names (x ∷ xs) e =
+    let (new, rest) = and_parts (not (is_among x names)) (are_new (names ++ x ∷ []) xs) (sym (are_new-cons names x xs) ∙ e) in
+    let absent = not-true (is_among x names) new in
+    rw absent (with_names_new (names ++ x ∷ []) xs rest ∙ append_assoc names (x ∷ []) xs)
+
+-- the front of distinct names is distinct
+pub are_distinct_front : (xs ys : List (List ℕ)) → are_distinct (xs ++ ys) ≡ true → are_distinct xs ≡ true
+unfolding are_distinct
+are_distinct_front [] ys e = refl
+are_distinct_front (x ∷ xs) ys e =
+    let (new, rest) = and_parts (not (is_among x (xs ++ ys))) (are_distinct (xs ++ ys)) e in
+    let (here, there) = or_parts (is_among x xs) (is_among x ys) (sym (list_any-append (bytes_eq x) xs ys) ∙ not-true (is_among x (xs ++ ys)) new) in
+    rw (here, are_distinct_front xs ys rest) refl
+
+among_middle : (front : List (List ℕ)) (x : List ℕ) (back : List (List ℕ)) → is_among x (front ++ (x ∷ back)) ≡ true
+among_middle front x back = let (f, g) = bytes_eq-Decides x x in rw (list_any-append (bytes_eq x) front (x ∷ back), g refl) (or_right (is_among x front) true refl)
+
+-- each name of a part is a name of the whole
+pub all_among : (front xs back : List (List ℕ)) → list_all (λ n. is_among n (front ++ (xs ++ back))) xs ≡ true
+all_among front [] back = refl
+all_among front (x ∷ xs) back =
+    rw (among_middle front x (xs ++ back)) (subst (λ (names : List (List ℕ)). list_all (λ n. is_among n names) xs ≡ true) (append_assoc front (x ∷ []) (xs ++ back)) (all_among (front ++ x ∷ []) xs back))
+
+same_test : (names : List (List ℕ)) (xs : List (List ℕ)) → list_all (λ n. is_among n (each_once names)) xs ≡ list_all (λ n. is_among n names) xs
+same_test names [] = refl
+same_test names (x ∷ xs) = rw (is_among-with_names x [] names, same_test names xs) refl
+
+-- each of the names is among them, each taken once
+pub all_among-each_once : (front xs back : List (List ℕ)) → list_all (λ n. is_among n (each_once (front ++ (xs ++ back)))) xs ≡ true
+all_among-each_once front xs back = same_test (front ++ (xs ++ back)) xs ∙ all_among front xs back

@@ -6,6 +6,8 @@
 
 mod bytes;
 mod tables;
+#[cfg(test)]
+mod tests;
 
 pub use bytes::{after, is_letter, is_word, upto, word_len};
 pub use tables::{NameTable, Named};

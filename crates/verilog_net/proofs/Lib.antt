@@ -1,0 +1,4 @@
+pub mod DeclareLemmas
+pub mod FormLemmas
+pub mod GivesLemmas
+pub mod SourceLemmas

@@ -1,3 +1,4 @@
+pub mod Declares
 pub mod Gives
 pub mod Modules
 pub mod Rules

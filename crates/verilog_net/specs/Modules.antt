@@ -1,5 +1,5 @@
 -- The module that declarations make.
-use Rattle.std.specs.Prelude.{ℕ, Bool, false, ◌&&◌, if◌then◌else◌, List, [], ◌∷◌, ◌++◌, map, Option, Some, None}
+use Rattle.std.specs.Prelude.{ℕ, false, ◌&&◌, if◌then◌else◌, List, [], ◌∷◌, ◌++◌, map, Option, Some, None}
 use Rattle.std.specs.List.{flat_map}
 use Rattle.texts.specs.Names.{each_once, place_of}
 use Rattle.verilog_syntax.specs.declared.declarations.PortDecl.{PortDecl}

@@ -1,5 +1,5 @@
 -- The netlist that a text is, and the form that netlists have.
-use Rattle.std.specs.Prelude.{◌≡◌, ℕ, ◌<◌, false, List, [], ◌∷◌, length, map, All, Option, Some, None, IsTrue, slice_get}
+use Rattle.std.specs.Prelude.{◌≡◌, ℕ, ◌<◌, false, List, [], ◌∷◌, length, map, All, Option, Some, IsTrue, slice_get}
 use Rattle.std.specs.List.{flat_map}
 use Rattle.texts.specs.Names.{are_distinct}
 use Rattle.texts.specs.Reads.{◌>>=◌}

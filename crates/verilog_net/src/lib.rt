@@ -4,9 +4,15 @@
 //! rules: what is declared once, and what must be declared. Cells are not looked up: that is left to linking.
 #![tactic(auto)]
 
+mod declares;
 mod faults;
+mod items;
+mod modules;
+mod nets;
 mod sources;
+#[cfg(test)]
+mod tests;
 
 pub use faults::VerFault;
-pub use sources::{Conn, Item, Module, Port, PrimKind, Source, Wire};
+pub use sources::{Conn, Item, Module, Port, PrimKind, Source, Wire, read_verilog};
 pub use verilog_syntax::Dir;

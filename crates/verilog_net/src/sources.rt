@@ -1,6 +1,13 @@
-//! Netlists as callers see them.
+//! Netlists as callers see them, and the call that reads one.
+ghost use Rattle.std.specs.Prelude.{◌≡◌, None, Some, IfOk, IsErrOf};
+ghost use Rattle.verilog_net.specs.Sources.{source_of, HasFirstForm};
+
+use crate::faults::VerFault;
+use crate::items::one;
+use crate::modules::module;
 use sdcv_base::{Name, Seq};
-use verilog_syntax::Dir;
+use std::alloc::Global;
+use verilog_syntax::{Dir, read_module};
 
 /// What a pin or an assignment reads: a constant, or a net of the module by its number.
 #[derive(Clone, Copy, Debug, PartialEq, Eq)]
@@ -72,4 +79,16 @@ pub struct Module {
 #[derive(Debug, Drop)]
 pub struct Source {
     pub modules: Seq<Module>,
+}
+
+/// The netlist that a text is. `NotYet` comes exactly where the text has none.
+pub fn read_verilog(alloc: Global, text: &[u8]) -> Result<Source, VerFault>
+    ensures ok { IfOk result (λ source. source_of text.now ≡ Some source) }
+    ensures not_yet { IsErrOf result VerFault.NotYet → source_of text.now ≡ None }
+    ensures first_form { IfOk result HasFirstForm }
+{
+    let decl = read_module(alloc, text)?;
+    let module = module(alloc, &decl)?;
+    let modules = one(alloc, module)?;
+    Ok(Source { modules })
 }

@@ -62,3 +62,11 @@ impl Named for ConnDecl {
         &self.pin
     }
 }
+
+impl Named for InstDecl {
+    ghost named = { λ i. i.name };
+
+    fn name(&self) -> &Name {
+        &self.name
+    }
+}

@@ -10,6 +10,8 @@ mod items;
 mod lists;
 mod marks;
 mod modules;
+#[cfg(test)]
+mod tests;
 
 pub use declarations::{ConnDecl, Dir, InstDecl, ItemDecl, ModuleDecl, PortDecl};
 pub use faults::SyntaxFault;

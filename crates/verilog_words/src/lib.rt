@@ -4,6 +4,8 @@
 //! byte. `take_token` is the call to read first; which tokens make a netlist is left to the crate above.
 #![tactic(auto)]
 
+#[cfg(test)]
+mod tests;
 mod tokens;
 mod words;
 
