@@ -1,0 +1,35 @@
+//! Objects of a command.
+ghost use Rattle.std.specs.Prelude.{◌≡◌};
+ghost use Rattle.sdcv_base.specs.Cursors.{rest};
+ghost use Rattle.sdc_text.specs.Gives.{Gives};
+ghost use Rattle.sdc_text.specs.Objects as spec;
+
+use crate::faults::SdcFault;
+use crate::scripts::{Class, Object, Query};
+use crate::words::{expect, take_name};
+use sdcv_base::{Cursor, Seq};
+use std::alloc::Global;
+
+/// `[get_ports NAME]` and its like: the word after the bracket, and the class of what it gives.
+#[tactic(auto, unfolding(crate::specs::Objects::object_at))]
+pub fn object(
+    alloc: Global,
+    c: &mut Cursor<'_>,
+    get: &str,
+    class: Class,
+) -> Result<Seq<Object>, SdcFault>
+    ensures { Gives (λ objects. (objects, rest c.new)) result (spec.object_at get.now class (rest c.old)) }
+{
+    expect(c, "[")?;
+    expect(c, get)?;
+    expect(c, " ")?;
+    let pattern = take_name(alloc, c)?;
+    expect(c, "]")?;
+    let mut objects = Seq::new(alloc);
+    objects.push(Object::Named(Query {
+        class,
+        hier: false,
+        pattern,
+    }))?;
+    Ok(objects)
+}
