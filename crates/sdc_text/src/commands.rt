@@ -1,5 +1,5 @@
 //! Commands.
-ghost use Rattle.std.specs.Prelude.{◌≡◌};
+
 ghost use Rattle.sdcv_base.specs.Cursors.{rest};
 ghost use Rattle.sdc_text.specs.Gives.{Gives};
 ghost use Rattle.sdc_text.specs.Commands as spec;

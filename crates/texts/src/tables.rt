@@ -1,5 +1,5 @@
 //! Tables of names.
-ghost use Rattle.std.specs.Prelude.{◌≡◌, ℕ, List, [], length, OnOk, OnErr, IfOk, not, map};
+ghost use Rattle.std.specs.Prelude.{◌≡◌, ℕ, List, [], OnOk, OnErr, IfOk, not, map};
 ghost use Rattle.texts.specs.Names.{is_among, place_of, with_name, with_names, are_new};
 
 use indexmap::IndexSet;
@@ -72,7 +72,8 @@ impl NameTable {
         Ok(true)
     }
 
-    /// Adds the name of each of these in turn, and tells whether all were new.
+    /// Adds the name of each of these in turn, and tells whether all were new. Where memory runs out, some may have been
+    /// added.
     pub fn add_all<T: Named>(&mut self, alloc: Global, these: &[T]) -> Result<bool, AllocError>
         ensures fresh { IfOk result (λ fresh. fresh ≡ are_new self.old (map T.named these.now)) }
         ensures ok { OnOk result (self.new ≡ with_names self.old (map T.named these.now)) }

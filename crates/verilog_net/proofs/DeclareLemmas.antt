@@ -11,7 +11,7 @@ use Rattle.verilog_syntax.specs.declared.declarations.ItemDecl.{ItemDecl}
 use Rattle.verilog_syntax.specs.declared.declarations.ItemDecl.TheVariants.{Wires, Inst}
 use Rattle.verilog_syntax.specs.declared.declarations.ModuleDecl.{ModuleDecl}
 use Rattle.verilog_net.specs.Rules.{wires_in, insts_in, has_distinct_pins, port_names, declared, declares_once, insts}
-use Rattle.verilog_net.specs.Declares.{declare, declare_item, declare_items, Spaces}
+use Rattle.verilog_net.specs.Declares.{declare, declare_item, declare_items, declared_of, Spaces}
 
 pub items_done : (spaces : Spaces) → declare_items spaces [] ≡ Some spaces
 unfolding declare_items
@@ -64,10 +64,6 @@ bind_under true x f y e = e
 bind_under false x f y e = refl
 
 module _ (m : ModuleDecl) where
-  -- what the module declares, where it does so once
-  abbrev pub declared_of : Option (List (List ℕ))
-  declared_of = if declares_once m && list_all has_distinct_pins (insts m) then Some (declared m) else None
-
   abbrev pub after_items : List (List ℕ) → Option (List (List ℕ))
   after_items nets = declare_items (nets, []) m.items >>= λ (spaces : Spaces). Some spaces.0
 
@@ -77,7 +73,7 @@ module _ (m : ModuleDecl) where
   test_is : are_new [] (port_names m) ≡ true → lawful (port_names m, []) m.items ≡ (declares_once m && list_all has_distinct_pins (insts m))
   test_is e = rw (distinct_is, e, are_new_none (names_of m.items)) refl
 
-  ports_case : (v : Bool) → are_new [] (port_names m) ≡ v → (declare [] (port_names m) >>= after_items) ≡ declared_of
+  ports_case : (v : Bool) → are_new [] (port_names m) ≡ v → (declare [] (port_names m) >>= after_items) ≡ declared_of m
   unfolding declare
   ports_case true e =
       let ports : declare [] (port_names m) ≡ Some (port_names m) = rw e refl in
@@ -88,5 +84,5 @@ module _ (m : ModuleDecl) where
   ports_case false e = rw (distinct_is, e) refl
 
   -- the tables of a module give what it declares
-  pub declared_is : (declare [] (port_names m) >>= after_items) ≡ declared_of
+  pub declared_is : (declare [] (port_names m) >>= after_items) ≡ declared_of m
   declared_is = ports_case (are_new [] (port_names m)) refl

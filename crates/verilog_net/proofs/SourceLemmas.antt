@@ -4,7 +4,7 @@ use Rattle.std.proofs.lemmas.List.Elements.{All-nil, All-cons}
 use Rattle.verilog_syntax.specs.declared.declarations.ModuleDecl.{ModuleDecl}
 use Rattle.verilog_syntax.specs.declared.faults.SyntaxFault.{SyntaxFault}
 use Rattle.verilog_syntax.specs.declared.faults.SyntaxFault.TheVariants as syntax_fault
-use Rattle.verilog_syntax.specs.Gives as syntax
+use Rattle.verilog_syntax.specs.Gives as reader
 use Rattle.verilog_syntax.specs.Modules as grammar
 use Rattle.verilog_net.specs.declared.faults.VerFault.{VerFault}
 use Rattle.verilog_net.specs.declared.faults.VerFault.TheVariants as fault
@@ -17,7 +17,7 @@ use Rattle.verilog_net.proofs.FormLemmas.{module_of_plain}
 
 module _ (s : List ℕ) where
   -- the text is no module
-  pub none_by_grammar : (total : ℕ) (e : SyntaxFault) (r : Result Source VerFault) → syntax.Fails total e (grammar.module_of s) → r ≡ Err (of_syntax e) → r ≡ Err fault.NotYet → source_of s ≡ None
+  pub none_by_grammar : (total : ℕ) (e : SyntaxFault) (r : Result Source VerFault) → reader.Fails total e (grammar.module_of s) → r ≡ Err (of_syntax e) → r ≡ Err fault.NotYet → source_of s ≡ None
   unfolding source_of
   none_by_grammar total (syntax_fault.Syntax place) r h is e = rw h.0 refl
   none_by_grammar total syntax_fault.Memory r h is e = absurd cc

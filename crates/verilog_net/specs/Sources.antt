@@ -3,7 +3,7 @@ use Rattle.std.specs.Prelude.{◌≡◌, ℕ, ◌<◌, false, List, [], ◌∷�
 use Rattle.std.specs.List.{flat_map}
 use Rattle.texts.specs.Names.{are_distinct}
 use Rattle.texts.specs.Reads.{◌>>=◌}
-use Rattle.verilog_syntax.specs.Modules as syntax
+use Rattle.verilog_syntax.specs.Modules as grammar
 use Rattle.verilog_net.specs.declared.sources.Wire.TheVariants as wire
 use Rattle.verilog_net.specs.declared.sources.Port.{Port}
 use Rattle.verilog_net.specs.declared.sources.Conn.{Conn}
@@ -15,7 +15,7 @@ use Rattle.verilog_net.specs.Modules.{module_of}
 
 -- the netlist that a text is: one module, whose declarations keep the static rules
 unfoldable pub source_of : List ℕ → Option Source
-source_of s = syntax.module_of s >>= λ m. module_of m >>= λ found. Some (record { modules = found ∷ [] })
+source_of s = grammar.module_of s >>= λ m. module_of m >>= λ found. Some (record { modules = found ∷ [] })
 
 -- a port of one bit, which is the net of its name
 pub record IsPlainPort (nets : List (List ℕ)) (p : Port) : Type 0 where

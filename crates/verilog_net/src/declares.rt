@@ -1,7 +1,5 @@
 //! What a module declares, and that it does so once.
-ghost use Rattle.std.specs.Prelude.{◌≡◌, List, [], ◌∷◌, ◌++◌, ℕ, map, if◌then◌else◌, Some, None, ◌&&◌, IfOk};
-ghost use Rattle.std.specs.List.{list_all};
-ghost use Rattle.texts.specs.Names.{are_distinct};
+ghost use Rattle.std.specs.Prelude.{◌≡◌, map, IfOk};
 ghost use Rattle.verilog_net.specs.Gives.{Gives};
 ghost use Rattle.verilog_net.specs.Rules as rule;
 ghost use Rattle.verilog_net.specs.Declares as spec;
@@ -14,13 +12,13 @@ use verilog_syntax::{InstDecl, ItemDecl, ModuleDecl};
 
 /// The names that a module declares as nets. It refuses a name that is declared twice, of a net or of an instance, and
 /// an instance that names a pin twice.
-pub fn declared(alloc: Global, module: &ModuleDecl) -> Result<NameTable, VerFault>
-    ensures { Gives (λ t. t) result (if rule.declares_once module.now && list_all rule.has_distinct_pins (rule.insts module.now) then Some (rule.declared module.now) else None) }
+pub fn declared(alloc: Global, decl: &ModuleDecl) -> Result<NameTable, VerFault>
+    ensures { Gives (λ t. t) result (spec.declared_of decl.now) }
 {
     let mut nets = NameTable::new(alloc);
     let mut insts = NameTable::new(alloc);
-    declare_all(alloc, &mut nets, module.ports.as_slice())?;
-    declare_items(alloc, &mut nets, &mut insts, module.items.as_slice())?;
+    declare_all(alloc, &mut nets, decl.ports.as_slice())?;
+    declare_items(alloc, &mut nets, &mut insts, decl.items.as_slice())?;
     Ok(nets)
 }
 

@@ -1,5 +1,5 @@
 //! Ports and instances whose names have become nets.
-ghost use Rattle.std.specs.Prelude.{◌≡◌, List, [], ◌∷◌, ◌++◌, ℕ, map, IfOk};
+ghost use Rattle.std.specs.Prelude.{◌≡◌, [], ◌∷◌, map, IfOk};
 ghost use Rattle.std.specs.List.{flat_map};
 ghost use Rattle.verilog_net.specs.Rules as rule;
 ghost use Rattle.verilog_net.specs.Modules as spec;

@@ -1,5 +1,5 @@
 //! The nets of a module by number.
-ghost use Rattle.std.specs.Prelude.{◌≡◌, List, ℕ, map, OnOk, IfOk};
+ghost use Rattle.std.specs.Prelude.{◌≡◌, map, OnOk, IfOk};
 ghost use Rattle.std.specs.List.{list_all};
 ghost use Rattle.texts.specs.Names.{with_names};
 ghost use Rattle.verilog_net.specs.Rules as rule;
@@ -10,12 +10,12 @@ use texts::NameTable;
 use verilog_syntax::{ConnDecl, InstDecl, ItemDecl, ModuleDecl};
 
 /// The nets, each at its number.
-pub fn nets(alloc: Global, module: &ModuleDecl) -> Result<NameTable, AllocError>
-    ensures { IfOk result (λ nets. nets ≡ spec.nets_of module.now) }
+pub fn nets(alloc: Global, decl: &ModuleDecl) -> Result<NameTable, AllocError>
+    ensures { IfOk result (λ nets. nets ≡ spec.nets_of decl.now) }
 {
     let mut nets = NameTable::new(alloc);
-    nets.add_all(alloc, module.ports.as_slice())?;
-    for item in module.items.as_slice() {
+    nets.add_all(alloc, decl.ports.as_slice())?;
+    for item in decl.items.as_slice() {
         add_item(alloc, &mut nets, item)?;
     }
     Ok(nets)

@@ -1,5 +1,4 @@
 //! What a text declares, in the names that stand in it.
-ghost use Rattle.std.specs.Prelude.{◌≡◌};
 
 use sdcv_base::{Name, Seq};
 use texts::Named;

@@ -1,5 +1,5 @@
 //! Ports, and the items of a module.
-ghost use Rattle.std.specs.Prelude.{◌≡◌, ◌<◌, ◌≤◌, length, OnOk};
+ghost use Rattle.std.specs.Prelude.{◌≡◌, ◌<◌, length, OnOk};
 ghost use Rattle.sdcv_base.specs.Cursors.{rest, text_of};
 ghost use Rattle.verilog_words.specs.Tokens.{tok_of};
 ghost use Rattle.verilog_syntax.specs.Gives.{Gives};

@@ -6,4 +6,4 @@ use Rattle.verilog_net.specs.Modules.{names_in}
 use Rattle.verilog_net.proofs.nets.nets.Given as goal
 
 abbrev pub invariant-loop-item : goal.invariant-loop-item
-invariant-loop-item l = l.nets ≡ each_once (port_names l.module ++ flat_map names_in (take l.item-index l.module.items))
+invariant-loop-item l = l.nets ≡ each_once (port_names l.decl ++ flat_map names_in (take l.item-index l.decl.items))
