@@ -6,3 +6,4 @@ pub mod Named
 pub mod Assigning
 pub mod Effecting
 pub mod Normalizing
+pub mod Ascending

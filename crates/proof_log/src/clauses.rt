@@ -1,6 +1,6 @@
 //! Clauses, and their normal form.
-ghost use Rattle.std.specs.Prelude.{◌≡◌, ◌≢◌, ◌+◌, ◌<◌, ◌≤◌, ◌↔◌, ℕ, length, true, false, IfOk, IfSome, IsNone, MatchBool, slice_index};
-ghost use Rattle.proof_log.specs.Literals.{lit_var, negated};
+ghost use Rattle.std.specs.Prelude.{◌≡◌, ◌≢◌, ◌+◌, ◌<◌, ◌≤◌, ◌↔◌, ℕ, length, true, false, IfOk, IfSome, IsNone, IsTrue, All, MatchBool, slice_index};
+ghost use Rattle.proof_log.specs.Literals.{lit_var, negated, InVars};
 ghost use Rattle.proof_log.specs.Clauses.{is_set, IsNormal, HasComplements};
 ghost use Rattle.proof_log.specs.Inserting.{Inserted, IsPlaceOf};
 
@@ -50,6 +50,13 @@ impl Clause {
         })
     }
 
+    /// Whether the clause is in normal form, over the variables 1 to `vars`.
+    pub fn is_normal(&self, vars: u32) -> bool
+        ensures { IsTrue result ↔ (IsNormal self.now × All (InVars vars) self.now) }
+    {
+        is_ascending(self.lits.as_slice(), vars)
+    }
+
     pub fn as_slice(&self) -> &[Lit]
         ensures { result.now ≡ self.now }
     {
@@ -88,4 +95,19 @@ fn is_of(lits: &[Lit], at: usize, var: u32) -> bool
         (at < length lits.now → lit_var (slice_index lits.now at) ≢ var) }
 {
     at < lits.len() && lits[at].var() == var
+}
+
+/// Whether the variables ascend, from 1 to `vars`.
+fn is_ascending(lits: &[Lit], vars: u32) -> bool
+    ensures { IsTrue result ↔ (IsNormal lits.now × All (InVars vars) lits.now) }
+{
+    let mut before = 0;
+    for l in lits {
+        let var = l.var();
+        if var <= before || var > vars {
+            return false;
+        }
+        before = var;
+    }
+    true
 }

@@ -1,4 +1,8 @@
 //! Formulas: clauses that are all to be true.
+ghost use Rattle.std.specs.Prelude.{◌↔◌, IsTrue, All};
+ghost use Rattle.proof_log.specs.Literals.{InVars};
+ghost use Rattle.proof_log.specs.Clauses.{IsNormal};
+
 use crate::clauses::Clause;
 use sdcv_base::Seq;
 
@@ -7,4 +11,26 @@ use sdcv_base::Seq;
 pub struct Formula {
     pub vars: u32,
     pub clauses: Seq<Clause>,
+}
+
+impl Formula {
+    ghost use Rattle.proof_log.specs.Formulas.{IsFormula};
+
+    /// Whether there are fewer than 2^31 variables, and each clause is in normal form over them.
+    pub fn is_normal(&self) -> bool
+        ensures { IsTrue result ↔ IsFormula self.now }
+    {
+        self.vars < 1 << 31 && are_normal(self.clauses.as_slice(), self.vars)
+    }
+}
+
+fn are_normal(clauses: &[Clause], vars: u32) -> bool
+    ensures { IsTrue result ↔ (All IsNormal clauses.now × All (λ c. All (InVars vars) c) clauses.now) }
+{
+    for clause in clauses {
+        if !clause.is_normal(vars) {
+            return false;
+        }
+    }
+    true
 }

@@ -1,4 +1,5 @@
-use crate::{Assignment, Clause, Effect, Lit, LitSet};
+use crate::{Assignment, Clause, Effect, Formula, Lit, LitSet};
+use sdcv_base::Seq;
 use std::alloc::{AllocError, Global};
 use std::process::Abort;
 use std::test::Fail;
@@ -50,6 +51,32 @@ fn set_unset(rt: &impl Abort, set: &mut Assignment, l: Lit) {
     assert!(rt; !set.is_set(l));
     assert!(rt; !set.is_set(l.negated()));
     set.set(l);
+}
+
+// Clauses in normal form ascend by variable and name none above the formula's.
+#[test]
+fn a_formula_is_told_to_be_normal(rt: HostRuntime) -> Result<(), Fail> {
+    let alloc = rt.alloc();
+    let cases: [(u32, &[i32], bool); 6] = [
+        (0, &[], true),
+        (2, &[-1, 2], true),
+        (1, &[-1, 2], false),
+        (2, &[2, -1], false),
+        (2, &[1, 1], false),
+        (2, &[1, -1], false),
+    ];
+    for (vars, numbers, want) in cases {
+        let mut clauses = Seq::new(alloc);
+        clauses.push(Clause {
+            lits: Seq::from_vec(lits(alloc, numbers)?),
+        })?;
+        assert_eq!(rt;
+            Formula { vars, clauses }.is_normal(),
+            want,
+            "{numbers:?} over {vars}"
+        );
+    }
+    Ok(())
 }
 
 // What a clause does, with 1 and -2 set and 3 unset.
