@@ -1,6 +1,6 @@
 -- Levels of nets, gate by gate, and what they say at the end.
 use Rattle.std.proofs.Common.{arith, ◌≡◌, ◌≢◌, ℕ, zero, suc, ◌+◌, ◌<◌, ◌≤◌, max, Bool, List, [], ◌∷◌, ◌++◌, length, take, get_or, set, refl, sym, ap, ◌∙◌, subst, ◌⊎◌, inl, inr, le_refl, map, append_assoc, append-nil, get_or-set_same, get_or-set_other, length-set}
-use Rattle.std.specs.Prelude.{Option, Some, None, slice_get, slice_index, slice_index_or, Contains, flat_map, IsTrue, ◌↔◌, replicate}
+use Rattle.std.specs.Prelude.{Option, Some, None, slice_get, slice_index, Contains, flat_map, IsTrue, ◌↔◌, replicate}
 use Rattle.std.proofs.lemmas.Bool.{cases_lt, cases_eq}
 use Rattle.net_model.specs.Netlist.{IsSound, IsGateInRange, source_nets, gate_nets, driven_nets, reg_nets, AllBelow, IsRegInRange}
 use Rattle.std.proofs.lemmas.List.{take_more, take_all, map-append, length-map, get_or-map}
@@ -24,9 +24,9 @@ use Rattle.net_model.specs.declared.claims.End.{End}
 use Rattle.net_model.specs.declared.claims.End.TheVariants.{Reg as RegEnd, Output as OutputEnd}
 use Rattle.net_model.specs.declared.claims.PinRef.{PinRef}
 use Rattle.net_model.specs.declared.claims.PinRef.TheVariants.{Net, GateIn, RegIn, OutPort}
-use Rattle.net_paths.specs.Levels.{advanced, Reaches, At_start, Goes_on, level_at, IsAtLeast, IsLevel, met_through, IsGateLevel, greater, AreLevels, AreStarted, MeetsAllAt, MeetsAtEnd}
+use Rattle.net_paths.specs.Levels.{advanced, Reaches, At_start, Goes_on, level_at, IsAtLeast, IsLevel, met_through, IsGateLevel, greater, AreLevels, AreStarted, MeetsAtEnd}
 use Rattle.net_paths.proofs.Advancing.{advanced_le}
-use Rattle.net_paths.proofs.Reaching.{Arrives, arrives_from_path, path_from_arrives, net_reached, into_reg, into_output, NetReached, From_start, From_gate}
+use Rattle.net_paths.proofs.Reaching.{Arrives, arrives_from_path, path_from_arrives, net_reached, into_reg, into_output, From_start, From_gate}
 
 pub at_least_less : (a b : ℕ) (o : Option ℕ) → a ≤ b → IsAtLeast b o → IsAtLeast a o
 at_least_less a b None le at = at
