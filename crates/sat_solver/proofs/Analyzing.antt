@@ -1,0 +1,47 @@
+-- Which literals of a clause are false, one by one.
+use Rattle.std.proofs.Common.{◌≡◌, ℕ, ◌+◌, ◌<◌, true, false, eqb, leb, ltb, List, [], ◌∷◌, ◌++◌, length, get_or, take, sym, ap, ◌∙◌, inl, inr, arith}
+use Rattle.std.specs.Bool.{MatchBool}
+use Rattle.std.proofs.lemmas.Bool.{false≢true, or_cases, eqb-true, le-leb, leb-true, ltb-true, lt-ltb, false_from_ne_true, cases_lt}
+use Rattle.std.proofs.lemmas.List.{take_more}
+use Rattle.proof_log.specs.Literals.{negated}
+use Rattle.proof_log.specs.Clauses.{is_set}
+use Rattle.proof_log.proofs.LiteralLemmas.{negated-negated}
+use Rattle.proof_log.proofs.Members.{is_set-push, is_set-nil, is_set-at, is_set-take}
+use Rattle.sat_solver.specs.Learning.{OthersFalse, OtherOpen}
+use Rattle.sat_solver.specs.Cuts.{FalseBy}
+
+pub OthersFalse-none : (set : List ℕ) (u : ℕ) → OthersFalse set [] u
+OthersFalse-none set u l h ne = absurd (false≢true (sym (is_set-nil l) ∙ h))
+
+pub OthersFalse-more : (set clause : List ℕ) (u i x : ℕ) → i < length clause → x ≡ get_or clause i 0 → OthersFalse set (take i clause) u → ((x ≡ u → ⊥) → is_set set (negated x) ≡ true) → OthersFalse set (take (i + 1) clause) u
+OthersFalse-more set clause u i x h e before here l m ne =
+    let more : take (i + 1) clause ≡ take i clause ++ x ∷ [] = take_more clause i 0 h ∙ ap (λ y. take i clause ++ y ∷ []) (sym e) in
+    elim (or_cases (is_set (take i clause) l) (eqb x l) (sym (is_set-push (take i clause) x l) ∙ (sym (ap (λ ys. is_set ys l) more) ∙ m))) [
+      | inl t ↦ before l t ne
+      | inr s ↦ let same = eqb-true x l s in
+          ap (λ q. is_set set (negated q)) (sym same) ∙ here (λ k. ne (sym same ∙ k))
+    ]
+
+pub OtherOpen-at : (set clause : List ℕ) (u i x : ℕ) → i < length clause → x ≡ get_or clause i 0 → (x ≡ u → ⊥) × (is_set set (negated x) ≡ false) → OtherOpen set clause u
+OtherOpen-at set clause u i x h e here = (x, ap (is_set clause) e ∙ is_set-at clause i h, here.0, here.1)
+
+-- what the place of a literal's complement tells
+pub open_other_means : (set : List ℕ) (l u q place len : ℕ) → (l ≡ u → ⊥) → is_set set q ≡ ltb place len → MatchBool (leb len place) ((l ≡ u → ⊥) × (is_set set q ≡ false)) ((l ≡ u → ⊥) → is_set set q ≡ true)
+open_other_means set l u q place len ne is =
+    elim (cases_lt place len) [
+      | inl lt ↦ rw (false_from_ne_true _ (λ t. let k = leb-true len place t in absurd (omega arith))) (λ _. is ∙ lt-ltb place len lt)
+      | inr ge ↦ rw (le-leb len place ge) (ne, is ∙ false_from_ne_true _ (λ t. let k = ltb-true place len t in absurd (omega arith)))
+    ]
+
+-- at the decision, where the level starts, the cut is false by the levels below but for one literal
+pub OthersFalse-at_decision : (trail cut : List ℕ) (at : ℕ) → at < length trail → FalseBy (take (at + 1) trail) cut → OthersFalse (take at trail) cut (negated (get_or trail at 0))
+OthersFalse-at_decision trail cut at h f l m ne =
+    elim (or_cases (is_set (take at trail) (negated l)) (eqb (get_or trail at 0) (negated l))
+    (sym (is_set-push (take at trail) (get_or trail at 0) (negated l)) ∙ (sym (ap (λ xs. is_set xs (negated l)) (take_more trail at 0 h)) ∙ f l m))) [
+      | inl t ↦ t
+      | inr e ↦ absurd (ne (sym (negated-negated l) ∙ ap negated (sym (eqb-true _ _ e))))
+    ]
+
+-- what is false by a front is false by the whole
+pub FalseBy-whole : (trail cut : List ℕ) (n : ℕ) → FalseBy (take n trail) cut → FalseBy trail cut
+FalseBy-whole trail cut n f l m = is_set-take n trail (negated l) (f l m)

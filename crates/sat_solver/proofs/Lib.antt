@@ -1,0 +1,10 @@
+pub mod OpenClauses
+pub mod Trailing
+pub mod Settling
+pub mod Cutting
+pub mod Levels
+pub mod Analyzing
+pub mod AtConflict
+pub mod Models
+pub mod Counting
+pub mod Logging

@@ -1,0 +1,25 @@
+use Rattle.std.proofs.Common.{arith, take, ap, ◌∙◌}
+use Rattle.std.proofs.lemmas.List.{get_or_read}
+use Rattle.proof_log.specs.Clauses.{is_set}
+use Rattle.proof_log.proofs.Members.{is_set-at}
+use Rattle.sat_solver.proofs.Analyzing.{OthersFalse-none, OthersFalse-more, OtherOpen-at}
+use Rattle.sat_solver.proofs.cuts.others_false.Goals as goal
+
+pub is_open_other-requires : goal.is_open_other-requires
+is_open_other-requires c =
+    c.requires c.l-item.result
+    (ap (is_set c.args.lits.now) (get_or_read c.args.lits.now c.loop-l.l-index c.l-item.result (omega arith) c.l-item.is 0)
+    ∙ is_set-at c.args.lits.now c.loop-l.l-index (omega arith))
+
+pub loop-l-init : goal.loop-l-init
+loop-l-init c = OthersFalse-none (take c.args.len c.args.trail.now.lits) c.args.unit
+
+pub returns-then-is_open_other : goal.returns-then-is_open_other
+returns-then-is_open_other c =
+    OtherOpen-at (take c.args.len c.args.trail.now.lits) c.args.lits.now c.args.unit c.loop-l.l-index c.l-item.result (omega arith)
+    (get_or_read c.args.lits.now c.loop-l.l-index c.l-item.result (omega arith) c.l-item.is 0) c.if-is_open_other.ensures
+
+pub loop-l-preserved : goal.loop-l-preserved
+loop-l-preserved c =
+    OthersFalse-more (take c.args.len c.args.trail.now.lits) c.args.lits.now c.args.unit c.loop-l.l-index c.l-item.result (omega arith)
+    (get_or_read c.args.lits.now c.loop-l.l-index c.l-item.result (omega arith) c.l-item.is 0) c.loop-l.invariant c.if-is_open_other.ensures

@@ -1,0 +1,6 @@
+use Rattle.std.proofs.Common.{ℕ, ◌<◌, take, slice_index}
+use Rattle.sat_solver.specs.Learning.{OtherOpen}
+use Rattle.sat_solver.proofs.learning.asserting_level.Given as goal
+
+abbrev pub invariant-loop-level : goal.invariant-loop-level
+invariant-loop-level l = (k : ℕ) → k < l.level → OtherOpen (take (slice_index l.starts k) l.trail.lits) l.lits l.unit

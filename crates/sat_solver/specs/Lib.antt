@@ -1,0 +1,7 @@
+pub mod Searches
+pub mod Learning
+pub mod Answers
+pub mod Trails
+pub mod Passes
+pub mod Cuts
+pub mod Engines

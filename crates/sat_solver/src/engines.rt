@@ -1,0 +1,209 @@
+//! The steps of a search: propagate, decide, go back, learn.
+ghost use Rattle.std.specs.Prelude.{◌≡◌, ◌+◌, ◌*◌, ◌^◌, ◌<◌, ◌≤◌, ◌⊎◌, [], ◌∷◌, ◌++◌, take, length, true, false, All, MatchBool, MatchOption, IfSome, IfNone, IfOk, OnErr, slice_index, ℕ};
+ghost use Rattle.proof_log.specs.Literals.{negated, literal, InVars};
+ghost use Rattle.proof_log.specs.Clauses.{is_set, clause_true};
+ghost use Rattle.proof_log.specs.Derivations.{LeadsToConflict};
+ghost use Rattle.proof_log.specs.Formulas.{IsFormula, value_in};
+ghost use Rattle.sat_solver.specs.Searches.{Search, IsQuiet, IsFalseAt, Propagates, lits_up_to, AllSet, IsUnset};
+ghost use Rattle.sat_solver.specs.Learning.{IsLearnt};
+
+use crate::learning::{Learnt, analyze, last_step};
+use crate::propagation::settle;
+use crate::trails::Trail;
+use proof_log::{Clause, DerivStep, Formula, Lit, LitSet};
+use sdcv_base::Seq;
+use std::alloc::{AllocError, Global};
+use std::marker::Model;
+
+/// Clauses, the literals that are set, and where among these each level begins. The places of
+/// clauses count from 0: the formula's in order, then the learnt ones in order.
+///
+/// What always holds (`IsSearch`):
+/// - in_vars: the clauses are over the variables 1 to `vars`.
+/// - ordered, deep, within: level k + 1 begins at `lits[starts[k]]`, its decision; a later level
+///   begins later, and none is empty.
+/// - quiet: for each level below the present one, the literals set up to it make no clause false,
+///   and leave none unit with its literal unset.
+/// - paired, justified: a literal that opens no level was the unset literal of its reason, a clause
+///   that was unit at that moment.
+///
+/// That no clause is false or unit at the present level holds only after `propagate` has said so.
+#[derive(Drop)]
+pub struct Engine {
+    clauses: Vec<Clause>,
+    trail: Trail,
+    starts: Vec<usize>,
+}
+
+impl Model for Engine {
+    ghost use Rattle.std.specs.Prelude.{vec_capacity, ◌+◌, ◌≤◌};
+    ghost use Rattle.sat_solver.specs.Searches.{Search, search_of};
+    ghost use Rattle.sat_solver.specs.Engines.{IsSearch};
+
+    ghost Value = { Search };
+
+    ghost view = { λ e. search_of e.trail.vars e.clauses.items e.trail.lits e.starts.items };
+
+    ghost invariant = { λ e. IsSearch e.clauses.items e.trail e.starts.items × (e.trail.vars + 1 ≤ vec_capacity e.starts) };
+}
+
+impl Engine {
+    /// The formula's clauses, with no literal set, at level 0. Unit clauses wait. There is room for
+    /// as many set literals and levels as there are variables.
+    pub fn load(alloc: Global, formula: &Formula) -> Result<Engine, AllocError>
+        requires { IsFormula formula.now }
+        ensures { IfOk result (λ e. e
+            ≡ record { vars = formula.now.vars; clauses = formula.now.clauses; lits = []; starts = [] }) }
+    {
+        let clauses = copied(alloc, formula.clauses.as_slice())?;
+        let trail = Trail::new(alloc, formula.vars)?;
+        let starts = Vec::with_capacity(alloc, formula.vars as usize + 1)?;
+        Ok(Engine {
+            clauses,
+            trail,
+            starts,
+        })
+    }
+
+    /// The present level: how many decisions stand.
+    pub fn level(&self) -> usize
+        ensures value { result ≡ length self.now.starts }
+        ensures quiet_below { (k : ℕ) → k < length self.now.starts
+            → IsQuiet self.now.clauses (lits_up_to self.now k) }
+    {
+        self.starts.len()
+    }
+
+    /// Sets the unset literal of each unit clause until none waits, or a clause is false, whose
+    /// place is told. It takes no memory.
+    pub fn propagate(&mut self) -> Option<usize>
+        ensures lits { self.new ≡ record self.old { lits = self.new.lits } }
+        ensures propagates { Propagates self.old.clauses self.old.lits self.new.lits }
+        ensures settled { MatchOption result
+            (IsQuiet self.new.clauses self.new.lits)
+            (λ place. IsFalseAt self.new.clauses self.new.lits place) }
+        ensures few { length self.new.lits ≤ self.new.vars + 1 }
+    {
+        let conflict = settle(&self.clauses, &mut self.trail);
+        let _len = self.trail.len();
+        conflict
+    }
+
+    /// Opens a level with an unset variable, or is `None` where every variable is set. It takes no
+    /// memory.
+    pub fn decide(&mut self) -> Option<Lit>
+        requires { IsQuiet self.old.clauses self.old.lits }
+        ensures all_set { IfNone result (AllSet self.old.vars self.old.lits) }
+        ensures stays { IfNone result (self.new ≡ self.old) }
+        ensures unset { IfSome result (λ l. IsUnset self.old.vars self.old.lits l) }
+        ensures opens { IfSome result (λ l. self.new
+            ≡ record self.old { lits = self.old.lits ++ l ∷ []; starts = self.old.starts ++ length self.old.lits ∷ [] }) }
+        ensures few { IfSome result (λ l. length self.new.lits ≤ self.new.vars + 1) }
+    {
+        let l = unset_literal(&self.trail)?;
+        let start = self.trail.len();
+        self.trail.set(l, 0);
+        self.starts.push_reserved(start);
+        Some(l)
+    }
+
+    /// Unsets the literals of the levels above that one. It takes no memory.
+    pub fn backjump(&mut self, level: usize)
+        requires { level ≤ length self.old.starts }
+        ensures back { level < length self.old.starts
+            → self.new ≡ record self.old { lits = lits_up_to self.old level; starts = take level self.old.starts } }
+        ensures stays { level ≡ length self.old.starts → self.new ≡ self.old }
+    {
+        if level < self.starts.len() {
+            let from = self.starts[level];
+            self.trail.truncate(from);
+            self.starts.truncate(level);
+        }
+    }
+
+    /// Learns an asserting clause from the false one at that place, goes back to its level, and
+    /// sets its unit there. After an `Err` the engine is unchanged.
+    pub fn learn(&mut self, alloc: Global, conflict: usize) -> Result<Learnt, AllocError>
+        requires above { 0 < length self.old.starts }
+        requires conflict { IsFalseAt self.old.clauses self.old.lits conflict }
+        ensures learnt { IfOk result (λ r. IsLearnt self.old r.step r.level r.unit) }
+        ensures asserted { IfOk result (λ r. self.new ≡ record {
+          vars = self.old.vars;
+          clauses = self.old.clauses ++ r.step.clause ∷ [];
+          lits = lits_up_to self.old r.level ++ r.unit ∷ [];
+          starts = take r.level self.old.starts;
+        }) }
+        ensures err { OnErr result (self.new ≡ self.old) }
+    {
+        let learnt = analyze(alloc, &self.clauses, &self.trail, &self.starts, conflict)?;
+        let clause = learnt.step.clause.copy(alloc)?;
+        self.clauses.reserve(1)?;
+        let place = self.clauses.len();
+        let from = self.starts[learnt.level];
+        self.trail.truncate(from);
+        self.starts.truncate(learnt.level);
+        self.clauses.push_reserved(clause);
+        self.trail.set(learnt.unit, place);
+        Ok(learnt)
+    }
+
+    /// The last step of a refutation, from the false clause at that place, at level 0.
+    pub(crate) fn last_step(&self, alloc: Global, conflict: usize) -> Result<DerivStep, AllocError>
+        requires no_level { self.now.starts ≡ [] }
+        requires conflict { IsFalseAt self.now.clauses self.now.lits conflict }
+        ensures empty { IfOk result (λ s. s.clause ≡ []) }
+        ensures follows { IfOk result (λ s. LeadsToConflict self.now.clauses [] s.hints) }
+    {
+        last_step(alloc, &self.clauses, &self.trail, conflict)
+    }
+
+    /// The values of the variables, where every variable is set and no clause is false.
+    pub(crate) fn values(&self, alloc: Global) -> Result<Seq<bool>, AllocError>
+        requires quiet { IsQuiet self.now.clauses self.now.lits }
+        requires set { AllSet self.now.vars self.now.lits }
+        ensures long { IfOk result (λ vs. length vs ≡ self.now.vars) }
+        ensures model { IfOk result (λ vs. All (λ c. clause_true (value_in vs) c ≡ true) self.now.clauses) }
+    {
+        let _lits = self.trail.lits();
+        let mut values = Seq::new(alloc);
+        for var in 1..self.trail.vars() + 1 {
+            values.push(self.trail.is_set(Lit::new(var, true)))?;
+        }
+        Ok(values)
+    }
+}
+
+fn copied(alloc: Global, clauses: &[Clause]) -> Result<Vec<Clause>, AllocError>
+    ensures { IfOk result (λ v. v.items ≡ clauses.now) }
+{
+    let mut out = Vec::with_capacity(alloc, clauses.len())?;
+    for clause in clauses {
+        out.push(clause.copy(alloc)?)?;
+    }
+    Ok(out)
+}
+
+/// The first unset variable, as its negative literal.
+fn unset_literal(trail: &Trail) -> Option<Lit>
+    ensures none { IfNone result (AllSet trail.now.vars trail.now.lits) }
+    ensures some { IfSome result (λ l. IsUnset trail.now.vars trail.now.lits l) }
+{
+    for var in 1..trail.vars() + 1 {
+        let l = Lit::new(var, false);
+        if is_unset(trail, l) {
+            return Some(l);
+        }
+    }
+    None
+}
+
+fn is_unset(trail: &Trail, l: Lit) -> bool
+    ensures { MatchBool result
+        ((is_set trail.now.lits l ≡ false) × (is_set trail.now.lits (negated l) ≡ false))
+        ((is_set trail.now.lits l ≡ true) ⊎ (is_set trail.now.lits (negated l) ≡ true)) }
+{
+    if trail.is_set(l) {
+        return false;
+    }
+    !trail.is_set(l.negated())
+}

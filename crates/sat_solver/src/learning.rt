@@ -1,0 +1,120 @@
+//! What is learnt from a conflict.
+ghost use Rattle.std.specs.Prelude.{◌≡◌, ◌-◌, ◌<◌, ◌≤◌, [], length, map, IfOk, All, slice_index, take};
+ghost use Rattle.proof_log.specs.Literals.{negated};
+ghost use Rattle.proof_log.specs.Derivations.{LeadsToConflict};
+ghost use Rattle.sat_solver.specs.Searches.{IsFalseAt, search_of};
+ghost use Rattle.sat_solver.specs.Engines.{IsSearch};
+ghost use Rattle.sat_solver.specs.Learning.{OthersFalse, IsLevel, IsLearnt};
+ghost use Rattle.sat_solver.specs.Cuts.{FalseBy, IsAsserting};
+
+use crate::cuts::{Cut, others_false, resolve_below, resolve_to_unit};
+use crate::trails::Trail;
+use proof_log::{Clause, DerivStep, Lit};
+use sdcv_base::Seq;
+use std::alloc::{AllocError, Global};
+
+/// An asserting clause: it follows by the step's hints, and after going back to the level all its
+/// literals but the unit are false. The level is the greatest of those literals, 0 where there is
+/// none.
+#[derive(Debug, Drop)]
+pub struct Learnt {
+    pub step: DerivStep,
+    pub level: usize,
+    pub unit: Lit,
+}
+
+/// Learns a clause from a false one, at a level above 0.
+pub fn analyze(
+    alloc: Global,
+    clauses: &[Clause],
+    trail: &Trail,
+    starts: &[usize],
+    conflict: usize,
+) -> Result<Learnt, AllocError>
+    requires search { IsSearch clauses.now trail.now starts.now }
+    requires deep { 0 < length starts.now }
+    requires conflict { IsFalseAt clauses.now trail.now.lits conflict }
+    ensures { IfOk result (λ r. IsLearnt (search_of trail.now.vars clauses.now trail.now.lits starts.now) r.step r.level r.unit) }
+{
+    let (cut, at) = asserting_cut(alloc, clauses, trail, starts, conflict)?;
+    let lits = trail.lits();
+    let clause = match Clause::normal(alloc, &cut.lits)? {
+        // The literals are false together, so no two of them are complements.
+        None => unreachable!(),
+        Some(clause) => clause,
+    };
+    let unit = lits[at].negated();
+    let level = asserting_level(trail, starts, clause.as_slice(), unit);
+    Ok(Learnt {
+        step: DerivStep {
+            clause,
+            hints: Seq::from_vec(cut.hints),
+        },
+        level,
+        unit,
+    })
+}
+
+/// The cut at the first unique implication point without the literals of level 0, its hints in
+/// order, and the place of the literal that makes its unit false.
+fn asserting_cut(
+    alloc: Global,
+    clauses: &[Clause],
+    trail: &Trail,
+    starts: &[usize],
+    conflict: usize,
+) -> Result<(Cut, usize), AllocError>
+    requires search { IsSearch clauses.now trail.now starts.now }
+    requires deep { 0 < length starts.now }
+    requires conflict { IsFalseAt clauses.now trail.now.lits conflict }
+    ensures { IfOk result (λ r. IsAsserting clauses.now trail.now.lits (slice_index starts.now 0)
+        (slice_index starts.now (length starts.now - 1)) r.1 r.0.lits.items r.0.hints.items) }
+{
+    let _lits = trail.lits();
+    let mut cut = Cut::of_conflict(alloc, clauses, conflict)?;
+    let start = starts[starts.len() - 1];
+    let at = resolve_to_unit(alloc, clauses, trail, start, &mut cut)?;
+    resolve_below(alloc, clauses, trail, starts[0], &mut cut)?;
+    cut.hints.reverse();
+    Ok((cut, at))
+}
+
+/// The least level whose literals, with those of the levels below, make all but the unit false.
+fn asserting_level(trail: &Trail, starts: &[usize], lits: &[Lit], unit: Lit) -> usize
+    requires some { 0 < length starts.now }
+    requires falsified { FalseBy trail.now.lits lits.now }
+    requires top { OthersFalse (take (slice_index starts.now (length starts.now - 1)) trail.now.lits) lits.now unit }
+    ensures { IsLevel trail.now.lits starts.now lits.now unit result }
+{
+    let top = starts.len() - 1;
+    for level in 0..top {
+        if others_false(trail, starts[level], lits, unit) {
+            return level;
+        }
+    }
+    top
+}
+
+/// The empty step by which a false clause refutes the clauses, at level 0.
+pub fn last_step(
+    alloc: Global,
+    clauses: &[Clause],
+    trail: &Trail,
+    conflict: usize,
+) -> Result<DerivStep, AllocError>
+    requires search { IsSearch clauses.now trail.now [] }
+    requires conflict { IsFalseAt clauses.now trail.now.lits conflict }
+    ensures empty { IfOk result (λ s. s.clause ≡ []) }
+    ensures follows { IfOk result (λ s. LeadsToConflict clauses.now [] s.hints) }
+{
+    let mut cut = Cut::of_conflict(alloc, clauses, conflict)?;
+    resolve_below(alloc, clauses, trail, trail.len(), &mut cut)?;
+    cut.hints.reverse();
+    let Cut { lits: _lits, hints } = cut;
+    Ok(DerivStep {
+        clause: Clause {
+            lits: Seq::new(alloc),
+        },
+        hints: Seq::from_vec(hints),
+    })
+}

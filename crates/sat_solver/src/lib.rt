@@ -1,0 +1,19 @@
+//! Clause learning: whether a formula has a model, with a model, a refuting derivation, or a log of
+//! the steps that a spent budget gave (Marques-Silva and Sakallah, GRASP, 1999).
+//!
+//! Read `solving.rt` first, then `engines.rt`, whose calls are the search's steps. A derivation is
+//! checked by itself elsewhere, and nothing here is asked to be trusted for that.
+#![tactic(auto)]
+
+mod cuts;
+mod engines;
+mod learning;
+mod propagation;
+mod solving;
+#[cfg(test)]
+mod tests;
+mod trails;
+
+pub use engines::Engine;
+pub use learning::Learnt;
+pub use solving::{Answer, solve};

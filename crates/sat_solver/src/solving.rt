@@ -1,0 +1,68 @@
+//! The solver: search, learn, and search again.
+ghost use Rattle.std.specs.Prelude.{◌≡◌, ◌+◌, ◌^◌, ◌≤◌, length, IfOk, MatchOption};
+ghost use Rattle.proof_log.specs.Formulas.{IsFormula};
+ghost use Rattle.sat_solver.specs.Searches.{IsQuiet, IsFalseAt, AllSet};
+ghost use Rattle.sat_solver.specs.Answers.{IsAnswer, IsSpent};
+
+use crate::engines::Engine;
+use proof_log::{Derivation, Formula, Model};
+use sdcv_base::Seq;
+use std::alloc::{AllocError, Global};
+
+/// What is found of a formula.
+#[derive(Debug, Drop)]
+pub enum Answer {
+    /// A model.
+    Sat(Model),
+    /// A derivation that refutes the formula.
+    Unsat(Derivation),
+    /// As many new clauses as the budget says, each of which follows.
+    Spent(Derivation),
+}
+
+/// Looks for a model of the formula. The budget bounds the clauses that are learnt; conflicts at
+/// level 0 count against none. The search goes on after the last one, until the next conflict above
+/// level 0.
+pub fn solve(alloc: Global, formula: &Formula, budget: u64) -> Result<Answer, AllocError>
+    requires { IsFormula formula.now }
+    ensures answer { IfOk result (IsAnswer formula.now budget) }
+
+    // There are 3 ^ vars clauses without complementary literals, and each step of a log is new.
+    ensures never_spent { 3 ^ formula.now.vars ≤ budget → IfOk result (λ a. IsSpent a → ⊥) }
+{
+    let mut engine = Engine::load(alloc, formula)?;
+    let mut steps = Seq::new(alloc);
+    loop {
+        let Some(conflict) = search(&mut engine) else {
+            let values = engine.values(alloc)?;
+            return Ok(Answer::Sat(Model { values }));
+        };
+        if engine.level() == 0 {
+            steps.push(engine.last_step(alloc, conflict)?)?;
+            return Ok(Answer::Unsat(Derivation { steps }));
+        }
+        if steps.len() as u64 == budget {
+            return Ok(Answer::Spent(Derivation { steps }));
+        }
+        let learnt = engine.learn(alloc, conflict)?;
+        steps.push(learnt.step)?;
+    }
+}
+
+/// Propagates and decides until a clause is false, whose place is told, or every variable is set.
+fn search(engine: &mut Engine) -> Option<usize>
+    ensures vars { engine.new.vars ≡ engine.old.vars }
+    ensures clauses { engine.new.clauses ≡ engine.old.clauses }
+    ensures settled { MatchOption result
+        (IsQuiet engine.new.clauses engine.new.lits × AllSet engine.new.vars engine.new.lits)
+        (λ place. IsFalseAt engine.new.clauses engine.new.lits place) }
+{
+    loop {
+        if let Some(place) = engine.propagate() {
+            return Some(place);
+        }
+        if engine.decide().is_none() {
+            return None;
+        }
+    }
+}
