@@ -1,0 +1,9 @@
+pub mod Due
+pub mod Lines
+pub mod Outcomes
+pub mod Plans
+pub mod Reports
+pub mod Runs
+pub mod Statuses
+pub mod Verdicts
+pub mod Words
