@@ -1,0 +1,3 @@
+pub mod TernaryLayers
+pub mod Hazards
+pub mod Examples
