@@ -1,0 +1,21 @@
+//! Stimuli as texts, and their exact replay: whether the run that a stimulus stands for violates a claim, and at which
+//! toggle first.
+//!
+//! It simulates, and knows neither clauses nor how a stimulus was found. Read `replay` first: its answer is in the words
+//! of `net_model`, `IsViolatedAt` for the one run that the stimulus stands for.
+#![tactic(auto)]
+
+mod bads;
+mod faults;
+mod outcomes;
+mod replays;
+mod runs;
+mod shapes;
+mod stimulus_texts;
+#[cfg(test)]
+mod tests;
+
+pub use faults::ReplayFault;
+pub use outcomes::Replay;
+pub use replays::replay;
+pub use stimulus_texts::write_stim;

@@ -1,0 +1,120 @@
+//! Which toggle of a run is the first to violate a claim.
+ghost use Rattle.std.specs.Prelude.{◌≡◌, ◌<◌, ◌↔◌, IsTrue, IfOk, IfErr, All, length};
+ghost use Rattle.net_model.specs.Netlist.{IsSound};
+ghost use Rattle.net_model.specs.Fits.{Fits};
+ghost use Rattle.net_model.specs.Cycles.{IsSettled};
+ghost use Rattle.net_model.specs.Judge as judge;
+ghost use Rattle.net_model.specs.Stimuli.{IsLawful};
+ghost use Rattle.witness_replay.specs.Rooms.{AreRoomsFor};
+ghost use Rattle.witness_replay.specs.Replays.{IsFirstViolation, IsReplay, IsReplayCause};
+
+use crate::bads::{Rooms, is_bad, start_bit};
+use crate::faults::ReplayFault;
+use crate::outcomes::Replay;
+use crate::runs::run_of;
+use crate::shapes::{first_unlawful, has_shape};
+use net_model::{Claim, Cycle, Design, Kind, Stimulus};
+use sdcv_base::Seq;
+use std::alloc::{AllocError, Global};
+
+/// How many captures from the toggle on a claim judges.
+fn judged_count(kind: Kind) -> usize
+    ensures { result ≡ judge.judged_count kind }
+{
+    match kind {
+        Kind::False => 1,
+        Kind::Multi(k) => usize::from(k.saturating_sub(1)),
+    }
+}
+
+/// Whether the run violates the claim at t.
+fn is_violated_at(
+    design: &Design,
+    claim: &Claim,
+    run: &Seq<Cycle>,
+    t: usize,
+    rooms: &mut Rooms,
+) -> bool
+    requires sound { IsSound design.now }
+    requires fits { Fits design.now claim.now }
+    requires settled { All (IsSettled design.now) run.now }
+    requires in_run { t < length run.now }
+    requires rooms { AreRoomsFor design.now rooms.old }
+    ensures means { IsTrue result ↔ judge.IsViolatedAt design.now.reset_len design.now claim.now run.now t }
+    ensures rooms { AreRoomsFor design.now rooms.new }
+{
+    if t <= design.reset_len {
+        return false;
+    }
+    let stale = start_bit(design, &claim.start, run.item(t - 1));
+    if start_bit(design, &claim.start, run.item(t)) == stale {
+        return false;
+    }
+    let judged = judged_count(claim.kind).min(run.len() - t);
+    for r in 0..judged {
+        let before = run.item(t + r - 1);
+        let cycle = run.item(t + r);
+        if is_bad(design, claim, stale, before, cycle, rooms) {
+            return true;
+        }
+    }
+    false
+}
+
+/// The first toggle of a run that violates the claim.
+fn first_violation(design: &Design, claim: &Claim, run: &Seq<Cycle>, rooms: &mut Rooms) -> Replay
+    requires sound { IsSound design.now }
+    requires fits { Fits design.now claim.now }
+    requires settled { All (IsSettled design.now) run.now }
+    requires rooms { AreRoomsFor design.now rooms.old }
+    ensures { IsFirstViolation design.now claim.now run.now result }
+{
+    for t in 0..run.len() {
+        if is_violated_at(design, claim, run, t, rooms) {
+            return Replay::Violated(t);
+        }
+    }
+    Replay::Holds
+}
+
+/// Replays a lawful stimulus.
+fn replay_lawful(
+    alloc: Global,
+    design: &Design,
+    claim: &Claim,
+    stimulus: &Stimulus,
+) -> Result<Replay, AllocError>
+    requires sound { IsSound design.now }
+    requires fits { Fits design.now claim.now }
+    requires lawful { IsLawful design.now stimulus.now }
+    ensures { IfOk result (IsReplay design.now claim.now stimulus.now) }
+{
+    let run = run_of(alloc, design, stimulus)?;
+    let mut rooms = Rooms::new(alloc, design)?;
+    Ok(first_violation(design, claim, &run, &mut rooms))
+}
+
+/// Replays a stimulus: the least t at which its run violates the claim. Toggles count from the first cycle after the one
+/// in which resets become inactive.
+///
+/// `Shape` where its numbers of bits are not the design's, `NotReset` with the first cycle in which a reset or fixed input
+/// has another value.
+pub fn replay(
+    alloc: Global,
+    design: &Design,
+    claim: &Claim,
+    stimulus: &Stimulus,
+) -> Result<Replay, ReplayFault>
+    requires sound { IsSound design.now }
+    requires fits { Fits design.now claim.now }
+    ensures ok { IfOk result (IsReplay design.now claim.now stimulus.now) }
+    ensures err { IfErr result (IsReplayCause design.now stimulus.now) }
+{
+    if !has_shape(design, stimulus) {
+        return Err(ReplayFault::Shape);
+    }
+    match first_unlawful(design, stimulus) {
+        Some(cycle) => Err(ReplayFault::NotReset(cycle)),
+        None => Ok(replay_lawful(alloc, design, claim, stimulus)?),
+    }
+}
