@@ -15,3 +15,4 @@ pub mod Judge
 pub mod Queries
 pub mod Stimuli
 pub mod Fits
+pub mod Mentions

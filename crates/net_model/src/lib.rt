@@ -6,9 +6,11 @@
 #![tactic(auto)]
 
 mod arguments;
+mod capture_funcs;
 mod captures;
 mod claims;
 mod cycles;
+mod fits;
 mod functions;
 mod invariants;
 mod late_starts;
@@ -24,6 +26,7 @@ mod tests;
 mod values;
 
 pub use arguments::Args;
+pub use capture_funcs::capture_func;
 pub use captures::capture_of;
 pub use claims::{Claim, End, Kind, PinRef, Start};
 pub use cycles::{Cycle, Stimulus};

@@ -1,7 +1,12 @@
 ghost use Rattle.std.specs.Prelude.{◌≡◌, IfOk};
 ghost use Rattle.net_model.specs.Form.{PinForm, IsOver};
+ghost use Rattle.net_model.specs.Netlist.{IsOptionOver};
 
-use crate::{Args, Func, Node, Tern, Value};
+use crate::{
+    Args, Claim, Design, End, Fixed, Func, Gate, Kind, Node, PinRef, Reg, RegOut, Start, Tern,
+    Value, capture_func,
+};
+use sdcv_base::Seq;
 use std::alloc::{AllocError, Global};
 use std::test;
 
@@ -58,5 +63,162 @@ fn a_copied_multiplexer_as_one_cell(rt: HostRuntime) -> Result<(), test::Fail> {
             "a {a:?}, b {b:?}, select {select:?}"
         );
     }
+    Ok(())
+}
+
+// A toggle register: the next state is place 0 xor the own bit, place 3, clear is place 1 and preset place 2.
+fn toggle(alloc: Global, both: bool) -> Result<Reg, AllocError>
+    ensures next { IfOk result (λ reg. IsOver 7 reg.next) }
+    ensures clear { IfOk result (λ reg. IsOptionOver 7 reg.clear) }
+    ensures preset { IfOk result (λ reg. IsOptionOver 7 reg.preset) }
+{
+    let ins = Seq::from_vec(vec![in alloc; 0, 0, 0]?);
+    let outs = Seq::from_vec(vec![in alloc;
+        RegOut {
+            net: 2,
+            inverted: false
+        },
+    ]?);
+    let next = Func {
+        node: Node::Xor(pin(alloc, 0)?, pin(alloc, 3)?),
+    };
+    Ok(Reg {
+        next,
+        clear: Some(Func { node: Node::Pin(1) }),
+        preset: Some(Func { node: Node::Pin(2) }),
+        both,
+        ins,
+        outs,
+    })
+}
+
+// Liberty, group ff: clear_preset_var1 is the value where clear and preset are both 1; clear gives 0 and preset 1.
+#[test]
+fn captures_as_functions(rt: HostRuntime) -> Result<(), test::Fail> {
+    // Whether place 0, clear, preset and the own bit are 1, and what a register with `both` 0 and one with 1 captures.
+    let cases = [
+        (true, false, false, false, true, true),
+        (true, false, false, true, false, false),
+        (false, false, false, true, true, true),
+        (true, true, false, false, false, false),
+        (false, false, true, false, true, true),
+        (true, true, true, false, false, true),
+        (false, true, true, false, false, true),
+    ];
+    let low = capture_func(rt.alloc(), &toggle(rt.alloc(), false)?)?;
+    let high = capture_func(rt.alloc(), &toggle(rt.alloc(), true)?)?;
+    for (enable, clear, preset, own, want_low, want_high) in cases {
+        let mut args = Args::of(own);
+        args.set(0, enable);
+        args.set(1, clear);
+        args.set(2, preset);
+        assert_eq!(rt; bool::apply(&low, &args), want_low);
+        assert_eq!(rt; bool::apply(&high, &args), want_high);
+    }
+    Ok(())
+}
+
+// Net 0 is an input, net 1 a gate's output and an output port, and net 2 a register's output.
+fn small(alloc: Global) -> Result<Design, AllocError> {
+    let inverter = Gate {
+        func: Func {
+            node: Node::Not(pin(alloc, 0)?),
+        },
+        ins: Seq::from_vec(vec![in alloc; 0]?),
+        out: 1,
+    };
+    Ok(Design {
+        nets: 3,
+        gates: Seq::from_vec(vec![in alloc; inverter]?),
+        regs: Seq::from_vec(vec![in alloc; toggle(alloc, false)?]?),
+        inputs: Seq::from_vec(vec![in alloc; 0]?),
+        outputs: Seq::from_vec(vec![in alloc; 1]?),
+        fixed: Seq::new(alloc),
+        resets: Seq::new(alloc),
+        reset_len: 0,
+    })
+}
+
+// A claim with these through sets, each of one pin.
+fn claim(
+    alloc: Global,
+    kind: Kind,
+    start: Start,
+    end: End,
+    pins: &[PinRef],
+) -> Result<Claim, AllocError> {
+    let mut through = Seq::new(alloc);
+    for pin in pins {
+        through.push(Seq::from_vec(vec![in alloc; *pin]?))?;
+    }
+    Ok(Claim {
+        kind,
+        hazard: false,
+        start,
+        end,
+        through,
+    })
+}
+
+#[test]
+fn claims_that_fit(rt: HostRuntime) -> Result<(), test::Fail> {
+    let design = small(rt.alloc())?;
+    let reg = Start::Reg(0);
+    let out = End::Output(0);
+    let cases = [
+        (Kind::False, reg, out, PinRef::Net(2), true),
+        (
+            Kind::False,
+            Start::Input(0),
+            End::Reg(0),
+            PinRef::GateIn(0, 0),
+            true,
+        ),
+        (Kind::Multi(1), reg, out, PinRef::RegIn(0, 2), true),
+        (Kind::Multi(16), reg, out, PinRef::OutPort(0), true),
+        (Kind::Multi(0), reg, out, PinRef::Net(2), false),
+        (Kind::Multi(17), reg, out, PinRef::Net(2), false),
+        (Kind::False, Start::Reg(1), out, PinRef::Net(2), false),
+        (Kind::False, Start::Input(1), out, PinRef::Net(2), false),
+        (Kind::False, reg, End::Reg(1), PinRef::Net(2), false),
+        (Kind::False, reg, End::Output(1), PinRef::Net(2), false),
+        (Kind::False, reg, out, PinRef::Net(3), false),
+        (Kind::False, reg, out, PinRef::GateIn(0, 1), false),
+        (Kind::False, reg, out, PinRef::GateIn(1, 0), false),
+        // The register's own bit is no pin.
+        (Kind::False, reg, out, PinRef::RegIn(0, 3), false),
+        (Kind::False, reg, out, PinRef::OutPort(1), false),
+    ];
+    for (kind, start, end, pin, want) in cases {
+        let claim = claim(rt.alloc(), kind, start, end, &[pin])?;
+        assert_eq!(rt;
+            claim.fits(&design),
+            want,
+            "{kind:?} {start:?} {end:?} {pin:?}"
+        );
+    }
+    Ok(())
+}
+
+#[test]
+fn four_through_sets_fit(rt: HostRuntime) -> Result<(), test::Fail> {
+    let design = small(rt.alloc())?;
+    let pins = [PinRef::Net(1); 5];
+    let four = claim(
+        rt.alloc(),
+        Kind::False,
+        Start::Input(0),
+        End::Output(0),
+        &pins[..4],
+    )?;
+    assert!(rt; four.fits(&design));
+    let five = claim(
+        rt.alloc(),
+        Kind::False,
+        Start::Input(0),
+        End::Output(0),
+        &pins,
+    )?;
+    assert!(rt; !five.fits(&design));
     Ok(())
 }

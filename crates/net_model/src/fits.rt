@@ -1,0 +1,76 @@
+//! Whether a claim's places are those of a design.
+ghost use Rattle.std.specs.Prelude.{◌↔◌, IsTrue, All};
+ghost use Rattle.net_model.specs.Fits.{IsStartIn, IsEndIn, IsPinIn, IsKindFit, Fits};
+
+use crate::claims::{Claim, End, Kind, PinRef, Start};
+use crate::netlist::Design;
+use sdcv_base::Seq;
+
+const MOST_CYCLES: u8 = 16;
+
+const MOST_SETS: usize = 4;
+
+fn is_kind_fit(kind: Kind) -> bool
+    ensures { IsTrue result ↔ IsKindFit kind }
+{
+    match kind {
+        Kind::False => true,
+        Kind::Multi(cycles) => cycles >= 1 && cycles <= MOST_CYCLES,
+    }
+}
+
+fn is_start_in(design: &Design, start: Start) -> bool
+    ensures { IsTrue result ↔ IsStartIn design.now start }
+{
+    match start {
+        Start::Reg(reg) => reg < design.regs.len(),
+        Start::Input(input) => input < design.inputs.len(),
+    }
+}
+
+fn is_end_in(design: &Design, end: End) -> bool
+    ensures { IsTrue result ↔ IsEndIn design.now end }
+{
+    match end {
+        End::Reg(reg) => reg < design.regs.len(),
+        End::Output(output) => output < design.outputs.len(),
+    }
+}
+
+fn is_pin_in(design: &Design, pin: PinRef) -> bool
+    ensures { IsTrue result ↔ IsPinIn design.now pin }
+{
+    match pin {
+        PinRef::Net(net) => net < design.nets,
+        PinRef::GateIn(gate, place) => {
+            gate < design.gates.len() && place < design.gates.item(gate).ins.len()
+        }
+        PinRef::RegIn(reg, place) => {
+            reg < design.regs.len() && place < design.regs.item(reg).ins.len()
+        }
+        PinRef::OutPort(output) => output < design.outputs.len(),
+    }
+}
+
+fn are_pins_in(design: &Design, set: &Seq<PinRef>) -> bool
+    ensures { IsTrue result ↔ All (IsPinIn design.now) set.now }
+{
+    set.as_slice().iter().all(|pin| is_pin_in(design, *pin))
+}
+
+impl Claim {
+    /// Whether all places of the claim are in range, its multiplier is from 1 to 16, and it has at most 4 through sets.
+    pub fn fits(&self, design: &Design) -> bool
+        ensures { IsTrue result ↔ Fits design.now self.now }
+    {
+        is_kind_fit(self.kind)
+            && is_start_in(design, self.start)
+            && is_end_in(design, self.end)
+            && self.through.len() <= MOST_SETS
+            && self
+                .through
+                .as_slice()
+                .iter()
+                .all(|set| are_pins_in(design, set))
+    }
+}
