@@ -12,3 +12,7 @@ pub mod Existence
 pub mod OneRun
 pub mod Stretches
 pub mod PinTests
+pub mod Marking
+pub mod Driving
+pub mod Ranging
+pub mod Unsound

@@ -16,3 +16,5 @@ pub mod Queries
 pub mod Stimuli
 pub mod Fits
 pub mod Mentions
+pub mod Marks
+pub mod Faults

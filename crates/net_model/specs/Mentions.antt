@@ -1,7 +1,8 @@
 -- The places that functions mention: those that they read as they are written, also where the value does not depend on
 -- them.
 use Rattle.std.specs.Prelude.{ℕ, Bool, false, ◌||◌, ◌==◌, Option, Some, None}
-use Rattle.net_model.specs.Form.{Form, ZeroForm, OneForm, PinForm, NotForm, AndForm, OrForm, XorForm}
+use Rattle.net_model.specs.Form.{Form, ZeroForm, OneForm, PinForm, NotForm, AndForm, OrForm, XorForm, IsOver}
+use Rattle.net_model.specs.Netlist.{IsOptionOver}
 use Rattle.net_model.specs.declared.netlist.Reg.{Reg}
 
 -- whether a function mentions a place
@@ -23,3 +24,9 @@ mentions_if_any place (Some f) = mentions place f
 abbrev pub reg_mentions : ℕ → Reg → Bool
 reg_mentions place reg =
     mentions place reg.next || (mentions_if_any place reg.clear || mentions_if_any place reg.preset)
+
+-- the register's functions read places below n alone
+pub record IsRegOver (n : ℕ) (r : Reg) : Type 0 where
+  pub next : IsOver n r.next
+  pub clear : IsOptionOver n r.clear
+  pub preset : IsOptionOver n r.preset

@@ -3,8 +3,8 @@ ghost use Rattle.net_model.specs.Form.{PinForm, IsOver};
 ghost use Rattle.net_model.specs.Netlist.{IsOptionOver};
 
 use crate::{
-    Args, Claim, Design, End, Fixed, Func, Gate, Kind, Node, PinRef, Reg, RegOut, Start, Tern,
-    Value, capture_func,
+    Args, Claim, Design, DesignFault, End, Fixed, Func, Gate, Kind, Node, PinRef, Reg, RegOut,
+    Start, Tern, Value, capture_func,
 };
 use sdcv_base::Seq;
 use std::alloc::{AllocError, Global};
@@ -92,28 +92,38 @@ fn toggle(alloc: Global, both: bool) -> Result<Reg, AllocError>
     })
 }
 
+fn toggle_capture(alloc: Global, both: bool) -> Result<Func, AllocError>
+    ensures { IfOk result (IsOver 7) }
+{
+    let reg = toggle(alloc, both)?;
+    let func = capture_func(alloc, &reg)?;
+    Ok(func)
+}
+
 // Liberty, group ff: clear_preset_var1 is the value where clear and preset are both 1; clear gives 0 and preset 1.
 #[test]
 fn captures_as_functions(rt: HostRuntime) -> Result<(), test::Fail> {
-    // Whether place 0, clear, preset and the own bit are 1, and what a register with `both` 0 and one with 1 captures.
+    // Place 0, clear, preset, the own bit, the value where clear and preset are both 1, and what is captured.
     let cases = [
-        (true, false, false, false, true, true),
+        (true, false, false, false, false, true),
         (true, false, false, true, false, false),
         (false, false, false, true, true, true),
-        (true, true, false, false, false, false),
-        (false, false, true, false, true, true),
-        (true, true, true, false, false, true),
-        (false, true, true, false, false, true),
+        (true, true, false, false, true, false),
+        (false, false, true, false, false, true),
+        (true, true, true, false, false, false),
+        (false, true, true, false, true, true),
     ];
-    let low = capture_func(rt.alloc(), &toggle(rt.alloc(), false)?)?;
-    let high = capture_func(rt.alloc(), &toggle(rt.alloc(), true)?)?;
-    for (enable, clear, preset, own, want_low, want_high) in cases {
+    for (enable, clear, preset, own, both, want) in cases {
+        let func = toggle_capture(rt.alloc(), both)?;
         let mut args = Args::of(own);
         args.set(0, enable);
         args.set(1, clear);
         args.set(2, preset);
-        assert_eq!(rt; bool::apply(&low, &args), want_low);
-        assert_eq!(rt; bool::apply(&high, &args), want_high);
+        assert_eq!(rt;
+            bool::apply(&func, &args),
+            want,
+            "{enable} {clear} {preset} {own} {both}"
+        );
     }
     Ok(())
 }
@@ -220,5 +230,93 @@ fn four_through_sets_fit(rt: HostRuntime) -> Result<(), test::Fail> {
         &pins,
     )?;
     assert!(rt; !five.fits(&design));
+    Ok(())
+}
+
+// What the check says of a design with one gate, an inverter that reads place 0.
+fn checked(
+    alloc: Global,
+    nets: usize,
+    ins: &[usize],
+    out: usize,
+    inputs: &[usize],
+    fixed: &[usize],
+    resets: &[usize],
+    reset_len: usize,
+) -> Result<Result<(), DesignFault>, AllocError> {
+    let inverter = Gate {
+        func: Func {
+            node: Node::Not(pin(alloc, 0)?),
+        },
+        ins: Seq::from_vec(Vec::from_slice(alloc, ins)?),
+        out,
+    };
+    let design = Design {
+        nets,
+        gates: Seq::from_vec(vec![in alloc; inverter]?),
+        regs: Seq::new(alloc),
+        inputs: Seq::from_vec(Vec::from_slice(alloc, inputs)?),
+        outputs: Seq::new(alloc),
+        fixed: settings(alloc, fixed)?,
+        resets: settings(alloc, resets)?,
+        reset_len,
+    };
+    Ok(design.check(alloc))
+}
+
+fn settings(alloc: Global, inputs: &[usize]) -> Result<Seq<Fixed>, AllocError> {
+    let mut settings = Seq::new(alloc);
+    for input in inputs {
+        settings.push(Fixed {
+            input: *input,
+            value: true,
+        })?;
+    }
+    Ok(settings)
+}
+
+#[test]
+fn designs_checked(rt: HostRuntime) -> Result<(), test::Fail> {
+    use DesignFault::{Limit, ManyDrivers, Order, PlaceOutOfRange, Twice, Undriven};
+    let none: &[usize] = &[];
+    let zero: &[usize] = &[0];
+    let seven: &[usize] = &[0, 0, 0, 0, 0, 0, 0];
+    // Nets, the gate's inputs and output, inputs, fixed inputs, reset inputs, reset cycles.
+    let cases = [
+        (2, zero, 1, zero, zero, none, 64, Ok(())),
+        // The gate reads its own output.
+        (1, zero, 0, none, none, none, 0, Err(Order(0))),
+        (1, zero, 0, zero, none, none, 0, Err(ManyDrivers(0))),
+        (3, zero, 1, zero, none, none, 0, Err(Undriven(2))),
+        (2, none, 1, zero, none, none, 0, Err(PlaceOutOfRange(0))),
+        (2, zero, 2, zero, none, none, 0, Err(PlaceOutOfRange(2))),
+        (1, zero, 0, none, zero, none, 0, Err(PlaceOutOfRange(0))),
+        (2, zero, 1, zero, zero, zero, 0, Err(Twice(0))),
+        (2, zero, 1, zero, none, none, 65, Err(Limit(65))),
+        (2, seven, 1, zero, none, none, 0, Err(Limit(7))),
+    ];
+    for (nets, ins, out, inputs, fixed, resets, reset_len, want) in cases {
+        let alloc = rt.alloc();
+        let answer = checked(alloc, nets, ins, out, inputs, fixed, resets, reset_len)?;
+        assert_eq!(rt; answer, want);
+    }
+    Ok(())
+}
+
+#[test]
+fn sound_designs(rt: HostRuntime) -> Result<(), test::Fail> {
+    let alloc = rt.alloc();
+    assert_eq!(rt; small(alloc)?.check(alloc), Ok(()));
+    let empty = Design {
+        nets: 0,
+        gates: Seq::new(alloc),
+        regs: Seq::new(alloc),
+        inputs: Seq::new(alloc),
+        outputs: Seq::new(alloc),
+        fixed: Seq::new(alloc),
+        resets: Seq::new(alloc),
+        reset_len: 0,
+    };
+    assert_eq!(rt; empty.check(alloc), Ok(()));
     Ok(())
 }
