@@ -1,13 +1,12 @@
 -- The drivers of nets, counted by marks.
-use Rattle.std.proofs.Common.{◌≡◌, ℕ, ◌+◌, ◌<◌, ◌≤◌, Bool, true, false, List, [], ◌∷◌, ◌++◌, length, take, map, set, get_or, Some, refl, ◌∙◌, sym, ap, arith, below_more, append_assoc, length-set}
-use Rattle.std.specs.Prelude.{slice_get, count_by, ◌==◌, Contains, All, flat_map}
+use Rattle.std.proofs.Common.{◌≡◌, ℕ, ◌+◌, ◌<◌, Bool, true, false, List, [], ◌∷◌, length, take, map, set, get_or, Some, refl, ◌∙◌, arith, below_more, append_assoc, length-set}
+use Rattle.std.specs.Prelude.{slice_get, ◌==◌, Contains, All}
 use Rattle.std.proofs.lemmas.List.{map_more}
 use Rattle.std.proofs.lemmas.Option.{slice_get_within, get_or_from_slice_get, slice_get-get_or}
-use Rattle.net_model.specs.Netlist.{AllBelow, IsInOrder, IsRegInRange, source_nets, gate_nets, reg_nets, driver_count, driven_nets}
-use Rattle.net_model.specs.Marks.{is_marked, mark_of, AddsMarks, IsMarkedTwice, AreMarked}
+use Rattle.net_model.specs.Netlist.{AllBelow, source_nets, gate_nets, driver_count, driven_nets}
+use Rattle.net_model.specs.Marks.{is_marked, mark_of, IsMarkedTwice, AreMarked}
 use Rattle.net_model.specs.Faults.{IsOutOfOrder}
 use Rattle.net_model.proofs.Order.{before, count_append, count_taken, counted}
-use Rattle.net_model.proofs.Settling.{All-at}
 use Rattle.net_model.proofs.Marking.{marked_one, marked_contains, unmarked_not_contains, counted_marked, counted_unmarked}
 use Rattle.net_model.specs.declared.netlist.Design.{Design}
 use Rattle.net_model.specs.declared.netlist.Gate.{Gate}

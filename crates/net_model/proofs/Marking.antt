@@ -1,6 +1,6 @@
 -- Marks that are added one after another.
-use Rattle.std.proofs.Common.{◌≡◌, ◌≢◌, ℕ, ◌+◌, ◌<◌, ◌≤◌, Bool, true, false, cond, List, [], ◌∷◌, ◌++◌, map, length, take, set, get_or, Some, refl, ap, subst, sym, ◌∙◌, arith, inl, inr, get_or-set_other, get_or-set_same, length-set}
-use Rattle.std.specs.Prelude.{slice_get, count_by, ◌==◌, Contains, option_map, flat_map, All}
+use Rattle.std.proofs.Common.{◌≡◌, ◌≢◌, ℕ, ◌+◌, ◌<◌, ◌≤◌, Bool, true, false, cond, List, [], ◌∷◌, ◌++◌, map, length, take, set, get_or, Some, refl, ap, sym, ◌∙◌, arith, inl, inr, get_or-set_other, get_or-set_same, length-set}
+use Rattle.std.specs.Prelude.{slice_get, count_by, ◌==◌, Contains, option_map, flat_map}
 use Rattle.std.proofs.lemmas.Bool.{cases_eq}
 use Rattle.std.proofs.lemmas.Bool.Decides.{nat_tests}
 use Rattle.std.proofs.lemmas.List.{take_more, map_more, flat_map_more}

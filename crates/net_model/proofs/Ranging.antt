@@ -1,6 +1,6 @@
 -- Numbers of ports that are out of range.
-use Rattle.std.proofs.Common.{ℕ, zero, suc, List, [], ◌∷◌, ◌++◌, length, ◌<◌, arith}
-use Rattle.std.specs.Prelude.{Option, Some, None, MatchOption, All, Contains}
+use Rattle.std.proofs.Common.{ℕ, suc, List, [], ◌∷◌, ◌++◌, length, ◌<◌, arith}
+use Rattle.std.specs.Prelude.{Option, Some, None, MatchOption, All}
 use Rattle.std.specs.Option.{option_or}
 use Rattle.std.proofs.lemmas.List.Elements.{All-append, Contains-append_left, Contains-append_right}
 use Rattle.net_model.specs.Netlist.{AllBelow, setting_inputs}

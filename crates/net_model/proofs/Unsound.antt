@@ -1,11 +1,11 @@
 -- Each cause of a refusal, but want of memory, is one by which a design is not sound.
-use Rattle.std.proofs.Common.{◌≡◌, ◌≢◌, ℕ, ◌+◌, ◌<◌, ◌≤◌, ◌++◌, Bool, true, false, ◌||◌, List, length, take, Some, None, refl, arith, eqb-true, inl, inr}
-use Rattle.std.specs.Prelude.{Option, slice_get, Contains, ◌⊎◌}
+use Rattle.std.proofs.Common.{◌≡◌, ◌≢◌, ℕ, ◌+◌, ◌<◌, ◌++◌, Bool, true, false, ◌||◌, List, length, take, Some, None, refl, arith, eqb-true, inl, inr}
+use Rattle.std.specs.Prelude.{Option, Contains, ◌⊎◌}
 use Rattle.std.proofs.lemmas.List.Elements.{All-contains}
 use Rattle.net_model.specs.Form.{Form, ZeroForm, OneForm, PinForm, NotForm, AndForm, OrForm, XorForm, IsOver}
 use Rattle.net_model.specs.Mentions.{mentions, mentions_if_any}
 use Rattle.net_model.specs.Netlist.{AllBelow, IsOptionOver, IsGateInRange, IsRegInRange, IsSound, source_nets, gate_nets, reg_nets, held_inputs}
-use Rattle.net_model.specs.Faults.{IsBeyond, IsGateBeyond, GatePlace, GateInput, GateOutput, IsRegBeyond, RegPlace, RegInput, RegOutput, IsOutOfRange, OfGate, OfReg, OfInputs, OfOutputs, OfHeld, Passes, IsAboveLimit, Nets, Registers, Inputs, Outputs, GatePins, RegPins, ResetCycles, IsCause}
+use Rattle.net_model.specs.Faults.{IsBeyond, IsGateBeyond, GatePlace, GateInput, GateOutput, IsRegBeyond, RegPlace, RegInput, RegOutput, IsOutOfRange, OfGate, OfReg, OfInputs, OfOutputs, OfHeld, IsAboveLimit, Nets, Registers, Inputs, Outputs, GatePins, RegPins, ResetCycles, IsCause}
 use Rattle.net_model.proofs.Settling.{All-at}
 use Rattle.net_model.specs.declared.netlist.Design.{Design}
 use Rattle.net_model.specs.declared.netlist.Gate.{Gate}

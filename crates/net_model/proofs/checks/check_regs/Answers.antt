@@ -1,4 +1,4 @@
-use Rattle.std.proofs.Common.{◌≡◌, ℕ, Some, arith, below_more}
+use Rattle.std.proofs.Common.{◌≡◌, Some, arith, below_more}
 use Rattle.std.specs.Prelude.{slice_get}
 use Rattle.net_model.specs.Netlist.{IsRegInRange}
 use Rattle.net_model.specs.declared.netlist.Reg.{Reg}

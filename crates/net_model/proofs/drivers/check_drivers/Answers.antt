@@ -1,4 +1,3 @@
-use Rattle.std.proofs.Common.{◌∙◌}
 use Rattle.net_model.proofs.Driving.{one_driver}
 use Rattle.net_model.proofs.drivers.check_drivers.Goals as goal
 

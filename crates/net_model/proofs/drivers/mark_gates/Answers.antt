@@ -1,4 +1,4 @@
-use Rattle.std.proofs.Common.{◌∙◌, ◌<◌, sym, arith, get_or}
+use Rattle.std.proofs.Common.{◌∙◌, ◌<◌, sym, arith}
 use Rattle.std.proofs.lemmas.List.Elements.{All-contains}
 use Rattle.std.proofs.lemmas.Option.{slice_get_within}
 use Rattle.net_model.specs.Netlist.{IsGateInRange}

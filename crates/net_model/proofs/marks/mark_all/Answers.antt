@@ -1,4 +1,4 @@
-use Rattle.std.proofs.Common.{◌∙◌, ◌<◌, sym, arith, length}
+use Rattle.std.proofs.Common.{◌∙◌, ◌<◌, sym, length}
 use Rattle.net_model.proofs.Settling.{All-at}
 use Rattle.net_model.proofs.Marking.{adds_plain, twice_plain}
 use Rattle.net_model.proofs.marks.mark_all.Goals as goal
