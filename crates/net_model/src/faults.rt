@@ -20,8 +20,8 @@ pub enum DesignFault {
     /// This input is fixed or reset twice, or both fixed and reset.
     #[error("input {0} is fixed or reset twice")]
     Twice(usize),
-    /// There are as many nets, registers, inputs, outputs, pins of a gate or a register, or reset cycles, or more: one
-    /// more than the limit.
+    /// There are at least so many nets, registers, inputs, outputs, pins of one gate or register, or reset cycles. The
+    /// number is the limit plus 1: counting stops there.
     #[error("a number is above its limit: {0} or more")]
     Limit(usize),
     #[error("out of memory")]

@@ -2,7 +2,9 @@
 //!
 //! It stands on no other part of the tool but lists. What the tool proves is said in the words of `specs/`: begin with
 //! `Netlist` (a sound design), `Cycles` (settled cycles, captures and runs), `Layers` (a start that comes late) and
-//! `Judge` (a claim that holds). The calls here copy and evaluate functions; simulation is left to the crate above.
+//! `Judge` (a claim that holds). The calls here copy and evaluate functions, give a register's capture as one function,
+//! and say whether a design is sound (`Faults` has the cause of each refusal) and whether a claim fits it (`Fits`);
+//! simulation is left to the crate above.
 #![tactic(auto)]
 
 mod arguments;
