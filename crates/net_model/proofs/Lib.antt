@@ -16,3 +16,7 @@ pub mod Marking
 pub mod Driving
 pub mod Ranging
 pub mod Unsound
+pub mod NetOrder
+pub mod LayersExist
+pub mod Members
+pub mod Still
