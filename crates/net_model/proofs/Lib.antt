@@ -20,3 +20,4 @@ pub mod NetOrder
 pub mod LayersExist
 pub mod Members
 pub mod Still
+pub mod TernaryOnce

@@ -1,6 +1,6 @@
 pub mod Completing
 pub mod OwnLayers
 pub mod TernaryExists
-pub mod TernaryOnce
+pub mod TernaryReads
 pub mod Steady
 pub mod Examples

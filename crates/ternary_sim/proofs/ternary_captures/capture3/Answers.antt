@@ -2,7 +2,7 @@ use Rattle.std.proofs.Common.{sym, subst}
 use Rattle.net_model.specs.Ternary.{IsTernaryCapture}
 use Rattle.net_model.specs.declared.terns.Tern.{Tern}
 use Rattle.ternary_sim.proofs.Steady.{steady}
-use Rattle.ternary_sim.proofs.TernaryOnce.{unknown_layers, ternary_once}
+use Rattle.net_model.proofs.TernaryOnce.{unknown_layers, ternary_once}
 use Rattle.ternary_sim.proofs.ternary_captures.capture3.Goals as goal
 use Rattle.std.proofs.Common.{length}
 

@@ -4,7 +4,7 @@ use Rattle.net_model.specs.FormLaws.{IsOver-weaker}
 use Rattle.net_model.specs.Netlist.{IsRegInRange}
 use Rattle.net_model.proofs.Settling.{All-at}
 use Rattle.net_model.proofs.RegCaptures.{IsOptionOver-weaker}
-use Rattle.ternary_sim.proofs.TernaryOnce.{ternary_read, ternary_output}
+use Rattle.ternary_sim.proofs.TernaryReads.{ternary_read, ternary_output}
 use Rattle.ternary_sim.proofs.ternary_captures.capture_last.Goals as goal
 
 pub cell_capture-requires-clause-next : goal.cell_capture-requires-clause-next

@@ -1,7 +1,6 @@
--- The ternary capture of a claim's end is one value.
+-- The layers whose start is unknown, and the ternary capture, which is one value.
 use Rattle.std.proofs.Common.{◌≡◌, ℕ, ◌+◌, ◌<◌, Bool, true, false, if◌then◌else◌, List, map, length, get_or, Option, Some, None, refl, sym, ◌∙◌, arith}
 use Rattle.std.specs.Prelude.{slice_get, slice_index, nat_lt}
-use Rattle.std.proofs.lemmas.Option.{get_or_from_slice_get}
 use borrow.Author.Tests.{ltb-true}
 use Rattle.net_model.specs.Netlist.{IsSound, IsRegInRange}
 use Rattle.net_model.specs.Fits.{IsEndIn}
@@ -14,7 +13,6 @@ use Rattle.net_model.proofs.Settling.{All-at}
 use Rattle.net_model.proofs.RegCaptures.{capture_agrees}
 use Rattle.net_model.proofs.Layered.{pin_kept}
 use Rattle.net_model.proofs.LayersOnce.{AgreeBelow, layers_once}
-use Rattle.ternary_sim.proofs.Completing.{AreUnknownTo}
 use Rattle.net_model.specs.declared.netlist.Design.{Design}
 use Rattle.net_model.specs.declared.netlist.Reg.{Reg}
 use Rattle.net_model.specs.declared.netlist.RegOut.{RegOut}
@@ -33,7 +31,7 @@ pub cell_agrees : (cell : (ℕ → Bool) → Bool) (n : ℕ) (s t : ℕ → Tern
 unfolding cell_value
 cell_agrees cell n s t over same = common_agrees 7 n cell s t (λ _. false) (λ _. false) over same (λ i lt. refl)
 
-reads_capture : (d : Design) (r : ℕ) (reg : Reg) → IsSound d → slice_get d.regs r ≡ Some reg → ReadsOnly (length reg.ins + 1) (reg_capture reg)
+pub reads_capture : (d : Design) (r : ℕ) (reg : Reg) → IsSound d → slice_get d.regs r ≡ Some reg → ReadsOnly (length reg.ins + 1) (reg_capture reg)
 reads_capture d r reg sound at a b same =
     let in_range = All-at (IsRegInRange d) d.regs r reg at sound.in_range.regs in
     capture_agrees reg (length reg.ins + 1) a b in_range.next in_range.clear in_range.preset same
@@ -61,17 +59,6 @@ ternary_once d claim c x y sound is s t =
     let agree = layers_once tern_value tern_agrees Zero d claim.start claim.through (λ _. Unknown) (map tern_of c.nets) s.rows t.rows (length claim.through) sound s.layers t.layers (length claim.through + 1) (omega arith) in
     sym s.capture ∙ (capture_same d claim.through s.rows t.rows claim.end c sound is agree ∙ t.capture)
 
--- what an end register captures of these places
-pub ternary_read : (d : Design) (sets : List (List PinRef)) (rows : List (List Tern)) (e : End) (c : Cycle) (r : ℕ) (reg : Reg) (own : Bool) (args : ℕ → Tern) (result : Tern) → IsSound d → e ≡ RegEnd r → slice_get d.regs r ≡ Some reg → slice_get c.bits r ≡ Some own → ((i : ℕ) → i < length reg.ins + 1 → args i ≡ late_reg_pins Zero sets rows r reg (tern_of own) i) → result ≡ cell_value (reg_capture reg) args → result ≡ tern_capture_over d sets rows e c
-ternary_read d sets rows e c r reg own args result sound end_is at bit same is =
-    let here : bit_at c.bits r ≡ own = get_or_from_slice_get c.bits r own false bit in
-    rw (end_is, at, here) (is ∙ cell_agrees (reg_capture reg) (length reg.ins + 1) args (late_reg_pins Zero sets rows r reg (tern_of own)) (reads_capture d r reg sound at) same)
-
-pub ternary_output : (d : Design) (sets : List (List PinRef)) (rows : List (List Tern)) (e : End) (c : Cycle) (o net : ℕ) (result : Tern) → e ≡ OutputEnd o → slice_get d.outputs o ≡ Some net → result ≡ pin_reads Zero sets rows (length sets) (OutPort o) net → result ≡ tern_capture_over d sets rows e c
-ternary_output d sets rows e c o net result end_is at is =
-    let here : slice_index d.outputs o ≡ net = get_or_from_slice_get d.outputs o net 0 at in
-    rw (end_is, here) is
-
 both_unknown : (o : RegOut) → late_value Unknown Unknown o ≡ Unknown
 both_unknown o = flat o.inverted
   where
@@ -80,7 +67,7 @@ both_unknown o = flat o.inverted
     flat false = refl
 
 -- layers whose start shows unknown, inverted or not
-pub unknown_layers : (d : Design) (start : Start) (sets : List (List PinRef)) (base : List Bool) (rows : List (List Tern)) (last : ℕ) → AreLayersTo tern_value Zero d start sets (late_value Unknown Unknown) (map tern_of base) rows last → AreUnknownTo d start sets base rows last
+pub unknown_layers : (d : Design) (start : Start) (sets : List (List PinRef)) (base : List Bool) (rows : List (List Tern)) (last : ℕ) → AreLayersTo tern_value Zero d start sets (late_value Unknown Unknown) (map tern_of base) rows last → AreLayersTo tern_value Zero d start sets (λ _. Unknown) (map tern_of base) rows last
 unknown_layers d start sets base rows last layers =
     record {
       count = layers.count;
