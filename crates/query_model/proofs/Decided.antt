@@ -1,0 +1,124 @@
+-- Violations by toggles and alternatives, in either mode.
+use Rattle.std.proofs.Common.{◌≡◌, ◌≢◌, ℕ, zero, suc, ◌+◌, ◌-◌, ◌<◌, ◌≤◌, Bool, true, false, not, cond, List, [], ◌∷◌, length, Option, Some, refl, ap, sym, ◌∙◌, arith, inl, inr, ◌⊎◌, subst, add-one}
+use Rattle.std.specs.Prelude.{slice_get, slice_index}
+use Rattle.std.proofs.lemmas.Bool.{cond_below, cond_above}
+use Rattle.net_model.specs.Form.{xor, value}
+use Rattle.net_model.specs.FormLaws.{value_agrees}
+use Rattle.net_model.specs.Netlist.{IsSound, IsRegInRange}
+use Rattle.net_model.specs.Fits.{IsStartIn, IsEndIn}
+use Rattle.net_model.specs.Cycles.{bit_at, gate_pins, reg_pins, shown, capture, reg_capture_in, IsSettled, IsLinked}
+use Rattle.net_model.specs.Pins.{start_nets, start_outs}
+use Rattle.net_model.specs.Layers.{net_at, pin_reads, AreLayers, IsLateCapture, capture_over, late_reg_capture, late_reg_pins}
+use Rattle.net_model.specs.Judge.{start_bit, judged_count, DiffersLate, IsBadPlain, IsBadFor, IsViolatedAt}
+use Rattle.net_model.proofs.Settling.{All-at}
+use Rattle.net_model.proofs.LateOnce.{late_capture_once}
+use Rattle.net_model.specs.declared.netlist.Design.{Design}
+use Rattle.net_model.specs.declared.netlist.Reg.{Reg}
+use Rattle.net_model.specs.declared.netlist.RegOut.{RegOut}
+use Rattle.net_model.specs.declared.cycles.Cycle.{Cycle}
+use Rattle.net_model.specs.declared.claims.Claim.{Claim}
+use Rattle.net_model.specs.declared.claims.PinRef.{PinRef}
+use Rattle.net_model.specs.declared.claims.PinRef.TheVariants.{RegIn, OutPort}
+use Rattle.net_model.specs.declared.claims.Kind.{Kind}
+use Rattle.net_model.specs.declared.claims.Kind.TheVariants.{False, Multi}
+use Rattle.net_model.specs.declared.claims.End.{End}
+use Rattle.net_model.specs.declared.claims.End.TheVariants.{Reg as RegEnd, Output as OutputEnd}
+use Rattle.query_model.specs.Keys.{lit, lit_value, below}
+use Rattle.query_model.specs.Defined.{toggle_key, change_key, differ_key, stale_key}
+use Rattle.query_model.specs.Formula.{stale_if_later, plain_alternatives, alternatives_at, alternatives}
+use Rattle.net_model.proofs.Members.{In, In-flat, from_flat, from_map, In-from_Contains}
+use Rattle.query_model.proofs.Members.{In-below, below_less}
+use Rattle.query_model.proofs.Based.{placed, get_within}
+use Rattle.query_model.proofs.Extras.{ExtrasTold}
+use Rattle.query_model.specs.declared.keys.Key.{Key}
+use Rattle.query_model.specs.declared.keys.KeyLit.{KeyLit}
+
+-- bits that differ
+pub xor_ne : (a b : Bool) → xor a b ≡ true → a ≢ b
+xor_ne true true e f = absurd cc
+xor_ne true false e f = absurd cc
+xor_ne false true e f = absurd cc
+xor_ne false false e f = absurd cc
+
+pub ne_xor : (a b : Bool) → a ≢ b → xor a b ≡ true
+ne_xor true true f = absurd (f refl)
+ne_xor true false f = refl
+ne_xor false true f = refl
+ne_xor false false f = absurd (f refl)
+
+pub ne_not : (a b : Bool) → a ≢ b → not a ≡ b
+ne_not true true f = absurd (f refl)
+ne_not true false f = refl
+ne_not false true f = refl
+ne_not false false f = absurd (f refl)
+
+pub same_or_not : (a b : Bool) → (a ≡ b) ⊎ (a ≢ b)
+same_or_not true true = inl refl
+same_or_not true false = inr (λ e. absurd cc)
+same_or_not false true = inr (λ e. absurd cc)
+same_or_not false false = inl refl
+
+-- all literals of a list are true
+abbrev pub AllHold : (Key → Bool) → List KeyLit → Type 0
+AllHold v ls = (l : KeyLit) → In l ls → lit_value v l ≡ true
+
+-- a toggle at t, and a judged cycle r later
+pub record Moment (claim : Claim) (run : List Cycle) (t r : ℕ) (a b before c : Cycle) : Type 0 where
+  pub at_a : slice_get run (t - 1) ≡ Some a
+  pub at_b : slice_get run t ≡ Some b
+  pub at_before : slice_get run (t + r - 1) ≡ Some before
+  pub at_c : slice_get run (t + r) ≡ Some c
+  pub low : 1 ≤ t
+  pub judged : r < judged_count claim.kind
+
+abbrev pub KindOfAll : (Key → Type 0) → List (List KeyLit) → Type 0
+KindOfAll kind alts = (alt : List KeyLit) (l : KeyLit) → In alt alts → In l alt → kind l.key
+
+
+-- the alternatives of a claim say which judged cycles are bad
+pub record IsDecided (kind : Key → Type 0) (d : Design) (claim : Claim) (run : List Cycle) (differs : ℕ → Bool) : Type 0 where
+  pub bad : (v : Key → Bool) (t r : ℕ) (a b before c : Cycle) (alt : List KeyLit) → ExtrasTold kind v d claim run differs → Moment claim run t r a b before c → start_bit claim.start b ≢ start_bit claim.start a → KindOfAll kind (alternatives_at d claim t r) → In alt (alternatives_at d claim t r) → AllHold v alt → IsBadFor claim.hazard d claim (start_bit claim.start a) before c
+  pub good : (t r : ℕ) (a b before c : Cycle) → Moment claim run t r a b before c → KindOfAll kind (alternatives_at d claim t r) → IsBadFor claim.hazard d claim (start_bit claim.start a) before c → (alt : List KeyLit) × In alt (alternatives_at d claim t r) × ((v : Key → Bool) → ExtrasTold kind v d claim run differs → AllHold v alt)
+  pub some : (t r : ℕ) → (alt : List KeyLit) × In alt (alternatives_at d claim t r)
+
+kinds_at : (kind : Key → Type 0) (d : Design) (claim : Claim) (t r : ℕ) → r < judged_count claim.kind → KindOfAll kind (alternatives d claim t) → KindOfAll kind (alternatives_at d claim t r)
+kinds_at kind d claim t r lt kinds alt l in_alt in_l =
+    kinds alt l (In-flat (alternatives_at d claim t) alt r (below (judged_count claim.kind)) (In-below (judged_count claim.kind) r lt) in_alt) in_l
+
+-- a toggle and an alternative that holds are a violation
+pub holds_violated : (kind : Key → Type 0) (v : Key → Bool) (d : Design) (claim : Claim) (run : List Cycle) (differs : ℕ → Bool) (live t : ℕ) (alt : List KeyLit) → IsDecided kind d claim run differs → ExtrasTold kind v d claim run differs → live + 1 ≤ t → t + judged_count claim.kind ≤ length run → kind (toggle_key d t) → KindOfAll kind (alternatives d claim t) → v (toggle_key d t) ≡ true → In alt (alternatives d claim t) → AllHold v alt → IsViolatedAt live d claim run t
+holds_violated kind v d claim run differs live t alt is extras low fits toggle_kind kinds toggle in_alts hold =
+    let of = from_flat (alternatives_at d claim t) alt (below (judged_count claim.kind)) in_alts in
+    let r = of.0 in
+    let lt = below_less (judged_count claim.kind) r of.1 in
+    let a = get_within run (t - 1) (omega arith) in
+    let b = get_within run t (omega arith) in
+    let before = get_within run (t + r - 1) (omega arith) in
+    let c = get_within run (t + r) (omega arith) in
+    let ne = xor_ne (start_bit claim.start b.0) (start_bit claim.start a.0) (sym (extras.toggle t a.0 b.0 a.1 b.1 toggle_kind) ∙ toggle) in
+    let at : Moment claim run t r a.0 b.0 before.0 c.0 = record { at_a = a.1; at_b = b.1; at_before = before.1; at_c = c.1; low = omega arith; judged = lt } in
+    record {
+      stale = start_bit claim.start a.0;
+      toggles = record { before = a.0; now = b.0; before_at = a.1; now_at = b.1; is_live = low; stale_is = refl; differs = ne };
+      r = r;
+      judged = lt;
+      before = before.0;
+      c = c.0;
+      before_at = before.1;
+      c_at = c.1;
+      bad = is.bad v t r a.0 b.0 before.0 c.0 alt extras at ne (kinds_at kind d claim t r lt kinds) of.2 hold;
+    }
+
+-- and a violation has both
+pub violated_holds : (kind : Key → Type 0) (d : Design) (claim : Claim) (run : List Cycle) (differs : ℕ → Bool) (live t : ℕ) → IsDecided kind d claim run differs → kind (toggle_key d t) → KindOfAll kind (alternatives d claim t) → IsViolatedAt live d claim run t → ((v : Key → Bool) → ExtrasTold kind v d claim run differs → v (toggle_key d t) ≡ true) × ((alt : List KeyLit) × In alt (alternatives d claim t) × ((v : Key → Bool) → ExtrasTold kind v d claim run differs → AllHold v alt))
+violated_holds kind d claim run differs live t is toggle_kind kinds bad =
+    let tog = bad.toggles in
+    let r = bad.r in
+    let ne : start_bit claim.start tog.now ≢ start_bit claim.start tog.before = λ e. tog.differs (e ∙ tog.stale_is) in
+    let at : Moment claim run t r tog.before tog.now bad.before bad.c =
+    record { at_a = tog.before_at; at_b = tog.now_at; at_before = bad.before_at; at_c = bad.c_at; low = omega (arith, tog.is_live); judged = bad.judged } in
+    let found = is.good t r tog.before tog.now bad.before bad.c at (kinds_at kind d claim t r bad.judged kinds)
+    (subst (λ (s : Bool). IsBadFor claim.hazard d claim s bad.before bad.c) (sym tog.stale_is) bad.bad) in (
+      λ v extras. extras.toggle t tog.before tog.now tog.before_at tog.now_at toggle_kind ∙ ne_xor (start_bit claim.start tog.now) (start_bit claim.start tog.before) ne,
+      (found.0, In-flat (alternatives_at d claim t) found.0 r (below (judged_count claim.kind)) (In-below (judged_count claim.kind) r bad.judged) found.1, found.2),
+    )

@@ -1,0 +1,92 @@
+-- Worked examples, computed.
+use Rattle.std.proofs.Common.{◌≡◌, ℕ, zero, suc, ◌+◌, Bool, true, false, List, [], ◌∷◌, map, None, refl}
+use Rattle.net_model.specs.Form.{PinForm, AndForm, OrForm, NotForm, value}
+use Rattle.net_model.specs.declared.netlist.Design.{Design}
+use Rattle.net_model.specs.declared.claims.Claim.{Claim}
+use Rattle.net_model.specs.declared.claims.Kind.TheVariants.{False}
+use Rattle.net_model.specs.declared.claims.Start.TheVariants.{Reg as RegStart}
+use Rattle.net_model.specs.declared.claims.End.TheVariants.{Reg as RegEnd}
+use Rattle.net_model.specs.declared.terns.Tern.{Tern}
+use Rattle.net_model.specs.declared.terns.Tern.TheVariants.{Zero, One, Unknown}
+use Rattle.net_model.specs.declared.queries.Phase.TheVariants.{Step}
+use Rattle.query_model.specs.Keys.{key, lit}
+use Rattle.query_model.specs.Tables.{Cube, constant_cubes}
+use Rattle.query_model.specs.Queries.{claim_query}
+use Rattle.query_model.specs.Defined.{prime_cubes}
+use Rattle.query_model.specs.Formula.{definitions, asked_clauses, formula_over}
+use Rattle.query_model.specs.declared.keys.Key.{Key}
+use Rattle.query_model.specs.declared.keys.KeyLit.{KeyLit}
+use Rattle.query_model.specs.declared.keys.Coding.TheVariants.{Rows}
+
+-- the number of a cube in base 3
+abbrev pub digit : Tern → ℕ
+digit Zero = 0
+digit One = 1
+digit Unknown = 2
+
+abbrev pub number : List Tern → ℕ
+number [] = 0
+number (t ∷ ts) = digit t + Rattle.std.proofs.Common.◌*◌ 3 (number ts)
+
+abbrev pub numbers : List Cube → List ℕ
+numbers cubes = map (λ (c : Cube). number c.fixed) cubes
+
+abbrev pub values : List Cube → List Bool
+values cubes = map (λ (c : Cube). c.value) cubes
+
+and_cell : (ℕ → Bool) → Bool
+and_cell = value (AndForm (PinForm 0) (PinForm 1))
+
+b5 : numbers (constant_cubes (value (AndForm (PinForm 0) (PinForm 1))) 2) ≡ 0 ∷ 1 ∷ 2 ∷ 3 ∷ 4 ∷ 6 ∷ []
+unfolding Rattle.net_model.specs.Ternary.cell_value
+b5 = refl
+
+e8 : numbers (prime_cubes (value (AndForm (PinForm 0) (PinForm 1))) 2) ≡ 2 ∷ 4 ∷ 6 ∷ []
+unfolding Rattle.net_model.specs.Ternary.cell_value
+e8 = refl
+
+abbrev mux : (ℕ → Bool) → Bool
+mux = value (OrForm (AndForm (PinForm 0) (NotForm (PinForm 2))) (AndForm (PinForm 1) (PinForm 2)))
+
+e8_mux : numbers (prime_cubes mux 3) ≡ 6 ∷ 7 ∷ 11 ∷ 14 ∷ 18 ∷ 22 ∷ []
+unfolding Rattle.net_model.specs.Ternary.cell_value
+e8_mux = refl
+
+e8_values : values (prime_cubes mux 3) ≡ false ∷ true ∷ false ∷ true ∷ false ∷ true ∷ []
+unfolding Rattle.net_model.specs.Ternary.cell_value
+e8_values = refl
+
+-- two registers in a row
+abbrev design : Design
+design =
+    record {
+      nets = 3;
+      gates = [];
+      regs =
+          record { next = PinForm 0; clear = None; preset = None; both = false; ins = 0 ∷ []; outs = record { net = 1; inverted = false } ∷ [] }
+          ∷ record { next = PinForm 0; clear = None; preset = None; both = false; ins = 1 ∷ []; outs = record { net = 2; inverted = false } ∷ [] } ∷ [];
+      inputs = 0 ∷ [];
+      outputs = [];
+      fixed = [];
+      resets = [];
+      reset_len = 0;
+    }
+
+abbrev claim : Claim
+claim = record { kind = False; hazard = false; start = RegStart 0; end = RegEnd 1; through = [] }
+
+abbrev moved : List (List Bool)
+moved = (false ∷ true ∷ false ∷ []) ∷ []
+
+abbrev keys : List Key
+keys = key 0 0 0 0 ∷ key 0 0 0 3 ∷ key 1 0 0 3 ∷ key 1 0 0 5 ∷ key 1 0 0 7 ∷ key 1 0 0 25 ∷ key 1 1 0 5 ∷ key 2 0 0 4 ∷ []
+
+abbrev p : ℕ → KeyLit
+p n = lit true (Rattle.std.specs.Prelude.slice_index_or keys (Rattle.std.specs.Prelude.pred n) (key 9 9 9 9))
+
+abbrev n : ℕ → KeyLit
+n i = lit false (Rattle.std.specs.Prelude.slice_index_or keys (Rattle.std.specs.Prelude.pred i) (key 9 9 9 9))
+
+-- the clauses of the worked query, before each is sorted
+b4 : formula_over (definitions Rows (claim_query design claim Step 0 []) moved) (asked_clauses (claim_query design claim Step 0 [])) keys ≡ (p 1 ∷ n 3 ∷ []) ∷ (n 1 ∷ p 3 ∷ []) ∷ (p 3 ∷ n 8 ∷ []) ∷ (n 3 ∷ p 8 ∷ []) ∷ (n 3 ∷ n 7 ∷ []) ∷ (p 3 ∷ p 7 ∷ []) ∷ (n 4 ∷ p 3 ∷ p 2 ∷ []) ∷ (n 4 ∷ n 3 ∷ n 2 ∷ []) ∷ (p 4 ∷ n 3 ∷ p 2 ∷ []) ∷ (p 4 ∷ p 3 ∷ n 2 ∷ []) ∷ (n 5 ∷ p 7 ∷ p 8 ∷ []) ∷ (n 5 ∷ n 7 ∷ n 8 ∷ []) ∷ (p 5 ∷ n 7 ∷ p 8 ∷ []) ∷ (p 5 ∷ p 7 ∷ n 8 ∷ []) ∷ (p 4 ∷ []) ∷ (p 6 ∷ []) ∷ (n 6 ∷ p 5 ∷ []) ∷ []
+b4 = refl
