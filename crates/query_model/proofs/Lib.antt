@@ -30,3 +30,4 @@ pub mod TernCells
 pub mod Hazy
 pub mod HazyGates
 pub mod HazyEnds
+pub mod Claims

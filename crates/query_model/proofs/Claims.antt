@@ -1,0 +1,248 @@
+-- The laws of queries, from those of each mode.
+use Rattle.std.proofs.Common.{◌≡◌, ℕ, zero, suc, ◌+◌, ◌<◌, ◌≤◌, Bool, true, false, not, List, [], ◌∷◌, map, length, Option, Some, None, refl, ap, sym, ◌∙◌, arith, inl, inr, ◌⊎◌, subst}
+use Rattle.std.specs.Prelude.{slice_get, slice_index, nat_lt}
+use Rattle.std.proofs.lemmas.Bool.{cases_Bool}
+use Rattle.std.proofs.lemmas.Option.{slice_get_within}
+use Rattle.net_model.specs.Form.{value}
+use Rattle.net_model.specs.FormLaws.{value_agrees}
+use Rattle.net_model.specs.Netlist.{IsSound}
+use Rattle.net_model.specs.Fits.{Fits, IsKindFit}
+use Rattle.net_model.specs.Cycles.{bit_at, shown, IsSettled, IsLinked}
+use Rattle.net_model.specs.Judge.{start_bit, judged_count}
+use Rattle.net_model.specs.Layers.{AreLayers}
+use Rattle.net_model.specs.Pins.{late_value}
+use Rattle.net_model.specs.Ternary.{tern_of, tern_value}
+use Rattle.net_model.specs.Completions.{tern_agrees}
+use Rattle.net_model.proofs.Settling.{All-at}
+use Rattle.net_model.proofs.LayersExist.{layers_exist}
+use Rattle.net_model.proofs.TernaryOnce.{unknown_layers}
+use Rattle.net_model.proofs.Members.{In, In-from_Contains, Contains-from_In}
+use Rattle.net_model.specs.declared.netlist.Design.{Design}
+use Rattle.net_model.specs.declared.cycles.Cycle.{Cycle}
+use Rattle.net_model.specs.declared.invariants.StateLit.{StateLit}
+use Rattle.net_model.specs.declared.invariants.InvClause.{InvClause}
+use Rattle.net_model.specs.declared.claims.Claim.{Claim}
+use Rattle.net_model.specs.declared.claims.Kind.{Kind}
+use Rattle.net_model.specs.declared.claims.Kind.TheVariants.{False, Multi}
+use Rattle.net_model.specs.declared.queries.Phase.{Phase}
+use Rattle.net_model.specs.declared.queries.Phase.TheVariants.{Base, Step}
+use Rattle.net_model.specs.declared.terns.Tern.{Tern}
+use Rattle.net_model.specs.declared.terns.Tern.TheVariants.{Zero, Unknown}
+use Rattle.query_model.specs.Keys.{key, AllTrue}
+use Rattle.query_model.specs.Reads.{bit_key, AreMoved}
+use Rattle.query_model.specs.Queries.{Query, Question, live_of, only_in_step, claim_query, clause_query, IsAnswer}
+use Rattle.query_model.specs.Formula.{definitions, asked_clauses, IsNeeded, AreNeeded, IsFormulaOf}
+use Rattle.query_model.specs.Laws.{AreCyclesOf, HasFreeBits, ModelsAnswer, AnswersHaveModels}
+use Rattle.query_model.specs.Laws.{NamesRegs as Names}
+use Rattle.query_model.proofs.Runs.{AnyKey, rows_coding}
+use Rattle.query_model.proofs.Based.{IsFree, get_within, placed}
+use Rattle.query_model.proofs.Clauses.{NamesRegs, clause_model_answers, clause_answer_models}
+use Rattle.query_model.proofs.Codings.{primes_coding, rows_settle, primes_settle}
+use Rattle.query_model.proofs.Meaning.{meaning}
+use Rattle.query_model.proofs.HazyGates.{IsCoding}
+use Rattle.query_model.proofs.Judged.{plain_decided}
+use Rattle.query_model.proofs.Violated.{IsAskedOf, claim_model_answers, claim_answer_models}
+use Rattle.query_model.proofs.PlainClaims.{AreFlipped, differs_late_at, late_at, are_judged, plain_tells, plain_says, flipped_layer}
+use Rattle.query_model.proofs.HazyClaims.{AreHazy, unknown_at, are_hazy_judged, hazy_decided, hazy_tells, hazy_says, hazy_layer}
+use Rattle.query_model.specs.declared.keys.Key.{Key}
+use Rattle.query_model.specs.declared.keys.KeyLit.{KeyLit}
+use Rattle.query_model.specs.declared.keys.Coding.{Coding}
+use Rattle.query_model.specs.declared.keys.Coding.TheVariants.{Rows, Primes}
+
+-- both codings cover and settle
+pub coded : (coding : Coding) → IsCoding coding
+coded Rows = record { covers = rows_coding; settles = λ cell places few only. rows_settle cell places few only }
+coded Primes = record { covers = primes_coding; settles = λ cell places few only. primes_settle cell places few only }
+
+names_all : (d : Design) (inv : List InvClause) → ((clause : InvClause) → Rattle.std.specs.Prelude.Contains inv clause → Names d clause) → (i : InvClause) → In i inv → NamesRegs d i
+names_all d inv names i has l in_l =
+    let place = placed l i.lits in_l in
+    All-at (λ (s : StateLit). s.reg < length d.regs) i.lits place.0 l place.1 (names i (Contains-from_In inv i has))
+
+few_judged : (k : Kind) → IsKindFit k → judged_count k ≤ 15
+few_judged False fit = omega arith
+few_judged (Multi k) fit = omega (arith, fit.0, fit.1)
+
+short : (phase : Phase) (n : ℕ) → only_in_step phase n ≤ n
+short Base n = omega arith
+short Step n = omega arith
+
+-- the free bits tell what is free
+is_free : (coding : Coding) (q : Query) (moved : List (List Bool)) (keys : List Key) (v : Key → Bool) (run : List Cycle) → AreNeeded (definitions coding q moved) (asked_clauses q) keys → AreCyclesOf q run → HasFreeBits q.design keys v run → IsFree (IsNeeded (definitions coding q moved) (asked_clauses q)) v q.design run
+is_free coding q moved keys v run needed are free =
+    let first = get_within run 0 are.linked.some in
+    record {
+      bits = λ r lt has. free.bits first.0 r first.1 lt (needed.all (bit_key q.design 0 r) has) ∙ sym (Rattle.query_model.proofs.Runs.now_bits q.design run 0 first.0 r first.1);
+      inputs = λ t c i at lt fixed reset has.
+          free.inputs t c i at lt fixed reset (needed.all (key t 0 0 (slice_index q.design.inputs i)) has)
+          ∙ sym ((All-at (IsSettled q.design) run t c at are.linked.settled).inputs i lt);
+    }
+
+-- a choice for each cycle of a run
+abbrev At : {X : Type 0} → (Cycle → X → Type 0) → List Cycle → (ℕ → X) → Type 0
+At P run f = (t : ℕ) (c : Cycle) → slice_get run t ≡ Some c → P c (f t)
+
+chosen : {X : Type 0} (P : Cycle → X → Type 0) (blank : X) (o : Option Cycle) → ((c : Cycle) → o ≡ Some c → (x : X) × P c x) → (x : X) × ((c : Cycle) → o ≡ Some c → P c x)
+chosen P blank None each = (blank, λ c e. absurd (none_some e))
+  where
+    none_some : {c : Cycle} → None ≡ Some c → ⊥
+    none_some e = cc
+chosen P blank (Some c) each =
+    let made = each c refl in
+    (made.0, λ other e. subst (λ (x : Cycle). P x made.0) (same e) made.1)
+  where
+    same : {other : Cycle} → Some c ≡ Some other → c ≡ other
+    same e = cc
+
+choose : {X : Type 0} (P : Cycle → X → Type 0) (blank : X) (run : List Cycle) → ((t : ℕ) (c : Cycle) → slice_get run t ≡ Some c → (x : X) × P c x) → (f : ℕ → X) × At P run f
+choose P blank run each = (
+  λ t. (chosen P blank (slice_get run t) (each t)).0,
+  λ t c at. (chosen P blank (slice_get run t) (each t)).1 c at,
+)
+
+same_map : (xs : List Bool) → map (λ (b : Bool). b) xs ≡ xs
+same_map [] = refl
+same_map (x ∷ xs) = ap (λ ys. x ∷ ys) (same_map xs)
+
+-- each cycle of linked cycles has layers in which the start shows the other bit
+flipped_rows : (d : Design) (claim : Claim) (run : List Cycle) → IsSound d → Fits d claim → IsLinked d run → (rows : ℕ → List (List Bool)) × At (λ c rows. AreLayers value false d claim.start claim.through (λ o. shown o (not (start_bit claim.start c))) c.nets rows) run rows
+flipped_rows d claim run sound fits linked =
+    choose (λ c rows. AreLayers value false d claim.start claim.through (λ o. shown o (not (start_bit claim.start c))) c.nets rows) [] run
+    (λ t c at.
+    let settled = All-at (IsSettled d) run t c at linked.settled in
+    let stale = not (start_bit claim.start c) in
+    let made = layers_exist value value_agrees (λ (b : Bool). b) stale (not stale) d claim.start claim.through c.nets sound fits.start settled.shape.nets in
+    (made.0, subst (λ xs. AreLayers value false d claim.start claim.through (late_value stale (not stale)) xs made.0) (same_map c.nets) made.1))
+
+-- and layers in which it is unknown
+hazy_rows : (d : Design) (claim : Claim) (run : List Cycle) → IsSound d → Fits d claim → IsLinked d run → (rows : ℕ → List (List Tern)) × At (λ c rows. AreLayers tern_value Zero d claim.start claim.through (λ _. Unknown) (map tern_of c.nets) rows) run rows
+hazy_rows d claim run sound fits linked =
+    choose (λ c rows. AreLayers tern_value Zero d claim.start claim.through (λ _. Unknown) (map tern_of c.nets) rows) [] run
+    (λ t c at.
+    let settled = All-at (IsSettled d) run t c at linked.settled in
+    let made = layers_exist tern_value tern_agrees tern_of Unknown Unknown d claim.start claim.through c.nets sound fits.start settled.shape.nets in
+    (made.0, unknown_layers d claim.start claim.through c.nets made.0 (length claim.through) made.1))
+
+are_flipped : (d : Design) (claim : Claim) (moved : List (List Bool)) (run : List Cycle) (sound : IsSound d) (fits : Fits d claim) (linked : IsLinked d run) → AreMoved d claim moved → claim.hazard ≡ false → AreFlipped d claim moved run (flipped_rows d claim run sound fits linked).0
+are_flipped d claim moved run sound fits linked are plain t c at =
+    record {
+      sound = sound;
+      settled = All-at (IsSettled d) run t c at linked.settled;
+      plain = plain;
+      start_in = fits.start;
+      end_in = fits.end_;
+      are_moved = are;
+      layers = (flipped_rows d claim run sound fits linked).1 t c at;
+    }
+
+are_hazy : (d : Design) (claim : Claim) (moved : List (List Bool)) (run : List Cycle) (sound : IsSound d) (fits : Fits d claim) (linked : IsLinked d run) → AreMoved d claim moved → claim.hazard ≡ true → AreHazy d claim moved run (hazy_rows d claim run sound fits linked).0
+are_hazy d claim moved run sound fits linked are hazard t c at =
+    record {
+      sound = sound;
+      settled = All-at (IsSettled d) run t c at linked.settled;
+      hazard = hazard;
+      start_in = fits.start;
+      end_in = fits.end_;
+      are_moved = are;
+      layers = (hazy_rows d claim run sound fits linked).1 t c at;
+    }
+
+asked_of : (d : Design) (claim : Claim) (run : List Cycle) → IsSound d → Fits d claim → IsLinked d run → IsAskedOf d claim run
+asked_of d claim run sound fits linked = record { sound = sound; linked = linked; start_in = fits.start; end_in = fits.end_ }
+
+-- each model of a claim's query is an answer
+pub claim_models : (coding : Coding) (d : Design) (claim : Claim) (phase : Phase) (depth : ℕ) (inv : List InvClause) → IsSound d → Fits d claim → ((clause : InvClause) → Rattle.std.specs.Prelude.Contains inv clause → Names d clause) → ModelsAnswer coding (claim_query d claim phase depth inv)
+claim_models coding d claim phase depth inv sound fits names keys clauses v run formula all are free =
+    elim (cases_Bool claim.hazard) [
+      | inl hazard ↦
+          let made = hazy_rows d claim run sound fits are.linked in
+          let hazy = are_hazy d claim formula.moved run sound fits are.linked formula.are_moved hazard in
+          claim_model_answers coding d live cycles inv kept_below claim depth clean formula.moved (unknown_at d claim run made.0) keys v run (coded coding).covers named are.resets asked
+          (hazy_decided kind d claim run (unknown_at d claim run made.0) (are_hazy_judged d claim formula.moved run made.0 hazard asked hazy))
+          (hazy_tells coding kind v d claim formula.moved run made.0 (coded coding) hazard asked hazy)
+          are.count (omega arith) (short phase depth) formula.are_needed true_all known
+      | inr plain ↦
+          let made = flipped_rows d claim run sound fits are.linked in
+          let flips = are_flipped d claim formula.moved run sound fits are.linked formula.are_moved plain in
+          claim_model_answers coding d live cycles inv kept_below claim depth clean formula.moved (differs_late_at d claim run made.0) keys v run (coded coding).covers named are.resets asked
+          (plain_decided kind d claim run (late_at d claim run made.0) (differs_late_at d claim run made.0) (are_judged d claim formula.moved run made.0 plain asked flips))
+          (plain_tells coding kind v d claim formula.moved run made.0 (coded coding).covers plain asked flips)
+          are.count (omega arith) (short phase depth) formula.are_needed true_all known
+    ]
+  where
+    live : ℕ
+    live = live_of d phase
+
+    cycles : ℕ
+    cycles = live_of d phase + depth + 1 + judged_count claim.kind
+
+    kept_below : ℕ
+    kept_below = only_in_step phase (live_of d phase + depth + 1 + judged_count claim.kind)
+
+    clean : ℕ
+    clean = only_in_step phase depth
+
+    kind : Key → Type 0
+    kind = IsNeeded (definitions coding (claim_query d claim phase depth inv) formula.moved) (asked_clauses (claim_query d claim phase depth inv))
+
+    asked : IsAskedOf d claim run
+    asked = asked_of d claim run sound fits are.linked
+
+    named : (i : InvClause) → In i inv → NamesRegs d i
+    named = names_all d inv names
+
+    known : IsFree (IsNeeded (definitions coding (claim_query d claim phase depth inv) formula.moved) (asked_clauses (claim_query d claim phase depth inv))) v d run
+    known = is_free coding (claim_query d claim phase depth inv) formula.moved keys v run formula.are_needed are free
+
+    true_all : AllTrue v (Rattle.query_model.specs.Formula.formula_over (definitions coding (claim_query d claim phase depth inv) formula.moved) (asked_clauses (claim_query d claim phase depth inv)) keys)
+    true_all = subst (AllTrue v) formula.are_clauses all
+
+-- each answer to a claim's query gives a model
+pub claim_answers : (coding : Coding) (d : Design) (claim : Claim) (phase : Phase) (depth : ℕ) (inv : List InvClause) → IsSound d → Fits d claim → ((clause : InvClause) → Rattle.std.specs.Prelude.Contains inv clause → Names d clause) → AnswersHaveModels coding (claim_query d claim phase depth inv)
+claim_answers coding d claim phase depth inv sound fits names keys clauses run formula answer =
+    let found = made in (found.0, subst (AllTrue found.0) (sym formula.are_clauses) found.1)
+  where
+    q : Query
+    q = claim_query d claim phase depth inv
+
+    asked : IsAskedOf d claim run
+    asked = asked_of d claim run sound fits answer.linked
+
+    Found : Type 0
+    Found = (v : Key → Bool) × AllTrue v (Rattle.query_model.specs.Formula.formula_over (definitions coding (claim_query d claim phase depth inv) formula.moved) (asked_clauses (claim_query d claim phase depth inv)) keys)
+
+    made : Found
+    made =
+        elim (cases_Bool claim.hazard) [
+          | inl hazard ↦
+              let rows = hazy_rows d claim run sound fits answer.linked in
+              let hazy = are_hazy d claim formula.moved run sound fits answer.linked formula.are_moved hazard in
+              claim_answer_models coding d (live_of d phase) (live_of d phase + depth + 1 + judged_count claim.kind) inv (only_in_step phase (live_of d phase + depth + 1 + judged_count claim.kind)) claim depth (only_in_step phase depth) formula.moved (hazy_layer d claim run rows.0) (unknown_at d claim run rows.0) keys run (coded coding).covers (names_all d inv names) asked
+              (hazy_decided AnyKey d claim run (unknown_at d claim run rows.0) (are_hazy_judged d claim formula.moved run rows.0 hazard asked hazy))
+              (hazy_says coding d claim formula.moved run rows.0 (coded coding) hazard asked hazy)
+              (few_judged claim.kind fits.kind) (short phase (live_of d phase + depth + 1 + judged_count claim.kind)) (omega arith) (short phase depth) answer
+          | inr plain ↦
+              let rows = flipped_rows d claim run sound fits answer.linked in
+              let flips = are_flipped d claim formula.moved run sound fits answer.linked formula.are_moved plain in
+              claim_answer_models coding d (live_of d phase) (live_of d phase + depth + 1 + judged_count claim.kind) inv (only_in_step phase (live_of d phase + depth + 1 + judged_count claim.kind)) claim depth (only_in_step phase depth) formula.moved (flipped_layer d claim run rows.0) (differs_late_at d claim run rows.0) keys run (coded coding).covers (names_all d inv names) asked
+              (plain_decided AnyKey d claim run (late_at d claim run rows.0) (differs_late_at d claim run rows.0) (are_judged d claim formula.moved run rows.0 plain asked flips))
+              (plain_says coding d claim formula.moved run rows.0 (coded coding).covers plain asked flips)
+              (few_judged claim.kind fits.kind) (short phase (live_of d phase + depth + 1 + judged_count claim.kind)) (omega arith) (short phase depth) answer
+        ]
+
+-- the same for the query of an invariant's clause
+pub clause_models : (coding : Coding) (d : Design) (inv : List InvClause) (clause : InvClause) (phase : Phase) (depth : ℕ) → IsSound d → Names d clause → ((i : InvClause) → Rattle.std.specs.Prelude.Contains inv i → Names d i) → ModelsAnswer coding (clause_query d inv clause phase depth)
+clause_models coding d inv clause phase depth sound name names keys clauses v run formula all are free =
+    clause_model_answers coding d (live_of d phase) (live_of d phase + depth + 1) inv (only_in_step phase depth) clause formula.moved keys v run (coded coding).covers sound
+    (λ l has. let place = placed l clause.lits has in All-at (λ (s : StateLit). s.reg < length d.regs) clause.lits place.0 l place.1 name)
+    (names_all d inv names) are.linked are.resets are.count formula.are_needed (subst (AllTrue v) formula.are_clauses all)
+    (is_free coding (clause_query d inv clause phase depth) formula.moved keys v run formula.are_needed are free)
+
+pub clause_answers : (coding : Coding) (d : Design) (inv : List InvClause) (clause : InvClause) (phase : Phase) (depth : ℕ) → IsSound d → Names d clause → ((i : InvClause) → Rattle.std.specs.Prelude.Contains inv i → Names d i) → AnswersHaveModels coding (clause_query d inv clause phase depth)
+clause_answers coding d inv clause phase depth sound name names keys clauses run formula answer = (
+  meaning d run (λ k. false),
+  subst (AllTrue (meaning d run (λ k. false))) (sym formula.are_clauses)
+      (clause_answer_models coding d (live_of d phase) (live_of d phase + depth + 1) inv (only_in_step phase depth) clause formula.moved keys run (coded coding).covers sound
+      (λ l has. let place = placed l clause.lits has in All-at (λ (s : StateLit). s.reg < length d.regs) clause.lits place.0 l place.1 name)
+      (names_all d inv names) (let le = short phase depth in omega arith) answer),
+)

@@ -1,0 +1,13 @@
+use Rattle.std.proofs.lemmas.List.Elements.{All-contains}
+use Rattle.net_model.specs.declared.invariants.InvClause.{InvClause}
+use Rattle.query_model.specs.Laws.{NamesRegs}
+use Rattle.query_model.proofs.Claims.{claim_models, claim_answers}
+use Rattle.query_model.proofs.laws.claim_laws.Goals as goal
+
+pub returns-clause-models : goal.returns-clause-models
+returns-clause-models c coding =
+    claim_models coding c.args.design.now c.args.claim.now c.args.phase c.args.depth c.args.inv.now c.requires.sound c.requires.fits (λ i has. All-contains (NamesRegs c.args.design.now) c.args.inv.now i c.requires.names has)
+
+pub returns-clause-answers : goal.returns-clause-answers
+returns-clause-answers c coding =
+    claim_answers coding c.args.design.now c.args.claim.now c.args.phase c.args.depth c.args.inv.now c.requires.sound c.requires.fits (λ i has. All-contains (NamesRegs c.args.design.now) c.args.inv.now i c.requires.names has)

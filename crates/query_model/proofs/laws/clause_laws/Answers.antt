@@ -1,0 +1,13 @@
+use Rattle.std.proofs.lemmas.List.Elements.{All-contains}
+use Rattle.net_model.specs.declared.invariants.InvClause.{InvClause}
+use Rattle.query_model.specs.Laws.{NamesRegs}
+use Rattle.query_model.proofs.Claims.{clause_models, clause_answers}
+use Rattle.query_model.proofs.laws.clause_laws.Goals as goal
+
+pub returns-clause-models : goal.returns-clause-models
+returns-clause-models c coding =
+    clause_models coding c.args.design.now c.args.inv.now c.args.clause.now c.args.phase c.args.depth c.requires.sound c.requires.name (λ i has. All-contains (NamesRegs c.args.design.now) c.args.inv.now i c.requires.names has)
+
+pub returns-clause-answers : goal.returns-clause-answers
+returns-clause-answers c coding =
+    clause_answers coding c.args.design.now c.args.inv.now c.args.clause.now c.args.phase c.args.depth c.requires.sound c.requires.name (λ i has. All-contains (NamesRegs c.args.design.now) c.args.inv.now i c.requires.names has)

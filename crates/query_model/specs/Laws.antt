@@ -1,0 +1,41 @@
+-- What the models of a query's formula are: its answers, in both directions.
+use Rattle.std.specs.Prelude.{◌≡◌, ℕ, ◌<◌, Bool, List, length, All, Contains, None, Some, slice_get, slice_index, nat_lt}
+use Rattle.net_model.specs.Cycles.{bit_at, IsLinked, HasResets}
+use Rattle.net_model.specs.declared.netlist.Design.{Design}
+use Rattle.net_model.specs.declared.cycles.Cycle.{Cycle}
+use Rattle.net_model.specs.declared.invariants.StateLit.{StateLit}
+use Rattle.net_model.specs.declared.invariants.InvClause.{InvClause}
+use Rattle.query_model.specs.Keys.{key, AllTrue}
+use Rattle.query_model.specs.Reads.{bit_key}
+use Rattle.query_model.specs.Queries.{Query, IsAnswer}
+use Rattle.query_model.specs.Defined.{set_in}
+use Rattle.query_model.specs.Formula.{IsFormulaOf}
+use Rattle.query_model.specs.declared.keys.Key.{Key}
+use Rattle.query_model.specs.declared.keys.KeyLit.{KeyLit}
+use Rattle.query_model.specs.declared.keys.Coding.{Coding}
+
+-- each literal of the clause is about a register of the design
+abbrev pub NamesRegs : Design → InvClause → Type 0
+NamesRegs d clause = All (λ (l : StateLit). l.reg < length d.regs) clause.lits
+
+-- as many settled and linked cycles as the query has, with resets active where it has them so
+pub record AreCyclesOf (q : Query) (run : List Cycle) : Type 0 where
+  pub linked : IsLinked q.design run
+  pub resets : (t : ℕ) (c : Cycle) → slice_get run t ≡ Some c → HasResets q.design (nat_lt t q.live) c
+  pub count : length run ≡ q.cycles
+
+-- the register bits of the first cycle, and the bits of inputs that are neither fixed nor reset, are those of the model
+-- wherever it has a value for them
+pub record HasFreeBits (d : Design) (keys : List Key) (v : Key → Bool) (run : List Cycle) : Type 0 where
+  pub bits : (c : Cycle) (r : ℕ) → slice_get run 0 ≡ Some c → r < length d.regs → Contains keys (bit_key d 0 r) → v (bit_key d 0 r) ≡ bit_at c.bits r
+  pub inputs : (t : ℕ) (c : Cycle) (i : ℕ) → slice_get run t ≡ Some c → i < length d.inputs → set_in d.fixed i ≡ None → set_in d.resets i ≡ None → Contains keys (key t 0 0 (slice_index d.inputs i)) → v (key t 0 0 (slice_index d.inputs i)) ≡ bit_at c.ins i
+
+-- each model is an answer: the cycles that have its free bits answer the query
+abbrev pub ModelsAnswer : Coding → Query → Type 0
+ModelsAnswer coding q =
+    (keys : List Key) (clauses : List (List KeyLit)) (v : Key → Bool) (run : List Cycle) → IsFormulaOf coding q keys clauses → AllTrue v clauses → AreCyclesOf q run → HasFreeBits q.design keys v run → IsAnswer q run
+
+-- each answer gives a model
+abbrev pub AnswersHaveModels : Coding → Query → Type 0
+AnswersHaveModels coding q =
+    (keys : List Key) (clauses : List (List KeyLit)) (run : List Cycle) → IsFormulaOf coding q keys clauses → IsAnswer q run → (v : Key → Bool) × AllTrue v clauses
