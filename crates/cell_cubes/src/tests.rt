@@ -1,0 +1,49 @@
+use crate::{cubes, rows};
+use net_model::{Func, Node, Tern};
+use std::alloc::{AllocError, Global};
+use std::test;
+
+fn pin(place: usize) -> Func {
+    Func {
+        node: Node::Pin(place),
+    }
+}
+
+fn and(alloc: Global, f: Func, g: Func) -> Result<Func, AllocError> {
+    Ok(Func {
+        node: Node::And(Box::new(alloc, f)?, Box::new(alloc, g)?),
+    })
+}
+
+// Row 0 is all zeros; row 2 has place 1 alone.
+#[test]
+fn rows_of_a_conjunction_ascend_by_bits(rt: HostRuntime) -> Result<(), test::Fail> {
+    let alloc = rt.alloc();
+    let func = and(alloc, pin(0), pin(1))?;
+    let values = rows(alloc, &func, 2)?;
+    assert!(rt; values.as_slice() == [false, false, false, true].as_slice());
+    Ok(())
+}
+
+// Of the nine cubes of two places a conjunction is constant on six: 00, 10, 01, 11, X0 and 0X, place 0 first, which are
+// the numbers 0, 1, 3, 4, 2 and 6.
+#[test]
+fn cubes_of_a_conjunction_ascend_by_number(rt: HostRuntime) -> Result<(), test::Fail> {
+    let alloc = rt.alloc();
+    let func = and(alloc, pin(0), pin(1))?;
+    let want = [
+        (Tern::Zero, Tern::Zero, false),
+        (Tern::One, Tern::Zero, false),
+        (Tern::Unknown, Tern::Zero, false),
+        (Tern::Zero, Tern::One, false),
+        (Tern::One, Tern::One, true),
+        (Tern::Zero, Tern::Unknown, false),
+    ];
+    let found = cubes(alloc, &func, 2)?;
+    assert_eq!(rt; found.len(), 6);
+    for (cube, (first, second, value)) in found.iter().zip(want) {
+        assert!(rt; cube.fixed.as_slice() == [first, second].as_slice());
+        assert_eq!(rt; cube.value, value);
+    }
+    Ok(())
+}
