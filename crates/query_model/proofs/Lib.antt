@@ -31,3 +31,4 @@ pub mod Hazy
 pub mod HazyGates
 pub mod HazyEnds
 pub mod Claims
+pub mod NetKeys

@@ -1,7 +1,8 @@
 -- The definitions of keys by clauses, cycle by cycle, in the order of the formula.
 use Rattle.std.specs.Prelude.{ℕ, zero, suc, ◌+◌, ◌-◌, ◌==◌, ◌&&◌, ◌||◌, Bool, true, false, not, List, [], ◌∷◌, ◌++◌, map, length, flat_map, filter, Option, Some, None, slice_get, slice_index, nat_lt, if◌then◌else◌}
 use Rattle.std.specs.List.{list_any}
-use Rattle.net_model.specs.Form.{Form, ZeroForm, OneForm, PinForm, NotForm, AndForm, OrForm, XorForm, value}
+use Rattle.net_model.specs.Form.{value}
+use Rattle.net_model.specs.Mentions.{reg_mentions}
 use Rattle.net_model.specs.Cycles.{reg_capture}
 use Rattle.net_model.specs.Judge.{judged_count}
 use Rattle.net_model.specs.Layers.{net_at, held_set}
@@ -105,23 +106,9 @@ input_definition d live c i =
 abbrev pub gate_definition : Coding → Design → ℕ → Gate → Definition
 gate_definition coding d c g = plain coding (value g.func) (map (read_base d c) g.ins) (key c 0 0 g.out)
 
--- whether a function mentions a place
-abbrev pub mentions : ℕ → Form → Bool
-mentions n ZeroForm = false
-mentions n OneForm = false
-mentions n (PinForm i) = i == n
-mentions n (NotForm f) = mentions n f
-mentions n (AndForm f g) = mentions n f || mentions n g
-mentions n (OrForm f g) = mentions n f || mentions n g
-mentions n (XorForm f g) = mentions n f || mentions n g
-
-abbrev pub mentions_if_any : ℕ → Option Form → Bool
-mentions_if_any n None = false
-mentions_if_any n (Some f) = mentions n f
-
+-- whether a register reads its own bit as its functions are written
 abbrev pub reads_own : Reg → Bool
-reads_own reg =
-    mentions (length reg.ins) reg.next || (mentions_if_any (length reg.ins) reg.clear || mentions_if_any (length reg.ins) reg.preset)
+reads_own reg = reg_mentions (length reg.ins) reg
 
 -- the literals of a register's pins, and where it reads its own bit of that
 abbrev pub with_own : Reg → KeyLit → List KeyLit → List KeyLit
