@@ -28,15 +28,17 @@ use Rattle.net_model.specs.declared.queries.Phase.{Phase}
 use Rattle.net_model.specs.declared.queries.Phase.TheVariants.{Base, Step}
 use Rattle.net_model.specs.declared.terns.Tern.{Tern}
 use Rattle.net_model.specs.declared.terns.Tern.TheVariants.{Zero, Unknown}
-use Rattle.query_model.specs.Keys.{key, AllTrue}
-use Rattle.query_model.specs.Reads.{bit_key, AreMoved}
+use Rattle.query_model.specs.Keys.{key, lit, AllTrue}
+use Rattle.query_model.specs.Reads.{bit_key, read_base, AreMoved}
 use Rattle.query_model.specs.Queries.{Query, Question, live_of, only_in_step, claim_query, clause_query, IsAnswer}
 use Rattle.query_model.specs.Formula.{definitions, asked_clauses, IsNeeded, AreNeeded, IsFormulaOf}
-use Rattle.query_model.specs.Laws.{AreCyclesOf, HasFreeBits, ModelsAnswer, AnswersHaveModels}
+use Rattle.query_model.specs.Laws.{AreCyclesOf, HasFreeBits, AgreesWith, ModelsAnswer, AnswersHaveModels}
 use Rattle.query_model.specs.Laws.{NamesRegs as Names}
-use Rattle.query_model.proofs.Runs.{AnyKey, rows_coding}
+use Rattle.query_model.proofs.Runs.{AnyKey, rows_coding, Told, now_bits, next_bits}
+use Rattle.query_model.proofs.Told.{LitTells}
+use Rattle.query_model.proofs.NetKeys.{needed_own}
 use Rattle.query_model.proofs.Based.{IsFree, get_within, placed}
-use Rattle.query_model.proofs.Clauses.{NamesRegs, clause_model_answers, clause_answer_models}
+use Rattle.query_model.proofs.Clauses.{NamesRegs, model_told, clause_model_answers, clause_answer_models}
 use Rattle.query_model.proofs.Codings.{primes_coding, rows_settle, primes_settle}
 use Rattle.query_model.proofs.Meaning.{meaning}
 use Rattle.query_model.proofs.HazyGates.{IsCoding}
@@ -72,10 +74,29 @@ is_free : (coding : Coding) (q : Query) (moved : List (List Bool)) (keys : List 
 is_free coding q moved keys v run needed are free =
     let first = get_within run 0 are.linked.some in
     record {
-      bits = λ r lt has. free.bits first.0 r first.1 lt (needed.all (bit_key q.design 0 r) has) ∙ sym (Rattle.query_model.proofs.Runs.now_bits q.design run 0 first.0 r first.1);
+      bits = λ r lt has. free.bits first.0 r first.1 lt (needed.all (bit_key q.design 0 r) has) ∙ sym (now_bits q.design run 0 first.0 r first.1);
       inputs = λ t c i at lt fixed reset has.
           free.inputs t c i at lt fixed reset (needed.all (key t 0 0 (slice_index q.design.inputs i)) has)
           ∙ sym ((All-at (IsSettled q.design) run t c at are.linked.settled).inputs i lt);
+    }
+
+-- what the keys of a model tell of a run, it agrees with
+agrees : (coding : Coding) (q : Query) (moved : List (List Bool)) (keys : List Key) (v : Key → Bool) (run : List Cycle) → IsSound q.design → IsLinked q.design run → AreNeeded (definitions coding q moved) (asked_clauses q) keys → Told (IsNeeded (definitions coding q moved) (asked_clauses q)) v q.design run → AgreesWith q.design keys v run
+agrees coding q moved keys v run sound linked needed told =
+    record {
+      nets = λ t c n at low has.
+          let k = key t 0 0 n in
+          let is = needed.needed k has in
+          let read : read_base q.design t n ≡ lit true k = needed_own coding q moved k sound is refl low in
+          let tells : LitTells (IsNeeded (definitions coding q moved) (asked_clauses q)) v (lit true k) (bit_at c.nets n) =
+          subst (λ (l : KeyLit). LitTells (IsNeeded (definitions coding q moved) (asked_clauses q)) v l (bit_at c.nets n)) read (told.nets t c at n low) in
+          tells is;
+      bits = λ t c r at lt has.
+          let within = slice_get_within run t c at in
+          told.bits t (omega arith) r lt (needed.needed (bit_key q.design t r) has) ∙ now_bits q.design run t c r at;
+      captures = λ t c r at lt has.
+          let within = slice_get_within run t c at in
+          told.bits (t + 1) (omega arith) r lt (needed.needed (bit_key q.design (t + 1) r) has) ∙ next_bits q.design run t c r linked at lt;
     }
 
 -- a choice for each cycle of a run
@@ -152,23 +173,7 @@ asked_of d claim run sound fits linked = record { sound = sound; linked = linked
 
 -- each model of a claim's query is an answer
 pub claim_models : (coding : Coding) (d : Design) (claim : Claim) (phase : Phase) (depth : ℕ) (inv : List InvClause) → IsSound d → Fits d claim → ((clause : InvClause) → Rattle.std.specs.Prelude.Contains inv clause → Names d clause) → ModelsAnswer coding (claim_query d claim phase depth inv)
-claim_models coding d claim phase depth inv sound fits names keys clauses v run formula all are free =
-    elim (cases_Bool claim.hazard) [
-      | inl hazard ↦
-          let made = hazy_rows d claim run sound fits are.linked in
-          let hazy = are_hazy d claim formula.moved run sound fits are.linked formula.are_moved hazard in
-          claim_model_answers coding d live cycles inv kept_below claim depth clean formula.moved (unknown_at d claim run made.0) keys v run (coded coding).covers named are.resets asked
-          (hazy_decided kind d claim run (unknown_at d claim run made.0) (are_hazy_judged d claim formula.moved run made.0 hazard asked hazy))
-          (hazy_tells coding kind v d claim formula.moved run made.0 (coded coding) hazard asked hazy)
-          are.count (omega arith) (short phase depth) formula.are_needed true_all known
-      | inr plain ↦
-          let made = flipped_rows d claim run sound fits are.linked in
-          let flips = are_flipped d claim formula.moved run sound fits are.linked formula.are_moved plain in
-          claim_model_answers coding d live cycles inv kept_below claim depth clean formula.moved (differs_late_at d claim run made.0) keys v run (coded coding).covers named are.resets asked
-          (plain_decided kind d claim run (late_at d claim run made.0) (differs_late_at d claim run made.0) (are_judged d claim formula.moved run made.0 plain asked flips))
-          (plain_tells coding kind v d claim formula.moved run made.0 (coded coding).covers plain asked flips)
-          are.count (omega arith) (short phase depth) formula.are_needed true_all known
-    ]
+claim_models coding d claim phase depth inv sound fits names keys clauses v run formula all are free = (answer, agrees coding (claim_query d claim phase depth inv) formula.moved keys v run sound are.linked formula.are_needed told)
   where
     live : ℕ
     live = live_of d phase
@@ -196,6 +201,28 @@ claim_models coding d claim phase depth inv sound fits names keys clauses v run 
 
     true_all : AllTrue v (Rattle.query_model.specs.Formula.formula_over (definitions coding (claim_query d claim phase depth inv) formula.moved) (asked_clauses (claim_query d claim phase depth inv)) keys)
     true_all = subst (AllTrue v) formula.are_clauses all
+
+    told : Told (IsNeeded (definitions coding (claim_query d claim phase depth inv) formula.moved) (asked_clauses (claim_query d claim phase depth inv))) v d run
+    told = model_told coding (claim_query d claim phase depth inv) formula.moved keys v run (coded coding).covers sound are.linked are.resets are.count formula.are_needed true_all known
+
+    answer : IsAnswer (claim_query d claim phase depth inv) run
+    answer =
+        elim (cases_Bool claim.hazard) [
+          | inl hazard ↦
+              let made = hazy_rows d claim run sound fits are.linked in
+              let hazy = are_hazy d claim formula.moved run sound fits are.linked formula.are_moved hazard in
+              claim_model_answers coding d live cycles inv kept_below claim depth clean formula.moved (unknown_at d claim run made.0) keys v run (coded coding).covers named are.resets asked
+              (hazy_decided kind d claim run (unknown_at d claim run made.0) (are_hazy_judged d claim formula.moved run made.0 hazard asked hazy))
+              (hazy_tells coding kind v d claim formula.moved run made.0 (coded coding) hazard asked hazy)
+              are.count (omega arith) (short phase depth) formula.are_needed true_all known
+          | inr plain ↦
+              let made = flipped_rows d claim run sound fits are.linked in
+              let flips = are_flipped d claim formula.moved run sound fits are.linked formula.are_moved plain in
+              claim_model_answers coding d live cycles inv kept_below claim depth clean formula.moved (differs_late_at d claim run made.0) keys v run (coded coding).covers named are.resets asked
+              (plain_decided kind d claim run (late_at d claim run made.0) (differs_late_at d claim run made.0) (are_judged d claim formula.moved run made.0 plain asked flips))
+              (plain_tells coding kind v d claim formula.moved run made.0 (coded coding).covers plain asked flips)
+              are.count (omega arith) (short phase depth) formula.are_needed true_all known
+        ]
 
 -- each answer to a claim's query gives a model
 pub claim_answers : (coding : Coding) (d : Design) (claim : Claim) (phase : Phase) (depth : ℕ) (inv : List InvClause) → IsSound d → Fits d claim → ((clause : InvClause) → Rattle.std.specs.Prelude.Contains inv clause → Names d clause) → AnswersHaveModels coding (claim_query d claim phase depth inv)
@@ -232,11 +259,15 @@ claim_answers coding d claim phase depth inv sound fits names keys clauses run f
 
 -- the same for the query of an invariant's clause
 pub clause_models : (coding : Coding) (d : Design) (inv : List InvClause) (clause : InvClause) (phase : Phase) (depth : ℕ) → IsSound d → Names d clause → ((i : InvClause) → Rattle.std.specs.Prelude.Contains inv i → Names d i) → ModelsAnswer coding (clause_query d inv clause phase depth)
-clause_models coding d inv clause phase depth sound name names keys clauses v run formula all are free =
-    clause_model_answers coding d (live_of d phase) (live_of d phase + depth + 1) inv (only_in_step phase depth) clause formula.moved keys v run (coded coding).covers sound
+clause_models coding d inv clause phase depth sound name names keys clauses v run formula all are free = (
+  clause_model_answers coding d (live_of d phase) (live_of d phase + depth + 1) inv (only_in_step phase depth) clause formula.moved keys v run (coded coding).covers sound
     (λ l has. let place = placed l clause.lits has in All-at (λ (s : StateLit). s.reg < length d.regs) clause.lits place.0 l place.1 name)
     (names_all d inv names) are.linked are.resets are.count formula.are_needed (subst (AllTrue v) formula.are_clauses all)
-    (is_free coding (clause_query d inv clause phase depth) formula.moved keys v run formula.are_needed are free)
+    (is_free coding (clause_query d inv clause phase depth) formula.moved keys v run formula.are_needed are free),
+  agrees coding (clause_query d inv clause phase depth) formula.moved keys v run sound are.linked formula.are_needed
+      (model_told coding (clause_query d inv clause phase depth) formula.moved keys v run (coded coding).covers sound are.linked are.resets are.count formula.are_needed (subst (AllTrue v) formula.are_clauses all)
+      (is_free coding (clause_query d inv clause phase depth) formula.moved keys v run formula.are_needed are free)),
+)
 
 pub clause_answers : (coding : Coding) (d : Design) (inv : List InvClause) (clause : InvClause) (phase : Phase) (depth : ℕ) → IsSound d → Names d clause → ((i : InvClause) → Rattle.std.specs.Prelude.Contains inv i → Names d i) → AnswersHaveModels coding (clause_query d inv clause phase depth)
 clause_answers coding d inv clause phase depth sound name names keys clauses run formula answer = (

@@ -1,10 +1,11 @@
 -- What the models of a query's formula are: its answers, in both directions.
-use Rattle.std.specs.Prelude.{◌≡◌, ℕ, ◌<◌, Bool, List, length, All, Contains, None, Some, slice_get, slice_index, nat_lt}
-use Rattle.net_model.specs.Cycles.{bit_at, IsLinked, HasResets}
+use Rattle.std.specs.Prelude.{◌≡◌, ℕ, ◌+◌, ◌<◌, Bool, List, length, All, Contains, None, Some, slice_get, slice_index, nat_lt}
+use Rattle.net_model.specs.Cycles.{bit_at, capture, IsLinked, HasResets}
 use Rattle.net_model.specs.declared.netlist.Design.{Design}
 use Rattle.net_model.specs.declared.cycles.Cycle.{Cycle}
 use Rattle.net_model.specs.declared.invariants.StateLit.{StateLit}
 use Rattle.net_model.specs.declared.invariants.InvClause.{InvClause}
+use Rattle.net_model.specs.declared.claims.End.TheVariants.{Reg as RegEnd}
 use Rattle.query_model.specs.Keys.{key, AllTrue}
 use Rattle.query_model.specs.Reads.{bit_key}
 use Rattle.query_model.specs.Queries.{Query, IsAnswer}
@@ -30,10 +31,16 @@ pub record HasFreeBits (d : Design) (keys : List Key) (v : Key → Bool) (run : 
   pub bits : (c : Cycle) (r : ℕ) → slice_get run 0 ≡ Some c → r < length d.regs → Contains keys (bit_key d 0 r) → v (bit_key d 0 r) ≡ bit_at c.bits r
   pub inputs : (t : ℕ) (c : Cycle) (i : ℕ) → slice_get run t ≡ Some c → i < length d.inputs → set_in d.fixed i ≡ None → set_in d.resets i ≡ None → Contains keys (key t 0 0 (slice_index d.inputs i)) → v (key t 0 0 (slice_index d.inputs i)) ≡ bit_at c.ins i
 
--- each model is an answer: the cycles that have its free bits answer the query
+-- wherever the model has a value for a net or for a register bit, also for a bit of the cycle after, it is the run's
+pub record AgreesWith (d : Design) (keys : List Key) (v : Key → Bool) (run : List Cycle) : Type 0 where
+  pub nets : (t : ℕ) (c : Cycle) (n : ℕ) → slice_get run t ≡ Some c → n < d.nets → Contains keys (key t 0 0 n) → v (key t 0 0 n) ≡ bit_at c.nets n
+  pub bits : (t : ℕ) (c : Cycle) (r : ℕ) → slice_get run t ≡ Some c → r < length d.regs → Contains keys (bit_key d t r) → v (bit_key d t r) ≡ bit_at c.bits r
+  pub captures : (t : ℕ) (c : Cycle) (r : ℕ) → slice_get run t ≡ Some c → r < length d.regs → Contains keys (bit_key d (t + 1) r) → v (bit_key d (t + 1) r) ≡ capture d (RegEnd r) c
+
+-- each model is an answer: the cycles that have its free bits answer the query, and agree with it
 abbrev pub ModelsAnswer : Coding → Query → Type 0
 ModelsAnswer coding q =
-    (keys : List Key) (clauses : List (List KeyLit)) (v : Key → Bool) (run : List Cycle) → IsFormulaOf coding q keys clauses → AllTrue v clauses → AreCyclesOf q run → HasFreeBits q.design keys v run → IsAnswer q run
+    (keys : List Key) (clauses : List (List KeyLit)) (v : Key → Bool) (run : List Cycle) → IsFormulaOf coding q keys clauses → AllTrue v clauses → AreCyclesOf q run → HasFreeBits q.design keys v run → IsAnswer q run × AgreesWith q.design keys v run
 
 -- each answer gives a model
 abbrev pub AnswersHaveModels : Coding → Query → Type 0
