@@ -32,3 +32,4 @@ pub mod HazyGates
 pub mod HazyEnds
 pub mod Claims
 pub mod NetKeys
+pub mod Problems

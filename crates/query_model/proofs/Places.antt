@@ -4,10 +4,9 @@ use Rattle.std.specs.Prelude.{slice_get, ◌==◌, ◌&&◌}
 use Rattle.std.proofs.lemmas.Bool.{and_parts, eqb-true, cases_Bool}
 use Rattle.query_model.specs.Keys.{key}
 use Rattle.query_model.specs.Formula.{same_key}
-use Rattle.query_model.specs.Variables.{number_of}
+use Rattle.query_model.specs.Variables.{number_of, by_number}
 use Rattle.net_model.proofs.Members.{In}
 use Rattle.query_model.proofs.Needs.{same_key-refl}
-use Rattle.query_model.proofs.Numbered.{by_number}
 use Rattle.query_model.specs.declared.keys.Key.{Key}
 
 key_is : (a b : Key) → a.cycle ≡ b.cycle → a.layer ≡ b.layer → a.rail ≡ b.rail → a.point ≡ b.point → a ≡ b

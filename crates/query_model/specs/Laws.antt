@@ -11,6 +11,7 @@ use Rattle.query_model.specs.Reads.{bit_key}
 use Rattle.query_model.specs.Queries.{Query, IsAnswer}
 use Rattle.query_model.specs.Defined.{set_in}
 use Rattle.query_model.specs.Formula.{IsFormulaOf}
+use Rattle.query_model.specs.Variables.{IsProblemOf, AllCodesTrue, by_number}
 use Rattle.query_model.specs.declared.keys.Key.{Key}
 use Rattle.query_model.specs.declared.keys.KeyLit.{KeyLit}
 use Rattle.query_model.specs.declared.keys.Coding.{Coding}
@@ -46,3 +47,13 @@ ModelsAnswer coding q =
 abbrev pub AnswersHaveModels : Coding → Query → Type 0
 AnswersHaveModels coding q =
     (keys : List Key) (clauses : List (List KeyLit)) (run : List Cycle) → IsFormulaOf coding q keys clauses → IsAnswer q run → (v : Key → Bool) × AllTrue v clauses
+
+-- the same over numbered variables: each model of the problem is an answer
+abbrev pub NumberedModelsAnswer : Coding → Query → Type 0
+NumberedModelsAnswer coding q =
+    (keys : List Key) (vars : ℕ) (clauses : List (List ℕ)) (v : ℕ → Bool) (run : List Cycle) → IsProblemOf coding q keys vars clauses → AllCodesTrue v clauses → AreCyclesOf q run → HasFreeBits q.design keys (by_number keys v) run → IsAnswer q run × AgreesWith q.design keys (by_number keys v) run
+
+-- and each answer gives a model
+abbrev pub AnswersHaveNumberedModels : Coding → Query → Type 0
+AnswersHaveNumberedModels coding q =
+    (keys : List Key) (vars : ℕ) (clauses : List (List ℕ)) (run : List Cycle) → IsProblemOf coding q keys vars clauses → IsAnswer q run → (v : ℕ → Bool) × AllCodesTrue v clauses

@@ -3,7 +3,7 @@ ghost use Rattle.std.specs.Prelude.{All};
 ghost use Rattle.net_model.specs.Netlist.{IsSound};
 ghost use Rattle.net_model.specs.Fits.{Fits};
 ghost use Rattle.query_model.specs.Queries.{claim_query, clause_query};
-ghost use Rattle.query_model.specs.Laws.{NamesRegs, ModelsAnswer, AnswersHaveModels};
+ghost use Rattle.query_model.specs.Laws.{NamesRegs, ModelsAnswer, AnswersHaveModels, NumberedModelsAnswer, AnswersHaveNumberedModels};
 ghost use Rattle.query_model.specs.declared.keys.Coding.{Coding};
 
 use net_model::{Claim, Design, InvClause, Phase};
@@ -19,6 +19,8 @@ pub fn claim_laws(design: &Design, claim: &Claim, phase: Phase, depth: usize, in
     requires names { All (NamesRegs design.now) inv.now }
     ensures models { (coding : Coding) → ModelsAnswer coding (claim_query design.now claim.now phase depth inv.now) }
     ensures answers { (coding : Coding) → AnswersHaveModels coding (claim_query design.now claim.now phase depth inv.now) }
+    ensures numbered_models { (coding : Coding) → NumberedModelsAnswer coding (claim_query design.now claim.now phase depth inv.now) }
+    ensures numbered_answers { (coding : Coding) → AnswersHaveNumberedModels coding (claim_query design.now claim.now phase depth inv.now) }
 {}
 
 /// The same where it is asked whether a clause over register bits fails in the last cycle.
@@ -34,4 +36,6 @@ pub fn clause_laws(
     requires names { All (NamesRegs design.now) inv.now }
     ensures models { (coding : Coding) → ModelsAnswer coding (clause_query design.now inv.now clause.now phase depth) }
     ensures answers { (coding : Coding) → AnswersHaveModels coding (clause_query design.now inv.now clause.now phase depth) }
+    ensures numbered_models { (coding : Coding) → NumberedModelsAnswer coding (clause_query design.now inv.now clause.now phase depth) }
+    ensures numbered_answers { (coding : Coding) → AnswersHaveNumberedModels coding (clause_query design.now inv.now clause.now phase depth) }
 {}

@@ -2,6 +2,8 @@ use Rattle.std.proofs.lemmas.List.Elements.{All-contains}
 use Rattle.net_model.specs.declared.invariants.InvClause.{InvClause}
 use Rattle.query_model.specs.Laws.{NamesRegs}
 use Rattle.query_model.proofs.Claims.{claim_models, claim_answers}
+use Rattle.query_model.specs.Queries.{claim_query}
+use Rattle.query_model.proofs.Problems.{numbered_models, numbered_answers}
 use Rattle.query_model.proofs.laws.claim_laws.Goals as goal
 
 pub returns-clause-models : goal.returns-clause-models
@@ -11,3 +13,9 @@ returns-clause-models c coding =
 pub returns-clause-answers : goal.returns-clause-answers
 returns-clause-answers c coding =
     claim_answers coding c.args.design.now c.args.claim.now c.args.phase c.args.depth c.args.inv.now c.requires.sound c.requires.fits (λ i has. All-contains (NamesRegs c.args.design.now) c.args.inv.now i c.requires.names has)
+
+pub returns-clause-numbered_models : goal.returns-clause-numbered_models
+returns-clause-numbered_models c coding = numbered_models coding (claim_query c.args.design.now c.args.claim.now c.args.phase c.args.depth c.args.inv.now) (claim_models coding c.args.design.now c.args.claim.now c.args.phase c.args.depth c.args.inv.now c.requires.sound c.requires.fits (λ i has. All-contains (NamesRegs c.args.design.now) c.args.inv.now i c.requires.names has))
+
+pub returns-clause-numbered_answers : goal.returns-clause-numbered_answers
+returns-clause-numbered_answers c coding = numbered_answers coding (claim_query c.args.design.now c.args.claim.now c.args.phase c.args.depth c.args.inv.now) (claim_answers coding c.args.design.now c.args.claim.now c.args.phase c.args.depth c.args.inv.now c.requires.sound c.requires.fits (λ i has. All-contains (NamesRegs c.args.design.now) c.args.inv.now i c.requires.names has))
