@@ -261,9 +261,9 @@ claim_answers coding d claim phase depth inv sound fits names keys clauses run f
 pub clause_models : (coding : Coding) (d : Design) (inv : List InvClause) (clause : InvClause) (phase : Phase) (depth : ℕ) → IsSound d → Names d clause → ((i : InvClause) → Rattle.std.specs.Prelude.Contains inv i → Names d i) → ModelsAnswer coding (clause_query d inv clause phase depth)
 clause_models coding d inv clause phase depth sound name names keys clauses v run formula all are free = (
   clause_model_answers coding d (live_of d phase) (live_of d phase + depth + 1) inv (only_in_step phase depth) clause formula.moved keys v run (coded coding).covers sound
-    (λ l has. let place = placed l clause.lits has in All-at (λ (s : StateLit). s.reg < length d.regs) clause.lits place.0 l place.1 name)
-    (names_all d inv names) are.linked are.resets are.count formula.are_needed (subst (AllTrue v) formula.are_clauses all)
-    (is_free coding (clause_query d inv clause phase depth) formula.moved keys v run formula.are_needed are free),
+      (λ l has. let place = placed l clause.lits has in All-at (λ (s : StateLit). s.reg < length d.regs) clause.lits place.0 l place.1 name)
+      (names_all d inv names) are.linked are.resets are.count formula.are_needed (subst (AllTrue v) formula.are_clauses all)
+      (is_free coding (clause_query d inv clause phase depth) formula.moved keys v run formula.are_needed are free),
   agrees coding (clause_query d inv clause phase depth) formula.moved keys v run sound are.linked formula.are_needed
       (model_told coding (clause_query d inv clause phase depth) formula.moved keys v run (coded coding).covers sound are.linked are.resets are.count formula.are_needed (subst (AllTrue v) formula.are_clauses all)
       (is_free coding (clause_query d inv clause phase depth) formula.moved keys v run formula.are_needed are free)),

@@ -74,7 +74,6 @@ pub record Moment (claim : Claim) (run : List Cycle) (t r : ℕ) (a b before c :
 abbrev pub KindOfAll : (Key → Type 0) → List (List KeyLit) → Type 0
 KindOfAll kind alts = (alt : List KeyLit) (l : KeyLit) → In alt alts → In l alt → kind l.key
 
-
 -- the alternatives of a claim say which judged cycles are bad
 pub record IsDecided (kind : Key → Type 0) (d : Design) (claim : Claim) (run : List Cycle) (differs : ℕ → Bool) : Type 0 where
   pub bad : (v : Key → Bool) (t r : ℕ) (a b before c : Cycle) (alt : List KeyLit) → ExtrasTold kind v d claim run differs → Moment claim run t r a b before c → start_bit claim.start b ≢ start_bit claim.start a → KindOfAll kind (alternatives_at d claim t r) → In alt (alternatives_at d claim t r) → AllHold v alt → IsBadFor claim.hazard d claim (start_bit claim.start a) before c

@@ -140,8 +140,7 @@ source_may coding kind v d claim moved t c rows hazy zero le forces n low has m 
     unknown is =
         let high = unit_in coding d claim moved t n (unit true (key t 1 0 n)) hazy.hazard low is (inl refl) in
         let low_in = unit_in coding d claim moved t n (unit true (key t 1 1 n)) hazy.hazard low is (inr (inl refl)) in
-        subst (λ (x : Tern). RailTells kind v (lit true (key t 1 0 n)) (lit true (key t 1 1 n)) x) (sym (start_unknown d claim moved c rows hazy n is))
-        (
+        subst (λ (x : Tern). RailTells kind v (lit true (key t 1 0 n)) (lit true (key t 1 1 n)) x) (sym (start_unknown d claim moved c rows hazy n is)) (
           λ k. unit_says v true (key t 1 0 n) (forces.clauses (unit true (key t 1 0 n)) (key t 1 0 n) high (inl refl) k),
           λ k. unit_says v true (key t 1 1 n) (forces.clauses (unit true (key t 1 1 n)) (key t 1 1 n) low_in (inl refl) k),
         )

@@ -46,7 +46,6 @@ late_at d claim run rows t = late_in d claim (rows t) (slice_get run t)
 pub late_now : (d : Design) (claim : Claim) (run : List Cycle) (rows : ℕ → List (List Bool)) (t : ℕ) (c : Cycle) → slice_get run t ≡ Some c → late_at d claim run rows t ≡ capture_over d claim.through (rows t) claim.end c
 late_now d claim run rows t c at = ap (λ (o : Option Cycle). late_in d claim (rows t) o) at
 
-
 -- where the late capture differs
 abbrev pub differs_late_at : Design → Claim → List Cycle → (ℕ → List (List Bool)) → ℕ → Bool
 differs_late_at d claim run rows t = xor (late_at d claim run rows t) (capture_in_option d claim (slice_get run t))
@@ -71,7 +70,6 @@ plain_differ d claim moved t mode = by_mode _ claim.hazard mode where
   by_mode : (x : Definition) (h : Bool) → h ≡ false → cond h x (exclusive (differ_key d t) (late_lit d claim moved t 0 claim.end) (capture_lit d claim.end t)) ≡ exclusive (differ_key d t) (late_lit d claim moved t 0 claim.end) (capture_lit d claim.end t)
   by_mode x false e = refl
   by_mode x true e = absurd cc
-
 
 -- the definitions of the layers and of the end, among those of a claim in a cycle
 pub layers_of : (coding : Coding) (kind : Key → Type 0) (v : Key → Bool) (d : Design) (claim : Claim) (moved : List (List Bool)) (t : ℕ) → Forces kind v (claim_definitions coding d claim moved t) → (l : ℕ) → l ≤ length claim.through → Forces kind v (layer_definitions coding d claim moved t l)

@@ -37,26 +37,29 @@ values cubes = map (λ (c : Cube). c.value) cubes
 and_cell : (ℕ → Bool) → Bool
 and_cell = value (AndForm (PinForm 0) (PinForm 1))
 
-b5 : numbers (constant_cubes (value (AndForm (PinForm 0) (PinForm 1))) 2) ≡ 0 ∷ 1 ∷ 2 ∷ 3 ∷ 4 ∷ 6 ∷ []
+-- the cubes on which a conjunction of two places is constant
+conjunction_cubes : numbers (constant_cubes (value (AndForm (PinForm 0) (PinForm 1))) 2) ≡ 0 ∷ 1 ∷ 2 ∷ 3 ∷ 4 ∷ 6 ∷ []
 unfolding Rattle.net_model.specs.Ternary.cell_value
-b5 = refl
+conjunction_cubes = refl
 
-e8 : numbers (prime_cubes (value (AndForm (PinForm 0) (PinForm 1))) 2) ≡ 2 ∷ 4 ∷ 6 ∷ []
+-- and the prime ones of them
+conjunction_primes : numbers (prime_cubes (value (AndForm (PinForm 0) (PinForm 1))) 2) ≡ 2 ∷ 4 ∷ 6 ∷ []
 unfolding Rattle.net_model.specs.Ternary.cell_value
-e8 = refl
+conjunction_primes = refl
 
 abbrev mux : (ℕ → Bool) → Bool
 mux = value (OrForm (AndForm (PinForm 0) (NotForm (PinForm 2))) (AndForm (PinForm 1) (PinForm 2)))
 
-e8_mux : numbers (prime_cubes mux 3) ≡ 6 ∷ 7 ∷ 11 ∷ 14 ∷ 18 ∷ 22 ∷ []
+-- the prime cubes of a multiplexer
+multiplexer_primes : numbers (prime_cubes mux 3) ≡ 6 ∷ 7 ∷ 11 ∷ 14 ∷ 18 ∷ 22 ∷ []
 unfolding Rattle.net_model.specs.Ternary.cell_value
-e8_mux = refl
+multiplexer_primes = refl
 
-e8_values : values (prime_cubes mux 3) ≡ false ∷ true ∷ false ∷ true ∷ false ∷ true ∷ []
+multiplexer_values : values (prime_cubes mux 3) ≡ false ∷ true ∷ false ∷ true ∷ false ∷ true ∷ []
 unfolding Rattle.net_model.specs.Ternary.cell_value
-e8_values = refl
+multiplexer_values = refl
 
--- two registers in a row
+-- two registers in a row, and the claim that the first is a false start of the second
 abbrev design : Design
 design =
     record {
@@ -87,6 +90,6 @@ p n = lit true (Rattle.std.specs.Prelude.slice_index_or keys (Rattle.std.specs.P
 abbrev n : ℕ → KeyLit
 n i = lit false (Rattle.std.specs.Prelude.slice_index_or keys (Rattle.std.specs.Prelude.pred i) (key 9 9 9 9))
 
--- the clauses of the worked query, before each is sorted
-b4 : formula_over (definitions Rows (claim_query design claim Step 0 []) moved) (asked_clauses (claim_query design claim Step 0 [])) keys ≡ (p 1 ∷ n 3 ∷ []) ∷ (n 1 ∷ p 3 ∷ []) ∷ (p 3 ∷ n 8 ∷ []) ∷ (n 3 ∷ p 8 ∷ []) ∷ (n 3 ∷ n 7 ∷ []) ∷ (p 3 ∷ p 7 ∷ []) ∷ (n 4 ∷ p 3 ∷ p 2 ∷ []) ∷ (n 4 ∷ n 3 ∷ n 2 ∷ []) ∷ (p 4 ∷ n 3 ∷ p 2 ∷ []) ∷ (p 4 ∷ p 3 ∷ n 2 ∷ []) ∷ (n 5 ∷ p 7 ∷ p 8 ∷ []) ∷ (n 5 ∷ n 7 ∷ n 8 ∷ []) ∷ (p 5 ∷ n 7 ∷ p 8 ∷ []) ∷ (p 5 ∷ p 7 ∷ n 8 ∷ []) ∷ (p 4 ∷ []) ∷ (p 6 ∷ []) ∷ (n 6 ∷ p 5 ∷ []) ∷ []
-b4 = refl
+-- the clauses of its step query at depth 0, before each is sorted
+step_clauses : formula_over (definitions Rows (claim_query design claim Step 0 []) moved) (asked_clauses (claim_query design claim Step 0 [])) keys ≡ (p 1 ∷ n 3 ∷ []) ∷ (n 1 ∷ p 3 ∷ []) ∷ (p 3 ∷ n 8 ∷ []) ∷ (n 3 ∷ p 8 ∷ []) ∷ (n 3 ∷ n 7 ∷ []) ∷ (p 3 ∷ p 7 ∷ []) ∷ (n 4 ∷ p 3 ∷ p 2 ∷ []) ∷ (n 4 ∷ n 3 ∷ n 2 ∷ []) ∷ (p 4 ∷ n 3 ∷ p 2 ∷ []) ∷ (p 4 ∷ p 3 ∷ n 2 ∷ []) ∷ (n 5 ∷ p 7 ∷ p 8 ∷ []) ∷ (n 5 ∷ n 7 ∷ n 8 ∷ []) ∷ (p 5 ∷ n 7 ∷ p 8 ∷ []) ∷ (p 5 ∷ p 7 ∷ n 8 ∷ []) ∷ (p 4 ∷ []) ∷ (p 6 ∷ []) ∷ (n 6 ∷ p 5 ∷ []) ∷ []
+step_clauses = refl
