@@ -1,5 +1,5 @@
 -- Over the net values of a cycle there are layers, whatever the start shows late.
-use Rattle.std.proofs.Common.{◌≡◌, ◌≢◌, ℕ, zero, suc, ◌+◌, ◌<◌, ◌≤◌, Bool, true, false, List, [], map, length, get_or, replicate, Some, refl, ap, sym, ◌∙◌, subst, arith, inl, inr, add-one, get_or-set_same, length-set, set}
+use Rattle.std.proofs.Common.{◌≡◌, ◌≢◌, ℕ, zero, suc, ◌+◌, ◌<◌, ◌≤◌, Bool, false, List, [], map, length, get_or, replicate, Some, refl, ap, sym, ◌∙◌, subst, arith, inl, inr, add-one, get_or-set_same, length-set, set}
 use Rattle.std.specs.Prelude.{All, Contains, slice_get, slice_index}
 use Rattle.std.proofs.lemmas.Bool.{cases_Bool}
 use Rattle.std.proofs.lemmas.List.{length-replicate, get_or-replicate}
@@ -31,7 +31,7 @@ base_exists {V} blank bit_value sets l base start (suc k) within len le =
     let v = first_value blank bit_value sets start l base k in (
       written more.0 l k v,
       subst (BaseDone blank bit_value sets l base start (written more.0 l k v)) (add-one k)
-      (base_more blank bit_value sets l base start more.0 k v (omega (arith, more.1.count)) (omega arith) refl more.1),
+          (base_more blank bit_value sets l base start more.0 k v (omega (arith, more.1.count)) (omega arith) refl more.1),
     )
 
 late_exists : {V : Type 0} (blank value inverted : V) (d : Design) (r : ℕ) (reg : Reg) (start : List (List V)) (o : ℕ) → IsSound d → 0 < length start → length (row_at start 0) ≡ d.nets → slice_get d.regs r ≡ Some reg → o ≤ length reg.outs → (rows : List (List V)) × LateDone blank value inverted reg.outs start rows o
@@ -43,7 +43,7 @@ late_exists {V} blank value inverted d r reg start (suc o) sound within len at l
     let v = late_value value inverted out.0 in (
       written more.0 0 out.0.net v,
       subst (LateDone blank value inverted reg.outs start (written more.0 0 out.0.net v)) (add-one o)
-      (late_more blank value inverted d r reg start more.0 o out.0 v sound (omega (arith, more.1.count)) (more.1.len ∙ len) at out.1 refl more.1),
+          (late_more blank value inverted d r reg start more.0 o out.0 v sound (omega (arith, more.1.count)) (more.1.len ∙ len) at out.1 refl more.1),
     )
 
 -- the nets of the start show the late value in the first layer, and all other nets what they showed
@@ -107,10 +107,10 @@ gates_exist {V} applied reads blank d sets l start (suc k) sound within len le =
     elim (cases_Bool (is_in (Net gate.0.out) (held_set sets l))) [
       | inl held ↦ (more.0, subst (LayerDone applied blank d sets l start more.0) (add-one k) (layer_skip applied blank d sets l start more.0 k gate.0 gate.1 held more.1))
       | inr free ↦ (
-          written more.0 l gate.0.out v,
-          subst (LayerDone applied blank d sets l start (written more.0 l gate.0.out v)) (add-one k)
-          (layer_more applied reads blank d sets l start more.0 k gate.0 v sound (omega (arith, more.1.count)) gate.1 free refl more.1),
-        )
+        written more.0 l gate.0.out v,
+        subst (LayerDone applied blank d sets l start (written more.0 l gate.0.out v)) (add-one k)
+            (layer_more applied reads blank d sets l start more.0 k gate.0 v sound (omega (arith, more.1.count)) gate.1 free refl more.1),
+      )
     ]
 
 -- the layers so far, in rows that have a value for each net

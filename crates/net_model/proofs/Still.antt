@@ -8,7 +8,7 @@ use Rattle.net_model.specs.Pins.{is_in, start_nets}
 use Rattle.net_model.specs.Layers.{net_at, held_set, pin_reads, layer_pins, AreLayers}
 use Rattle.net_model.proofs.Settling.{All-at, ReadsPlaces}
 use Rattle.net_model.proofs.LayerRows.{source_low}
-use Rattle.net_model.proofs.Members.{In, In-from_Contains, Contains-from_In, in_or}
+use Rattle.net_model.proofs.Members.{In-from_Contains, Contains-from_In, in_or}
 use Rattle.net_model.proofs.NetOrder.{over_nets}
 use Rattle.net_model.specs.declared.netlist.Design.{Design}
 use Rattle.net_model.specs.declared.netlist.Gate.{Gate}

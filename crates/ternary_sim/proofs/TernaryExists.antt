@@ -15,8 +15,7 @@ use Rattle.net_model.specs.declared.terns.Tern.TheVariants.{Unknown}
 
 pub ternary_exists : (d : Design) (claim : Claim) (c : Cycle) → IsSound d → IsStartIn d claim.start → IsSettled d c → (t : Tern) × IsTernaryCapture d claim c t
 ternary_exists d claim c sound is settled =
-    let made = layers_exist tern_value tern_agrees tern_of Unknown Unknown d claim.start claim.through c.nets sound is settled.shape.nets in
-    (
+    let made = layers_exist tern_value tern_agrees tern_of Unknown Unknown d claim.start claim.through c.nets sound is settled.shape.nets in (
       tern_capture_over d claim.through made.0 claim.end c,
       record { rows = made.0; layers = unknown_layers d claim.start claim.through c.nets made.0 (length claim.through) made.1; capture = refl },
     )
