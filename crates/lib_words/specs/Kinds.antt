@@ -1,0 +1,41 @@
+-- The groups and attributes of a cell that count, by their names.
+use Rattle.std.specs.Prelude.{ℕ, List, [], ◌∷◌, Option, find, codes}
+use Rattle.std.specs.Option.{option_map}
+use Rattle.std.specs.Str.{bytes_eq}
+use Rattle.lib_words.specs.declared.kinds.PartKind.{PartKind}
+use Rattle.lib_words.specs.declared.kinds.PartKind.TheVariants as part
+use Rattle.lib_words.specs.declared.kinds.AttributeKind.{AttributeKind}
+use Rattle.lib_words.specs.declared.kinds.AttributeKind.TheVariants as attribute
+
+-- what stands beside these bytes in a table
+abbrev pub in_table : {A : Type 0} → List (List ℕ × A) → List ℕ → Option A
+in_table rows x = option_map (λ row. row.1) (find (λ row. bytes_eq x row.0) rows)
+
+-- the groups that count where they stand directly in a cell
+unfoldable pub part_kind : List ℕ → Option PartKind
+part_kind x = in_table (
+    (codes "pin", part.Pin)
+    ∷ (codes "pg_pin", part.PgPin)
+    ∷ (codes "ff", part.Ff)
+    ∷ (codes "ff_bank", part.FfBank)
+    ∷ (codes "latch", part.Latch)
+    ∷ (codes "latch_bank", part.LatchBank)
+    ∷ (codes "statetable", part.Statetable)
+    ∷ (codes "bus", part.Bus)
+    ∷ (codes "bundle", part.Bundle)
+    ∷ []) x
+
+-- the simple attributes that count where they stand directly in a cell or in one of its parts
+unfoldable pub attribute_kind : List ℕ → Option AttributeKind
+attribute_kind x = in_table (
+    (codes "direction", attribute.Direction)
+    ∷ (codes "function", attribute.Function)
+    ∷ (codes "three_state", attribute.ThreeState)
+    ∷ (codes "clocked_on", attribute.ClockedOn)
+    ∷ (codes "clocked_on_also", attribute.ClockedOnAlso)
+    ∷ (codes "next_state", attribute.NextState)
+    ∷ (codes "clear", attribute.Clear)
+    ∷ (codes "preset", attribute.Preset)
+    ∷ (codes "clear_preset_var1", attribute.ClearPresetVar1)
+    ∷ (codes "clock_gating_integrated_cell", attribute.ClockGatingIntegratedCell)
+    ∷ []) x

@@ -1,0 +1,16 @@
+//! The words and the group tree of a Liberty text: from bytes to the cells' groups and attributes that count.
+//!
+//! A text is one `library` group. Of it the direct `cell` groups are kept, of a cell some of its direct groups and
+//! attributes (`PartKind`, `AttributeKind`); everything else is passed over, but has to keep to the grammar. Nothing is
+//! judged here: what a cell is, and whether a function is one, is left to the crates above. `read_cells` is the call to
+//! read first.
+#![tactic(auto)]
+
+mod blanks;
+mod faults;
+mod groups;
+mod kinds;
+
+pub use faults::GroupFault;
+pub use groups::{Attribute, CellGroup, Part, Value};
+pub use kinds::{AttributeKind, PartKind};
