@@ -10,6 +10,9 @@ mod blanks;
 mod faults;
 mod groups;
 mod kinds;
+mod lists;
+mod runs;
+mod tokens;
 
 pub use faults::GroupFault;
 pub use groups::{Attribute, CellGroup, Part, Value};
