@@ -1,7 +1,9 @@
 pub mod Blanks
 pub mod Founds
+pub mod Groups
 pub mod Kinds
 pub mod Lists
 pub mod Reads
 pub mod Runs
 pub mod Tokens
+pub mod Passes

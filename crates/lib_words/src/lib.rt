@@ -10,7 +10,9 @@ mod blanks;
 mod faults;
 mod groups;
 mod kinds;
+mod libraries;
 mod lists;
+mod passes;
 mod runs;
 mod tokens;
 

@@ -1,0 +1,51 @@
+-- Statements that are passed over: they keep to the grammar, and nothing of them is kept.
+use Rattle.std.specs.Prelude.{ℕ, zero, suc, ◌+◌, ◌-◌, nat_lt, if◌then◌else◌, List, length, Result, Ok, Err}
+use Rattle.lib_words.specs.declared.passes.Passed.{Passed}
+use Rattle.lib_words.specs.Reads.{Rule, ◌>>=◌, place_of}
+use Rattle.lib_words.specs.Tokens.{is_next, after_mark, mark_at, name_at}
+use Rattle.lib_words.specs.Runs.{argument_at, value_at}
+use Rattle.lib_words.specs.Lists.{list_at}
+
+-- nothing is kept
+abbrev pub nothing : Passed
+nothing = record {}
+
+-- an argument
+abbrev pub passes_argument : Passed → Rule Passed
+passes_argument found total s = argument_at total s >>= λ p. Ok (found, p.1)
+
+-- arguments in parentheses
+unfoldable pub after_arguments : ℕ → List ℕ → Result (List ℕ) ℕ
+after_arguments total s = mark_at 40 total s >>= λ r. list_at 41 44 passes_argument nothing total r >>= λ p. Ok p.1
+
+-- the `{` of a group, where so many groups are open of those that may be
+unfoldable pub enter_at : ℕ → ℕ → ℕ → List ℕ → Result (List ℕ) ℕ
+enter_at room opened total s = if nat_lt opened room then mark_at 123 total s else Err (place_of total s)
+
+-- where a `{` may stand: how many groups are open then
+unfoldable pub opened_at : ℕ → ℕ → Rule ℕ
+opened_at room opened total s = if is_next 123 s then (enter_at room opened total s >>= λ r. Ok (opened + 1, r)) else Ok (opened, s)
+
+-- after a statement's name: `:` and a value, or arguments and maybe the `{` of a group; and how many groups are open then
+unfoldable pub tail_at : ℕ → ℕ → Rule ℕ
+tail_at room opened total s =
+    if is_next 58 s then (value_at total (after_mark s) >>= λ v. Ok (opened, v.1))
+    else (after_arguments total s >>= λ r. opened_at room opened total r)
+
+-- in open groups: the `}` of the innermost, a `;`, or a statement up to its value, arguments or `{`; and how many groups
+-- are open then
+unfoldable pub step_at : ℕ → ℕ → Rule ℕ
+step_at room opened total s =
+    if is_next 125 s then Ok (opened - 1, after_mark s)
+    else if is_next 59 s then Ok (opened, after_mark s)
+    else (name_at total s >>= λ n. tail_at room opened total n.1)
+
+-- after all groups that are open, in at most n such steps
+unfoldable pub passed_from : ℕ → ℕ → ℕ → ℕ → List ℕ → Result (List ℕ) ℕ
+passed_from room n zero total s = Ok s
+passed_from room zero (suc opened) total s = Err (place_of total s)
+passed_from room (suc n) (suc opened) total s = step_at room (suc opened) total s >>= λ p. passed_from room n p.0 total p.1
+
+-- after a statement whose name was passed, with all groups in it
+unfoldable pub passed_at : ℕ → ℕ → List ℕ → Result (List ℕ) ℕ
+passed_at room total s = tail_at room 0 total s >>= λ p. passed_from room (suc (length p.1)) p.0 total p.1
