@@ -19,3 +19,4 @@ mod tokens;
 pub use faults::GroupFault;
 pub use groups::{Attribute, CellGroup, Part, Value};
 pub use kinds::{AttributeKind, PartKind};
+pub use libraries::read_cells;

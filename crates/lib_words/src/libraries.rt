@@ -38,3 +38,208 @@ fn take_names(alloc: Global, c: &mut Cursor<'_>) -> Result<Seq<Name>, GroupFault
     list(alloc, c, b')', b',', 0, &mut names)?;
     Ok(names)
 }
+
+/// The kind of the attribute that begins here, after its name.
+fn attribute_before(c: &Cursor<'_>, name: &[u8]) -> Option<AttributeKind>
+    ensures { result ≡ spec.attribute_before name.now (rest c.now) }
+{
+    if is_next(c, b':') {
+        attribute_kind(name)
+    } else {
+        None
+    }
+}
+
+/// The kind of the part that begins here, after its name.
+fn part_before(c: &Cursor<'_>, name: &[u8]) -> Option<PartKind>
+    ensures { result ≡ spec.part_before name.now (rest c.now) }
+{
+    if is_next(c, b'(') {
+        part_kind(name)
+    } else {
+        None
+    }
+}
+
+/// Takes `:` and a value.
+#[tactic(auto, unfolding(crate::specs::Groups::attribute_at))]
+fn take_attribute(
+    alloc: Global,
+    c: &mut Cursor<'_>,
+    kind: AttributeKind,
+) -> Result<Attribute, GroupFault>
+    ensures value { Reads c.old c.new (λ a. a) result (spec.attribute_at kind) }
+    ensures text { text_of c.new ≡ text_of c.old }
+    ensures shorter { OnOk result (length (rest c.new) < length (rest c.old)) }
+{
+    expect_mark(c, b':')?;
+    let found = take_value(c)?;
+    let value = found.keep(alloc)?;
+    Ok(Attribute { kind, value })
+}
+
+/// A statement of a part.
+impl Gather for Seq<Attribute> {
+    ghost adds = { spec.adds_attribute };
+
+    #[tactic(auto, unfolding(crate::specs::Groups::adds_attribute))]
+    fn add(&mut self, alloc: Global, c: &mut Cursor<'_>, room: usize) -> Result<(), GroupFault> {
+        let name = take_name(c)?;
+        if let Some(kind) = attribute_before(c, name) {
+            let attribute = take_attribute(alloc, c, kind)?;
+            self.push(attribute)?;
+            return Ok(());
+        }
+        pass_statement(alloc, c, room)
+    }
+}
+
+/// Takes a part after its name, and `None` where no `{` follows its arguments.
+#[tactic(auto, unfolding(crate::specs::Groups::part_at))]
+fn take_part(
+    alloc: Global,
+    c: &mut Cursor<'_>,
+    kind: PartKind,
+    room: usize,
+) -> Result<Option<Part>, GroupFault>
+    ensures value { Reads c.old c.new (λ p. p) result (spec.part_at kind room) }
+    ensures text { text_of c.new ≡ text_of c.old }
+    ensures shorter { OnOk result (length (rest c.new) < length (rest c.old)) }
+{
+    let names = take_names(alloc, c)?;
+    if !is_next(c, b'{') {
+        return Ok(None);
+    }
+    enter(c, room, 0)?;
+    let mut attributes = Seq::new(alloc);
+    list(alloc, c, b'}', b';', room - 1, &mut attributes)?;
+    Ok(Some(Part {
+        kind,
+        names,
+        attributes,
+    }))
+}
+
+/// A statement of a cell.
+impl Gather for CellGroup {
+    ghost adds = { spec.adds_to_cell };
+
+    #[tactic(auto, unfolding(crate::specs::Groups::adds_to_cell))]
+    fn add(&mut self, alloc: Global, c: &mut Cursor<'_>, room: usize) -> Result<(), GroupFault> {
+        let name = take_name(c)?;
+        if let Some(kind) = attribute_before(c, name) {
+            let attribute = take_attribute(alloc, c, kind)?;
+            self.attributes.push(attribute)?;
+            return Ok(());
+        }
+        if let Some(kind) = part_before(c, name) {
+            if let Some(part) = take_part(alloc, c, kind, room)? {
+                self.parts.push(part)?;
+            }
+            return Ok(());
+        }
+        pass_statement(alloc, c, room)
+    }
+}
+
+/// The only one of these names, and `None` exactly where there is none or more than one.
+fn only(names: Seq<Name>) -> Option<Name>
+    ensures { result ≡ spec.only names }
+{
+    let mut names = names.into_vec();
+    if names.len() == 1 { names.pop() } else { None }
+}
+
+/// Takes a cell after the word `cell`, and `None` where no `{` follows its arguments.
+#[tactic(auto, unfolding(crate::specs::Groups::cell_at))]
+fn take_cell(
+    alloc: Global,
+    c: &mut Cursor<'_>,
+    room: usize,
+) -> Result<Option<CellGroup>, GroupFault>
+    ensures value { Reads c.old c.new (λ p. p) result (spec.cell_at room) }
+    ensures text { text_of c.new ≡ text_of c.old }
+    ensures shorter { OnOk result (length (rest c.new) < length (rest c.old)) }
+{
+    let names = take_names(alloc, c)?;
+    if !is_next(c, b'{') {
+        return Ok(None);
+    }
+    let Some(name) = only(names) else {
+        return Err(refused(c));
+    };
+    enter(c, room, 0)?;
+    let mut cell = CellGroup {
+        name,
+        attributes: Seq::new(alloc),
+        parts: Seq::new(alloc),
+    };
+    list(alloc, c, b'}', b';', room - 1, &mut cell)?;
+    Ok(Some(cell))
+}
+
+/// A statement of a library.
+impl Gather for Seq<CellGroup> {
+    ghost adds = { spec.adds_cell };
+
+    #[tactic(auto, unfolding(crate::specs::Groups::adds_cell))]
+    fn add(&mut self, alloc: Global, c: &mut Cursor<'_>, room: usize) -> Result<(), GroupFault> {
+        let name = take_name(c)?;
+        if is(name, "cell") && is_next(c, b'(') {
+            if let Some(cell) = take_cell(alloc, c, room)? {
+                self.push(cell)?;
+            }
+            return Ok(());
+        }
+        pass_statement(alloc, c, room)
+    }
+}
+
+/// Takes the group `library`: at most `room` groups may be open, one inside the other, itself among them.
+#[tactic(auto, unfolding(crate::specs::Groups::library_at))]
+fn take_library(
+    alloc: Global,
+    c: &mut Cursor<'_>,
+    room: usize,
+) -> Result<Seq<CellGroup>, GroupFault>
+    ensures value { Reads c.old c.new (λ p. p) result (spec.library_at room) }
+    ensures text { text_of c.new ≡ text_of c.old }
+{
+    let start = refused(c);
+    let name = take_name(c)?;
+    if !is(name, "library") {
+        return Err(start);
+    }
+    pass_arguments(alloc, c)?;
+    enter(c, room, 0)?;
+    let mut cells = Seq::new(alloc);
+    list(alloc, c, b'}', b';', room - 1, &mut cells)?;
+    Ok(cells)
+}
+
+/// Passes the end of the text, and one `;` before it.
+#[tactic(auto, unfolding(crate::specs::Groups::ended_at))]
+fn pass_end(c: &mut Cursor<'_>) -> Result<(), GroupFault>
+    ensures value { Gives (length (text_of c.old)) (λ _. rest c.new) result (spec.ended_at (length (text_of c.old)) (rest c.old)) }
+    ensures text { text_of c.new ≡ text_of c.old }
+{
+    let _ = try_mark(c, b';');
+    if c.rest().is_empty() {
+        Ok(())
+    } else {
+        Err(refused(c))
+    }
+}
+
+/// The cells of the library that the whole text is, as they stand in it. `Syntax` comes exactly where the text is no
+/// library, with the place at which it stops being one.
+#[tactic(auto, unfolding(crate::specs::Groups::cells_of))]
+pub fn read_cells(alloc: Global, text: &[u8]) -> Result<Seq<CellGroup>, GroupFault>
+    ensures { Gives (length text.now) (λ cells. cells) result (spec.cells_of text.now) }
+{
+    let mut c = Cursor::new(text);
+    skip_blanks(&mut c);
+    let cells = take_library(alloc, &mut c, text.len())?;
+    pass_end(&mut c)?;
+    Ok(cells)
+}
