@@ -14,6 +14,8 @@ mod libraries;
 mod lists;
 mod passes;
 mod runs;
+#[cfg(test)]
+mod tests;
 mod tokens;
 
 pub use faults::GroupFault;

@@ -1,0 +1,220 @@
+use super::*;
+use sdcv_base::Seq;
+use std::alloc::Global;
+use std::test::Fail;
+
+fn show_attributes(
+    out: &mut String,
+    attributes: &Seq<Attribute>,
+    with_offsets: bool,
+) -> Result<(), Fail> {
+    for attribute in attributes.as_slice() {
+        let kind = attribute.kind;
+        let text = &attribute.value.text;
+        write!(out, " {kind:?}")?;
+        if with_offsets {
+            let offset = attribute.value.offset;
+            write!(out, " {offset}")?;
+        }
+        if attribute.value.is_quoted {
+            write!(out, " \"{text}\";")?;
+        } else {
+            write!(out, " {text};")?;
+        }
+    }
+    Ok(())
+}
+
+fn show_part(out: &mut String, part: &Part, with_offsets: bool) -> Result<(), Fail> {
+    let kind = part.kind;
+    write!(out, "\n{kind:?}")?;
+    for name in part.names.as_slice() {
+        write!(out, " {name}")?;
+    }
+    write!(out, ";")?;
+    show_attributes(out, &part.attributes, with_offsets)
+}
+
+// A line for each cell and one for each of its parts, with names, attributes and the offsets of their values.
+fn listing(alloc: Global, text: &[u8], with_offsets: bool) -> Result<String, Fail> {
+    let mut out = String::new(alloc);
+    let cells = read_cells(alloc, text)?;
+    for cell in cells.as_slice() {
+        let name = &cell.name;
+        write!(out, "\ncell {name};")?;
+        show_attributes(&mut out, &cell.attributes, with_offsets)?;
+        for part in cell.parts.as_slice() {
+            show_part(&mut out, part, with_offsets)?;
+        }
+    }
+    Ok(out)
+}
+
+const VENDOR: &str = r#"/* As a synthesis vendor writes it. */
+library ("typical") {
+  technology (cmos) ;
+  delay_model : table_lookup;
+  date : "Mon Jan 1 2024; 10:00"
+  revision : 1.0 ;;
+  capacitive_load_unit (1, pf);
+  operating_conditions ("PVT 0.9V") {
+    process : 1 ;
+    tree_type : "balanced_tree" }
+  lu_table_template (delay_2x3) {
+    variable_1 : input_net_transition ;
+    index_1 ("0.01, 0.02, \
+              0.04");
+  };
+  cell (NAND2X1) {
+    area : 2.4 ;
+    cell_footprint : "nand2"
+    pg_pin (VDD) { voltage_name : VDD; pg_type : primary_power; }
+    pin(A)  {
+      direction : input;
+      capacitance : 0.002 ; }
+    pin ( B ) {
+      direction : /* quoted */ "input" ;
+      internal_power () { rise_power (scalar) { values ("0.1") } }
+    }
+    pin(Y) {
+      direction : output ;
+      function : "!(A B)" ;
+      timing () {
+        related_pin : "A B" ;
+        cell_rise (delay_2x3) {
+          index_1 ( "0.01, 0.02, 0.04" ) ;
+          values ( "0.1, 0.2, 0.3", \
+                   "0.2, 0.3, 0.4" ) ;
+        }
+        function : "of the timing group" ;
+      }
+    }
+  } /* NAND2X1 */
+  cell ("DFFR") {
+    clock_gating_integrated_cell : latch_posedge ;
+    ff ("IQ","IQN") {
+      clocked_on: C;
+      next_state : "D"
+      clear : "RN'" ;
+      clear_preset_var1 : L
+    }
+    pin (C, D ,, RN) { direction : input }
+    pin (Q) { three_state : "E"; function : "IQ" ; direction : output }
+    statetable ("C D", "IQ") { table : "R H : - : H, \
+                                        - - : - : N" ; }
+    test_cell () { pin (D) { direction : input ; } ff (IQ,IQN) { next_state : "D" ; } }
+    latch (L, LN) { enable : "C" ; } latch_bank (M, MN, 2) { }
+    ff_bank (N, NN, 2) { clocked_on_also : "C'" ; preset : "0" ; }
+    bus (W) { bus_type : w2 ; pin (W[0]) { direction : input ; } }
+    bundle (V) { members (V0, V1) ; direction : inout ; }
+  }
+  cell_footprint_group (x) { cell (Z) { } }
+}
+"#;
+
+// Read by hand: the library's cells, of each the parts and attributes that count.
+#[test]
+fn a_vendors_library_has_its_cells(rt: HostRuntime) -> Result<(), Fail> {
+    let found = listing(rt.alloc(), VENDOR.as_bytes(), false)?;
+    let want = r#"
+cell NAND2X1;
+PgPin VDD;
+Pin A; Direction input;
+Pin B; Direction "input";
+Pin Y; Direction output; Function "!(A B)";
+cell DFFR; ClockGatingIntegratedCell latch_posedge;
+Ff IQ IQN; ClockedOn C; NextState "D"; Clear "RN'"; ClearPresetVar1 L;
+Pin C D RN; Direction input;
+Pin Q; ThreeState "E"; Function "IQ"; Direction output;
+Statetable C D IQ;
+Latch L LN;
+LatchBank M MN 2;
+FfBank N NN 2; ClockedOnAlso "C'"; Preset "0";
+Bus W;
+Bundle V; Direction inout;"#;
+    assert_eq!(rt; found.as_str(), want);
+    Ok(())
+}
+
+// Offsets counted by hand: a quoted value's is that of the byte after the quote.
+#[test]
+fn values_have_their_offsets(rt: HostRuntime) -> Result<(), Fail> {
+    for (text, want) in [
+        ("library(){}", ""),
+        (" library (l) { ; } ; /* */\n", ""),
+        ("library(l){cell(X){}}", "\ncell X;"),
+        ("library(l){cell(X){clear:A}}", "\ncell X; Clear 25 A;"),
+        (
+            "library (l) { cell (X) { pin (Y) { direction : output; function : \"A +\"; } } }",
+            "\ncell X;\nPin Y; Direction 47 output; Function 67 \"A +\";",
+        ),
+        (
+            "library(l){cell(X){clear:\"\"}}",
+            "\ncell X; Clear 26 \"\";",
+        ),
+        ("library(l){cell(X){clear:;}}", "\ncell X; Clear 25 ;"),
+        (
+            "library(l){cell(X){clear: A /* B */ \n}}",
+            "\ncell X; Clear 26 A /* B */;",
+        ),
+        (
+            "library(l){cell(X){clear/**/:/**/A\\\n}}",
+            "\ncell X; Clear 33 A;",
+        ),
+        (
+            "library(l){\r\ncell(X){\r\nclear : \\\n\"A;}\";\r\n}\r\n}\r\n",
+            "\ncell X; Clear 34 \"A;}\";",
+        ),
+        (
+            "library(l){cell(X){clear:A;clear:\"B\"clear:C}}",
+            "\ncell X; Clear 25 A; Clear 34 \"B\"; Clear 42 C;",
+        ),
+        (
+            "library(l){cell(X){pin(\"A B\",C\\\nD,E/*F*/ G){}}}",
+            "\ncell X;\nPin A B C D E/*F*/ G;",
+        ),
+        (
+            "library(l){cell(X);cell:X;pin(X){};cell(Y){pin(X);ff:X}}",
+            "\ncell Y;",
+        ),
+    ] {
+        let found = listing(rt.alloc(), text.as_bytes(), true)?;
+        assert_eq!(rt; found.as_str(), want, "{text}");
+    }
+    Ok(())
+}
+
+// The places at which these texts stop being a library, by hand.
+#[test]
+fn a_broken_text_is_refused_at_its_place(rt: HostRuntime) -> Result<(), Fail> {
+    for (text, want) in [
+        ("", 0),
+        ("/* library(l){}", 0),
+        ("lib(l){}", 0),
+        ("library{}", 7),
+        ("library(l)", 10),
+        ("library(l){", 11),
+        ("library(l){cell(X){pin(A){}}", 28),
+        ("library(l){cell(X{}}", 20),
+        ("library(l){cell(X)}}", 19),
+        ("library(l){cell(X){}};;", 22),
+        ("library(l){} x", 13),
+        ("library(l){cell(){}}", 17),
+        ("library(l){cell(X,Y){}}", 20),
+        ("library(l){a:\"b}", 13),
+        ("library(l){a(\"b)}", 13),
+        ("library(l){a(\"b\"c)}", 16),
+        ("library(l){a((b))}", 13),
+        ("library(l){a b;}", 13),
+        ("library(l){a:/*b}", 13),
+        ("library(l){a(){b(){c}}}", 20),
+        ("library(l){:}", 11),
+        ("library(l){a:b c:d}}", 19),
+    ] {
+        match read_cells(rt.alloc(), text.as_bytes()) {
+            Err(GroupFault::Syntax(place)) => assert_eq!(rt; place, want, "{text}"),
+            _ => assert!(rt; false, "{text} is no library"),
+        }
+    }
+    Ok(())
+}
