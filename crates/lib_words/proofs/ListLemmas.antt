@@ -1,5 +1,6 @@
 -- One turn of the loop over the items of a list.
 use Rattle.std.proofs.Common.{◌≡◌, ℕ, zero, suc, ◌+◌, ◌<◌, true, false, List, Ok, Err, refl, arith}
+use Rattle.lib_words.specs.declared.faults.GroupFault.{GroupFault}
 use Rattle.lib_words.specs.Reads.{Rule}
 use Rattle.lib_words.specs.Tokens.{is_next, after_mark}
 use Rattle.lib_words.specs.Lists.{list_from}
@@ -26,7 +27,7 @@ module _ {A : Type 0} (close between : ℕ) (adds : A → Rule A) (found : A) (t
   list_more (suc m) more t some unclosed e good = (m, omega arith, rw (unclosed, e, good) refl)
 
   -- none of these does
-  pub list_bad : (m place : ℕ) → 0 < m → is_next close s ≡ false → is_next between s ≡ false → adds found total s ≡ Err place → list_from close between adds m found total s ≡ Err place
+  pub list_bad : (m : ℕ) (why : GroupFault) → 0 < m → is_next close s ≡ false → is_next between s ≡ false → adds found total s ≡ Err why → list_from close between adds m found total s ≡ Err why
   unfolding list_from
-  list_bad zero place some unclosed e bad = absurd (omega arith)
-  list_bad (suc m) place some unclosed e bad = rw (unclosed, e, bad) refl
+  list_bad zero why some unclosed e bad = absurd (omega arith)
+  list_bad (suc m) why some unclosed e bad = rw (unclosed, e, bad) refl

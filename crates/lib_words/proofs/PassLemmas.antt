@@ -1,5 +1,6 @@
 -- One turn of the loop over statements that are passed over.
 use Rattle.std.proofs.Common.{◌≡◌, ℕ, zero, suc, ◌+◌, ◌<◌, List, Ok, Err, refl, arith}
+use Rattle.lib_words.specs.declared.faults.GroupFault.{GroupFault}
 use Rattle.lib_words.specs.Passes.{step_at, passed_from}
 
 -- no group is open
@@ -17,8 +18,8 @@ passed_more room zero (suc opened) total s next t some inside good = absurd (ome
 passed_more room (suc m) (suc opened) total s next t some inside good = (m, omega arith, rw (good) refl)
 
 -- none stands there
-pub passed_bad : (room m opened total : ℕ) (s : List ℕ) (place : ℕ) → 0 < m → 0 < opened → step_at room opened total s ≡ Err place → passed_from room m opened total s ≡ Err place
+pub passed_bad : (room m opened total : ℕ) (s : List ℕ) (why : GroupFault) → 0 < m → 0 < opened → step_at room opened total s ≡ Err why → passed_from room m opened total s ≡ Err why
 unfolding passed_from
-passed_bad room m zero total s place some inside bad = absurd (omega arith)
-passed_bad room zero (suc opened) total s place some inside bad = absurd (omega arith)
-passed_bad room (suc m) (suc opened) total s place some inside bad = rw (bad) refl
+passed_bad room m zero total s why some inside bad = absurd (omega arith)
+passed_bad room zero (suc opened) total s why some inside bad = absurd (omega arith)
+passed_bad room (suc m) (suc opened) total s why some inside bad = rw (bad) refl

@@ -1,14 +1,15 @@
 -- The groups of a library: which of its cells, their parts and attributes are kept.
-use Rattle.std.specs.Prelude.{ℕ, ◌-◌, ◌==◌, ◌&&◌, if◌then◌else◌, List, [], ◌∷◌, ◌++◌, length, Option, None, Some, Result, Ok, Err, codes}
+use Rattle.std.specs.Prelude.{ℕ, ◌-◌, ◌==◌, ◌&&◌, if◌then◌else◌, List, [], ◌∷◌, ◌++◌, length, Option, None, Some, Result, Ok, codes}
 use Rattle.std.specs.Str.{bytes_eq}
 use Rattle.lib_words.specs.declared.kinds.PartKind.{PartKind}
 use Rattle.lib_words.specs.declared.kinds.AttributeKind.{AttributeKind}
+use Rattle.lib_words.specs.declared.faults.GroupFault.{GroupFault}
 use Rattle.lib_words.specs.declared.groups.Attribute.{Attribute}
 use Rattle.lib_words.specs.declared.groups.Part.{Part}
 use Rattle.lib_words.specs.declared.groups.CellGroup.{CellGroup}
 use Rattle.lib_words.specs.Kinds.{part_kind, attribute_kind}
 use Rattle.lib_words.specs.Blanks.{after_blanks}
-use Rattle.lib_words.specs.Reads.{Rule, ◌>>=◌, place_of, refused}
+use Rattle.lib_words.specs.Reads.{After, Rule, ◌>>=◌, refused}
 use Rattle.lib_words.specs.Tokens.{is_next, after_mark, mark_at, name_at}
 use Rattle.lib_words.specs.Runs.{argument_at, value_at}
 use Rattle.lib_words.specs.Lists.{list_at}
@@ -105,12 +106,11 @@ abbrev pub after_semicolon : List ℕ → List ℕ
 after_semicolon s = if is_next 59 s then after_mark s else s
 
 -- the text's end
-unfoldable pub ended_at : ℕ → List ℕ → Result (List ℕ) ℕ
-ended_at total s = let t = after_semicolon s in if length t == 0 then Ok t else Err (place_of total t)
+unfoldable pub ended_at : ℕ → List ℕ → After
+ended_at total s = let t = after_semicolon s in if length t == 0 then Ok t else refused total t
 
--- the cells of the library that a whole text is, or the offset at which it stops being one; no text holds more groups
--- than bytes
-unfoldable pub cells_of : List ℕ → Result (List CellGroup) ℕ
+-- the cells of the library that a whole text is, or the fault that the text has; no text holds more groups than bytes
+unfoldable pub cells_of : List ℕ → Result (List CellGroup) GroupFault
 cells_of text =
     let total = length text in
     library_at total total (after_blanks text) >>= λ cells. ended_at total cells.1 >>= λ t. Ok cells.0

@@ -1,7 +1,7 @@
 -- Statements that are passed over: they keep to the grammar, and nothing of them is kept.
-use Rattle.std.specs.Prelude.{ℕ, zero, suc, ◌+◌, ◌-◌, nat_lt, if◌then◌else◌, List, length, Result, Ok, Err}
+use Rattle.std.specs.Prelude.{ℕ, zero, suc, ◌+◌, ◌-◌, nat_lt, if◌then◌else◌, List, length, Ok}
 use Rattle.lib_words.specs.declared.passes.Passed.{Passed}
-use Rattle.lib_words.specs.Reads.{Rule, ◌>>=◌, place_of}
+use Rattle.lib_words.specs.Reads.{After, Rule, ◌>>=◌, refused}
 use Rattle.lib_words.specs.Tokens.{is_next, after_mark, mark_at, name_at}
 use Rattle.lib_words.specs.Runs.{argument_at, value_at}
 use Rattle.lib_words.specs.Lists.{list_at}
@@ -15,12 +15,12 @@ abbrev pub passes_argument : Passed → Rule Passed
 passes_argument found total s = argument_at total s >>= λ p. Ok (found, p.1)
 
 -- arguments in parentheses
-unfoldable pub after_arguments : ℕ → List ℕ → Result (List ℕ) ℕ
+unfoldable pub after_arguments : ℕ → List ℕ → After
 after_arguments total s = mark_at 40 total s >>= λ r. list_at 41 44 passes_argument nothing total r >>= λ p. Ok p.1
 
 -- the `{` of a group, where so many groups are open of those that may be
-unfoldable pub enter_at : ℕ → ℕ → ℕ → List ℕ → Result (List ℕ) ℕ
-enter_at room opened total s = if nat_lt opened room then mark_at 123 total s else Err (place_of total s)
+unfoldable pub enter_at : ℕ → ℕ → ℕ → List ℕ → After
+enter_at room opened total s = if nat_lt opened room then mark_at 123 total s else refused total s
 
 -- where a `{` may stand: how many groups are open then
 unfoldable pub opened_at : ℕ → ℕ → Rule ℕ
@@ -41,11 +41,11 @@ step_at room opened total s =
     else (name_at total s >>= λ n. tail_at room opened total n.1)
 
 -- after all groups that are open, in at most n such steps
-unfoldable pub passed_from : ℕ → ℕ → ℕ → ℕ → List ℕ → Result (List ℕ) ℕ
+unfoldable pub passed_from : ℕ → ℕ → ℕ → ℕ → List ℕ → After
 passed_from room n zero total s = Ok s
-passed_from room zero (suc opened) total s = Err (place_of total s)
+passed_from room zero (suc opened) total s = refused total s
 passed_from room (suc n) (suc opened) total s = step_at room (suc opened) total s >>= λ p. passed_from room n p.0 total p.1
 
 -- after a statement whose name was passed, with all groups in it
-unfoldable pub passed_at : ℕ → ℕ → List ℕ → Result (List ℕ) ℕ
+unfoldable pub passed_at : ℕ → ℕ → List ℕ → After
 passed_at room total s = tail_at room 0 total s >>= λ p. passed_from room (suc (length p.1)) p.0 total p.1

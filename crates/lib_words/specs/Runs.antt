@@ -4,7 +4,7 @@ use Rattle.std.specs.Char.{is_ascii_whitespace}
 use Rattle.std.specs.List.{prefix_len, suffix_len}
 use Rattle.lib_words.specs.declared.groups.Value.{Value}
 use Rattle.lib_words.specs.Blanks.{first, is_line_break, opens_comment, after_blanks}
-use Rattle.lib_words.specs.Reads.{Rule, ◌>>=◌, place_of, refused}
+use Rattle.lib_words.specs.Reads.{Rule, ◌>>=◌, offset_of, refused}
 use Rattle.lib_words.specs.Tokens.{is_next, quoted_at}
 
 -- a run of n bytes, less a backslash at its end that stands directly before a newline
@@ -50,14 +50,14 @@ abbrev pub value_len : List ℕ → ℕ
 value_len s = trimmed_len (value_run s)
 
 abbrev pub quoted_value : Rule Value
-quoted_value total s = quoted_at total s >>= λ p. Ok (record { text = p.0; offset = place_of total (drop 1 s); is_quoted = true }, after_blanks p.1)
+quoted_value total s = quoted_at total s >>= λ p. Ok (record { text = p.0; offset = offset_of total (drop 1 s); is_quoted = true }, after_blanks p.1)
 
 -- a comment that is not closed begins none
 abbrev pub bare_value : Rule Value
 bare_value total s =
     let n = value_len s in
     if opens_comment s then refused total s
-    else Ok (record { text = take n s; offset = place_of total s; is_quoted = false }, after_blanks (drop n s))
+    else Ok (record { text = take n s; offset = offset_of total s; is_quoted = false }, after_blanks (drop n s))
 
 -- the value of a simple attribute
 unfoldable pub value_at : Rule Value

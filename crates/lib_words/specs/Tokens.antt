@@ -1,9 +1,9 @@
 -- Marks, names and quoted texts. A mark or a name takes the white space and comments after it.
-use Rattle.std.specs.Prelude.{ℕ, ◌+◌, Bool, not, ◌==◌, if◌then◌else◌, List, length, take, drop, Result, Ok, Err}
+use Rattle.std.specs.Prelude.{ℕ, ◌+◌, Bool, not, ◌==◌, if◌then◌else◌, List, length, take, drop, Ok}
 use Rattle.std.specs.List.{prefix_len}
 use Rattle.texts.specs.Bytes.{is_word}
 use Rattle.lib_words.specs.Blanks.{first, after_blanks}
-use Rattle.lib_words.specs.Reads.{Rule, place_of, refused}
+use Rattle.lib_words.specs.Reads.{After, Rule, refused}
 
 -- this mark, which is not 0, comes next
 abbrev pub is_next : ℕ → List ℕ → Bool
@@ -14,8 +14,8 @@ abbrev pub after_mark : List ℕ → List ℕ
 after_mark s = after_blanks (drop 1 s)
 
 -- a mark
-unfoldable pub mark_at : ℕ → ℕ → List ℕ → Result (List ℕ) ℕ
-mark_at mark total s = if is_next mark s then Ok (after_mark s) else Err (place_of total s)
+unfoldable pub mark_at : ℕ → ℕ → List ℕ → After
+mark_at mark total s = if is_next mark s then Ok (after_mark s) else refused total s
 
 -- letters, digits and `_`
 unfoldable pub name_at : Rule (List ℕ)

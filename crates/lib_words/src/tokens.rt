@@ -3,7 +3,7 @@ ghost use Rattle.std.specs.Prelude.{◌≡◌, ◌<◌, ◌≤◌, length, drop,
 ghost use Rattle.std.specs.List.{prefix_len};
 ghost use Rattle.sdcv_base.specs.Cursors.{rest, text_of};
 ghost use Rattle.lib_words.specs.declared.faults.GroupFault.TheVariants as fault;
-ghost use Rattle.lib_words.specs.Reads.{Gives, Reads, place_of};
+ghost use Rattle.lib_words.specs.Reads.{Gives, Reads, offset_of};
 ghost use Rattle.lib_words.specs.Tokens as spec;
 
 use crate::blanks::{byte_at, skip_blanks};
@@ -13,7 +13,7 @@ use texts::{after, upto, word_len};
 
 /// The text breaks the grammar here.
 pub fn refused(c: &Cursor<'_>) -> GroupFault
-    ensures { result ≡ fault.Syntax (place_of (length (text_of c.now)) (rest c.now)) }
+    ensures { result ≡ fault.Syntax (offset_of (length (text_of c.now)) (rest c.now)) }
 {
     GroupFault::Syntax(c.place())
 }

@@ -45,4 +45,4 @@ returns-in_err-add-clause-value g c =
     let same_again = c.if-try_mark-2.ensures.rest ∙ same in
     let text = c.if-try_mark-2.ensures.text ∙ c.if-try_mark.ensures.text ∙ c.items.invariant.text in
     let p = err_from_is_err_and c.from_residual.result c.from_residual.ensures.1 in
-    rw (p.1, p.2) (fails_through _ _ (ap length text) c.in_err-add.field-0.0 _ _ c.in_err-add.ensures.value (λ place bad. told ∙ list_bad c.args.close c.args.between (g.G.Gather.adds c.args.room) c.items.found (length (text_of c.args.c.now)) (rest c.items.c) m place (omega arith) (sym c.if-try_mark.ensures.value) (sym (rw same at c.if-try_mark-2.ensures.value)) (rw (same_again, text) at bad)))
+    rw (p.1, p.2) (fails_through _ _ (ap length text) c.in_err-add.field-0.0 _ _ c.in_err-add.ensures.value (λ why bad. told ∙ list_bad c.args.close c.args.between (g.G.Gather.adds c.args.room) c.items.found (length (text_of c.args.c.now)) (rest c.items.c) m why (omega arith) (sym c.if-try_mark.ensures.value) (sym (rw same at c.if-try_mark-2.ensures.value)) (rw (same_again, text) at bad)))

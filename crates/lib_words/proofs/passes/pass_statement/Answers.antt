@@ -10,7 +10,7 @@ pub returns-in_err-opened-clause-value : goal.returns-in_err-opened-clause-value
 unfolding passed_at
 returns-in_err-opened-clause-value c =
     let p = err_from_is_err_and c.from_residual.result c.from_residual.ensures.1 in
-    rw (p.1, p.2) (fails_through _ _ refl c.in_err-opened.field-0.0 _ _ c.in_err-opened.ensures.value (λ place bad. rw bad refl))
+    rw (p.1, p.2) (fails_through _ _ refl c.in_err-opened.field-0.0 _ _ c.in_err-opened.ensures.value (λ why bad. rw bad refl))
 
 pub steps-init : goal.steps-init
 unfolding passed_at
@@ -24,7 +24,7 @@ pub returns-in_err-opened-2-clause-value : goal.returns-in_err-opened-2-clause-v
 returns-in_err-opened-2-clause-value c =
     let (m, room, told) = c.steps.invariant.told in
     let p = err_from_is_err_and c.from_residual-in_err-opened-2.result c.from_residual-in_err-opened-2.ensures.1 in
-    rw (p.1, p.2) (fails_through _ _ (ap length c.steps.invariant.text) c.in_err-opened-2.field-0.0 _ _ c.in_err-opened-2.ensures.value (λ place bad. told ∙ passed_bad c.args.room m c.steps.opened (length (text_of c.args.c.now)) (rest c.steps.c) place (omega arith) c.steps-test.true (rw c.steps.invariant.text at bad)))
+    rw (p.1, p.2) (fails_through _ _ (ap length c.steps.invariant.text) c.in_err-opened-2.field-0.0 _ _ c.in_err-opened-2.ensures.value (λ why bad. told ∙ passed_bad c.args.room m c.steps.opened (length (text_of c.args.c.now)) (rest c.steps.c) why (omega arith) c.steps-test.true (rw c.steps.invariant.text at bad)))
 
 pub steps-preserved : goal.steps-preserved
 steps-preserved c =
