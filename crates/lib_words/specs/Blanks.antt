@@ -3,6 +3,7 @@ use Rattle.std.specs.Prelude.{ℕ, zero, suc, Bool, ◌==◌, ◌&&◌, ◌+◌,
 use Rattle.std.specs.Char.{is_ascii_whitespace}
 use Rattle.std.specs.List.{prefix_len}
 use Rattle.std.specs.Option.{option_map_or}
+use Rattle.lib_words.specs.Marks.{backslash, newline, slash, star}
 
 -- the first byte, and 0 at the text's end
 abbrev pub first : List ℕ → ℕ
@@ -14,16 +15,16 @@ has_two a b s = slice_index s 0 == a && slice_index s 1 == b
 
 -- `/*`
 abbrev pub opens_comment : List ℕ → Bool
-opens_comment s = has_two 47 42 s
+opens_comment s = has_two slash star s
 
 -- a backslash directly before a newline
 abbrev pub is_line_break : List ℕ → Bool
-is_line_break s = has_two 92 10 s
+is_line_break s = has_two backslash newline s
 
 -- how many bytes stand up to and with the first `*/`, i bytes having been passed
 unfoldable pub comment_end_from : ℕ → List ℕ → Option ℕ
 comment_end_from i [] = None
-comment_end_from i (b ∷ s) = if has_two 42 47 (b ∷ s) then Some (i + 2) else comment_end_from (i + 1) s
+comment_end_from i (b ∷ s) = if has_two star slash (b ∷ s) then Some (i + 2) else comment_end_from (i + 1) s
 
 abbrev pub comment_end : List ℕ → Option ℕ
 comment_end s = comment_end_from 0 s

@@ -1,6 +1,7 @@
 -- The groups of a library: which of its cells, their parts and attributes are kept.
 use Rattle.std.specs.Prelude.{ℕ, ◌-◌, ◌==◌, ◌&&◌, if◌then◌else◌, List, [], ◌∷◌, ◌++◌, length, Option, None, Some, Result, Ok, codes}
 use Rattle.std.specs.Str.{bytes_eq}
+use Rattle.lib_words.specs.Marks.{colon, comma, left_brace, left_paren, right_brace, right_paren, semicolon}
 use Rattle.lib_words.specs.declared.kinds.PartKind.{PartKind}
 use Rattle.lib_words.specs.declared.kinds.AttributeKind.{AttributeKind}
 use Rattle.lib_words.specs.declared.faults.GroupFault.{GroupFault}
@@ -20,22 +21,23 @@ abbrev pub adds_name : List (List ℕ) → Rule (List (List ℕ))
 adds_name found total s = argument_at total s >>= λ p. Ok (found ++ p.0 ∷ [], p.1)
 
 unfoldable pub names_at : Rule (List (List ℕ))
-names_at total s = mark_at 40 total s >>= λ r. list_at 41 44 adds_name [] total r
+names_at total s = mark_at left_paren total s >>= λ r. list_at right_paren comma adds_name [] total r
 
--- the statements of a group up to its `}`, with any number of `;` among them, for what a group in it may hold inside
+-- the statements of a group up to its `}`, with any number of `;` among them, where at most `room` groups stand one
+-- inside the other, this one outermost
 abbrev pub statements_at : {A : Type 0} → (ℕ → A → Rule A) → ℕ → A → Rule A
-statements_at adds room found total s = list_at 125 59 (adds (room - 1)) found total s
+statements_at adds room found total s = list_at right_brace semicolon (adds (room - 1)) found total s
 
 -- a simple attribute that counts begins here, after its name
 abbrev pub attribute_before : List ℕ → List ℕ → Option AttributeKind
-attribute_before name s = if is_next 58 s then attribute_kind name else None
+attribute_before name s = if is_next colon s then attribute_kind name else None
 
 -- a group that counts begins here, after its name, if a `{` follows the arguments
 abbrev pub part_before : List ℕ → List ℕ → Option PartKind
-part_before name s = if is_next 40 s then part_kind name else None
+part_before name s = if is_next left_paren s then part_kind name else None
 
 unfoldable pub attribute_at : AttributeKind → Rule Attribute
-attribute_at kind total s = mark_at 58 total s >>= λ r. value_at total r >>= λ v. Ok (record { kind = kind; value = v.0 }, v.1)
+attribute_at kind total s = mark_at colon total s >>= λ r. value_at total r >>= λ v. Ok (record { kind = kind; value = v.0 }, v.1)
 
 -- a statement of a part, with room for so many groups in it: an attribute that counts, or something to pass over
 unfoldable pub adds_attribute : ℕ → List Attribute → Rule (List Attribute)
@@ -47,7 +49,7 @@ adds_attribute room found total s = name_at total s >>= λ n. elim (attribute_be
 -- a part, after its name; where no `{` follows the arguments it is a complex attribute, and none is kept
 unfoldable pub part_at : PartKind → ℕ → Rule (Option Part)
 part_at kind room total s = names_at total s >>= λ n.
-    if is_next 123 n.1 then (enter_at room 0 total n.1 >>= λ r. statements_at adds_attribute room [] total r >>= λ a. Ok (Some (record { kind = kind; names = n.0; attributes = a.0 }), a.1))
+    if is_next left_brace n.1 then (enter_at room 0 total n.1 >>= λ r. statements_at adds_attribute room [] total r >>= λ a. Ok (Some (record { kind = kind; names = n.0; attributes = a.0 }), a.1))
     else Ok (None, n.1)
 
 abbrev pub with_attribute : CellGroup → Attribute → CellGroup
@@ -79,7 +81,7 @@ bare_cell name = record { name = name; attributes = []; parts = [] }
 -- a cell, after the word `cell`; where no `{` follows the arguments it is a complex attribute, and none is kept
 unfoldable pub cell_at : ℕ → Rule (Option CellGroup)
 cell_at room total s = names_at total s >>= λ n.
-    if is_next 123 n.1 then elim (only n.0) [
+    if is_next left_brace n.1 then elim (only n.0) [
       | Some name ↦ enter_at room 0 total n.1 >>= λ r. statements_at adds_to_cell room (bare_cell name) total r >>= λ c. Ok (Some c.0, c.1)
       | None ↦ refused total n.1
     ]
@@ -92,7 +94,7 @@ with_cell cells (Some c) = cells ++ c ∷ []
 -- a statement of the library: a cell, or something to pass over
 unfoldable pub adds_cell : ℕ → List CellGroup → Rule (List CellGroup)
 adds_cell room cells total s = name_at total s >>= λ n.
-    if bytes_eq n.0 (codes "cell") && is_next 40 n.1 then (cell_at room total n.1 >>= λ c. Ok (with_cell cells c.0, c.1))
+    if bytes_eq n.0 (codes "cell") && is_next left_paren n.1 then (cell_at room total n.1 >>= λ c. Ok (with_cell cells c.0, c.1))
     else (passed_at room total n.1 >>= λ r. Ok (cells, r))
 
 -- the group `library`, in which so many groups may stand, one inside the other and itself among them
@@ -103,7 +105,7 @@ library_at room total s = name_at total s >>= λ n.
 
 -- after one `;` where one stands
 abbrev pub after_semicolon : List ℕ → List ℕ
-after_semicolon s = if is_next 59 s then after_mark s else s
+after_semicolon s = if is_next semicolon s then after_mark s else s
 
 -- the text's end
 unfoldable pub ended_at : ℕ → List ℕ → After

@@ -3,6 +3,7 @@ pub mod Founds
 pub mod Groups
 pub mod Kinds
 pub mod Lists
+pub mod Marks
 pub mod Reads
 pub mod Runs
 pub mod Tokens

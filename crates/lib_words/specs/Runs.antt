@@ -2,6 +2,7 @@
 use Rattle.std.specs.Prelude.{ℕ, ◌-◌, nat_lt, Bool, true, false, not, ◌==◌, ◌&&◌, ◌||◌, if◌then◌else◌, List, length, take, drop, Ok}
 use Rattle.std.specs.Char.{is_ascii_whitespace}
 use Rattle.std.specs.List.{prefix_len, suffix_len}
+use Rattle.lib_words.specs.Marks.{comma, left_paren, newline, quote, right_brace, right_paren, semicolon}
 use Rattle.lib_words.specs.declared.groups.Value.{Value}
 use Rattle.lib_words.specs.Blanks.{first, is_line_break, opens_comment, after_blanks}
 use Rattle.lib_words.specs.Reads.{Rule, ◌>>=◌, offset_of, refused}
@@ -13,7 +14,7 @@ unbroken n s = if nat_lt 0 n && is_line_break (drop (n - 1) s) then n - 1 else n
 
 -- no white space, `,`, `(`, `)` or `"`
 abbrev pub is_run : ℕ → Bool
-is_run b = not ((((is_ascii_whitespace b || b == 44) || b == 40) || b == 41) || b == 34)
+is_run b = not ((((is_ascii_whitespace b || b == comma) || b == left_paren) || b == right_paren) || b == quote)
 
 abbrev pub run_len : List ℕ → ℕ
 run_len s = unbroken (prefix_len is_run s) s
@@ -24,11 +25,11 @@ run_at total s = if opens_comment s || run_len s == 0 then refused total s else 
 
 -- white space, a comment, `,` or `)` comes next
 abbrev pub is_parted : List ℕ → Bool
-is_parted s = (((is_ascii_whitespace (first s) || is_next 44 s) || is_next 41 s) || is_line_break s) || opens_comment s
+is_parted s = (((is_ascii_whitespace (first s) || is_next comma s) || is_next right_paren s) || is_line_break s) || opens_comment s
 
 -- a quoted text or a run
 abbrev pub word_at : Rule (List ℕ)
-word_at total s = if is_next 34 s then quoted_at total s else run_at total s
+word_at total s = if is_next quote s then quoted_at total s else run_at total s
 
 -- an argument, parted from what follows it
 unfoldable pub argument_at : Rule (List ℕ)
@@ -36,7 +37,7 @@ argument_at total s = word_at total s >>= λ p. if is_parted p.1 then Ok (p.0, a
 
 -- no `;`, newline or `}`
 abbrev pub is_value : ℕ → Bool
-is_value b = not ((b == 59 || b == 10) || b == 125)
+is_value b = not ((b == semicolon || b == newline) || b == right_brace)
 
 -- the run up to the next of these
 abbrev pub value_run : List ℕ → List ℕ
@@ -61,4 +62,4 @@ bare_value total s =
 
 -- the value of a simple attribute
 unfoldable pub value_at : Rule Value
-value_at total s = if is_next 34 s then quoted_value total s else bare_value total s
+value_at total s = if is_next quote s then quoted_value total s else bare_value total s

@@ -2,6 +2,7 @@
 use Rattle.std.specs.Prelude.{ℕ, ◌+◌, Bool, not, ◌==◌, if◌then◌else◌, List, length, take, drop, Ok}
 use Rattle.std.specs.List.{prefix_len}
 use Rattle.texts.specs.Bytes.{is_word}
+use Rattle.lib_words.specs.Marks.{quote}
 use Rattle.lib_words.specs.Blanks.{first, after_blanks}
 use Rattle.lib_words.specs.Reads.{After, Rule, refused}
 
@@ -24,7 +25,7 @@ name_at total s =
     if n == 0 then refused total s else Ok (take n s, after_blanks (drop n s))
 
 abbrev pub is_no_quote : ℕ → Bool
-is_no_quote b = not (b == 34)
+is_no_quote b = not (b == quote)
 
 -- where a quote stands: the bytes from there to the next quote, after which the text is left
 unfoldable pub quoted_at : Rule (List ℕ)
