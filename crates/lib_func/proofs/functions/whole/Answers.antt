@@ -1,0 +1,21 @@
+use Rattle.std.proofs.Common.{◌≡◌, ◌<◌, length, ap}
+use Rattle.std.proofs.lemmas.Result.{err_from_is_err_and}
+use Rattle.sdcv_base.specs.Cursors.{rest}
+use Rattle.lib_func.specs.Blanks.{after_blanks}
+use Rattle.lib_func.proofs.ChainLemmas.{function_none, function_ends, function_trails, fails_through}
+use Rattle.lib_func.proofs.functions.whole.Goals as goal
+
+pub returns-in_err-found : goal.returns-in_err-found
+returns-in_err-found c =
+    let p = err_from_is_err_and c.from_residual.result c.from_residual.ensures.1 in
+    rw (p.1, p.2) (fails_through c.in_err-found.field-0.0 _ _ c.in_err-found.ensures.value (λ bad. function_none c.args.text.now (rw c.new-c.ensures.rest at bad)))
+
+pub returns-in-None : goal.returns-in-None
+returns-in-None c =
+    let ended : length (after_blanks (rest c.chain.new.c)) ≡ 0 = rw (← c.skip_blanks.ensures.rest) (ap length c.in-None.ensures) in
+    function_ends c.args.text.now _ _ (rw c.new-c.ensures.rest at c.in_ok-found.ensures.value) ended
+
+pub returns-in-Some : goal.returns-in-Some
+returns-in-Some c =
+    let more : 0 < length (after_blanks (rest c.chain.new.c)) = rw (← c.skip_blanks.ensures.rest) c.in-Some.ensures.0 in
+    function_trails c.args.text.now _ _ (rw c.new-c.ensures.rest at c.in_ok-found.ensures.value) more
