@@ -1,2 +1,10 @@
-pub mod Libraries
 pub mod Builtin
+pub mod Cells
+pub mod Combs
+pub mod Fits
+pub mod Flops
+pub mod Libraries
+pub mod Pins
+pub mod Texts
+pub mod Told
+pub mod Values

@@ -6,10 +6,22 @@
 
 mod builtin_cells;
 mod builtin_flops;
+mod broken;
 mod builtin_parts;
+mod cells;
+mod combs;
+mod faults;
+mod flops;
 mod libraries;
+mod misfits;
+mod pins;
+mod readers;
+mod shapes;
 #[cfg(test)]
 mod tests;
+mod values;
 
 pub use builtin_cells::builtin;
+pub use faults::LibFault;
 pub use libraries::{Cell, CellKind, CombOut, Flop, FlopOut, Library};
+pub use readers::read_lib;

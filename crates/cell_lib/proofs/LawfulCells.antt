@@ -1,0 +1,158 @@
+-- The functions of a cell that was read are over its inputs.
+use Rattle.std.proofs.Common.{◌≡◌, ℕ, ◌+◌, Bool, true, false, List, [], ◌∷◌, ◌++◌, length, map, All, Option, Some, None, is_some, ◌&&◌, IfSome, refl, subst}
+use Rattle.std.proofs.lemmas.List.Elements.{All-cons, All-nil, All-append}
+use Rattle.std.specs.Option.{option_map}
+use Rattle.texts.specs.Names.{is_among, each_once}
+use Rattle.texts.specs.Reads.{◌>>=◌}
+use Rattle.net_model.specs.Form.{Form, ZeroForm, OneForm, PinForm, NotForm, AndForm, OrForm, XorForm, IsOver}
+use Rattle.net_model.specs.Netlist.{IsOptionOver}
+use Rattle.lib_func.specs.declared.scopes.States.{States}
+use Rattle.lib_func.specs.Trees.{Tree, ZeroTree, OneTree, NameTree, NotTree, AndTree, OrTree, XorTree}
+use Rattle.lib_func.specs.Scopes.{meaning, state_meaning, resolved, reach}
+use Rattle.lib_func.proofs.ScopeLemmas.{place_in_reach, state_in_reach}
+use Rattle.lib_words.specs.declared.groups.Attribute.{Attribute}
+use Rattle.lib_words.specs.declared.groups.Part.{Part}
+use Rattle.lib_words.specs.declared.groups.CellGroup.{CellGroup}
+use Rattle.cell_lib.specs.declared.libraries.Cell.{Cell}
+use Rattle.cell_lib.specs.declared.libraries.CellKind.{CellKind}
+use Rattle.cell_lib.specs.declared.libraries.CombOut.{CombOut}
+use Rattle.cell_lib.specs.declared.libraries.Flop.{Flop}
+use Rattle.cell_lib.specs.declared.flops.Resets.{Resets}
+use Rattle.cell_lib.specs.declared.pins.Role.TheVariants as role
+use Rattle.cell_lib.specs.declared.pins.OutPin.{OutPin}
+use Rattle.cell_lib.specs.declared.shapes.Shape.{Shape}
+use Rattle.lib_words.specs.declared.kinds.AttributeKind.TheVariants as attribute
+use Rattle.cell_lib.specs.Libraries.{IsLawfulFlop, IsLawfulKind, IsLawfulCell}
+use Rattle.cell_lib.specs.Values.{expr_of}
+use Rattle.cell_lib.specs.Fits.{each_from}
+use Rattle.cell_lib.specs.Combs.{comb_out, comb_outs}
+use Rattle.cell_lib.specs.Flops.{data_inputs, states_of, clock_of, next_of, reset_of, resets_of, both_of, flop_outs, flop_of}
+use Rattle.cell_lib.specs.Pins.{names_of, outs_of}
+use Rattle.cell_lib.specs.Cells.{other_shape, comb_kind, comb_shape, flop_shape, shape_by, shape_of, is_plain, first_ff, cell_of}
+use Rattle.cell_lib.proofs.Inversions.{bind_gave, map_gave, some_holds}
+
+-- a name's meaning is in reach
+none_means : (inputs : List (List ℕ)) (names : Option States) (n : List ℕ) → is_among n inputs ≡ false → IfSome (meaning inputs names n) (IsOver (reach inputs names))
+none_means inputs None n absent = rw absent tt
+none_means inputs (Some states) n absent = state_in_reach inputs (Some states) states n refl absent
+
+means_cases : (inputs : List (List ℕ)) (names : Option States) (n : List ℕ) (b : Bool) → is_among n inputs ≡ b → IfSome (meaning inputs names n) (IsOver (reach inputs names))
+means_cases inputs names n true there = rw there (place_in_reach inputs names n there)
+means_cases inputs names n false absent = none_means inputs names n absent
+
+-- so is the meaning of an expression
+pub resolved_over : (inputs : List (List ℕ)) (names : Option States) (t : Tree) (f : Form) → resolved (meaning inputs names) t ≡ Some f → IsOver (reach inputs names) f
+resolved_over inputs names ZeroTree f e = let same : ZeroForm ≡ f = cc in subst (IsOver (reach inputs names)) same tt
+resolved_over inputs names OneTree f e = let same : OneForm ≡ f = cc in subst (IsOver (reach inputs names)) same tt
+resolved_over inputs names (NameTree n) f e = some_holds (IsOver (reach inputs names)) (meaning inputs names n) f e (means_cases inputs names n (is_among n inputs) refl)
+resolved_over inputs names (NotTree t) f e =
+    let (x, xs, e1) = bind_gave (resolved (meaning inputs names) t) _ f e in
+    let same : NotForm x ≡ f = cc in
+    subst (IsOver (reach inputs names)) same (resolved_over inputs names t x xs)
+resolved_over inputs names (AndTree t u) f e =
+    let (x, xs, e1) = bind_gave (resolved (meaning inputs names) t) _ f e in
+    let (y, ys, e2) = bind_gave (resolved (meaning inputs names) u) _ f e1 in
+    let same : AndForm x y ≡ f = cc in
+    subst (IsOver (reach inputs names)) same (resolved_over inputs names t x xs, resolved_over inputs names u y ys)
+resolved_over inputs names (OrTree t u) f e =
+    let (x, xs, e1) = bind_gave (resolved (meaning inputs names) t) _ f e in
+    let (y, ys, e2) = bind_gave (resolved (meaning inputs names) u) _ f e1 in
+    let same : OrForm x y ≡ f = cc in
+    subst (IsOver (reach inputs names)) same (resolved_over inputs names t x xs, resolved_over inputs names u y ys)
+resolved_over inputs names (XorTree t u) f e =
+    let (x, xs, e1) = bind_gave (resolved (meaning inputs names) t) _ f e in
+    let (y, ys, e2) = bind_gave (resolved (meaning inputs names) u) _ f e1 in
+    let same : XorForm x y ≡ f = cc in
+    subst (IsOver (reach inputs names)) same (resolved_over inputs names t x xs, resolved_over inputs names u y ys)
+
+-- what holds of each thing that is made holds of all
+each_holds : {A B : Type 0} (P : B → Type 0) (f : A → Option B) → ((x : A) (y : B) → f x ≡ Some y → P y) → (found : List B) → All P found → (xs : List A) (ys : List B) → each_from f found xs ≡ Some ys → All P ys
+unfolding each_from
+each_holds P f made found all [] ys e = let same : found ≡ ys = cc in subst (All P) same all
+each_holds P f made found all (x ∷ xs) ys e =
+    let (y, one, rest) = bind_gave (f x) _ ys e in
+    each_holds P f made (found ++ y ∷ []) (All-append P found (y ∷ []) all (All-cons P y [] (made x y one) (All-nil P))) xs ys rest
+
+comb_out_over : (inputs : List (List ℕ)) (o : OutPin) (x : CombOut) → comb_out inputs o ≡ Some x → IsOver (length inputs) x.func
+unfolding comb_out
+comb_out_over inputs o x e =
+    let (t, ts, e1) = bind_gave o.func _ x e in
+    let (f, fs, e2) = map_gave (λ (f : Form). record { name = o.name; func = f }) (resolved (meaning inputs None) t) x e1 in
+    subst (λ (y : CombOut). IsOver (length inputs) y.func) e2 (resolved_over inputs None t f fs)
+
+comb_kind_over : (inputs : List (List ℕ)) (o : Option (List CombOut)) → ((ys : List CombOut) → o ≡ Some ys → All (λ (y : CombOut). IsOver (length inputs) y.func) ys) → IsLawfulKind (length inputs) (comb_kind o)
+comb_kind_over inputs None all = tt
+comb_kind_over inputs (Some ys) all = all ys refl
+
+comb_lawful : (inputs : List (List ℕ)) (outs : List OutPin) → IsLawfulKind (length inputs) (comb_kind (comb_outs inputs outs))
+comb_lawful inputs outs =
+    let P : CombOut → Type 0 = λ (y : CombOut). IsOver (length inputs) y.func in
+    comb_kind_over inputs (comb_outs inputs outs) (λ ys e. each_holds P (comb_out inputs) (comb_out_over inputs) [] (All-nil P) outs ys e)
+
+reset_over : (inputs : List (List ℕ)) (t : Option Tree) (r : Option Form) → reset_of inputs t ≡ Some r → IsOptionOver (length inputs) r
+reset_over inputs None r e = let same : None ≡ r = cc in subst (IsOptionOver (length inputs)) same tt
+reset_over inputs (Some t) r e =
+    let (f, fs, e1) = map_gave (λ (f : Form). Some f) (resolved (meaning inputs None) t) r e in
+    subst (IsOptionOver (length inputs)) e1 (resolved_over inputs None t f fs)
+
+next_over : (inputs : List (List ℕ)) (states : States) (attributes : List Attribute) (f : Form) → next_of inputs states attributes ≡ Some f → IsOver (length inputs + 1) f
+unfolding next_of
+next_over inputs states attributes f e =
+    let (t, ts, e1) = bind_gave (expr_of attribute.NextState attributes) _ f e in
+    resolved_over inputs (Some states) t f e1
+
+pub record ResetsOver (inputs : ℕ) (r : Resets) : Type 0 where
+  pub clear : IsOptionOver inputs r.clear
+  pub preset : IsOptionOver inputs r.preset
+
+resets_over : (inputs : List (List ℕ)) (attributes : List Attribute) (r : Resets) → resets_of inputs attributes ≡ Some r → ResetsOver (length inputs) r
+unfolding resets_of
+resets_over inputs attributes r e =
+    let (clear, clears, e1) = bind_gave (reset_of inputs (expr_of attribute.Clear attributes)) _ r e in
+    let (preset, presets, e2) = bind_gave (reset_of inputs (expr_of attribute.Preset attributes)) _ r e1 in
+    let (both, boths, e3) = bind_gave (both_of (is_some clear && is_some preset) attributes) _ r e2 in
+    let made : Resets = record { clear = clear; preset = preset; both = both } in
+    let same : made ≡ r = cc in
+    let over : ResetsOver (length inputs) made = record { clear = reset_over inputs (expr_of attribute.Clear attributes) clear clears; preset = reset_over inputs (expr_of attribute.Preset attributes) preset presets } in
+    subst (ResetsOver (length inputs)) same over
+
+flop_over : (inputs : List (List ℕ)) (outs : List OutPin) (ff : Part) (flop : Flop) → flop_of inputs outs ff ≡ Some flop → IsLawfulFlop (length (data_inputs flop.clock inputs)) flop
+unfolding flop_of
+flop_over inputs outs ff flop e =
+    let (states, e_states, e1) = bind_gave (states_of ff.names) _ flop e in
+    let (clock, e_clock, e2) = bind_gave (clock_of inputs ff.attributes) _ flop e1 in
+    let (next, e_next, e3) = bind_gave (next_of (data_inputs clock inputs) states ff.attributes) _ flop e2 in
+    let (resets, e_resets, e4) = bind_gave (resets_of (data_inputs clock inputs) ff.attributes) _ flop e3 in
+    let (found, e_found, e5) = bind_gave (flop_outs states outs) _ flop e4 in
+    let made : Flop = record { clock = clock; next = next; clear = resets.clear; preset = resets.preset; both = resets.both; outs = found } in
+    let same : made ≡ flop = cc in
+    let over = resets_over (data_inputs clock inputs) ff.attributes resets e_resets in
+    let lawful : IsLawfulFlop (length (data_inputs clock inputs)) made = record { next = next_over (data_inputs clock inputs) states ff.attributes next e_next; clear = over.clear; preset = over.preset } in
+    subst (λ (f : Flop). IsLawfulFlop (length (data_inputs f.clock inputs)) f) same lawful
+
+IsLawfulShape : Shape → Type 0
+IsLawfulShape s = IsLawfulKind (length s.inputs) s.kind
+
+flop_lawful : (inputs : List (List ℕ)) (o : Option Flop) → ((flop : Flop) → o ≡ Some flop → IsLawfulFlop (length (data_inputs flop.clock inputs)) flop) → IsLawfulShape (flop_shape inputs o)
+unfolding IsLawfulShape
+flop_lawful inputs None over = tt
+flop_lawful inputs (Some flop) over = over flop refl
+
+by_lawful : (inputs : List (List ℕ)) (outs : List OutPin) (ff : Option Part) → IsLawfulShape (shape_by inputs outs ff)
+unfolding IsLawfulShape
+by_lawful inputs outs None = comb_lawful (each_once inputs) outs
+by_lawful inputs outs (Some ff) = flop_lawful inputs (flop_of inputs outs ff) (flop_over inputs outs ff)
+
+shape_cases : (g : CellGroup) (b : Bool) → is_plain g ≡ b → IsLawfulShape (shape_of g)
+unfolding shape_of IsLawfulShape
+shape_cases g true e = rw e (by_lawful (names_of role.Input g.parts) (outs_of g.parts) (first_ff g.parts))
+shape_cases g false e = rw e tt
+
+pub cell_lawful : (g : CellGroup) → IsLawfulCell (cell_of g)
+unfolding cell_of IsLawfulShape
+cell_lawful g = shape_cases g (is_plain g) refl
+
+-- every cell that was read is lawful
+pub cells_lawful : (groups : List CellGroup) → All IsLawfulCell (map cell_of groups)
+cells_lawful [] = All-nil IsLawfulCell
+cells_lawful (g ∷ groups) = All-cons IsLawfulCell (cell_of g) (map cell_of groups) (cell_lawful g) (cells_lawful groups)

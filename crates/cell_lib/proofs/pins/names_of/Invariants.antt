@@ -1,0 +1,7 @@
+use Rattle.std.proofs.Common.{◌≡◌, take}
+use Rattle.std.specs.List.{flat_map}
+use Rattle.cell_lib.specs.Pins.{names_in}
+use Rattle.cell_lib.proofs.pins.names_of.Given as goal
+
+abbrev pub invariant-loop-part : goal.invariant-loop-part
+invariant-loop-part l = l.found ≡ flat_map (names_in l.role) (take l.part-index l.parts)

@@ -1,0 +1,59 @@
+-- What a cell is: combinational, a flop, or not modelled.
+use Rattle.std.specs.Prelude.{ℕ, Bool, nat_le, ◌&&◌, if◌then◌else◌, List, find, count_by, Option, Some, None}
+use Rattle.std.specs.List.{list_all}
+use Rattle.texts.specs.Names.{each_once}
+use Rattle.lib_words.specs.declared.groups.Part.{Part}
+use Rattle.lib_words.specs.declared.groups.CellGroup.{CellGroup}
+use Rattle.cell_lib.specs.declared.libraries.Cell.{Cell}
+use Rattle.cell_lib.specs.declared.libraries.CellKind.{CellKind}
+use Rattle.cell_lib.specs.declared.libraries.CellKind.TheVariants as kind
+use Rattle.cell_lib.specs.declared.libraries.CombOut.{CombOut}
+use Rattle.cell_lib.specs.declared.libraries.Flop.{Flop}
+use Rattle.cell_lib.specs.declared.pins.Role.TheVariants as role
+use Rattle.cell_lib.specs.declared.pins.OutPin.{OutPin}
+use Rattle.cell_lib.specs.declared.shapes.Shape.{Shape}
+use Rattle.cell_lib.specs.Pins.{is_ff, is_directed, is_native, names_differ, names_of, outs_of}
+use Rattle.cell_lib.specs.Combs.{comb_outs}
+use Rattle.cell_lib.specs.Flops.{flop_of, data_inputs}
+
+-- the input pins of a cell that is not modelled
+abbrev pub other_shape : List (List ℕ) → Shape
+other_shape inputs = record { inputs = each_once inputs; kind = kind.Other }
+
+-- a cell without `ff`, by its output pins where each has a function
+abbrev pub comb_kind : Option (List CombOut) → CellKind
+comb_kind (Some outs) = kind.Comb outs
+comb_kind None = kind.Other
+
+abbrev pub comb_shape : List (List ℕ) → List OutPin → Shape
+comb_shape inputs outs = record { inputs = each_once inputs; kind = comb_kind (comb_outs (each_once inputs) outs) }
+
+-- a cell with an `ff`, by the flop that it is: the clock is no longer among the inputs
+abbrev pub flop_shape : List (List ℕ) → Option Flop → Shape
+flop_shape inputs (Some flop) = record { inputs = data_inputs flop.clock inputs; kind = kind.Flop flop }
+flop_shape inputs None = other_shape inputs
+
+-- how many groups `ff` there are, and the first
+abbrev pub ff_count : List Part → ℕ
+ff_count parts = count_by (λ (p : Part). is_ff p.kind) parts
+
+abbrev pub first_ff : List Part → Option Part
+first_ff parts = find (λ (p : Part). is_ff p.kind) parts
+
+-- each group and attribute can be modelled, each pin is an input or an output, names differ, and there is one `ff` at most
+unfoldable pub is_plain : CellGroup → Bool
+is_plain g = is_native g && (list_all is_directed g.parts && (nat_le (ff_count g.parts) 1 && names_differ g.parts))
+
+-- what pins, and an `ff` where there is one, make of a cell
+abbrev pub shape_by : List (List ℕ) → List OutPin → Option Part → Shape
+shape_by inputs outs None = comb_shape inputs outs
+shape_by inputs outs (Some ff) = flop_shape inputs (flop_of inputs outs ff)
+
+unfoldable pub shape_of : CellGroup → Shape
+shape_of g =
+    let inputs = names_of role.Input g.parts in
+    if is_plain g then shape_by inputs (outs_of g.parts) (first_ff g.parts) else other_shape inputs
+
+-- the cell that a group is
+unfoldable pub cell_of : CellGroup → Cell
+cell_of g = record { name = g.name; inputs = (shape_of g).inputs; power = names_of role.Power g.parts; kind = (shape_of g).kind }

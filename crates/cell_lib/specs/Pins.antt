@@ -1,0 +1,90 @@
+-- The pins of a cell, in the order of the text.
+use Rattle.std.specs.Prelude.{ℕ, Bool, true, false, not, ◌&&◌, ◌||◌, if◌then◌else◌, List, [], map, codes}
+use Rattle.std.specs.List.{flat_map, list_any, list_all}
+use Rattle.texts.specs.Names.{are_distinct, each_once}
+use Rattle.lib_words.specs.declared.kinds.PartKind.{PartKind}
+use Rattle.lib_words.specs.declared.kinds.PartKind.TheVariants as part
+use Rattle.lib_words.specs.declared.kinds.AttributeKind.{AttributeKind}
+use Rattle.lib_words.specs.declared.kinds.AttributeKind.TheVariants as attribute
+use Rattle.lib_words.specs.declared.groups.Attribute.{Attribute}
+use Rattle.lib_words.specs.declared.groups.Part.{Part}
+use Rattle.lib_words.specs.declared.groups.CellGroup.{CellGroup}
+use Rattle.cell_lib.specs.declared.pins.Role.{Role}
+use Rattle.cell_lib.specs.declared.pins.Role.TheVariants as role
+use Rattle.cell_lib.specs.declared.pins.OutPin.{OutPin}
+use Rattle.cell_lib.specs.Values.{says, expr_of}
+
+abbrev pub is_pin : PartKind → Bool
+is_pin part.Pin = true
+is_pin _ = false
+
+abbrev pub is_power : PartKind → Bool
+is_power part.PgPin = true
+is_power _ = false
+
+abbrev pub is_ff : PartKind → Bool
+is_ff part.Ff = true
+is_ff _ = false
+
+-- a group with which a cell is not modelled, and in whose cell no function is read
+abbrev pub is_bank : PartKind → Bool
+is_bank part.FfBank = true
+is_bank part.Latch = true
+is_bank part.LatchBank = true
+is_bank part.Statetable = true
+is_bank part.Bus = true
+is_bank part.Bundle = true
+is_bank _ = false
+
+abbrev pub has_bank : List Part → Bool
+has_bank parts = list_any (λ (p : Part). is_bank p.kind) parts
+
+-- an attribute with which a cell is not modelled
+abbrev pub is_foreign : AttributeKind → Bool
+is_foreign attribute.ThreeState = true
+is_foreign attribute.ClockedOnAlso = true
+is_foreign attribute.ClockGatingIntegratedCell = true
+is_foreign _ = false
+
+abbrev pub has_foreign : List Attribute → Bool
+has_foreign attributes = list_any (λ (a : Attribute). is_foreign a.kind) attributes
+
+abbrev pub is_input : Part → Bool
+is_input p = is_pin p.kind && says attribute.Direction (codes "input") p.attributes
+
+abbrev pub is_output : Part → Bool
+is_output p = is_pin p.kind && says attribute.Direction (codes "output") p.attributes
+
+-- the group names what is asked for: input pins, power pins, or whatever has a name of its own in a cell
+abbrev pub bears : Role → Part → Bool
+bears role.Input p = is_input p
+bears role.Power p = is_power p.kind
+bears role.Every p = is_pin p.kind || (is_power p.kind || is_ff p.kind)
+
+abbrev pub names_in : Role → Part → List (List ℕ)
+names_in role p = if bears role p then p.names else []
+
+abbrev pub names_of : Role → List Part → List (List ℕ)
+names_of role parts = flat_map (names_in role) parts
+
+-- the output pins that a group names, each with the group's function
+abbrev pub outs_in : Part → List OutPin
+outs_in p = if is_output p then map (λ n. record { name = n; func = expr_of attribute.Function p.attributes }) p.names else []
+
+abbrev pub outs_of : List Part → List OutPin
+outs_of parts = flat_map outs_in parts
+
+-- a pin is an input or an output
+abbrev pub is_directed : Part → Bool
+is_directed p = not (is_pin p.kind) || (is_input p || is_output p)
+
+abbrev pub has_foreign_part : List Part → Bool
+has_foreign_part parts = list_any (λ (p : Part). has_foreign p.attributes) parts
+
+-- no group and no attribute stands there with which a cell is not modelled
+abbrev pub is_native : CellGroup → Bool
+is_native g = not (has_bank g.parts) && not (has_foreign g.attributes || has_foreign_part g.parts)
+
+-- pins, power pins and states have names that differ
+abbrev pub names_differ : List Part → Bool
+names_differ parts = are_distinct (names_of role.Every parts)

@@ -1,0 +1,81 @@
+-- The library that a text is, and why a text is none.
+use Rattle.std.specs.Prelude.{◌≡◌, ℕ, Bool, true, false, ◌&&◌, ◌≤◌, if◌then◌else◌, List, [], ◌∷◌, length, map, take, find, slice_get, Option, Some, None, is_none, is_some, Result, Ok, Err}
+use Rattle.std.specs.Option.{option_map, option_or}
+use Rattle.texts.specs.Names.{is_among, are_distinct}
+use Rattle.lib_func.specs.Functions.{function_of}
+use Rattle.lib_words.specs.declared.kinds.PartKind.{PartKind}
+use Rattle.lib_words.specs.declared.kinds.PartKind.TheVariants as part
+use Rattle.lib_words.specs.declared.kinds.AttributeKind.{AttributeKind}
+use Rattle.lib_words.specs.declared.kinds.AttributeKind.TheVariants as attribute
+use Rattle.lib_words.specs.declared.groups.Attribute.{Attribute}
+use Rattle.lib_words.specs.declared.groups.Part.{Part}
+use Rattle.lib_words.specs.declared.groups.CellGroup.{CellGroup}
+use Rattle.lib_words.specs.Groups as words
+use Rattle.cell_lib.specs.declared.libraries.Cell.{Cell}
+use Rattle.cell_lib.specs.declared.libraries.Library.{Library}
+use Rattle.cell_lib.specs.declared.faults.LibFault.{LibFault}
+use Rattle.cell_lib.specs.declared.faults.LibFault.TheVariants as fault
+use Rattle.cell_lib.specs.Pins.{has_bank}
+use Rattle.cell_lib.specs.Cells.{cell_of}
+
+-- the attribute of such a group is read as a function
+abbrev pub is_read : PartKind → AttributeKind → Bool
+is_read part.Pin attribute.Function = true
+is_read part.Ff attribute.ClockedOn = true
+is_read part.Ff attribute.NextState = true
+is_read part.Ff attribute.Clear = true
+is_read part.Ff attribute.Preset = true
+is_read _ _ = false
+
+-- a quoted text that is read as a function and is none
+abbrev pub is_broken : PartKind → Attribute → Bool
+is_broken kind a = is_read kind a.kind && (a.value.is_quoted && is_none (function_of a.value.text))
+
+-- what f gives for the first for which it gives something
+unfoldable pub first_of : {A B : Type 0} → (A → Option B) → List A → Option B
+first_of f [] = None
+first_of f (x ∷ xs) = option_or (f x) (first_of f xs)
+
+-- the offset of the first text of a group that is read as a function and is none
+abbrev pub broken_attribute : PartKind → Attribute → Option ℕ
+broken_attribute kind a = if is_broken kind a then Some a.value.offset else None
+
+unfoldable pub broken_in_part : Part → Option ℕ
+broken_in_part p = first_of (broken_attribute p.kind) p.attributes
+
+abbrev pub broken_in_parts : List Part → Option ℕ
+broken_in_parts parts = first_of broken_in_part parts
+
+-- the same of a cell; beside a bank or a latch no function is read
+unfoldable pub broken_in_cell : CellGroup → Option ℕ
+broken_in_cell g = if has_bank g.parts then None else broken_in_parts g.parts
+
+abbrev pub broken_in : List CellGroup → Option ℕ
+broken_in groups = first_of broken_in_cell groups
+
+abbrev pub names : List CellGroup → List (List ℕ)
+names groups = map (λ (g : CellGroup). g.name) groups
+
+-- the cells, where each quoted function is one, and no two cells have one name
+unfoldable pub cells_made : List CellGroup → Option (List Cell)
+cells_made groups = if is_none (broken_in groups) && are_distinct (names groups) then Some (map cell_of groups) else None
+
+-- the library that a text is
+unfoldable pub library_of : List ℕ → Option (List Cell)
+library_of text = elim (words.cells_of text) [ Ok groups ↦ cells_made groups | Err place ↦ None ]
+
+-- two of these names are this one: at a place, and among those before it
+abbrev pub StandsTwice : List ℕ → List (List ℕ) → Type 0
+StandsTwice n names = (k : ℕ) × (slice_get names k ≡ Some n) × (is_among n (take k names) ≡ true)
+
+-- why a text is no library
+abbrev pub Refuses : List ℕ → LibFault → Type 0
+Refuses text (fault.Syntax place) = (library_of text ≡ None) × (words.cells_of text ≡ Err place) × (place ≤ length text)
+Refuses text (fault.Function place) = (library_of text ≡ None) × (groups : List CellGroup) × (words.cells_of text ≡ Ok groups) × (broken_in groups ≡ Some place)
+Refuses text (fault.TwiceCell name) = (library_of text ≡ None) × (groups : List CellGroup) × (words.cells_of text ≡ Ok groups) × StandsTwice name (names groups)
+Refuses text fault.Memory = Unit {0}
+
+-- the answer is the library that the text is, or why it is none
+abbrev pub Reads : List ℕ → Result Library LibFault → Type 0
+Reads text (Ok library) = library_of text ≡ Some library.cells
+Reads text (Err e) = Refuses text e

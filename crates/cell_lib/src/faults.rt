@@ -1,0 +1,53 @@
+//! Why a text is no library.
+ghost use Rattle.std.specs.Prelude.{◌≡◌};
+ghost use Rattle.cell_lib.specs.declared.faults.LibFault.TheVariants as fault;
+ghost use Rattle.lib_words.specs.declared.faults.GroupFault.TheVariants as group_fault;
+ghost use Rattle.cell_lib.specs.Told.{of_groups};
+
+use lib_words::GroupFault;
+use sdcv_base::Name;
+use std::alloc::{AllocError, AllocFailed};
+use thiserror::Error;
+
+/// Why a text is no library. Offsets count bytes from 0.
+#[derive(Debug, Drop, Error)]
+pub enum LibFault {
+    /// The text stops being a tree of Liberty groups there. The offset is at most the text's length.
+    #[error("byte {0}: no Liberty library goes on like this")]
+    Syntax(usize),
+    /// The quoted text whose first byte stands there is read as a function, and is none.
+    #[error("byte {0}: no Boolean function")]
+    Function(usize),
+    /// Two cells have this name.
+    #[error("two cells have the name {0}")]
+    TwiceCell(Name),
+    #[error("out of memory")]
+    Memory,
+}
+
+impl From<GroupFault> for LibFault {
+    ghost from_gives = { λ f e. e ≡ of_groups f };
+
+    fn from(fault: GroupFault) -> LibFault {
+        match fault {
+            GroupFault::Syntax(place) => LibFault::Syntax(place),
+            GroupFault::Memory => LibFault::Memory,
+        }
+    }
+}
+
+impl From<AllocError> for LibFault {
+    ghost from_gives = { λ _ e. e ≡ fault.Memory };
+
+    fn from(_: AllocError) -> LibFault {
+        LibFault::Memory
+    }
+}
+
+impl<T: Drop> From<AllocFailed<T>> for LibFault {
+    ghost from_gives = { λ _ e. e ≡ fault.Memory };
+
+    fn from(_: AllocFailed<T>) -> LibFault {
+        LibFault::Memory
+    }
+}

@@ -1,0 +1,188 @@
+//! The pins of a cell.
+ghost use Rattle.std.specs.Prelude.{◌≡◌, ◌++◌, IfOk, OnOk};
+ghost use Rattle.std.specs.List.{list_all, list_any};
+ghost use Rattle.cell_lib.specs.Pins as spec;
+
+use crate::values::{expr_of, says};
+use lib_func::Expr;
+use lib_words::{Attribute, AttributeKind, CellGroup, Part, PartKind};
+use sdcv_base::{Name, Seq};
+use std::alloc::{AllocError, Global};
+use texts::NameTable;
+
+/// Which names of a cell are meant.
+#[derive(Clone, Copy)]
+pub enum Role {
+    Input,
+    Power,
+    /// Whatever has a name of its own in a cell: pins, power pins, and the state and its complement.
+    Every,
+}
+
+/// An output pin and its function, where one is given.
+#[derive(Drop)]
+pub struct OutPin {
+    pub name: Name,
+    pub func: Option<Expr>,
+}
+
+fn is_input(part: &Part) -> bool
+    ensures { result ≡ spec.is_input part.now }
+{
+    matches!(part.kind, PartKind::Pin)
+        && says(
+            part.attributes.as_slice(),
+            AttributeKind::Direction,
+            "input",
+        )
+}
+
+fn is_output(part: &Part) -> bool
+    ensures { result ≡ spec.is_output part.now }
+{
+    matches!(part.kind, PartKind::Pin)
+        && says(
+            part.attributes.as_slice(),
+            AttributeKind::Direction,
+            "output",
+        )
+}
+
+fn is_directed(part: &Part) -> bool
+    ensures { result ≡ spec.is_directed part.now }
+{
+    !matches!(part.kind, PartKind::Pin) || is_input(part) || is_output(part)
+}
+
+/// Whether each pin is an input or an output.
+pub fn are_directed(parts: &[Part]) -> bool
+    ensures { result ≡ list_all spec.is_directed parts.now }
+{
+    parts.iter().all(is_directed)
+}
+
+fn is_bank(kind: PartKind) -> bool
+    ensures { result ≡ spec.is_bank kind }
+{
+    matches!(
+        kind,
+        PartKind::FfBank
+            | PartKind::Latch
+            | PartKind::LatchBank
+            | PartKind::Statetable
+            | PartKind::Bus
+            | PartKind::Bundle
+    )
+}
+
+/// Whether a group stands there with which a cell is not modelled and its functions are not read.
+pub fn has_bank(parts: &[Part]) -> bool
+    ensures { result ≡ spec.has_bank parts.now }
+{
+    parts.iter().any(|part| is_bank(part.kind))
+}
+
+fn is_foreign(kind: AttributeKind) -> bool
+    ensures { result ≡ spec.is_foreign kind }
+{
+    matches!(
+        kind,
+        AttributeKind::ThreeState
+            | AttributeKind::ClockedOnAlso
+            | AttributeKind::ClockGatingIntegratedCell
+    )
+}
+
+fn has_foreign(attributes: &[Attribute]) -> bool
+    ensures { result ≡ spec.has_foreign attributes.now }
+{
+    attributes.iter().any(|a| is_foreign(a.kind))
+}
+
+fn has_foreign_part(parts: &[Part]) -> bool
+    ensures { result ≡ spec.has_foreign_part parts.now }
+{
+    parts
+        .iter()
+        .any(|part| has_foreign(part.attributes.as_slice()))
+}
+
+/// Whether no group and no attribute stands there with which a cell is not modelled.
+pub fn is_native(group: &CellGroup) -> bool
+    ensures { result ≡ spec.is_native group.now }
+{
+    let parts = group.parts.as_slice();
+    let is_banked = has_bank(parts);
+    let is_strange = has_foreign(group.attributes.as_slice()) || has_foreign_part(parts);
+    !is_banked && !is_strange
+}
+
+fn bears(role: Role, part: &Part) -> bool
+    ensures { result ≡ spec.bears role part.now }
+{
+    match role {
+        Role::Input => is_input(part),
+        Role::Power => matches!(part.kind, PartKind::PgPin),
+        Role::Every => matches!(part.kind, PartKind::Pin | PartKind::PgPin | PartKind::Ff),
+    }
+}
+
+// Appends copies of names.
+fn push_names(alloc: Global, found: &mut Seq<Name>, names: &[Name]) -> Result<(), AllocError>
+    ensures { OnOk result (found.new ≡ found.old ++ names.now) }
+{
+    for name in names {
+        found.push(name.copy(alloc)?)?;
+    }
+    Ok(())
+}
+
+/// The names that are meant, in the order of the text.
+pub fn names_of(alloc: Global, parts: &[Part], role: Role) -> Result<Seq<Name>, AllocError>
+    ensures { IfOk result (λ names. names ≡ spec.names_of role parts.now) }
+{
+    let mut found = Seq::new(alloc);
+    for part in parts {
+        if bears(role, part) {
+            push_names(alloc, &mut found, part.names.as_slice())?;
+        }
+    }
+    Ok(found)
+}
+
+// Appends the output pins that a group names.
+fn push_outs(alloc: Global, found: &mut Seq<OutPin>, part: &Part) -> Result<(), AllocError>
+    ensures { OnOk result (found.new ≡ found.old ++ spec.outs_in part.now) }
+{
+    if !is_output(part) {
+        return Ok(());
+    }
+    for name in part.names.as_slice() {
+        let name = name.copy(alloc)?;
+        let func = expr_of(alloc, part.attributes.as_slice(), AttributeKind::Function)?;
+        found.push(OutPin { name, func })?;
+    }
+    Ok(())
+}
+
+/// The output pins, in the order of the text.
+pub fn outs_of(alloc: Global, parts: &[Part]) -> Result<Seq<OutPin>, AllocError>
+    ensures { IfOk result (λ outs. outs ≡ spec.outs_of parts.now) }
+{
+    let mut found = Seq::new(alloc);
+    for part in parts {
+        push_outs(alloc, &mut found, part)?;
+    }
+    Ok(found)
+}
+
+/// Whether pins, power pins and states have names that differ.
+#[tactic(auto, using(texts::proofs::NameLemmas::are_new_none))]
+pub fn names_differ(alloc: Global, parts: &[Part]) -> Result<bool, AllocError>
+    ensures { IfOk result (λ b. b ≡ spec.names_differ parts.now) }
+{
+    let names = names_of(alloc, parts, Role::Every)?;
+    let mut table = NameTable::new(alloc);
+    let differ = table.add_all(alloc, names.as_slice())?;
+    Ok(differ)
+}

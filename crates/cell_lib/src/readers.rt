@@ -1,0 +1,49 @@
+//! The call that reads a library.
+ghost use Rattle.std.specs.Prelude.{◌≡◌, IfOk, MatchOption, true};
+ghost use Rattle.texts.specs.Names.{are_distinct};
+ghost use Rattle.cell_lib.specs.Libraries.{IsLawful};
+ghost use Rattle.cell_lib.specs.Texts.{Reads, StandsTwice, names};
+
+use crate::broken::broken_in;
+use crate::cells::cells_of;
+use crate::{Library, LibFault};
+use lib_words::{CellGroup, read_cells};
+use sdcv_base::Name;
+use std::alloc::{AllocError, Global};
+use texts::NameTable;
+
+/// A name that two cells have.
+fn twice_named(alloc: Global, groups: &[CellGroup]) -> Result<Option<Name>, AllocError>
+    ensures { IfOk result (λ found. MatchOption found (are_distinct (names groups.now) ≡ true) (λ n. StandsTwice n (names groups.now))) }
+{
+    let mut table = NameTable::new(alloc);
+    for group in groups {
+        if !table.add(alloc, &group.name)? {
+            return Ok(Some(group.name.copy(alloc)?));
+        }
+    }
+    Ok(None)
+}
+
+/// The library that a Liberty text is.
+///
+/// It refuses a text that is no group tree (`Syntax`), a quoted text that is read as a function and is none
+/// (`Function`, at the first byte after the quote of the first one), and two cells of one name (`TwiceCell`). A cell that
+/// can't be modelled is `Other`, and never refuses the text. Each name is looked up in a table, so the work is linear in
+/// the bytes, but that a group which names n pins has its function n times.
+pub fn read_lib(alloc: Global, text: &[u8]) -> Result<Library, LibFault>
+    ensures value { Reads text.now result }
+    ensures lawful { IfOk result (λ library. IsLawful library.cells) }
+{
+    let groups = read_cells(alloc, text)?;
+    let broken = broken_in(alloc, groups.as_slice())?;
+    if let Some(place) = broken {
+        return Err(LibFault::Function(place));
+    }
+    let twice = twice_named(alloc, groups.as_slice())?;
+    if let Some(name) = twice {
+        return Err(LibFault::TwiceCell(name));
+    }
+    let cells = cells_of(alloc, groups.as_slice())?;
+    Ok(Library { cells })
+}
