@@ -2,9 +2,9 @@
 ghost use Rattle.cell_lib.specs.Fits.{Gives};
 ghost use Rattle.cell_lib.specs.Combs as spec;
 
+use crate::CombOut;
 use crate::misfits::Misfit;
 use crate::pins::OutPin;
-use crate::{CombOut};
 use lib_func::resolve;
 use sdcv_base::Seq;
 use std::alloc::Global;
@@ -25,11 +25,7 @@ fn comb_out(alloc: Global, inputs: &NameTable, out: &OutPin) -> Result<CombOut, 
 }
 
 /// The output pins, where each has a function of input pins.
-pub fn comb_outs(
-    alloc: Global,
-    inputs: &NameTable,
-    outs: &[OutPin],
-) -> Result<Seq<CombOut>, Misfit>
+pub fn comb_outs(alloc: Global, inputs: &NameTable, outs: &[OutPin]) -> Result<Seq<CombOut>, Misfit>
     ensures { Gives result (spec.comb_outs inputs.now outs.now) }
 {
     let mut found = Seq::new(alloc);

@@ -117,11 +117,7 @@ fn next_of(
     }
 }
 
-fn reset_of(
-    alloc: Global,
-    inputs: &NameTable,
-    expr: Option<Expr>,
-) -> Result<Option<Func>, Misfit>
+fn reset_of(alloc: Global, inputs: &NameTable, expr: Option<Expr>) -> Result<Option<Func>, Misfit>
     ensures { Gives result (spec.reset_of inputs.now expr) }
 {
     let Some(expr) = expr else {
@@ -149,11 +145,7 @@ fn both_of(are_given: bool, attributes: &[Attribute]) -> Result<bool, Misfit>
 }
 
 #[tactic(auto, unfolding(crate::specs::Flops::resets_of))]
-fn resets_of(
-    alloc: Global,
-    inputs: &NameTable,
-    attributes: &[Attribute],
-) -> Result<Resets, Misfit>
+fn resets_of(alloc: Global, inputs: &NameTable, attributes: &[Attribute]) -> Result<Resets, Misfit>
     ensures { Gives result (spec.resets_of inputs.now attributes.now) }
 {
     let clear = expr_of(alloc, attributes, AttributeKind::Clear)?;
@@ -221,12 +213,7 @@ fn flop_outs(alloc: Global, states: &States, outs: &[OutPin]) -> Result<Seq<Flop
 
 /// The flop that a group `ff` makes of a cell's pins.
 #[tactic(auto, unfolding(crate::specs::Flops::flop_of))]
-pub fn flop_of(
-    alloc: Global,
-    inputs: &[Name],
-    outs: &[OutPin],
-    ff: &Part,
-) -> Result<Flop, Misfit>
+pub fn flop_of(alloc: Global, inputs: &[Name], outs: &[OutPin], ff: &Part) -> Result<Flop, Misfit>
     ensures { Gives result (spec.flop_of inputs.now outs.now ff.now) }
 {
     let attributes = ff.attributes.as_slice();

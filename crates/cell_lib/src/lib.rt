@@ -4,9 +4,9 @@
 //! program knows without a file, and `Library::find` looks one up by its name.
 #![tactic(auto)]
 
+mod broken;
 mod builtin_cells;
 mod builtin_flops;
-mod broken;
 mod builtin_parts;
 mod cells;
 mod combs;

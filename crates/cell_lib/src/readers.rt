@@ -6,7 +6,7 @@ ghost use Rattle.cell_lib.specs.Texts.{Reads, StandsTwice, names};
 
 use crate::broken::broken_in;
 use crate::cells::cells_of;
-use crate::{Library, LibFault};
+use crate::{LibFault, Library};
 use lib_words::{CellGroup, read_cells};
 use sdcv_base::Name;
 use std::alloc::{AllocError, Global};

@@ -1,5 +1,8 @@
-use crate::{CellKind, builtin};
-use std::test;
+use crate::{CellKind, CombOut, Flop, builtin, read_lib};
+use net_model::{Func, Node};
+use sdcv_base::Name;
+use std::alloc::Global;
+use std::test::{self, Fail};
 
 // Places in the table: TIE0 first, SDFFC last of 24.
 #[test]
@@ -32,6 +35,235 @@ fn each_built_in_cell_has_one_of_two_shapes(rt: HostRuntime) -> Result<(), test:
                 assert!(rt; !flop.both);
             }
             CellKind::Other => assert!(rt; false),
+        }
+    }
+    Ok(())
+}
+
+// A function with its places as numbers.
+fn show_func(out: &mut String, func: &Func) -> Result<(), Fail> {
+    let (f, sign, g) = match &func.node {
+        Node::Zero => return Ok(write!(out, "zero")?),
+        Node::One => return Ok(write!(out, "one")?),
+        Node::Pin(place) => return Ok(write!(out, "{place}")?),
+        Node::Not(f) => {
+            write!(out, "!")?;
+            return show_func(out, f);
+        }
+        Node::And(f, g) => (f, "*", g),
+        Node::Or(f, g) => (f, "+", g),
+        Node::Xor(f, g) => (f, "^", g),
+    };
+    write!(out, "(")?;
+    show_func(out, f)?;
+    write!(out, "{sign}")?;
+    show_func(out, g)?;
+    Ok(write!(out, ")")?)
+}
+
+fn show_given(out: &mut String, name: &str, func: &Option<Func>) -> Result<(), Fail> {
+    if let Some(func) = func {
+        write!(out, " {name} ")?;
+        show_func(out, func)?;
+    }
+    Ok(())
+}
+
+fn show_flop(out: &mut String, flop: &Flop) -> Result<(), Fail> {
+    let clock = &flop.clock;
+    write!(out, " clock {clock} next ")?;
+    show_func(out, &flop.next)?;
+    show_given(out, "clear", &flop.clear)?;
+    show_given(out, "preset", &flop.preset)?;
+    if flop.both {
+        write!(out, " both")?;
+    }
+    for pin in flop.outs.as_slice() {
+        let name = &pin.name;
+        let sign = if pin.inverted { "!" } else { "" };
+        write!(out, " {name}={sign}state")?;
+    }
+    Ok(())
+}
+
+fn show_combs(out: &mut String, outs: &[CombOut]) -> Result<(), Fail> {
+    write!(out, " gate")?;
+    for pin in outs {
+        let name = &pin.name;
+        write!(out, " {name}=")?;
+        show_func(out, &pin.func)?;
+    }
+    Ok(())
+}
+
+fn show_names(out: &mut String, names: &[Name]) -> Result<(), Fail> {
+    for name in names {
+        write!(out, " {name}")?;
+    }
+    Ok(())
+}
+
+// A line for each cell: its name, its inputs, its power pins, and what it is.
+fn listing(alloc: Global, text: &str) -> Result<String, Fail> {
+    let mut out = String::new(alloc);
+    let library = read_lib(alloc, text.as_bytes())?;
+    for cell in library.cells.as_slice() {
+        let name = &cell.name;
+        write!(out, "\n{name}")?;
+        show_names(&mut out, cell.inputs.as_slice())?;
+        write!(out, ";")?;
+        show_names(&mut out, cell.power.as_slice())?;
+        match &cell.kind {
+            CellKind::Comb(outs) => show_combs(&mut out, outs.as_slice())?,
+            CellKind::Flop(flop) => show_flop(&mut out, flop)?,
+            CellKind::Other => write!(out, " other")?,
+        }
+    }
+    Ok(out)
+}
+
+const SIX_CELLS: &str = r#"library (demo45) {
+  time_unit : "1ns";
+  cell (INVX1) { area : 1.5; pin (A) { direction : input; }
+    pin (Y) { direction : output; function : "A'"; timing () { related_pin : "A"; } } }
+  cell (XOR2X1) { pin (A, B) { direction : input; } pin (Y) { direction : output; function : "A^B"; } }
+  cell (NOR2X1) { pin (A, B) { direction : input; } pin (Y) { direction : output; function : "(A+B)'"; } }
+  cell (AND2X1) { pin (A, B) { direction : input; } pin (Y) { direction : output; function : "A B"; } }
+  cell (MUX2X1) { pin (A, B, S0) { direction : input; }
+    pin (Y) { direction : output; function : "(S0' A) + (S0 B)"; } }
+  cell (SDFFRX1) {
+    ff (IQ, IQN) { clocked_on : "CK"; next_state : "(SE SI) + (SE' D)"; clear : "RN'"; }
+    pin (D, SI, SE, RN, CK) { direction : input; }
+    pin (Q) { direction : output; function : "IQ"; }
+    pin (QN) { direction : output; function : "IQN"; } }
+}
+"#;
+
+const SIX_LINES: &str = "
+INVX1 A; gate Y=!0
+XOR2X1 A B; gate Y=(0^1)
+NOR2X1 A B; gate Y=!(0+1)
+AND2X1 A B; gate Y=(0*1)
+MUX2X1 A B S0; gate Y=((!2*0)+(2*1))
+SDFFRX1 D SI SE RN; clock CK next ((2*1)+(!2*0)) clear !3 Q=state QN=!state";
+
+// Inverter, exclusive or, nor, and, multiplexer, and a scan flop with an active-low clear.
+#[test]
+fn cells_of_a_library_are_read(rt: HostRuntime) -> Result<(), Fail> {
+    assert_eq!(rt; listing(rt.alloc(), SIX_CELLS)?.as_str(), SIX_LINES);
+    Ok(())
+}
+
+const GATES: &str = r#"library (rules) {
+  cell (fill) { pg_pin (VDD, VSS) { pg_type : primary_power; } }
+  cell (bare) { pin (A) { direction : "input"; } pin (Y) { direction : output; function : A; } }
+  cell (last) { pin (A) { direction : input } pin (Y) { direction : output; function : "A"; function : "A'"; } }
+  cell (lost) { pin (A) { direction : input; } pin (Y) { direction : output; function : A +; } }
+  cell (none) { pin (Y) { direction : output; } }
+  cell (free) { pin (Y) { direction : output; function : "B"; } }
+  cell (both) { pin (A) { direction : inout; } }
+  cell (mute) { pin (A) { } }
+  cell (same) { pin (A, B) { direction : input; } pin (B) { direction : input; } }
+  cell (rail) { pg_pin (A) { } pin (A) { direction : input; } }
+  cell (tri) { pin (Y) { direction : output; function : "1"; three_state : "0"; } }
+  cell (icg) { clock_gating_integrated_cell : "latch_posedge"; }
+  cell (lat) { latch (IQ, IQN) { } pin (Y) { direction : output; function : "A +"; } }
+}"#;
+
+const GATE_LINES: &str = "
+fill; VDD VSS gate
+bare A; gate Y=0
+last A; gate Y=!0
+lost A; other
+none; other
+free; other
+both; other
+mute; other
+same A B; other
+rail A; A other
+tri; other
+icg; other
+lat; other";
+
+// Each cell is one rule of gates and of cells that are not modelled.
+#[test]
+fn gates_keep_their_rules(rt: HostRuntime) -> Result<(), Fail> {
+    assert_eq!(rt; listing(rt.alloc(), GATES)?.as_str(), GATE_LINES);
+    Ok(())
+}
+
+const FLOPS: &str = r#"library (rules) {
+  cell (keep) { ff (P, N) { clocked_on : (C); next_state : "D N' + P D'"; } pin (C, D) { direction : input; }
+    pin (Q) { direction : output; function : "!P"; } pin (R) { direction : output; function : "N'"; } }
+  cell (both) { ff (P, N) { clocked_on : "C"; next_state : "D"; clear : "S"; preset : "D"; clear_preset_var1 : "H"; } pin (C, D, S) { direction : input; } }
+  cell (low) { ff (P, N) { clocked_on : "C"; next_state : "D"; clear : "D"; preset : "D"; clear_preset_var1 : L; } pin (C, D) { direction : input; } }
+  cell (one) { ff (P, N) { clocked_on : "C"; next_state : "D"; preset : "D"; clear_preset_var1 : H; } pin (D, C) { direction : input; } }
+  cell (var) { ff (P, N) { clocked_on : "C"; next_state : "D"; clear : "D"; preset : "D"; } pin (C, D) { direction : input; } }
+  cell (fall) { ff (P, N) { clocked_on : "C'"; next_state : "D"; } pin (C, D) { direction : input; } }
+  cell (rise) { ff (P, N) { clocked_on : "C''"; next_state : "D"; } pin (C, D) { direction : input; } }
+  cell (loop) { ff (P, N) { clocked_on : "C"; next_state : "C"; } pin (C) { direction : input; } }
+  cell (wild) { ff (P, N) { clocked_on : "C"; next_state : "D"; clear : "P"; } pin (C, D) { direction : input; } }
+  cell (out) { ff (P, N) { clocked_on : "C"; next_state : "D"; } pin (C, D) { direction : input; } pin (Q) { direction : output; function : "P D"; } }
+  cell (also) { ff (P, N) { clocked_on : "C"; clocked_on_also : "D"; next_state : "D"; } pin (C, D) { direction : input; } }
+  cell (twin) { ff (P, P) { clocked_on : "C"; next_state : "D"; } pin (C, D) { direction : input; } }
+  cell (name) { ff (D, N) { clocked_on : "C"; next_state : "D"; } pin (C, D) { direction : input; } }
+  cell (lone) { ff (P) { clocked_on : "C"; next_state : "D"; } pin (C, D) { direction : input; } }
+  cell (two) { ff (P, N) { clocked_on : "C"; next_state : "D"; } ff (R, M) { } pin (C, D) { direction : input; } }
+}"#;
+
+const FLOP_LINES: &str = "
+keep D; clock C next ((0*!!1)+(1*!0)) Q=!state R=state
+both D S; clock C next 0 clear 1 preset 0 both
+low D; clock C next 0 clear 0 preset 0
+one D; clock C next 0 preset 0
+var C D; other
+fall C D; other
+rise C D; other
+loop C; other
+wild C D; other
+out C D; other
+also C D; other
+twin C D; other
+name C D; other
+lone C D; other
+two C D; other";
+
+// Each cell is one rule of flops.
+#[test]
+fn flops_keep_their_rules(rt: HostRuntime) -> Result<(), Fail> {
+    assert_eq!(rt; listing(rt.alloc(), FLOPS)?.as_str(), FLOP_LINES);
+    Ok(())
+}
+
+const REFUSED: [(&str, &str); 4] = [
+    (
+        "library (l) { cell (X) { pin (Y) { direction : output; function : \"A +\"; } } }",
+        "byte 67: no Boolean function",
+    ),
+    (
+        "library (l) { cell (X) { ff (P, N) { clear : \"A\"; clear : \"\"; clear : \"B\"; } } }",
+        "byte 59: no Boolean function",
+    ),
+    (
+        "library (l) { cell (X) { } cell (Y) { } cell (X) { } }",
+        "two cells have the name X",
+    ),
+    (
+        "library (l) { cell (X) { }",
+        "byte 26: no Liberty library goes on like this",
+    ),
+];
+
+// Offsets counted by hand; the empty text between quotes is no function, though a later value counts.
+#[test]
+fn texts_are_refused_with_their_cause(rt: HostRuntime) -> Result<(), Fail> {
+    for (text, want) in &REFUSED {
+        match read_lib(rt.alloc(), text.as_bytes()) {
+            Ok(_) => assert!(rt; false, "{text}"),
+            Err(fault) => {
+                let told = format!(in rt.alloc(); "{fault}")?;
+                assert_eq!(rt; told.as_str(), *want);
+            }
         }
     }
     Ok(())

@@ -46,36 +46,35 @@ fn names(alloc: Global, names: &[&str]) -> Result<NameTable, AllocError> {
 }
 
 // The bits for A B C D = 0000, 0001, .. 1111, each by hand from the order of the operators.
+const CASES: [(&str, u16); 11] = [
+    ("A B + C^D'", 0b1001_1001_1001_1111),
+    ("!(A+B)'", 0b0000_1111_1111_1111),
+    ("0", 0b0000_0000_0000_0000),
+    ("((A)(B|(1)))", 0b0000_0000_1111_1111),
+    ("A!B", 0b0000_0000_1111_0000),
+    ("A''", 0b0000_0000_1111_1111),
+    ("!!A * B'", 0b0000_0000_1111_0000),
+    ("A^B^C&D", 0b0001_0100_0100_0001),
+    ("(A+B)(C+D)", 0b0000_0111_0111_0111),
+    ("\tA\\\n(B)\n", 0b0000_0000_0000_1111),
+    ("1A", 0b0000_0000_1111_1111),
+];
+
 #[test]
 fn functions_have_the_values_of_their_grammar(rt: HostRuntime) -> Result<(), Fail> {
-    let cases = [
-        ("A B + C^D'", 0b1001_1001_1001_1111),
-        ("!(A+B)'", 0b0000_1111_1111_1111),
-        ("0", 0b0000_0000_0000_0000),
-        ("((A)(B|(1)))", 0b0000_0000_1111_1111),
-        ("A!B", 0b0000_0000_1111_0000),
-        ("A''", 0b0000_0000_1111_1111),
-        ("!!A * B'", 0b0000_0000_1111_0000),
-        ("A^B^C&D", 0b0001_0100_0100_0001),
-        ("(A+B)(C+D)", 0b0000_0111_0111_0111),
-        ("\tA\\\n(B)\n", 0b0000_0000_0000_1111),
-        ("1A", 0b0000_0000_1111_1111),
-    ];
     let inputs = names(rt.alloc(), ["A", "B", "C", "D"].as_slice())?;
-    for (text, want) in cases {
-        assert_eq!(rt; read(rt.alloc(), text, &inputs)?, want, "{text}");
+    for (text, want) in &CASES {
+        assert_eq!(rt; read(rt.alloc(), text, &inputs)?, *want, "{text}");
     }
     Ok(())
 }
 
-// None of these goes by the grammar.
+// None of these lines goes by the grammar.
+const NO_FUNCTIONS: &str = "\nA +\n(A\nA)\n()\nA ^\n!\n'\n2\nA\"B\nA + * B\nA\\B\nA-B\n((A)\nA;";
+
 #[test]
 fn other_texts_are_no_function(rt: HostRuntime) -> Result<(), Fail> {
-    let texts = [
-        "", " ", "A +", "(A", "A)", "()", "A ^", "!", "'", "2", "A\"B", "A + * B", "A\\B", "A-B",
-        "A.B", "((A)", "A;",
-    ];
-    for text in texts {
+    for text in NO_FUNCTIONS.split('\n') {
         assert!(rt;
             read_function(rt.alloc(), text.as_bytes())?.is_none(),
             "{text}"
