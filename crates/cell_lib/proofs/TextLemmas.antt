@@ -54,9 +54,9 @@ unfolding library_of
 made_of text groups e = rw (e, library_of) refl
 
 -- it has none
-pub made_of_none : (text : List ℕ) (place : ℕ) → words.cells_of text ≡ Err place → library_of text ≡ None
+pub made_of_none : (text : List ℕ) (fault : GroupFault) → words.cells_of text ≡ Err fault → library_of text ≡ None
 unfolding library_of
-made_of_none text place e = rw (e, library_of) refl
+made_of_none text fault e = rw (e, library_of) refl
 
 -- nothing is there
 pub none_left : {A : Type 0} (o : Option A) → ((x : A) → o ≡ Some x → ⊥) → o ≡ None
@@ -127,7 +127,7 @@ twice_differ n xs (k, there, among) =
 
 -- what the group tree refuses
 pub groups_refused : (text : List ℕ) (e : GroupFault) → Fails (length text) e (words.cells_of text) → Refuses text (of_groups e)
-groups_refused text (group_fault.Syntax place) h = (made_of_none text place h.0, h.0, h.1)
+groups_refused text (group_fault.Syntax place) h = (made_of_none text (group_fault.Syntax place) h.0, h.0, h.1)
 groups_refused text group_fault.Memory h = tt
 
 -- cells have the names of their groups

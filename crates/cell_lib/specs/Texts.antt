@@ -10,6 +10,7 @@ use Rattle.lib_words.specs.declared.kinds.AttributeKind.TheVariants as attribute
 use Rattle.lib_words.specs.declared.groups.Attribute.{Attribute}
 use Rattle.lib_words.specs.declared.groups.Part.{Part}
 use Rattle.lib_words.specs.declared.groups.CellGroup.{CellGroup}
+use Rattle.lib_words.specs.declared.faults.GroupFault.TheVariants as group_fault
 use Rattle.lib_words.specs.Groups as words
 use Rattle.cell_lib.specs.declared.libraries.Cell.{Cell}
 use Rattle.cell_lib.specs.declared.libraries.Library.{Library}
@@ -62,7 +63,7 @@ cells_made groups = if is_none (broken_in groups) && are_distinct (names groups)
 
 -- the library that a text is
 unfoldable pub library_of : List ℕ → Option (List Cell)
-library_of text = elim (words.cells_of text) [ Ok groups ↦ cells_made groups | Err place ↦ None ]
+library_of text = elim (words.cells_of text) [ Ok groups ↦ cells_made groups | Err e ↦ None ]
 
 -- two of these names are this one: at a place, and among those before it
 abbrev pub StandsTwice : List ℕ → List (List ℕ) → Type 0
@@ -70,7 +71,7 @@ StandsTwice n names = (k : ℕ) × (slice_get names k ≡ Some n) × (is_among n
 
 -- why a text is no library
 abbrev pub Refuses : List ℕ → LibFault → Type 0
-Refuses text (fault.Syntax place) = (library_of text ≡ None) × (words.cells_of text ≡ Err place) × (place ≤ length text)
+Refuses text (fault.Syntax place) = (library_of text ≡ None) × (words.cells_of text ≡ Err (group_fault.Syntax place)) × (place ≤ length text)
 Refuses text (fault.Function place) = (library_of text ≡ None) × (groups : List CellGroup) × (words.cells_of text ≡ Ok groups) × (broken_in groups ≡ Some place)
 Refuses text (fault.TwiceCell name) = (library_of text ≡ None) × (groups : List CellGroup) × (words.cells_of text ≡ Ok groups) × StandsTwice name (names groups)
 Refuses text fault.Memory = Unit {0}
