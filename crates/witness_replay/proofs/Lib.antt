@@ -3,3 +3,9 @@ pub mod Kept
 pub mod Running
 pub mod Violations
 pub mod Examples
+mod LineLemmas
+mod DigitLemmas
+mod BlockLemmas
+mod HeadLemmas
+mod WrittenLemmas
+mod StimLemmas

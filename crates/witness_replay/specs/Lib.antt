@@ -1,5 +1,7 @@
 pub mod Replays
 pub mod StimulusTexts
+pub mod Blocks
+pub mod BlockParts
 pub mod Runs
 pub mod Rooms
 pub mod Examples

@@ -16,9 +16,13 @@ digits_of (b ∷ bits) = map digit_of (b ∷ bits)
 abbrev pub line_of : List ℕ → List ℕ
 line_of bytes = bytes ++ 10 ∷ []
 
+-- what the first line of a block of this number begins with
+abbrev pub title_of : ℕ → List ℕ
+title_of number = codes "stimulus " ++ decimal number
+
 -- the first line of a block: its number, and how many cycles it has
 abbrev pub head_of : ℕ → ℕ → List ℕ
-head_of number count = codes "stimulus " ++ decimal number ++ codes " cycles " ++ decimal count
+head_of number count = title_of number ++ codes " cycles " ++ decimal count
 
 -- the line of one cycle's input bits
 abbrev pub input_line : List Bool → List ℕ

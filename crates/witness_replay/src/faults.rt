@@ -1,4 +1,4 @@
-//! Why a stimulus is refused.
+//! Why a stimulus or its text is refused.
 use std::alloc::{AllocError, AllocFailed};
 use thiserror::Error;
 
@@ -34,5 +34,40 @@ impl<T: Drop> From<AllocFailed<T>> for ReplayFault {
 
     fn from(_: AllocFailed<T>) -> ReplayFault {
         ReplayFault::Memory
+    }
+}
+
+/// Why a report has no stimulus of a number.
+#[derive(Clone, Copy, Debug, Drop, Error, PartialEq, Eq)]
+pub enum StimFault {
+    /// No line begins a block of the number.
+    #[error("no stimulus of that number")]
+    NoBlock,
+    /// The first block of the number breaks its form at that line, or the report ends early before it. Lines count from 1.
+    #[error("line {0}: not as a stimulus goes on")]
+    Form(u64),
+    #[error("out of memory")]
+    Memory,
+}
+
+impl From<AllocError> for StimFault {
+    ghost use Rattle.std.specs.Prelude.{◌≡◌};
+    ghost use Rattle.witness_replay.specs.declared.faults.StimFault.TheVariants.{Memory};
+
+    ghost from_gives = { λ _ e. e ≡ Memory };
+
+    fn from(_: AllocError) -> StimFault {
+        StimFault::Memory
+    }
+}
+
+impl<T: Drop> From<AllocFailed<T>> for StimFault {
+    ghost use Rattle.std.specs.Prelude.{◌≡◌};
+    ghost use Rattle.witness_replay.specs.declared.faults.StimFault.TheVariants.{Memory};
+
+    ghost from_gives = { λ _ e. e ≡ Memory };
+
+    fn from(_: AllocFailed<T>) -> StimFault {
+        StimFault::Memory
     }
 }

@@ -7,15 +7,19 @@
 
 mod bads;
 mod faults;
+mod lines;
 mod outcomes;
 mod replays;
+mod rows;
 mod runs;
 mod shapes;
+mod stimulus_reads;
 mod stimulus_texts;
 #[cfg(test)]
 mod tests;
 
-pub use faults::ReplayFault;
+pub use faults::{ReplayFault, StimFault};
 pub use outcomes::Replay;
 pub use replays::replay;
+pub use stimulus_reads::read_stim;
 pub use stimulus_texts::write_stim;

@@ -1,6 +1,6 @@
 //! The text of a stimulus.
 ghost use Rattle.std.specs.Prelude.{◌≡◌, ◌++◌, IfOk, OnOk};
-ghost use Rattle.witness_replay.specs.StimulusTexts.{digits_of, line_of, head_of, block_text};
+ghost use Rattle.witness_replay.specs.StimulusTexts.{digits_of, line_of, title_of, head_of, block_text};
 
 use net_model::Stimulus;
 use sdcv_base::{Seq, push_decimal};
@@ -30,12 +30,19 @@ fn push_row(out: &mut Vec<u8>, word: &[u8], bits: &Seq<bool>) -> Result<(), Allo
     Ok(())
 }
 
+/// Appends what the first line of a block of this number begins with.
+pub fn push_title(alloc: Global, out: &mut Vec<u8>, number: u64) -> Result<(), AllocError>
+    ensures { OnOk result (out.new.items ≡ out.old.items ++ title_of number) }
+{
+    out.extend_from_slice(b"stimulus ")?;
+    push_decimal(alloc, out, number)
+}
+
 /// Appends the first line of a block.
 fn push_head(alloc: Global, out: &mut Vec<u8>, number: u64, count: u64) -> Result<(), AllocError>
     ensures { OnOk result (out.new.items ≡ out.old.items ++ line_of (head_of number count)) }
 {
-    out.extend_from_slice(b"stimulus ")?;
-    push_decimal(alloc, out, number)?;
+    push_title(alloc, out, number)?;
     out.extend_from_slice(b" cycles ")?;
     push_decimal(alloc, out, count)?;
     out.push(b'\n')?;

@@ -3,7 +3,7 @@ ghost use Rattle.net_model.specs.Form.{PinForm, NotForm, OrForm};
 ghost use Rattle.net_model.specs.Netlist.{IsSound};
 ghost use Rattle.witness_replay.specs.Examples.{IsFour, four_regs, reg_of, out_of};
 
-use crate::{Replay, ReplayFault, replay, write_stim};
+use crate::{Replay, ReplayFault, StimFault, read_stim, replay, write_stim};
 use net_model::{Claim, Design, End, Fixed, Func, Kind, Node, Reg, RegOut, Start, Stimulus};
 use sdcv_base::Seq;
 use std::alloc::{AllocError, Global};
@@ -202,5 +202,108 @@ fn the_block_of_a_stimulus(rt: HostRuntime) -> Result<(), test::Fail> {
         text.as_slice(),
         b"stimulus 0 cycles 0\nstate -\nend\n".as_slice()
     );
+    Ok(())
+}
+
+const REPORT: &str =
+    "sdcv 1 mode plain reset 1 depth 4 budget 9 inv 0\nstimulus 12 cycles 0\nstate -\nend\nstimulus 1 cycles 3\nstate 00\ninput 10\ninput 01\ninput 00\nend\nstimulus 1 cycles 0\nstate 1\nend";
+
+// A report with other lines round its blocks, and two blocks of one number.
+#[test]
+fn the_first_block_of_a_number_is_read(rt: HostRuntime) -> Result<(), test::Fail> {
+    let alloc = rt.alloc();
+    let stimulus = read_stim(alloc, REPORT.as_bytes(), 1)?;
+    assert_eq!(rt; stimulus.state.as_slice(), [false, false].as_slice());
+    assert_eq!(rt; stimulus.inputs.len(), 3);
+    assert_eq!(rt;
+        stimulus.inputs.item(0).as_slice(),
+        [true, false].as_slice()
+    );
+    assert_eq!(rt;
+        stimulus.inputs.item(1).as_slice(),
+        [false, true].as_slice()
+    );
+    assert_eq!(rt;
+        stimulus.inputs.item(2).as_slice(),
+        [false, false].as_slice()
+    );
+    let empty = read_stim(alloc, REPORT.as_bytes(), 12)?;
+    assert!(rt; empty.state.is_empty() && empty.inputs.is_empty());
+    Ok(())
+}
+
+// No bits are written `-`, and the last newline may be missing.
+#[test]
+fn a_stimulus_may_have_no_bits(rt: HostRuntime) -> Result<(), test::Fail> {
+    let text = b"stimulus 7 cycles 2\nstate -\ninput -\ninput 1\nend";
+    let stimulus = read_stim(rt.alloc(), text, 7)?;
+    assert!(rt; stimulus.state.is_empty());
+    assert_eq!(rt; stimulus.inputs.len(), 2);
+    assert!(rt; stimulus.inputs.item(0).is_empty());
+    assert_eq!(rt; stimulus.inputs.item(1).as_slice(), [true].as_slice());
+    Ok(())
+}
+
+fn refused(alloc: Global, report: &str) -> Option<StimFault> {
+    read_stim(alloc, report.as_bytes(), 1).err()
+}
+
+// Reports of which no line is `stimulus 1` or begins with `stimulus 1 `.
+#[test]
+fn a_report_without_the_block(rt: HostRuntime) -> Result<(), test::Fail> {
+    for report in [
+        "",
+        "\n\n",
+        "stimulus 12 cycles 0\nstate -\nend\n",
+        " stimulus 1 cycles 0\nstate -\nend\n",
+        "stimulus 01 cycles 0\nstate -\nend\n",
+        "stimulus  1 cycles 0\nstate -\nend\n",
+        "stimulus 1\t\nstimulus",
+    ] {
+        assert_eq!(rt;
+            refused(rt.alloc(), report),
+            Some(StimFault::NoBlock),
+            "{report}"
+        );
+    }
+    Ok(())
+}
+
+// Each report with the line, from 1, that breaks the block of number 1, or that is missing.
+#[test]
+fn a_block_that_breaks_its_form(rt: HostRuntime) -> Result<(), test::Fail> {
+    for (report, line) in [
+        ("stimulus 1", 1),
+        ("\nstimulus 1 cycles 01\nstate -\ninput -\nend\n", 2),
+        ("stimulus 1 cycles 18446744073709551616\nstate -\nend\n", 1),
+        ("stimulus 1 cycles  0\nstate -\nend\n", 1),
+        ("stimulus 1 cycles 0 \nstate -\nend\n", 1),
+        ("stimulus 1 cycles 0\r\nstate -\nend\n", 1),
+        (
+            "stimulus 1 cycles 18446744073709551615\nstate -\ninput 0\n",
+            4,
+        ),
+        ("stimulus 12\nstimulus 1 cycles 0", 3),
+        (
+            "stimulus 1 cycles 0\nend\nstimulus 1 cycles 0\nstate -\nend\n",
+            2,
+        ),
+        ("stimulus 1 cycles 0\nstate \nend\n", 2),
+        ("stimulus 1 cycles 0\nstate 0-\nend\n", 2),
+        ("stimulus 1 cycles 0\nstate 02\nend\n", 2),
+        ("stimulus 1 cycles 0\nstate 0 1\nend\n", 2),
+        ("stimulus 1 cycles 0\nstate  0\nend\n", 2),
+        ("stimulus 1 cycles 1\nstate 0\nend\n", 3),
+        ("stimulus 1 cycles 1\nstate 0\n\ninput 0\nend\n", 3),
+        ("stimulus 1 cycles 1\nstate 0\ninput 1\n", 4),
+        ("stimulus 1 cycles 1\nstate 0\ninput 1\ninput 1\nend\n", 4),
+        ("stimulus 1 cycles 1\nstate 0\ninput 1\nend \n", 4),
+    ] {
+        assert_eq!(rt;
+            refused(rt.alloc(), report),
+            Some(StimFault::Form(line)),
+            "{report}"
+        );
+    }
     Ok(())
 }
