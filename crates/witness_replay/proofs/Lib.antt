@@ -2,7 +2,6 @@ pub mod Deciding
 pub mod Kept
 pub mod Running
 pub mod Violations
-pub mod Examples
 mod LineLemmas
 mod DigitLemmas
 mod BlockLemmas

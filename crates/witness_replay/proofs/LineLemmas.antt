@@ -1,5 +1,5 @@
 -- The lines of a text.
-use Rattle.std.proofs.Common.{◌≡◌, ℕ, suc, ◌+◌, ◌<◌, ◌≤◌, ◌==◌, Bool, true, false, not, ◌&&◌, cond, List, [], ◌∷◌, ◌++◌, length, take, drop, refl, sym, ap, ◌∙◌, add_comm, add-one, append_assoc, arith}
+use Rattle.std.proofs.Common.{◌≡◌, ℕ, suc, ◌+◌, ◌<◌, ◌≤◌, ◌==◌, Bool, true, false, not, cond, List, [], ◌∷◌, ◌++◌, length, take, drop, refl, sym, ap, ◌∙◌, append_assoc, arith}
 use Rattle.std.specs.Prelude.{flat_map}
 use Rattle.std.specs.List.{onto_first, prefix_len, list_all}
 use Rattle.std.proofs.lemmas.Bool.{and_parts, not-true}
@@ -78,7 +78,7 @@ pub lines-text : (ls : List (List ℕ)) (t : List ℕ) → list_all is_inline ls
 lines-text [] t plain = refl
 lines-text (l ∷ ls) t plain =
     let (here, more) = and_parts _ _ plain in
-    rw append_assoc (lines-line l (flat_map line_of ls ++ t) here ∙ ap (λ (x : List (List ℕ)). l ∷ x) (lines-text ls t more))
+    rw (append_assoc (line_of l) (flat_map line_of ls) t) (lines-line l (flat_map line_of ls ++ t) here ∙ ap (λ (x : List (List ℕ)). l ∷ x) (lines-text ls t more))
 
 lines-none : lines [] ≡ []
 unfolding lines
@@ -87,4 +87,4 @@ lines-none = refl
 -- the lines of whole lines and of a text after them
 pub lines-before : (ls : List (List ℕ)) (t : List ℕ) → lines (flat_map line_of ls ++ t) ≡ lines (flat_map line_of ls) ++ lines t
 lines-before [] t = rw lines-none refl
-lines-before (l ∷ ls) t = rw (append_assoc, lines-newline l (flat_map line_of ls ++ t), lines-before ls t, lines-newline l (flat_map line_of ls)) (sym (append_assoc (lines (line_of l)) (lines (flat_map line_of ls)) (lines t)))
+lines-before (l ∷ ls) t = rw (append_assoc (line_of l) (flat_map line_of ls) t, lines-newline l (flat_map line_of ls ++ t), lines-before ls t, lines-newline l (flat_map line_of ls)) (sym (append_assoc (lines (line_of l)) (lines (flat_map line_of ls)) (lines t)))

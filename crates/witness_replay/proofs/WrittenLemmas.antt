@@ -1,5 +1,5 @@
 -- A block that was written is the first of its report.
-use Rattle.std.proofs.Common.{◌≡◌, ◌≢◌, ℕ, suc, ◌+◌, ◌<◌, ◌≤◌, ◌^◌, ◌==◌, Bool, true, false, not, ◌&&◌, ◌||◌, cond, List, [], ◌∷◌, ◌++◌, length, map, refl, sym, ap, ◌∙◌, append_assoc, arith, length-append, get_or}
+use Rattle.std.proofs.Common.{◌≡◌, ℕ, suc, ◌<◌, ◌≤◌, ◌^◌, ◌==◌, Bool, true, false, not, ◌||◌, cond, List, [], ◌∷◌, ◌++◌, length, map, refl, ap, ◌∙◌, append_assoc, arith, length-append}
 use Rattle.std.specs.Prelude.{codes, flat_map, All, nat_eq}
 use Rattle.std.specs.List.{list_all, starts_with}
 use Rattle.std.specs.Str.{bytes_eq}
@@ -9,11 +9,10 @@ use Rattle.std.proofs.lemmas.Fmt.{decimal_is_IsNumeral}
 use Rattle.std.proofs.lemmas.Str.Parse.{digit_from_value}
 use Rattle.std.proofs.lemmas.Bool.Decides.{nat_tests, Decides-eqb}
 use Rattle.std.proofs.lemmas.Slice.Eq.{starts_is}
-use Rattle.std.proofs.lemmas.List.{length-map}
 use Rattle.std.proofs.lemmas.List.Folds.{list_all-append}
 use Rattle.net_model.specs.declared.cycles.Stimulus.{Stimulus}
 use Rattle.witness_replay.specs.StimulusTexts.{digit_of, digits_of, line_of, title_of, head_of, input_line, block_lines, block_text}
-use Rattle.witness_replay.specs.Blocks.{lines, begins, from_block, block_in, HasFirstBlock, IsWritten}
+use Rattle.witness_replay.specs.Blocks.{lines, begins, from_block, HasFirstBlock, IsWritten}
 use Rattle.witness_replay.proofs.LineLemmas.{is_inline, lines-text, lines-before}
 
 digit_inline : (c : ℕ) → 48 ≤ c → not (c == 10) ≡ true

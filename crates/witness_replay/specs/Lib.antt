@@ -4,4 +4,3 @@ pub mod Blocks
 pub mod BlockParts
 pub mod Runs
 pub mod Rooms
-pub mod Examples

@@ -1,5 +1,5 @@
 -- What a replay answers.
-use Rattle.std.specs.Prelude.{◌≡◌, ◌≢◌, ℕ, ◌<◌, Bool, true, false, List, length, All, Some, slice_get, nat_lt}
+use Rattle.std.specs.Prelude.{◌≡◌, ℕ, ◌<◌, Bool, List, length, All, Some, slice_get, nat_lt}
 use Rattle.net_model.specs.Cycles.{AreFixedKept, AreResets}
 use Rattle.net_model.specs.Judge.{IsViolatedAt}
 use Rattle.net_model.specs.Stimuli.{IsLawful, HasOneRun}

@@ -1,4 +1,4 @@
-use Rattle.std.proofs.Common.{◌≡◌, ◌-◌, ◌∙◌, ℕ, sym, true, false, min, length, arith, below_more}
+use Rattle.std.proofs.Common.{◌≡◌, ◌-◌, ◌∙◌, sym, min, length, arith, below_more}
 use Rattle.net_model.specs.Judge.{judged_count}
 use Rattle.witness_replay.proofs.Deciding.{none_found, true_false}
 use Rattle.witness_replay.proofs.Violations.{IsBadAt, bad_gives, none_bad}

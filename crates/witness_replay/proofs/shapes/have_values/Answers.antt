@@ -1,4 +1,4 @@
-use Rattle.std.proofs.Common.{arith, length}
+use Rattle.std.proofs.Common.{length}
 use Rattle.witness_replay.proofs.Kept.{input_below}
 use Rattle.witness_replay.proofs.shapes.have_values.Goals as goal
 

@@ -1,4 +1,4 @@
-use Rattle.std.proofs.Common.{◌≡◌, ◌+◌, length, refl, sym, ap, ◌∙◌, arith}
+use Rattle.std.proofs.Common.{length, refl, sym, ap, ◌∙◌, arith}
 use Rattle.witness_replay.specs.BlockParts.{left}
 use Rattle.witness_replay.proofs.WrittenLemmas.{block_here, block_later, no_block}
 use Rattle.witness_replay.proofs.stimulus_reads.first_block.Goals as goal

@@ -1,6 +1,6 @@
-use Rattle.std.proofs.Common.{◌≡◌, ◌+◌, ◌<◌, ◌^◌, List, [], length, Some, arith}
+use Rattle.std.proofs.Common.{◌<◌, ◌^◌, length, arith}
 use Rattle.std.proofs.lemmas.Result.{IfErr-weaker}
-use Rattle.witness_replay.specs.Blocks.{block_in, lines, IsStimCause}
+use Rattle.witness_replay.specs.Blocks.{IsStimCause}
 use Rattle.witness_replay.specs.BlockParts.{left, next_number, IsBlockFault}
 use Rattle.witness_replay.proofs.StimLemmas.{at_fault, recalls, none_written}
 use Rattle.witness_replay.proofs.WrittenLemmas.{written_first}
