@@ -1,25 +1,39 @@
+ghost use Rattle.std.specs.Prelude.{◌≡◌, IfOk};
+ghost use Rattle.net_model.specs.Form.{PinForm, AndForm, IsOver};
+
 use crate::{cubes, rows};
 use net_model::{Func, Node, Tern};
 use std::alloc::{AllocError, Global};
 use std::test;
 
-fn pin(place: usize) -> Func {
+fn pin(place: usize) -> Func
+    ensures { result ≡ PinForm place }
+{
     Func {
         node: Node::Pin(place),
     }
 }
 
-fn and(alloc: Global, f: Func, g: Func) -> Result<Func, AllocError> {
+fn and(alloc: Global, f: Func, g: Func) -> Result<Func, AllocError>
+    ensures { IfOk result (λ h. h ≡ AndForm f g) }
+{
     Ok(Func {
         node: Node::And(Box::new(alloc, f)?, Box::new(alloc, g)?),
     })
 }
 
-// Row 0 is all zeros; row 2 has place 1 alone.
+// The conjunction of the places 0 and 1.
+fn conjunction(alloc: Global) -> Result<Func, AllocError>
+    ensures { IfOk result (λ f. IsOver 2 f) }
+{
+    and(alloc, pin(0), pin(1))
+}
+
+// The first row is all zeros; the third has place 1 alone.
 #[test]
 fn rows_of_a_conjunction_ascend_by_bits(rt: HostRuntime) -> Result<(), test::Fail> {
     let alloc = rt.alloc();
-    let func = and(alloc, pin(0), pin(1))?;
+    let func = conjunction(alloc)?;
     let values = rows(alloc, &func, 2)?;
     assert!(rt; values.as_slice() == [false, false, false, true].as_slice());
     Ok(())
@@ -30,7 +44,7 @@ fn rows_of_a_conjunction_ascend_by_bits(rt: HostRuntime) -> Result<(), test::Fai
 #[test]
 fn cubes_of_a_conjunction_ascend_by_number(rt: HostRuntime) -> Result<(), test::Fail> {
     let alloc = rt.alloc();
-    let func = and(alloc, pin(0), pin(1))?;
+    let func = conjunction(alloc)?;
     let want = [
         (Tern::Zero, Tern::Zero, false),
         (Tern::One, Tern::Zero, false),
