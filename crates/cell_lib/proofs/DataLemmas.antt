@@ -1,10 +1,10 @@
 -- Names that differ, and one more pin among the input pins other than the clock.
-use Rattle.std.proofs.Common.{◌≡◌, ℕ, ◌+◌, ◌<◌, Bool, true, false, not, if◌then◌else◌, List, [], ◌∷◌, ◌++◌, length, map, take, get_or, append-nil, refl, sym, ap, ◌∙◌}
+use Rattle.std.proofs.Common.{◌≡◌, ℕ, ◌+◌, ◌<◌, Bool, true, false, not, List, [], ◌∷◌, ◌++◌, length, map, take, get_or, append-nil, refl, sym, ap, ◌∙◌}
 use Rattle.std.specs.List.{filter}
 use Rattle.std.specs.Str.{bytes_eq}
 use Rattle.std.proofs.lemmas.List.{take_more, map-id}
 use Rattle.std.proofs.lemmas.List.Elements.{filter-append}
-use Rattle.texts.specs.Names.{are_new, are_distinct, with_name}
+use Rattle.texts.specs.Names.{are_new, are_distinct}
 use Rattle.texts.proofs.NameLemmas.{are_new_none, with_names-push}
 use Rattle.cell_lib.specs.Flops.{data_inputs, with_data}
 

@@ -1,5 +1,5 @@
 -- One turn of a loop that makes something of each.
-use Rattle.std.proofs.Common.{◌≡◌, ℕ, ◌+◌, ◌<◌, ◌≤◌, List, [], ◌∷◌, ◌++◌, length, get_or, drop, Option, Some, None, refl, ◌∙◌, ap, arith}
+use Rattle.std.proofs.Common.{◌≡◌, ℕ, ◌+◌, ◌<◌, ◌≤◌, List, [], ◌∷◌, ◌++◌, length, get_or, drop, Option, Some, None, refl}
 use Rattle.std.proofs.Math.ListN.{drop_of_length-le}
 use Rattle.texts.proofs.ReadLemmas.{bind_is, split_at}
 use Rattle.cell_lib.specs.declared.misfits.Misfit.{Misfit}

@@ -1,20 +1,16 @@
 -- The functions of a cell that was read are over its inputs.
 use Rattle.std.proofs.Common.{◌≡◌, ℕ, ◌+◌, Bool, true, false, List, [], ◌∷◌, ◌++◌, length, map, All, Option, Some, None, is_some, ◌&&◌, IfSome, refl, subst}
 use Rattle.std.proofs.lemmas.List.Elements.{All-cons, All-nil, All-append}
-use Rattle.std.specs.Option.{option_map}
 use Rattle.texts.specs.Names.{is_among, each_once}
-use Rattle.texts.specs.Reads.{◌>>=◌}
-use Rattle.net_model.specs.Form.{Form, ZeroForm, OneForm, PinForm, NotForm, AndForm, OrForm, XorForm, IsOver}
+use Rattle.net_model.specs.Form.{Form, ZeroForm, OneForm, NotForm, AndForm, OrForm, XorForm, IsOver}
 use Rattle.net_model.specs.Netlist.{IsOptionOver}
 use Rattle.lib_func.specs.declared.scopes.States.{States}
 use Rattle.lib_func.specs.Trees.{Tree, ZeroTree, OneTree, NameTree, NotTree, AndTree, OrTree, XorTree}
-use Rattle.lib_func.specs.Scopes.{meaning, state_meaning, resolved, reach}
+use Rattle.lib_func.specs.Scopes.{meaning, resolved, reach}
 use Rattle.lib_func.proofs.ScopeLemmas.{place_in_reach, state_in_reach}
 use Rattle.lib_words.specs.declared.groups.Attribute.{Attribute}
 use Rattle.lib_words.specs.declared.groups.Part.{Part}
 use Rattle.lib_words.specs.declared.groups.CellGroup.{CellGroup}
-use Rattle.cell_lib.specs.declared.libraries.Cell.{Cell}
-use Rattle.cell_lib.specs.declared.libraries.CellKind.{CellKind}
 use Rattle.cell_lib.specs.declared.libraries.CombOut.{CombOut}
 use Rattle.cell_lib.specs.declared.libraries.Flop.{Flop}
 use Rattle.cell_lib.specs.declared.flops.Resets.{Resets}
@@ -28,7 +24,7 @@ use Rattle.cell_lib.specs.Fits.{each_from}
 use Rattle.cell_lib.specs.Combs.{comb_out, comb_outs}
 use Rattle.cell_lib.specs.Flops.{data_inputs, states_of, clock_of, next_of, reset_of, resets_of, both_of, flop_outs, flop_of}
 use Rattle.cell_lib.specs.Pins.{names_of, outs_of}
-use Rattle.cell_lib.specs.Cells.{other_shape, comb_kind, comb_shape, flop_shape, shape_by, shape_of, is_plain, first_ff, cell_of}
+use Rattle.cell_lib.specs.Cells.{comb_kind, flop_shape, shape_by, shape_of, is_plain, first_ff, cell_of}
 use Rattle.cell_lib.proofs.Inversions.{bind_gave, map_gave, some_holds}
 
 -- a name's meaning is in reach

@@ -1,5 +1,5 @@
 -- Combinational cells.
-use Rattle.std.specs.Prelude.{ℕ, List, Option, Some, None}
+use Rattle.std.specs.Prelude.{ℕ, List, Option, None}
 use Rattle.std.specs.Option.{option_map}
 use Rattle.texts.specs.Reads.{◌>>=◌}
 use Rattle.net_model.specs.Form.{Form}

@@ -1,7 +1,7 @@
 -- The pins of a cell, in the order of the text.
 use Rattle.std.specs.Prelude.{ℕ, Bool, true, false, not, ◌&&◌, ◌||◌, if◌then◌else◌, List, [], map, codes}
-use Rattle.std.specs.List.{flat_map, list_any, list_all}
-use Rattle.texts.specs.Names.{are_distinct, each_once}
+use Rattle.std.specs.List.{flat_map, list_any}
+use Rattle.texts.specs.Names.{are_distinct}
 use Rattle.lib_words.specs.declared.kinds.PartKind.{PartKind}
 use Rattle.lib_words.specs.declared.kinds.PartKind.TheVariants as part
 use Rattle.lib_words.specs.declared.kinds.AttributeKind.{AttributeKind}

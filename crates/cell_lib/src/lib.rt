@@ -1,7 +1,9 @@
 //! Cells of a library: what each computes from its input pins, as a Liberty file says it.
 //!
-//! Read `libraries.rt` first: the values that the crates above see. `builtin` gives the cells that the
-//! program knows without a file, and `Library::find` looks one up by its name.
+//! A cell is combinational, a rising-edge flop, or not modelled (`Other`), by rules that are total: a cell that can't be
+//! modelled never refuses its text, and is refused only where a design uses it. Read `libraries.rt` first, the values
+//! that the crates above see, and then `read_lib`, which reads a text. `builtin` gives the cells that the program knows
+//! without a file, and `Library::find` looks one up by its name.
 #![tactic(auto)]
 
 mod broken;

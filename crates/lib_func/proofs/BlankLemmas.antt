@@ -1,5 +1,5 @@
 -- One turn of the loops over white space and over marks.
-use Rattle.std.proofs.Common.{◌≡◌, ◌==◌, ℕ, zero, suc, ◌+◌, ◌-◌, ◌<◌, ◌≤◌, true, false, List, [], ◌∷◌, drop, length, refl, arith}
+use Rattle.std.proofs.Common.{◌≡◌, ◌==◌, ℕ, zero, suc, ◌+◌, ◌-◌, ◌<◌, ◌≤◌, true, false, List, [], ◌∷◌, drop, refl, arith}
 use Rattle.lib_func.specs.Blanks.{first, begins_blank, after_blanks, marks}
 
 -- no white space comes

@@ -1,5 +1,5 @@
 -- White space, and marks with white space before them.
-use Rattle.std.specs.Prelude.{ℕ, zero, suc, Bool, ◌==◌, ◌||◌, ◌&&◌, ◌+◌, if◌then◌else◌, List, [], ◌∷◌, length, drop, slice_index}
+use Rattle.std.specs.Prelude.{ℕ, zero, suc, Bool, ◌==◌, ◌||◌, ◌&&◌, ◌+◌, if◌then◌else◌, List, [], ◌∷◌, drop, slice_index}
 
 -- the first byte of a text, and 0 at its end
 abbrev pub first : List ℕ → ℕ

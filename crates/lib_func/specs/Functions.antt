@@ -1,5 +1,5 @@
 -- The grammar of a function (Liberty, `function`): or, and, exclusive or, inversion, atom.
-use Rattle.std.specs.Prelude.{ℕ, zero, suc, Bool, ◌==◌, if◌then◌else◌, List, length, take, drop, Option, Some, None}
+use Rattle.std.specs.Prelude.{ℕ, zero, suc, ◌==◌, if◌then◌else◌, List, length, take, drop, Option, Some, None}
 use Rattle.std.specs.List.{prefix_len}
 use Rattle.texts.specs.Bytes.{is_letter, is_word}
 use Rattle.texts.specs.Reads.{Read, ◌>>=◌}

@@ -1,6 +1,5 @@
 -- What names stand for in a cell, and an expression with that in their places.
 use Rattle.std.specs.Prelude.{ℕ, ◌+◌, if◌then◌else◌, List, length, Option, Some, None}
-use Rattle.std.specs.Option.{option_map}
 use Rattle.std.specs.Str.{bytes_eq}
 use Rattle.texts.specs.Names.{is_among, place_of}
 use Rattle.texts.specs.Reads.{◌>>=◌}

@@ -1,7 +1,7 @@
-use Rattle.std.proofs.Common.{◌≡◌, ◌==◌, ◌<◌, ◌+◌, ◌-◌, true, false, ℕ, List, length, drop, sym, ap, ◌∙◌, arith, length-drop}
+use Rattle.std.proofs.Common.{◌≡◌, ◌==◌, true, false, length, drop, sym, ap, ◌∙◌, arith, length-drop}
 use Rattle.std.proofs.lemmas.Bool.Decides.{nat_tests}
 use Rattle.sdcv_base.specs.Cursors.{rest}
-use Rattle.lib_func.specs.Blanks.{first, after_blanks, marks}
+use Rattle.lib_func.specs.Blanks.{first, after_blanks}
 use Rattle.lib_func.proofs.BlankLemmas.{marks_stop, marks_more, marks_all}
 use Rattle.lib_func.proofs.blanks.count_marks.Goals as goal
 

@@ -1,4 +1,4 @@
-use Rattle.std.proofs.Common.{◌≡◌, ◌<◌, ◌+◌, length, ◌∙◌, refl, arith}
+use Rattle.std.proofs.Common.{length, ◌∙◌, refl, arith}
 use Rattle.std.proofs.lemmas.Result.{err_from_is_err_and}
 use Rattle.sdcv_base.specs.Cursors.{rest}
 use Rattle.lib_func.specs.Functions.{operand_at}

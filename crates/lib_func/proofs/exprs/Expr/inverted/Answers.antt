@@ -1,4 +1,4 @@
-use Rattle.std.proofs.Common.{◌∙◌, ap}
+use Rattle.std.proofs.Common.{◌∙◌}
 use Rattle.lib_func.proofs.ChainLemmas.{negated_step}
 use Rattle.lib_func.proofs.exprs.Expr.inverted.Goals as goal
 
