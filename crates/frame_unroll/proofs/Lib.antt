@@ -1,2 +1,4 @@
 pub mod Marked
 pub mod Moving
+pub mod Driving
+pub mod Reading

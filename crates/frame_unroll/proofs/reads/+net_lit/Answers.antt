@@ -1,0 +1,29 @@
+use Rattle.std.proofs.Common.{◌≡◌, ◌-◌, suc, ◌∙◌, ap, sym, arith}
+use Rattle.std.specs.Prelude.{◌==◌}
+use Rattle.query_model.specs.Keys.{flipped}
+use Rattle.frame_unroll.proofs.Reading.{read_first, read_unmoved, read_held, read_free}
+use Rattle.frame_unroll.proofs.reads.+net_lit.Goals as goal
+use Rattle.frame_unroll.proofs.reads.+net_lit.Goals.{then-key-eq0-via-then-key-eq0, then-key-eq0-via-else-key-eq0+then-not-at}
+
+pub returns-then-key-eq0 : goal.returns-then-key-eq0
+returns-then-key-eq0 t c =
+    let key = c.args.key in
+    c.flip_if.ensures ∙ (ap (flipped (key.rail == 1)) c.base_lit-base.ensures
+    ∙ sym (elim c.then-key-eq0.branch [
+      | then-key-eq0-via-then-key-eq0 w ↦ read_first c.args.design.now c.args.claim.now c.args.tables.now.moved key.cycle key.layer key.rail key.point (omega (arith, w.if-key-eq0.true))
+      | then-key-eq0-via-else-key-eq0+then-not-at w ↦ read_unmoved c.args.design.now c.args.claim.now c.args.tables.now.moved key.cycle (key.layer - 1) key.layer key.rail key.point w.item.result.now (omega (arith, w.if-key-eq0.false)) w.item.ensures w.if-not-at.ensures
+    ]))
+
+pub returns-then-is_held : goal.returns-then-is_held
+returns-then-is_held t c =
+    let key = c.args.key in
+    let next : key.layer ≡ suc (key.layer - 1) = omega arith in
+    c.net_lit.ensures
+    ∙ sym (read_held c.args.design.now c.args.claim.now c.args.tables.now.moved key.cycle (key.layer - 1) key.layer key.rail key.point c.item.result.now next c.item.ensures c.if-not-at.ensures (sym c.if-is_held.ensures))
+
+pub returns : goal.returns
+returns t c =
+    let key = c.args.key in
+    let next : key.layer ≡ suc (key.layer - 1) = omega arith in
+    c.late_lit.ensures
+    ∙ sym (read_free c.args.design.now c.args.claim.now c.args.tables.now.moved key.cycle (key.layer - 1) key.layer key.rail key.point c.item.result.now next c.item.ensures c.if-not-at.ensures (sym c.if-is_held.ensures))
