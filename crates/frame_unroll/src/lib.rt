@@ -9,6 +9,8 @@ mod pins;
 mod read_tables;
 mod reads;
 mod start_marks;
+#[cfg(test)]
+mod tests;
 
 pub use drivers::{Driver, base_lit, net_drivers};
 pub use moved_rows::moved_nets;
