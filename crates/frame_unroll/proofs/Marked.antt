@@ -1,7 +1,7 @@
 -- The nets that are marked so far, and one more.
-use Rattle.std.proofs.Common.{◌≡◌, ◌≢◌, ℕ, zero, suc, ◌+◌, ◌<◌, Bool, true, false, List, [], ◌∷◌, map, length, take, set, get_or, Option, Some, None, refl, ap, sym, ◌∙◌, subst, arith, inl, inr, below_more, get_or-set_other, get_or-set_same, length-set}
+use Rattle.std.proofs.Common.{◌≡◌, ℕ, zero, suc, ◌+◌, ◌<◌, Bool, true, false, List, [], ◌∷◌, map, length, take, set, Option, Some, None, refl, ap, sym, ◌∙◌, subst, arith, inl, inr, below_more, get_or-set_other, get_or-set_same, length-set}
 use Rattle.std.specs.Prelude.{All, Contains, slice_get, slice_index, flat_map, ◌||◌, ◌&&◌, ◌==◌}
-use Rattle.std.proofs.lemmas.Bool.{cases_eq, cases_Bool, both_ways, or_left, or_right, and_left, and_from, eq-eqb, eqb-true, ne_eqb}
+use Rattle.std.proofs.lemmas.Bool.{cases_eq, cases_Bool, both_ways, or_right, and_left, eq-eqb, eqb-true, ne_eqb}
 use Rattle.std.proofs.lemmas.Option.{slice_get_within, get_or_from_slice_get, slice_get-get_or}
 use Rattle.std.proofs.lemmas.List.Folds.{list_any_more, list_any_at}
 use Rattle.std.proofs.lemmas.List.Elements.{Contains-append_left, Contains-append_right, Contains-get_or, All-contains}
@@ -21,7 +21,7 @@ use Rattle.net_model.specs.declared.claims.Start.TheVariants.{Reg as RegStart, I
 use Rattle.net_model.specs.declared.claims.PinRef.{PinRef}
 use Rattle.net_model.specs.declared.claims.PinRef.TheVariants.{Net}
 use Rattle.query_model.specs.Reads.{is_start_net}
-use Rattle.frame_unroll.specs.Marked.{out_nets, is_out, HasNetsBelow}
+use Rattle.frame_unroll.specs.Marked.{is_out, HasNetsBelow}
 
 pub or_false : (b : Bool) → (b || false) ≡ b
 or_false true = refl

@@ -1,6 +1,6 @@
 -- The gates of a layer whose outputs are marked so far, and one more; then the layers so far, and one more.
-use Rattle.std.proofs.Common.{◌≡◌, ◌≢◌, ℕ, zero, suc, ◌+◌, ◌-◌, ◌<◌, ◌≤◌, Bool, true, false, List, [], ◌∷◌, ◌++◌, length, take, set, get_or, Some, refl, ap, sym, ◌∙◌, subst, arith, below_more, add-one, get_or-set_same, length-set, inl, inr}
-use Rattle.std.specs.Prelude.{All, Contains, slice_get, slice_index, ◌||◌, ◌&&◌}
+use Rattle.std.proofs.Common.{◌≡◌, ◌≢◌, ℕ, zero, suc, ◌+◌, ◌<◌, ◌≤◌, Bool, true, false, List, [], ◌∷◌, ◌++◌, length, take, set, get_or, Some, refl, ap, sym, ◌∙◌, subst, arith, below_more, add-one, get_or-set_same, length-set, inl, inr}
+use Rattle.std.specs.Prelude.{Contains, slice_get, slice_index, ◌||◌, ◌&&◌}
 use Rattle.std.proofs.lemmas.Bool.{cases_lt, or_from, or_left, or_right, and_left}
 use Rattle.std.proofs.lemmas.List.{get_or_append_left, get_or_push, length-append}
 use Rattle.std.proofs.lemmas.List.Elements.{Contains-append_left, All-from_get_or}
@@ -13,7 +13,7 @@ use Rattle.net_model.specs.Layers.{row_at, net_at, held_set, pin_reads, layer_pi
 use Rattle.net_model.proofs.Order.{before, before_grows, out_before, not_yet}
 use Rattle.net_model.proofs.Settling.{All-at}
 use Rattle.net_model.proofs.Layered.{written, pin_kept, row_other, row_same, net_other}
-use Rattle.net_model.proofs.LayerRows.{net_kept, source_low}
+use Rattle.net_model.proofs.LayerRows.{net_kept}
 use Rattle.net_model.specs.declared.netlist.Design.{Design}
 use Rattle.net_model.specs.declared.netlist.Gate.{Gate}
 use Rattle.net_model.specs.declared.claims.Claim.{Claim}

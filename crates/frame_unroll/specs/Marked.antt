@@ -1,5 +1,5 @@
 -- Marks of nets, and the nets that are moved in one layer.
-use Rattle.std.specs.Prelude.{◌≡◌, ◌<◌, ◌==◌, ℕ, Bool, true, false, List, length, map, Contains, Some, slice_get}
+use Rattle.std.specs.Prelude.{◌≡◌, ◌<◌, ◌==◌, ℕ, Bool, false, List, length, map, Contains, Some, slice_get}
 use Rattle.std.specs.List.{list_any}
 use Rattle.net_model.specs.Pins.{is_in}
 use Rattle.net_model.specs.Layers.{net_at, held_set, layer_pins}

@@ -1,5 +1,5 @@
 use Rattle.std.proofs.Common.{◌∙◌, arith}
-use Rattle.frame_unroll.proofs.Driving.{regs_none, regs_back, drivers_all}
+use Rattle.frame_unroll.proofs.Driving.{regs_back, drivers_all}
 use Rattle.frame_unroll.proofs.drivers.net_drivers.Goals as goal
 
 pub loop-i-preserved : goal.loop-i-preserved

@@ -1,6 +1,7 @@
 use Rattle.std.proofs.Common.{◌≡◌, ◌-◌, suc, ◌∙◌, ap, sym, arith}
 use Rattle.std.specs.Prelude.{◌==◌}
 use Rattle.query_model.specs.Keys.{flipped}
+use Rattle.query_model.specs.Reads.{read}
 use Rattle.frame_unroll.proofs.Reading.{read_first, read_unmoved, read_held, read_free}
 use Rattle.frame_unroll.proofs.reads.+net_lit.Goals as goal
 use Rattle.frame_unroll.proofs.reads.+net_lit.Goals.{then-key-eq0-via-then-key-eq0, then-key-eq0-via-else-key-eq0+then-not-at}
@@ -16,10 +17,13 @@ returns-then-key-eq0 t c =
 
 pub returns-then-is_held : goal.returns-then-is_held
 returns-then-is_held t c =
+    let d = c.args.design.now in
+    let claim = c.args.claim.now in
+    let moved = c.args.tables.now.moved in
     let key = c.args.key in
     let next : key.layer ≡ suc (key.layer - 1) = omega arith in
-    c.net_lit.ensures
-    ∙ sym (read_held c.args.design.now c.args.claim.now c.args.tables.now.moved key.cycle (key.layer - 1) key.layer key.rail key.point c.item.result.now next c.item.ensures c.if-not-at.ensures (sym c.if-is_held.ensures))
+    ◌∙◌ {b = read d claim moved key.cycle (key.layer - 1) key.rail key.point} c.net_lit.ensures
+    (sym (read_held d claim moved key.cycle (key.layer - 1) key.layer key.rail key.point c.item.result.now next c.item.ensures c.if-not-at.ensures (sym c.if-is_held.ensures)))
 
 pub returns : goal.returns
 returns t c =

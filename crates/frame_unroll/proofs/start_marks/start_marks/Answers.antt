@@ -1,4 +1,4 @@
-use Rattle.std.proofs.Common.{◌<◌, ◌∙◌, Bool, ap, sym, arith, length}
+use Rattle.std.proofs.Common.{◌<◌, ◌∙◌, Bool, ap, sym, arith}
 use Rattle.std.specs.Prelude.{◌||◌}
 use Rattle.net_model.proofs.Settling.{All-at}
 use Rattle.frame_unroll.specs.Marked.{is_out}
