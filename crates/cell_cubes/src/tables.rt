@@ -46,7 +46,8 @@ pub fn cubes(alloc: Global, func: &Func, places: usize) -> Result<Vec<Cube>, All
     ensures { IfOk result (λ v. v.items ≡ constant_cubes (value func.now) places) }
 {
     let mut found = Vec::new(alloc);
-    for w in 0..3usize.pow(places as u32) {
+    let count = 3usize.pow(places as u32);
+    for w in 0..count {
         let fixed = terns(alloc, places, w)?;
         let value = Tern::apply(func, &args_of(fixed.as_slice()));
         push_known(&mut found, fixed, value)?;

@@ -27,7 +27,7 @@ clause_in d clause c = map (state_lit d c) clause.lits
 abbrev pub kept_clauses : Query → List (List KeyLit)
 kept_clauses q = flat_map (λ c. map (λ (clause : InvClause). clause_in q.design clause c) q.kept) (below q.kept_below)
 
--- the start's bit in the cycle is the one before the toggle, r cycles ago
+-- r cycles after the toggle the start's bit is another one than before the toggle, so that a late start shows the old one
 abbrev pub stale_if_later : Design → ℕ → ℕ → List KeyLit
 stale_if_later d c zero = []
 stale_if_later d c (suc r) = lit true (stale_key d c (suc r)) ∷ []

@@ -7,7 +7,7 @@ use sdcv_base::Seq;
 /// Layer 0 is the cycle itself, and layer l + 1 the layer of its late start that has come through l through sets. Rail 0
 /// says there that the value may be 1, and rail 1 that it may be 0; where hazards don't count, a layer has rail 0 alone.
 /// The points below the number of nets are the nets; the register bits and the further points of layer 0 come after.
-#[derive(Debug, Clone, Copy, PartialEq, Eq)]
+#[derive(Debug, Clone, Copy, PartialEq, Eq, PartialOrd, Ord, Hash)]
 pub struct Key {
     pub cycle: usize,
     pub layer: usize,

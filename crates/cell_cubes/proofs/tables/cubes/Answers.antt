@@ -6,8 +6,8 @@ use Rattle.net_model.specs.FormLaws.{IsOver-weaker}
 use Rattle.cell_cubes.proofs.Digits.{cubes_more, length-terns}
 use Rattle.cell_cubes.proofs.tables.cubes.Goals as goal
 
-pub pow-w-end-requires : goal.pow-w-end-requires
-pow-w-end-requires c = let most : 3 ^ c.args.places ≤ 3 ^ 7 = pow-le-pow_right {n = 3} (omega arith) c.requires.few in omega arith
+pub pow-count-requires : goal.pow-count-requires
+pow-count-requires c = let most : 3 ^ c.args.places ≤ 3 ^ 7 = pow-le-pow_right {n = 3} (omega arith) c.requires.few in omega arith
 
 pub args_of-requires : goal.args_of-requires
 args_of-requires c =
