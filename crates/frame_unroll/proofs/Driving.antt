@@ -18,7 +18,8 @@ abbrev pub driver_from : List Reg → ℕ → ℕ → Driver
 driver_from [] r n = Own
 driver_from (reg ∷ regs) r n = shown_or (driver_from regs (r + 1) n) r (shown_in reg.outs n)
 
-from_place : {X : Type 0} (xs : List X) (k : ℕ) (x : X) → slice_get xs k ≡ Some x → drop k xs ≡ x ∷ drop (k + 1) xs
+-- the list from a place on
+pub from_place : {X : Type 0} (xs : List X) (k : ℕ) (x : X) → slice_get xs k ≡ Some x → drop k xs ≡ x ∷ drop (k + 1) xs
 from_place {X} xs k x at =
     drop_more xs k x (slice_get_within xs k x at) ∙ ap (λ (y : X). y ∷ drop (k + 1) xs) (get_or_from_slice_get xs k x x at)
 

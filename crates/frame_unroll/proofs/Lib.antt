@@ -2,3 +2,20 @@ pub mod Marked
 pub mod Moving
 pub mod Driving
 pub mod Reading
+mod Framing
+mod Numbering
+mod GateTables
+mod Layering
+pub mod Adding
+mod Rows
+mod OriginRange
+mod Saying
+pub mod Using
+pub mod UsingLate
+pub mod UsedRead
+mod Reaching
+mod KeyRange
+mod KeyOrder
+mod Needed
+pub mod Asking
+pub mod Bounded

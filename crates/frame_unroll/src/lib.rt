@@ -1,18 +1,40 @@
-//! What the keys of a query read: which nets a late start moves, and the literal that stands for a net or a pin.
+//! What a query asks of its keys, what these read, and which keys it needs: which nets a late start moves, the literal
+//! that stands for a net or a pin, and the keys that are reached from what is asked, numbered.
 //!
-//! Read `moved_rows` first. What it all means is said in query_model's `specs/Reads`.
+//! Read `moved_rows` first, and `reached_keys` for the needed keys. What it all means is said in query_model's
+//! `specs/Reads` and `specs/Formula`.
 #![tactic(auto)]
 
+mod asked;
+mod conditions;
 mod drivers;
+mod found_keys;
+mod frames;
+mod gate_tables;
+mod gathered;
+mod kept;
 mod moved_rows;
+mod origins;
+mod own_bits;
 mod pins;
+mod reached_keys;
 mod read_tables;
 mod reads;
+mod spans;
 mod start_marks;
 #[cfg(test)]
 mod tests;
+mod violations;
 
+pub use asked::{claim_asked, clause_asked};
 pub use drivers::{Driver, base_lit, net_drivers};
+pub use frames::Frames;
+pub use gathered::{
+    Owner, Row, base_reads, bit_lit, capture_lit, late_lit, pin_of, push_own, row_reads, start_lit,
+};
 pub use moved_rows::moved_nets;
+pub use origins::{Origin, has_own};
+pub use own_bits::reads_own;
 pub use read_tables::Tables;
 pub use reads::{net_lit, pin_lit};
+pub use spans::{Span, claim_span, clause_span, judged_count};

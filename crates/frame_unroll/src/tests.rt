@@ -3,9 +3,10 @@ ghost use Rattle.net_model.specs.Netlist.{IsSound};
 ghost use Rattle.net_model.specs.Fits.{Fits};
 ghost use Rattle.frame_unroll.specs.Reading.{AreTables};
 
-use crate::{Tables, base_lit, moved_nets, net_drivers, net_lit, pin_lit};
+use crate::{Frames, Tables, base_lit, moved_nets, net_drivers, net_lit, pin_lit};
 use net_model::{
-    Claim, Design, DesignFault, End, Func, Gate, Kind, Node, PinRef, Reg, RegOut, Start,
+    Claim, Design, DesignFault, End, Func, Gate, InvClause, Kind, Node, Phase, PinRef, Reg, RegOut,
+    Start, StateLit,
 };
 use query_model::{Key, KeyLit};
 use sdcv_base::Seq;
@@ -233,5 +234,91 @@ fn literal_of_an_inverted_output(rt: HostRuntime) -> Result<(), test::Fail> {
         positive: false,
     };
     assert_eq!(rt; base_lit(&design, &drivers, 3, 3), want);
+    Ok(())
+}
+
+// Whether the variable is that of the key on rail 0 with this cycle, layer and point.
+fn is_numbered(frames: &Frames, var: u32, want: (usize, usize, usize)) -> bool {
+    let (cycle, layer, point) = want;
+    let key = Key {
+        cycle,
+        layer,
+        rail: 0,
+        point,
+    };
+    frames.number(&key) == Some(var) && frames.key(var) == Some(key)
+}
+
+// By hand: the false path from the first input to the register, in a stretch of two cycles. Point 8 is in layer 0 that
+// the start toggles and in layer 1 the late capture, point 10 that this differs, and point 28 that the cycle is bad.
+#[test]
+fn needed_keys_of_a_claim(rt: HostRuntime) -> Result<(), test::Fail> {
+    let alloc = rt.alloc();
+    let design = design(alloc)?;
+    let claim = claim(false, Start::Input(0), Seq::new(alloc));
+    assert!(rt; claim.fits(&design));
+    let frames = Frames::of_claim(alloc, &design, &claim, Phase::Step, 0, &[])?;
+    let want = [
+        (0, 0, 0),
+        (0, 0, 1),
+        (0, 0, 4),
+        (0, 0, 5),
+        (0, 0, 7),
+        (1, 0, 0),
+        (1, 0, 1),
+        (1, 0, 4),
+        (1, 0, 5),
+        (1, 0, 7),
+        (1, 0, 8),
+        (1, 0, 10),
+        (1, 0, 28),
+        (1, 1, 4),
+        (1, 1, 5),
+        (1, 1, 8),
+        (2, 0, 7),
+    ];
+    assert_eq!(rt; frames.vars(), 17);
+    for place in 0..17u32 {
+        assert!(rt;
+            is_numbered(&frames, place + 1, want[place as usize]),
+            "{place}"
+        );
+    }
+    Ok(())
+}
+
+// By hand: the register's bit in the second cycle, and all that its capture in the first one reads. The clause is kept in
+// the first cycle, where its bit is read anyway.
+#[test]
+fn needed_keys_of_an_invariant(rt: HostRuntime) -> Result<(), test::Fail> {
+    let alloc = rt.alloc();
+    let design = design(alloc)?;
+    assert!(rt; design.regs.len() == 1);
+    let lits = vec![in alloc;
+        StateLit {
+            reg: 0,
+            value: true
+        },
+    ]?;
+    let clause = InvClause {
+        lits: Seq::from_vec(lits),
+    };
+    let inv = vec![in alloc; clause]?;
+    let frames = Frames::of_invariant(alloc, &design, &inv, 0, Phase::Step, 1)?;
+    let want = [
+        (0, 0, 0),
+        (0, 0, 1),
+        (0, 0, 4),
+        (0, 0, 5),
+        (0, 0, 7),
+        (1, 0, 7),
+    ];
+    assert_eq!(rt; frames.vars(), 6);
+    for place in 0..6u32 {
+        assert!(rt;
+            is_numbered(&frames, place + 1, want[place as usize]),
+            "{place}"
+        );
+    }
     Ok(())
 }

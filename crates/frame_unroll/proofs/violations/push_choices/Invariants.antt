@@ -1,0 +1,6 @@
+use Rattle.std.proofs.Common.{◌≡◌, ◌++◌, take}
+use Rattle.frame_unroll.specs.Asked.{all_chosen}
+use Rattle.frame_unroll.proofs.violations.push_choices.Given as goal
+
+abbrev pub invariant-loop-place : goal.invariant-loop-place
+invariant-loop-place l = l.asked ≡ l.initial.asked ++ all_chosen l.design l.cycle (take l.place l.found)

@@ -1,0 +1,91 @@
+-- The keys that are found from what is asked, by what each key's definition reads.
+use Rattle.std.specs.Prelude.{◌≡◌, ℕ, ◌+◌, ◌<◌, ◌≤◌, Bool, true, List, [], ◌∷◌, ◌++◌, length, Contains, Option, Some, None, slice_get, slice_index_or, if◌then◌else◌}
+use Rattle.net_model.specs.declared.netlist.Design.{Design}
+use Rattle.net_model.specs.declared.netlist.Gate.{Gate}
+use Rattle.net_model.specs.declared.netlist.Reg.{Reg}
+use Rattle.net_model.specs.declared.claims.Claim.{Claim}
+use Rattle.net_model.specs.declared.claims.PinRef.TheVariants.{GateIn, RegIn}
+use Rattle.query_model.specs.Keys.{key, lit, IsBelow}
+use Rattle.query_model.specs.Reads.{bit_key, read_pin}
+use Rattle.query_model.specs.Defined.{numbered, with_own, late_key}
+use Rattle.query_model.specs.Formula.{has_key}
+use Rattle.query_model.specs.declared.keys.Key.{Key}
+use Rattle.query_model.specs.declared.keys.KeyLit.{KeyLit}
+use Rattle.frame_unroll.specs.Framed.{IsWithin}
+use Rattle.frame_unroll.specs.Origins.{gate_of}
+use Rattle.frame_unroll.specs.declared.origins.Origin.{Origin}
+use Rattle.frame_unroll.specs.declared.origins.Origin.TheVariants.{Gate as OfGate, Reg as OfReg}
+
+-- the gate that drives a net, by a table
+abbrev pub gate_at : List (Option ℕ) → ℕ → Option ℕ
+gate_at table n = slice_index_or table n None
+
+-- the table tells of each net which gate drives it
+pub record AreNetGates (d : Design) (table : List (Option ℕ)) : Type 0 where
+  pub len : length table ≡ d.nets
+  pub gates : (n : ℕ) → gate_at table n ≡ gate_of d.gates 0 n
+
+-- the keys with one more, if it is new
+abbrev pub with_key : List Key → Key → List Key
+with_key keys k = if has_key keys k then keys else keys ++ k ∷ []
+
+-- the keys with those of these literals that are new
+abbrev pub with_keys : List Key → List KeyLit → List Key
+with_keys keys [] = keys
+with_keys keys (l ∷ ls) = with_keys (with_key keys l.key) ls
+
+abbrev pub with_clauses : List Key → List (List KeyLit) → List Key
+with_clauses keys [] = keys
+with_clauses keys (clause ∷ clauses) = with_clauses (with_keys keys clause) clauses
+
+-- what a gate's pins read on a rail of a layer, and the key of its net there
+abbrev pub gate_row : Design → Claim → List (List Bool) → ℕ → ℕ → ℕ → ℕ → Gate → List KeyLit
+gate_row d claim moved c layer rail k g =
+    numbered (λ i n. read_pin d claim moved c layer rail (GateIn k i) n) 0 g.ins ++ lit true (key c layer rail g.out) ∷ []
+
+-- what a register's pins read on a rail of the last layer, and the key of the late capture
+abbrev pub reg_row : Design → Claim → List (List Bool) → ℕ → ℕ → ℕ → Reg → List KeyLit
+reg_row d claim moved c rail r reg =
+    with_own reg (lit true (bit_key d c r)) (numbered (λ i n. read_pin d claim moved c (length claim.through + 1) rail (RegIn r i) n) 0 reg.ins) ++ lit true (late_key d claim c rail) ∷ []
+
+-- the gate or register is one of the design
+abbrev pub IsOriginIn : Design → Origin → Type 0
+IsOriginIn d (OfGate k) = k < length d.gates
+IsOriginIn d (OfReg r) = r < length d.regs
+IsOriginIn d _ = Unit {0}
+
+-- and a gate defines keys of layers alone that come through the sets
+abbrev pub IsOriginAt : Design → Claim → ℕ → Origin → Type 0
+IsOriginAt d claim layer (OfGate k) = (k < length d.gates) × (layer ≤ length claim.through + 1)
+IsOriginAt d claim layer (OfReg r) = r < length d.regs
+IsOriginAt d claim layer _ = Unit {0}
+
+-- each key is of one of these cycles
+abbrev pub AreKeysWithin : Design → ℕ → List Key → Type 0
+AreKeysWithin d cycles keys = (k : Key) → Contains keys k → IsWithin d cycles k
+
+-- one of these keys, or one that the definition of a reached key reads
+pub data IsReached (reads : Key → List KeyLit) (start : List Key) : Key → Type 0 where
+  Started : (k : Key) → Contains start k → IsReached reads start k
+  Read : (k : Key) (l : KeyLit) → IsReached reads start k → Contains (reads k) l → IsReached reads start l.key
+
+-- these are the keys that are reached
+pub record AreReached (reads : Key → List KeyLit) (start keys : List Key) : Type 0 where
+  pub only : (k : Key) → Contains keys k → IsReached reads start k
+  pub all : (k : Key) → IsReached reads start k → Contains keys k
+
+-- a key of so few cycles, layers, rails and points
+pub record IsSmall (k : Key) : Type 0 where
+  pub cycle : k.cycle ≤ 144
+  pub layer : k.layer ≤ 5
+  pub rail : k.rail ≤ 1
+  pub point : k.point < 220050
+
+abbrev pub AreSmall : List Key → Type 0
+AreSmall keys = (k : Key) → Contains keys k → IsSmall k
+
+-- the same keys, each once, ascending
+pub record AreAscending (found keys : List Key) : Type 0 where
+  pub ascending : (i : ℕ) (a b : Key) → slice_get keys i ≡ Some a → slice_get keys (i + 1) ≡ Some b → IsBelow a b
+  pub only : (k : Key) → Contains keys k → Contains found k
+  pub all : (k : Key) → Contains found k → Contains keys k

@@ -1,0 +1,127 @@
+-- What defines each key, and which keys its definition reads.
+use Rattle.std.specs.Prelude.{ℕ, zero, suc, ◌+◌, ◌-◌, ◌==◌, ◌&&◌, ◌||◌, Bool, true, not, List, [], ◌∷◌, ◌++◌, map, length, Contains, Option, Some, None, slice_get, nat_lt, if◌then◌else◌}
+use Rattle.net_model.specs.Judge.{judged_count}
+use Rattle.net_model.specs.declared.netlist.Design.{Design}
+use Rattle.net_model.specs.declared.netlist.Gate.{Gate}
+use Rattle.net_model.specs.declared.netlist.Reg.{Reg}
+use Rattle.net_model.specs.declared.claims.Claim.{Claim}
+use Rattle.net_model.specs.declared.claims.End.{End}
+use Rattle.net_model.specs.declared.claims.End.TheVariants.{Reg as RegEnd, Output as OutputEnd}
+use Rattle.net_model.specs.declared.claims.PinRef.TheVariants.{GateIn, RegIn}
+use Rattle.query_model.specs.Keys.{key, lit}
+use Rattle.query_model.specs.Reads.{bit_key, read_base, read_pin}
+use Rattle.query_model.specs.Defined.{Definition, numbered, with_own, has_own, late_key, start_lit, capture_lit, late_lit}
+use Rattle.query_model.specs.Formula.{Mentions}
+use Rattle.query_model.specs.declared.keys.Key.{Key}
+use Rattle.query_model.specs.declared.keys.KeyLit.{KeyLit}
+use Rattle.frame_unroll.specs.declared.origins.Origin.{Origin}
+use Rattle.frame_unroll.specs.declared.origins.Origin.TheVariants.{Free, Gate as OfGate, Reg as OfReg, Toggle, Change, Differ, Stale}
+
+-- a definition of the key mentions the other one
+abbrev pub Uses : List Definition → Key → Key → Type 0
+Uses defs k j = (def : Definition) × Contains defs def × Contains def.outs k × Mentions def.clauses j
+
+-- the gate that drives a net, where the first of these gates has number k
+abbrev pub gate_of : List Gate → ℕ → ℕ → Option ℕ
+gate_of [] k net = None
+gate_of (g ∷ gs) k net = if g.out == net then Some k else gate_of gs (k + 1) net
+
+abbrev pub of_gate : Option ℕ → Origin
+of_gate None = Free
+of_gate (Some k) = OfGate k
+
+-- of a net of a cycle, or of a register bit
+abbrev pub base_origin : Design → ℕ → Key → Origin
+base_origin d cycles k =
+    if nat_lt k.point d.nets then (if nat_lt k.cycle cycles then of_gate (gate_of d.gates 0 k.point) else Free)
+    else (if nat_lt 0 k.cycle && (nat_lt k.cycle (cycles + 1) && nat_lt k.point (d.nets + length d.regs)) then OfReg (k.point - d.nets) else Free)
+
+-- of a key where no claim is asked about
+abbrev pub clause_origin : Design → ℕ → Key → Origin
+clause_origin d cycles k = if (k.layer == 0) && (k.rail == 0) then base_origin d cycles k else Free
+
+-- of a further point of a cycle, by its number
+abbrev pub extra_origin : Claim → ℕ → Origin
+extra_origin claim zero = Toggle
+extra_origin claim (suc zero) = Change
+extra_origin claim (suc (suc zero)) = Differ
+extra_origin claim (suc (suc (suc r))) = if nat_lt r (judged_count claim.kind - 1) then Stale (r + 1) else Free
+
+abbrev pub end_origin : End → Origin
+end_origin (RegEnd r) = OfReg r
+end_origin (OutputEnd o) = Free
+
+-- whether a layer has keys on the rail
+abbrev pub has_rail : Claim → ℕ → Bool
+has_rail claim rail = (rail == 0) || (claim.hazard && (rail == 1))
+
+-- of a net in layer suc l, or of the late capture
+abbrev pub late_origin : Design → Claim → List (List Bool) → ℕ → Key → Origin
+late_origin d claim moved l k =
+    if nat_lt k.point d.nets then (if has_own claim moved l k.point then of_gate (gate_of d.gates 0 k.point) else Free)
+    else (if (k.point == d.nets + length d.regs) && (l == length claim.through) then end_origin claim.end else Free)
+
+abbrev pub layer_origin : Design → Claim → List (List Bool) → ℕ → Key → ℕ → Origin
+layer_origin d claim moved cycles k zero =
+    if not (k.rail == 0) then Free
+    else (if nat_lt k.point (d.nets + length d.regs) then base_origin d cycles k
+    else (if nat_lt k.cycle cycles then extra_origin claim (k.point - (d.nets + length d.regs)) else Free))
+layer_origin d claim moved cycles k (suc l) =
+    if nat_lt k.cycle cycles && (nat_lt l (length claim.through + 1) && has_rail claim k.rail) then late_origin d claim moved l k else Free
+
+-- of a key where a claim is asked about
+abbrev pub claim_origin : Design → Claim → List (List Bool) → ℕ → Key → Origin
+claim_origin d claim moved cycles k = layer_origin d claim moved cycles k k.layer
+
+-- what the pins of a gate or register read in a cycle, if there is one
+abbrev pub gate_base : Design → ℕ → Option Gate → List KeyLit
+gate_base d c None = []
+gate_base d c (Some g) = map (read_base d c) g.ins
+
+abbrev pub reg_base : Design → ℕ → ℕ → Option Reg → List KeyLit
+reg_base d c r None = []
+reg_base d c r (Some reg) = with_own reg (lit true (bit_key d c r)) (map (read_base d c) reg.ins)
+
+-- the literals by which a net or a bit is defined
+abbrev pub base_reads : Design → Key → Origin → List KeyLit
+base_reads d k (OfGate i) = gate_base d k.cycle (slice_get d.gates i)
+base_reads d k (OfReg r) = reg_base d (k.cycle - 1) r (slice_get d.regs r)
+base_reads d k _ = []
+
+-- what is read on each rail of a layer
+abbrev pub on_rails : Claim → (ℕ → List KeyLit) → List KeyLit
+on_rails claim f = f 0 ++ (if claim.hazard then f 1 else [])
+
+-- what the pins read in layer suc l, and beside it the defined keys themselves
+abbrev pub gate_late : Design → Claim → List (List Bool) → ℕ → ℕ → ℕ → Option Gate → List KeyLit
+gate_late d claim moved c l k None = []
+gate_late d claim moved c l k (Some g) =
+    on_rails claim (λ rail. numbered (λ i n. read_pin d claim moved c (suc l) rail (GateIn k i) n) 0 g.ins ++ lit true (key c (suc l) rail g.out) ∷ [])
+
+abbrev pub reg_late : Design → Claim → List (List Bool) → ℕ → ℕ → Option Reg → List KeyLit
+reg_late d claim moved c r None = []
+reg_late d claim moved c r (Some reg) =
+    on_rails claim (λ rail. with_own reg (lit true (bit_key d c r)) (numbered (λ i n. read_pin d claim moved c (length claim.through + 1) rail (RegIn r i) n) 0 reg.ins) ++ lit true (late_key d claim c rail) ∷ [])
+
+abbrev pub late_reads : Design → Claim → List (List Bool) → Key → ℕ → Origin → List KeyLit
+late_reads d claim moved k l (OfGate i) = gate_late d claim moved k.cycle l i (slice_get d.gates i)
+late_reads d claim moved k l (OfReg r) = reg_late d claim moved k.cycle r (slice_get d.regs r)
+late_reads d claim moved k l _ = []
+
+-- the literals by which a key is defined
+abbrev pub origin_reads : Design → Claim → List (List Bool) → Key → ℕ → Origin → List KeyLit
+origin_reads d claim moved k zero Toggle = start_lit d claim.start k.cycle ∷ start_lit d claim.start (k.cycle - 1) ∷ []
+origin_reads d claim moved k zero Change = capture_lit d claim.end k.cycle ∷ capture_lit d claim.end (k.cycle - 1) ∷ []
+origin_reads d claim moved k zero Differ =
+    late_lit d claim moved k.cycle 0 claim.end ∷ (if claim.hazard then late_lit d claim moved k.cycle 1 claim.end else capture_lit d claim.end k.cycle) ∷ []
+origin_reads d claim moved k zero (Stale r) = start_lit d claim.start k.cycle ∷ start_lit d claim.start (k.cycle - r - 1) ∷ []
+origin_reads d claim moved k zero origin = base_reads d k origin
+origin_reads d claim moved k (suc l) origin = late_reads d claim moved k l origin
+
+-- the literals by which the key is defined where a claim is asked about
+abbrev pub claim_reads : Design → Claim → List (List Bool) → ℕ → Key → List KeyLit
+claim_reads d claim moved cycles k = origin_reads d claim moved k k.layer (claim_origin d claim moved cycles k)
+
+-- the same where a clause over register bits is
+abbrev pub clause_reads : Design → ℕ → Key → List KeyLit
+clause_reads d cycles k = base_reads d k (clause_origin d cycles k)

@@ -1,0 +1,406 @@
+//! The keys that definitions read, added to those that were found.
+ghost use Rattle.std.specs.Prelude.{◌≡◌, ◌<◌, ◌≤◌, ◌+◌, ◌-◌, ◌^◌, [], ◌∷◌, ◌++◌, ℕ, length, slice_get, OnOk};
+ghost use Rattle.net_model.specs.Netlist.{AllBelow, IsSound};
+ghost use Rattle.net_model.specs.Fits.{Fits};
+ghost use Rattle.query_model.specs.Defined as defined;
+ghost use Rattle.query_model.specs.declared.keys.Key.{Key};
+ghost use Rattle.frame_unroll.specs.Drivers.{AreDrivers};
+ghost use Rattle.frame_unroll.specs.Reading.{AreTables};
+ghost use Rattle.frame_unroll.specs.Found.{AreNetGates, IsOriginIn, IsOriginAt, gate_row, reg_row, with_keys, with_clauses};
+ghost use Rattle.frame_unroll.specs.Origins as origins;
+
+use crate::drivers::Driver;
+use crate::gathered::{
+    Owner, Row, base_reads, bit_lit, capture_lit, late_lit, push_own, row_reads, start_lit,
+};
+use crate::origins::{Origin, claim_origin, clause_origin};
+use crate::read_tables::Tables;
+use indexmap::IndexSet;
+use net_model::{Claim, Design, Gate, Reg};
+use query_model::{Key, KeyLit};
+use sdcv_base::Seq;
+use std::alloc::{AllocError, Global};
+
+/// Adds the keys of these literals that are new, in their order.
+fn add_keys(lits: &Seq<KeyLit>, found: &mut IndexSet<Key>) -> Result<(), AllocError>
+    ensures { OnOk result (found.new.keys ≡ with_keys found.old.keys lits.now) }
+{
+    for i in 0..lits.len() {
+        found.insert(lits.at(i).key)?;
+    }
+    Ok(())
+}
+
+/// Adds the keys of the literals of these clauses that are new, in their order.
+pub fn add_clauses(clauses: &Seq<Seq<KeyLit>>, found: &mut IndexSet<Key>) -> Result<(), AllocError>
+    ensures { OnOk result (found.new.keys ≡ with_clauses found.old.keys clauses.now) }
+{
+    for i in 0..clauses.len() {
+        add_keys(clauses.item(i), found)?;
+    }
+    Ok(())
+}
+
+/// Adds the keys of two literals.
+fn add_two(first: KeyLit, second: KeyLit, found: &mut IndexSet<Key>) -> Result<(), AllocError>
+    ensures { OnOk result (found.new.keys ≡ with_keys found.old.keys (first ∷ second ∷ [])) }
+{
+    found.insert(first.key)?;
+    found.insert(second.key)?;
+    Ok(())
+}
+
+fn add_base_gate(
+    alloc: Global,
+    design: &Design,
+    drivers: &Seq<Driver>,
+    cycle: usize,
+    gate: usize,
+    found: &mut IndexSet<Key>,
+) -> Result<(), AllocError>
+    requires sound { IsSound design.now }
+    requires drivers { AreDrivers design.now drivers.now }
+    requires gate { gate < length design.now.gates }
+    ensures { OnOk result (found.new.keys ≡ with_keys found.old.keys (origins.gate_base design.now cycle (slice_get design.now.gates gate))) }
+{
+    let reads = base_reads(alloc, design, drivers, cycle, &design.gates.item(gate).ins)?;
+    add_keys(&reads, found)
+}
+
+fn add_base_reg(
+    alloc: Global,
+    design: &Design,
+    drivers: &Seq<Driver>,
+    cycle: usize,
+    reg: usize,
+    found: &mut IndexSet<Key>,
+) -> Result<(), AllocError>
+    requires sound { IsSound design.now }
+    requires drivers { AreDrivers design.now drivers.now }
+    requires reg { reg < length design.now.regs }
+    ensures { OnOk result (found.new.keys ≡ with_keys found.old.keys (origins.reg_base design.now cycle reg (slice_get design.now.regs reg))) }
+{
+    let register = design.regs.item(reg);
+    let mut reads = base_reads(alloc, design, drivers, cycle, &register.ins)?;
+    push_own(&mut reads, register, bit_lit(design, cycle, reg))?;
+    add_keys(&reads, found)
+}
+
+/// Adds the keys by which a net or a register's bit is defined in a cycle.
+fn add_base_reads(
+    alloc: Global,
+    design: &Design,
+    drivers: &Seq<Driver>,
+    key: Key,
+    origin: Origin,
+    found: &mut IndexSet<Key>,
+) -> Result<(), AllocError>
+    requires sound { IsSound design.now }
+    requires drivers { AreDrivers design.now drivers.now }
+    requires origin { IsOriginIn design.now origin }
+    ensures { OnOk result (found.new.keys ≡ with_keys found.old.keys (origins.base_reads design.now key origin)) }
+{
+    match origin {
+        Origin::Gate(gate) => add_base_gate(alloc, design, drivers, key.cycle, gate, found),
+        Origin::Reg(reg) => {
+            let before = key.cycle.saturating_sub(1);
+            add_base_reg(alloc, design, drivers, before, reg, found)
+        }
+        _ => Ok(()),
+    }
+}
+
+/// Adds the keys by which a key is defined where it is asked about a clause over register bits.
+pub fn add_clause_reads(
+    alloc: Global,
+    design: &Design,
+    drivers: &Seq<Driver>,
+    gates: &Seq<Option<usize>>,
+    cycles: usize,
+    key: Key,
+    found: &mut IndexSet<Key>,
+) -> Result<(), AllocError>
+    requires sound { IsSound design.now }
+    requires drivers { AreDrivers design.now drivers.now }
+    requires gates { AreNetGates design.now gates.now }
+    ensures { OnOk result (found.new.keys ≡ with_keys found.old.keys (origins.clause_reads design.now cycles key)) }
+{
+    let origin = clause_origin(design, gates, cycles, key);
+    add_base_reads(alloc, design, drivers, key, origin, found)
+}
+
+/// Adds what a gate's pins read on a rail of a layer, and the key of its net there.
+fn add_gate_row(
+    alloc: Global,
+    design: &Design,
+    claim: &Claim,
+    tables: &Tables,
+    number: usize,
+    gate: &Gate,
+    row: Row,
+    found: &mut IndexSet<Key>,
+) -> Result<(), AllocError>
+    requires sound { IsSound design.now }
+    requires tables { AreTables design.now claim.now tables.now }
+    requires nets { AllBelow design.now.nets gate.now.ins }
+    requires layer { row.layer ≤ length claim.now.through + 1 }
+    ensures { OnOk result (found.new.keys ≡ with_keys found.old.keys (gate_row design.now claim.now tables.now.moved row.cycle row.layer row.rail number gate.now)) }
+{
+    let reads = row_reads(
+        alloc,
+        design,
+        claim,
+        tables,
+        Owner::Gate(number),
+        &gate.ins,
+        row,
+    )?;
+    add_keys(&reads, found)?;
+    found.insert(Key {
+        cycle: row.cycle,
+        layer: row.layer,
+        rail: row.rail,
+        point: gate.out,
+    })?;
+    Ok(())
+}
+
+/// Adds what a gate's pins read in a layer, and the keys of its net there.
+fn add_late_gate(
+    alloc: Global,
+    design: &Design,
+    claim: &Claim,
+    tables: &Tables,
+    gate: usize,
+    row: Row,
+    found: &mut IndexSet<Key>,
+) -> Result<(), AllocError>
+    requires sound { IsSound design.now }
+    requires tables { AreTables design.now claim.now tables.now }
+    requires gate { gate < length design.now.gates }
+    requires late { 0 < row.layer }
+    requires layer { row.layer ≤ length claim.now.through + 1 }
+    requires rail { row.rail ≡ 0 }
+    ensures { OnOk result (found.new.keys ≡ with_keys found.old.keys (origins.gate_late design.now claim.now tables.now.moved row.cycle (row.layer - 1) gate (slice_get design.now.gates gate))) }
+{
+    let driver = design.gates.item(gate);
+    add_gate_row(alloc, design, claim, tables, gate, driver, row, found)?;
+    if !claim.hazard {
+        return Ok(());
+    }
+    let other = Row { rail: 1, ..row };
+    add_gate_row(alloc, design, claim, tables, gate, driver, other, found)
+}
+
+/// Adds what a register's pins read on a rail of the last layer, and the key of the late capture.
+fn add_reg_row(
+    alloc: Global,
+    design: &Design,
+    claim: &Claim,
+    tables: &Tables,
+    number: usize,
+    reg: &Reg,
+    row: Row,
+    found: &mut IndexSet<Key>,
+) -> Result<(), AllocError>
+    requires sound { IsSound design.now }
+    requires tables { AreTables design.now claim.now tables.now }
+    requires number { number < length design.now.regs }
+    requires nets { AllBelow design.now.nets reg.now.ins }
+    requires layer { row.layer ≡ length claim.now.through + 1 }
+    ensures { OnOk result (found.new.keys ≡ with_keys found.old.keys (reg_row design.now claim.now tables.now.moved row.cycle row.rail number reg.now)) }
+{
+    let owner = Owner::Reg(number);
+    let mut reads = row_reads(alloc, design, claim, tables, owner, &reg.ins, row)?;
+    push_own(&mut reads, reg, bit_lit(design, row.cycle, number))?;
+    add_keys(&reads, found)?;
+    found.insert(Key {
+        cycle: row.cycle,
+        layer: row.layer,
+        rail: row.rail,
+        point: design.nets + design.regs.len(),
+    })?;
+    Ok(())
+}
+
+/// Adds what a register's pins read in the last layer, and the keys of the late capture.
+fn add_late_reg(
+    alloc: Global,
+    design: &Design,
+    claim: &Claim,
+    tables: &Tables,
+    cycle: usize,
+    reg: usize,
+    found: &mut IndexSet<Key>,
+) -> Result<(), AllocError>
+    requires sound { IsSound design.now }
+    requires fits { Fits design.now claim.now }
+    requires tables { AreTables design.now claim.now tables.now }
+    requires reg { reg < length design.now.regs }
+    ensures { OnOk result (found.new.keys ≡ with_keys found.old.keys (origins.reg_late design.now claim.now tables.now.moved cycle reg (slice_get design.now.regs reg))) }
+{
+    let register = design.regs.item(reg);
+    let layer = claim.through.len() + 1;
+    let row = Row {
+        cycle,
+        layer,
+        rail: 0,
+    };
+    add_reg_row(alloc, design, claim, tables, reg, register, row, found)?;
+    if !claim.hazard {
+        return Ok(());
+    }
+    let other = Row { rail: 1, ..row };
+    add_reg_row(alloc, design, claim, tables, reg, register, other, found)
+}
+
+/// Adds the keys by which a key of a layer after the cycle itself is defined.
+fn add_late_reads(
+    alloc: Global,
+    design: &Design,
+    claim: &Claim,
+    tables: &Tables,
+    key: Key,
+    origin: Origin,
+    found: &mut IndexSet<Key>,
+) -> Result<(), AllocError>
+    requires sound { IsSound design.now }
+    requires fits { Fits design.now claim.now }
+    requires tables { AreTables design.now claim.now tables.now }
+    requires late { 0 < key.layer }
+    requires origin { IsOriginAt design.now claim.now key.layer origin }
+    ensures { OnOk result (found.new.keys ≡ with_keys found.old.keys (origins.late_reads design.now claim.now tables.now.moved key (key.layer - 1) origin)) }
+{
+    match origin {
+        Origin::Gate(gate) => {
+            let row = Row {
+                cycle: key.cycle,
+                layer: key.layer,
+                rail: 0,
+            };
+            add_late_gate(alloc, design, claim, tables, gate, row, found)
+        }
+        Origin::Reg(reg) => add_late_reg(alloc, design, claim, tables, key.cycle, reg, found),
+        _ => Ok(()),
+    }
+}
+
+/// Adds the keys by which it is defined whether the late capture differs.
+fn add_differ_reads(
+    design: &Design,
+    claim: &Claim,
+    tables: &Tables,
+    cycle: usize,
+    found: &mut IndexSet<Key>,
+) -> Result<(), AllocError>
+    requires sound { IsSound design.now }
+    requires fits { Fits design.now claim.now }
+    requires tables { AreTables design.now claim.now tables.now }
+    requires early { cycle < 2 ^ 32 }
+    ensures { OnOk result ((k : Key) → k.cycle ≡ cycle → found.new.keys ≡ with_keys found.old.keys (origins.origin_reads design.now claim.now tables.now.moved k 0 Origin.Differ)) }
+{
+    let late = late_lit(design, claim, tables, cycle, 0);
+    let other = if claim.hazard {
+        late_lit(design, claim, tables, cycle, 1)
+    } else {
+        capture_lit(design, &tables.drivers, claim.end, cycle)
+    };
+    add_two(late, other, found)
+}
+
+/// Adds the keys of the start in two cycles.
+fn add_starts(
+    design: &Design,
+    claim: &Claim,
+    tables: &Tables,
+    cycle: usize,
+    before: usize,
+    found: &mut IndexSet<Key>,
+) -> Result<(), AllocError>
+    requires sound { IsSound design.now }
+    requires fits { Fits design.now claim.now }
+    requires tables { AreTables design.now claim.now tables.now }
+    ensures { OnOk result (found.new.keys ≡ with_keys found.old.keys (defined.start_lit design.now claim.now.start cycle ∷ defined.start_lit design.now claim.now.start before ∷ [])) }
+{
+    let now = start_lit(design, &tables.drivers, claim.start, cycle);
+    let then = start_lit(design, &tables.drivers, claim.start, before);
+    add_two(now, then, found)
+}
+
+/// Adds the keys of what the end captures in a cycle and in the one before.
+fn add_captures(
+    design: &Design,
+    claim: &Claim,
+    tables: &Tables,
+    cycle: usize,
+    found: &mut IndexSet<Key>,
+) -> Result<(), AllocError>
+    requires sound { IsSound design.now }
+    requires fits { Fits design.now claim.now }
+    requires tables { AreTables design.now claim.now tables.now }
+    requires early { cycle < 2 ^ 32 }
+    ensures { OnOk result (found.new.keys ≡ with_keys found.old.keys (defined.capture_lit design.now claim.now.end cycle ∷ defined.capture_lit design.now claim.now.end (cycle - 1) ∷ [])) }
+{
+    let before = cycle.saturating_sub(1);
+    let now = capture_lit(design, &tables.drivers, claim.end, cycle);
+    let then = capture_lit(design, &tables.drivers, claim.end, before);
+    add_two(now, then, found)
+}
+
+/// Adds the keys by which a key of the cycle itself is defined.
+fn add_cycle_reads(
+    alloc: Global,
+    design: &Design,
+    claim: &Claim,
+    tables: &Tables,
+    key: Key,
+    origin: Origin,
+    found: &mut IndexSet<Key>,
+) -> Result<(), AllocError>
+    requires sound { IsSound design.now }
+    requires fits { Fits design.now claim.now }
+    requires tables { AreTables design.now claim.now tables.now }
+    requires origin { IsOriginIn design.now origin }
+    requires early { key.cycle < 2 ^ 32 }
+    ensures { OnOk result (found.new.keys ≡ with_keys found.old.keys (origins.origin_reads design.now claim.now tables.now.moved key 0 origin)) }
+{
+    match origin {
+        Origin::Toggle => {
+            let before = key.cycle.saturating_sub(1);
+            add_starts(design, claim, tables, key.cycle, before, found)
+        }
+        Origin::Change => add_captures(design, claim, tables, key.cycle, found),
+        Origin::Differ => add_differ_reads(design, claim, tables, key.cycle, found),
+        Origin::Stale(cycles) => {
+            let before = key.cycle.saturating_sub(cycles).saturating_sub(1);
+            add_starts(design, claim, tables, key.cycle, before, found)
+        }
+        _ => add_base_reads(alloc, design, &tables.drivers, key, origin, found),
+    }
+}
+
+/// Adds the keys by which a key is defined where it is asked about a claim.
+pub fn add_claim_reads(
+    alloc: Global,
+    design: &Design,
+    claim: &Claim,
+    tables: &Tables,
+    gates: &Seq<Option<usize>>,
+    cycles: usize,
+    key: Key,
+    found: &mut IndexSet<Key>,
+) -> Result<(), AllocError>
+    requires sound { IsSound design.now }
+    requires fits { Fits design.now claim.now }
+    requires tables { AreTables design.now claim.now tables.now }
+    requires gates { AreNetGates design.now gates.now }
+    requires early { key.cycle < 2 ^ 32 }
+    ensures { OnOk result (found.new.keys ≡ with_keys found.old.keys (origins.claim_reads design.now claim.now tables.now.moved cycles key)) }
+{
+    let origin = claim_origin(design, claim, tables, gates, cycles, key);
+    if key.layer == 0 {
+        add_cycle_reads(alloc, design, claim, tables, key, origin, found)
+    } else {
+        add_late_reads(alloc, design, claim, tables, key, origin, found)
+    }
+}

@@ -1,0 +1,177 @@
+//! The needed keys of a query, numbered.
+ghost use Rattle.std.specs.Prelude.{◌≡◌, ◌<◌, ◌≤◌, ◌^◌, ℕ, [], All, IfOk, Some, length, slice_get};
+ghost use Rattle.net_model.specs.Netlist.{IsSound};
+ghost use Rattle.net_model.specs.Fits.{Fits};
+ghost use Rattle.query_model.specs.Queries.{Query, Violates, Breaks, claim_query, clause_query};
+ghost use Rattle.query_model.specs.Laws.{NamesRegs};
+ghost use Rattle.std.specs.List.{IsDistinct};
+ghost use Rattle.query_model.specs.Formula.{definitions, AreNeeded, same_key};
+ghost use Rattle.query_model.specs.declared.keys.Coding.TheVariants.{Rows};
+ghost use Rattle.query_model.specs.declared.keys.Key.{Key};
+ghost use Rattle.net_model.specs.declared.invariants.InvClause.{InvClause};
+ghost use Rattle.frame_unroll.specs.Drivers.{AreDrivers};
+ghost use Rattle.frame_unroll.specs.Reading.{AreTables};
+ghost use Rattle.frame_unroll.specs.Found.{AreSmall, AreAscending};
+ghost use Rattle.frame_unroll.specs.Framed.{AreFramesOf, AreWithin, key_of, number_if_any};
+
+use crate::asked::{claim_asked, clause_asked};
+use crate::drivers::{Driver, net_drivers};
+use crate::found_keys::add_clauses;
+use crate::gate_tables::net_gates;
+use crate::reached_keys::{reach_of_claim, reach_of_clause};
+use crate::read_tables::Tables;
+use crate::spans::{claim_span, clause_span};
+use indexmap::IndexSet;
+use net_model::{Claim, Design, InvClause, Phase};
+use query_model::{Key, KeyLit};
+use sdcv_base::Seq;
+use std::alloc::{AllocError, Global};
+use std::marker::Model;
+
+/// The keys that a query needs, numbered from 1 in ascending order.
+///
+/// Contracts see the list of these keys in the order of their numbers. What always holds: there are fewer than 2^31.
+#[derive(Drop)]
+pub struct Frames {
+    keys: IndexSet<Key>,
+}
+
+impl Model for Frames {
+    ghost use Rattle.std.specs.Prelude.{List, length, ◌<◌, ◌^◌};
+    ghost use Rattle.query_model.specs.declared.keys.Key.{Key};
+
+    ghost Value = { List Key };
+
+    ghost view = { λ f. f.keys.keys };
+
+    ghost invariant = { λ f. length f.keys.keys < 2 ^ 31 };
+}
+
+impl Frames {
+    /// The keys that are needed where it is asked about a claim, of which `asked` is what is asked of the keys.
+    ///
+    /// It takes the time and memory that the needed keys take, and not those of all keys that a query could have.
+    pub fn by_claim(
+        alloc: Global,
+        design: &Design,
+        claim: &Claim,
+        tables: &Tables,
+        cycles: usize,
+        asked: &Seq<Seq<KeyLit>>,
+    ) -> Result<Frames, AllocError>
+        requires sound { IsSound design.now }
+        requires fits { Fits design.now claim.now }
+        requires tables { AreTables design.now claim.now tables.now }
+        requires cycles { cycles ≤ 144 }
+        requires within { AreWithin design.now cycles asked.now }
+        ensures { IfOk result (λ keys. (q : Query) (offset clean : ℕ) → q.design ≡ design.now → q.cycles ≡ cycles → q.question ≡ Violates claim.now offset clean → AreNeeded (definitions Rows q tables.now.moved) asked.now keys) }
+    {
+        let gates = net_gates(alloc, design)?;
+        let mut found = IndexSet::new(alloc);
+        add_clauses(asked, &mut found)?;
+        reach_of_claim(alloc, design, claim, tables, &gates, cycles, &mut found)?;
+        Frames::in_order(found)
+    }
+
+    /// The same where it is asked about a clause over register bits.
+    pub fn by_clause(
+        alloc: Global,
+        design: &Design,
+        drivers: &Seq<Driver>,
+        cycles: usize,
+        asked: &Seq<Seq<KeyLit>>,
+    ) -> Result<Frames, AllocError>
+        requires sound { IsSound design.now }
+        requires drivers { AreDrivers design.now drivers.now }
+        requires cycles { cycles ≤ 144 }
+        requires within { AreWithin design.now cycles asked.now }
+        ensures { IfOk result (λ keys. (q : Query) (clause : InvClause) → q.design ≡ design.now → q.cycles ≡ cycles → q.question ≡ Breaks clause → AreNeeded (definitions Rows q []) asked.now keys) }
+    {
+        let gates = net_gates(alloc, design)?;
+        let mut found = IndexSet::new(alloc);
+        add_clauses(asked, &mut found)?;
+        reach_of_clause(alloc, design, drivers, &gates, cycles, &mut found)?;
+        Frames::in_order(found)
+    }
+
+    /// The needed keys of the query whether a claim is violated at a depth.
+    pub fn of_claim(
+        alloc: Global,
+        design: &Design,
+        claim: &Claim,
+        phase: Phase,
+        depth: usize,
+        inv: &[InvClause],
+    ) -> Result<Frames, AllocError>
+        requires sound { IsSound design.now }
+        requires fits { Fits design.now claim.now }
+        requires names { All (NamesRegs design.now) inv.now }
+        requires few { depth ≤ 64 }
+        ensures { IfOk result (AreFramesOf (claim_query design.now claim.now phase depth inv.now)) }
+    {
+        let tables = Tables::of(alloc, design, claim)?;
+        let asked = claim_asked(alloc, design, claim, phase, depth, inv)?;
+        let span = claim_span(design, claim, phase, depth);
+        Frames::by_claim(alloc, design, claim, &tables, span.cycles, &asked)
+    }
+
+    /// The needed keys of the query whether the invariant at a place fails at a depth.
+    pub fn of_invariant(
+        alloc: Global,
+        design: &Design,
+        inv: &[InvClause],
+        place: usize,
+        phase: Phase,
+        depth: usize,
+    ) -> Result<Frames, AllocError>
+        requires sound { IsSound design.now }
+        requires place { place < length inv.now }
+        requires names { All (NamesRegs design.now) inv.now }
+        requires few { depth ≤ 64 }
+        ensures { IfOk result (λ keys. (clause : InvClause) → slice_get inv.now place ≡ Some clause → AreFramesOf (clause_query design.now inv.now clause phase depth) keys) }
+    {
+        let clause = &inv[place];
+        let drivers = net_drivers(alloc, design)?;
+        let asked = clause_asked(alloc, design, inv, clause, phase, depth)?;
+        let span = clause_span(design, phase, depth);
+        Frames::by_clause(alloc, design, &drivers, span.cycles, &asked)
+    }
+
+    fn in_order(found: IndexSet<Key>) -> Result<Frames, AllocError>
+        requires { AreSmall found.keys }
+        ensures { IfOk result (AreAscending found.keys) }
+    {
+        let mut keys = found;
+        keys.sort()?;
+        Ok(Frames { keys })
+    }
+
+    /// How many variables there are.
+    pub fn vars(&self) -> u32
+        ensures count { result ≡ length self.now }
+        ensures few { result < 2 ^ 31 }
+        ensures distinct { IsDistinct same_key self.now }
+    {
+        self.keys.len() as u32
+    }
+
+    /// The number of a key, where the query needs it.
+    pub fn number(&self, key: &Key) -> Option<u32>
+        ensures value { result ≡ number_if_any self.now key.now }
+        ensures inverse { (n : ℕ) → result ≡ Some n → key_of self.now n ≡ Some key.now }
+    {
+        let place = self.keys.get_index_of(key)?;
+        Some(place as u32 + 1)
+    }
+
+    /// The key of a variable, where there is one of that number.
+    pub fn key(&self, var: u32) -> Option<Key>
+        ensures value { result ≡ key_of self.now var }
+        ensures inverse { (k : Key) → result ≡ Some k → number_if_any self.now k ≡ Some var }
+    {
+        if var == 0 || var > self.vars() {
+            return None;
+        }
+        self.keys.get_index(var as usize - 1).copied()
+    }
+}

@@ -1,0 +1,182 @@
+//! The literals that the functions of gates and registers read, and those of starts and ends.
+ghost use Rattle.std.specs.Prelude.{◌≡◌, ◌<◌, ◌≤◌, ◌+◌, ◌^◌, ℕ, length, map, IfOk, OnOk};
+ghost use Rattle.net_model.specs.Netlist.{AllBelow, IsSound};
+ghost use Rattle.net_model.specs.Fits.{Fits, IsStartIn, IsEndIn};
+ghost use Rattle.std.specs.Prelude.{true};
+ghost use Rattle.query_model.specs.Reads.{bit_key, read_base, read_pin};
+ghost use Rattle.query_model.specs.Defined.{numbered, with_own};
+ghost use Rattle.query_model.specs.Defined as defined;
+ghost use Rattle.frame_unroll.specs.Drivers.{AreDrivers};
+ghost use Rattle.frame_unroll.specs.Reading.{AreTables};
+ghost use Rattle.frame_unroll.specs.Gathered.{pin_of};
+
+use crate::drivers::{Driver, base_lit};
+use crate::own_bits::reads_own;
+use crate::read_tables::Tables;
+use crate::reads::pin_lit;
+use net_model::{Claim, Design, End, PinRef, Reg, Start};
+use query_model::{Key, KeyLit};
+use sdcv_base::Seq;
+use std::alloc::{AllocError, Global};
+
+/// A gate or a register, by number.
+#[derive(Debug, Clone, Copy, PartialEq, Eq)]
+pub enum Owner {
+    Gate(usize),
+    Reg(usize),
+}
+
+/// One rail of a layer in a cycle: layer 0 is the cycle itself.
+#[derive(Debug, Clone, Copy, PartialEq, Eq)]
+pub struct Row {
+    pub cycle: usize,
+    pub layer: usize,
+    pub rail: usize,
+}
+
+/// The pin of an owner at a place.
+pub fn pin_of(owner: Owner, place: usize) -> PinRef
+    ensures { result ≡ pin_of owner place }
+{
+    match owner {
+        Owner::Gate(k) => PinRef::GateIn(k, place),
+        Owner::Reg(r) => PinRef::RegIn(r, place),
+    }
+}
+
+/// What pins on these nets read in layer 0, in their order.
+pub fn base_reads(
+    alloc: Global,
+    design: &Design,
+    drivers: &Seq<Driver>,
+    cycle: usize,
+    ins: &Seq<usize>,
+) -> Result<Seq<KeyLit>, AllocError>
+    requires sound { IsSound design.now }
+    requires drivers { AreDrivers design.now drivers.now }
+    requires nets { AllBelow design.now.nets ins.now }
+    ensures { IfOk result (λ reads. reads ≡ map (read_base design.now cycle) ins.now) }
+{
+    let mut reads = Seq::new(alloc);
+    for net in ins.as_slice() {
+        reads.push(base_lit(design, drivers, cycle, *net))?;
+    }
+    Ok(reads)
+}
+
+/// What an owner's pins on these nets read in a row, in their order.
+pub fn row_reads(
+    alloc: Global,
+    design: &Design,
+    claim: &Claim,
+    tables: &Tables,
+    owner: Owner,
+    ins: &Seq<usize>,
+    row: Row,
+) -> Result<Seq<KeyLit>, AllocError>
+    requires sound { IsSound design.now }
+    requires tables { AreTables design.now claim.now tables.now }
+    requires nets { AllBelow design.now.nets ins.now }
+    requires layer { row.layer ≤ length claim.now.through + 1 }
+    ensures { IfOk result (λ reads. reads ≡ numbered (λ i n. read_pin design.now claim.now tables.now.moved row.cycle row.layer row.rail (pin_of owner i) n) 0 ins.now) }
+{
+    let mut reads = Seq::new(alloc);
+    for i in 0..ins.len() {
+        let key = Key {
+            cycle: row.cycle,
+            layer: row.layer,
+            rail: row.rail,
+            point: ins.at(i),
+        };
+        reads.push(pin_lit(design, claim, tables, pin_of(owner, i), key))?;
+    }
+    Ok(reads)
+}
+
+/// The literal of a start in layer 0 of a cycle.
+pub fn start_lit(design: &Design, drivers: &Seq<Driver>, start: Start, cycle: usize) -> KeyLit
+    requires sound { IsSound design.now }
+    requires drivers { AreDrivers design.now drivers.now }
+    requires start { IsStartIn design.now start }
+    ensures { result ≡ defined.start_lit design.now start cycle }
+{
+    match start {
+        Start::Reg(r) => bit_lit(design, cycle, r),
+        Start::Input(i) => base_lit(design, drivers, cycle, design.inputs.at(i)),
+    }
+}
+
+/// The literal of a register's bit in a cycle.
+pub fn bit_lit(design: &Design, cycle: usize, reg: usize) -> KeyLit
+    requires sound { IsSound design.now }
+    requires reg { reg < length design.now.regs }
+    ensures { result ≡ record { key = bit_key design.now cycle reg; positive = true } }
+{
+    let key = Key {
+        cycle,
+        layer: 0,
+        rail: 0,
+        point: design.nets + reg,
+    };
+    KeyLit {
+        key,
+        positive: true,
+    }
+}
+
+/// The literals of a register's pins, and that of its own bit where one of its functions reads it as written.
+pub fn push_own(reads: &mut Seq<KeyLit>, reg: &Reg, own: KeyLit) -> Result<(), AllocError>
+    ensures { OnOk result (reads.new ≡ with_own reg.now own reads.old) }
+{
+    if reads_own(reg) {
+        reads.push(own)?;
+    }
+    Ok(())
+}
+
+/// The literal of what an end captures in a cycle.
+pub fn capture_lit(design: &Design, drivers: &Seq<Driver>, end: End, cycle: usize) -> KeyLit
+    requires sound { IsSound design.now }
+    requires drivers { AreDrivers design.now drivers.now }
+    requires end { IsEndIn design.now end }
+    requires late { cycle < 2 ^ 32 }
+    ensures { result ≡ defined.capture_lit design.now end cycle }
+{
+    match end {
+        End::Reg(r) => bit_lit(design, cycle + 1, r),
+        End::Output(o) => base_lit(design, drivers, cycle, design.outputs.at(o)),
+    }
+}
+
+/// The literal of what a claim's end captures in a cycle where the start is late, on a rail.
+pub fn late_lit(
+    design: &Design,
+    claim: &Claim,
+    tables: &Tables,
+    cycle: usize,
+    rail: usize,
+) -> KeyLit
+    requires sound { IsSound design.now }
+    requires fits { Fits design.now claim.now }
+    requires tables { AreTables design.now claim.now tables.now }
+    ensures { result ≡ defined.late_lit design.now claim.now tables.now.moved cycle rail claim.now.end }
+{
+    let layer = claim.through.len() + 1;
+    let point = match claim.end {
+        End::Reg(_) => design.nets + design.regs.len(),
+        End::Output(o) => design.outputs.at(o),
+    };
+    let key = Key {
+        cycle,
+        layer,
+        rail,
+        point,
+    };
+    match claim.end {
+        End::Reg(_) => KeyLit {
+            key,
+            positive: true,
+        },
+        End::Output(o) => pin_lit(design, claim, tables, PinRef::OutPort(o), key),
+    }
+}

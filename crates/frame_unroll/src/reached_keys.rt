@@ -1,0 +1,68 @@
+//! The keys that are reached by what definitions read.
+ghost use Rattle.std.specs.Prelude.{◌≡◌, ◌≤◌, OnOk};
+ghost use Rattle.net_model.specs.Netlist.{IsSound};
+ghost use Rattle.net_model.specs.Fits.{Fits};
+ghost use Rattle.frame_unroll.specs.Drivers.{AreDrivers};
+ghost use Rattle.frame_unroll.specs.Reading.{AreTables};
+ghost use Rattle.frame_unroll.specs.Found.{AreNetGates, AreKeysWithin, AreReached};
+ghost use Rattle.frame_unroll.specs.Origins.{claim_reads, clause_reads};
+
+use crate::drivers::Driver;
+use crate::found_keys::{add_claim_reads, add_clause_reads};
+use crate::read_tables::Tables;
+use indexmap::IndexSet;
+use net_model::{Claim, Design};
+use query_model::Key;
+use sdcv_base::Seq;
+use std::alloc::{AllocError, Global};
+
+/// Adds the keys that the definitions of the found keys read, those that their definitions read, and so on, where it is
+/// asked about a claim. Each key is looked at once, in the order in which they are found.
+pub fn reach_of_claim(
+    alloc: Global,
+    design: &Design,
+    claim: &Claim,
+    tables: &Tables,
+    gates: &Seq<Option<usize>>,
+    cycles: usize,
+    found: &mut IndexSet<Key>,
+) -> Result<(), AllocError>
+    requires sound { IsSound design.now }
+    requires fits { Fits design.now claim.now }
+    requires tables { AreTables design.now claim.now tables.now }
+    requires gates { AreNetGates design.now gates.now }
+    requires cycles { cycles ≤ 144 }
+    requires within { AreKeysWithin design.now cycles found.old.keys }
+    ensures { OnOk result (AreReached (claim_reads design.now claim.now tables.now.moved cycles) found.old.keys found.new.keys) }
+{
+    let mut next = 0;
+    while next < found.len() {
+        let key = found.as_slice()[next];
+        add_claim_reads(alloc, design, claim, tables, gates, cycles, key, found)?;
+        next += 1;
+    }
+    Ok(())
+}
+
+/// The same where it is asked about a clause over register bits.
+pub fn reach_of_clause(
+    alloc: Global,
+    design: &Design,
+    drivers: &Seq<Driver>,
+    gates: &Seq<Option<usize>>,
+    cycles: usize,
+    found: &mut IndexSet<Key>,
+) -> Result<(), AllocError>
+    requires sound { IsSound design.now }
+    requires drivers { AreDrivers design.now drivers.now }
+    requires gates { AreNetGates design.now gates.now }
+    ensures { OnOk result (AreReached (clause_reads design.now cycles) found.old.keys found.new.keys) }
+{
+    let mut next = 0;
+    while next < found.len() {
+        let key = found.as_slice()[next];
+        add_clause_reads(alloc, design, drivers, gates, cycles, key, found)?;
+        next += 1;
+    }
+    Ok(())
+}
