@@ -1,0 +1,86 @@
+-- A run that is read back from a model of a query's clauses answers the query.
+use Rattle.std.proofs.Common.{◌≡◌, ℕ, ◌<◌, Bool, true, List, [], ◌∷◌, refl, sym, ◌∙◌, arith, ◌⊎◌, inl, inr, subst}
+use Rattle.std.specs.Prelude.{All, nat_lt}
+use Rattle.std.specs.List.{list_any}
+use Rattle.std.proofs.lemmas.List.Elements.{All-head, All-tail, All-contains}
+use Rattle.net_model.specs.Netlist.{IsSound}
+use Rattle.net_model.specs.Cycles.{IsLinked, HasResets}
+use Rattle.net_model.specs.declared.netlist.Design.{Design}
+use Rattle.net_model.specs.declared.cycles.Cycle.{Cycle}
+use Rattle.query_model.specs.Queries.{Query, IsAnswer, claim_query, clause_query}
+use Rattle.query_model.specs.Variables.{AllCodesTrue, code_true, by_number}
+use Rattle.query_model.specs.Laws.{NamesRegs, AreCyclesOf, HasFreeBits, AgreesWith, NumberedModelsAnswer}
+use Rattle.query_model.proofs.Claims.{claim_models, clause_models}
+use Rattle.query_model.proofs.Problems.{numbered_models}
+use Rattle.query_model.specs.declared.keys.Coding.TheVariants.{Rows}
+use Rattle.proof_log.specs.Literals.{lit_true}
+use Rattle.proof_log.specs.Clauses.{clause_true}
+use Rattle.proof_log.specs.Formulas.{IsModel, value_in}
+use Rattle.proof_log.specs.declared.models.Model.{Model}
+use Rattle.cnf_encode.specs.Problems.{IsClaimQuery, IsClauseQuery, IsProblemFor}
+use Rattle.cnf_encode.specs.declared.problems.Problem.{Problem}
+use Rattle.cnf_encode.proofs.Running.{RunSoFar, run_linked, run_resets, run_free}
+
+-- a literal's value is said in the same way of formulas and of queries
+lit_same : (v : ℕ → Bool) (l : ℕ) → lit_true v l ≡ code_true v l
+unfolding lit_true code_true
+lit_same v l = refl
+
+clause_same : (v : ℕ → Bool) (clause : List ℕ) → clause_true v clause ≡ list_any (code_true v) clause
+clause_same v [] = refl
+clause_same v (l ∷ ls) = rw (lit_same v l, clause_same v ls) refl
+
+-- clauses that are all true
+codes_true : (v : ℕ → Bool) (clauses : List (List ℕ)) → All (λ c. clause_true v c ≡ true) clauses → AllCodesTrue v clauses
+codes_true v [] all = tt
+codes_true v (c ∷ cs) all = (
+  sym (clause_same v c) ∙ All-head (λ (x : List ℕ). clause_true v x ≡ true) c cs all,
+  codes_true v cs (All-tail (λ (x : List ℕ). clause_true v x ≡ true) c cs all),
+)
+
+-- a query of the design, whose models answer it
+record IsAnswered (d : Design) (q : Query) : Type 0 where
+  design : q.design ≡ d
+  some : 0 < q.cycles
+  law : NumberedModelsAnswer Rows q
+
+answered : (d : Design) (q : Query) → IsSound d → IsClaimQuery d q ⊎ IsClauseQuery d q → IsAnswered d q
+answered d q sound (inl asks) =
+    subst (IsAnswered d) (sym asks.is)
+    (record {
+      design = refl;
+      some = omega arith;
+      law =
+          numbered_models Rows (claim_query d asks.claim asks.phase asks.depth asks.inv)
+          (claim_models Rows d asks.claim asks.phase asks.depth asks.inv sound asks.fits (λ i has. All-contains (NamesRegs d) asks.inv i asks.names has));
+    })
+answered d q sound (inr asks) =
+    subst (IsAnswered d) (sym asks.is)
+    (record {
+      design = refl;
+      some = omega arith;
+      law =
+          numbered_models Rows (clause_query d asks.inv asks.clause asks.phase asks.depth)
+          (clause_models Rows d asks.inv asks.clause asks.phase asks.depth sound asks.name (λ i has. All-contains (NamesRegs d) asks.inv i asks.names has));
+    })
+
+-- the cycles that are read back are those of the query
+cycles_of : (d : Design) (q : Query) (problem : Problem) (values : List Bool) (run : List Cycle) (bits : List Bool) → IsAnswered d q → IsProblemFor q problem → RunSoFar d problem.frames values problem.live run bits problem.cycles → AreCyclesOf q run
+cycles_of d q problem values run bits asked is done =
+    record {
+      linked = subst (λ (e : Design). IsLinked e run) (sym asked.design) (run_linked d problem.frames values problem.live run bits problem.cycles (omega (arith, asked.some, is.cycles)) done);
+      resets = λ t c at.
+          subst (λ (e : Design). HasResets e (nat_lt t q.live) c) (sym asked.design)
+          (subst (λ (n : ℕ). HasResets d (nat_lt t n) c) is.live (run_resets d problem.frames values problem.live run bits problem.cycles done t c at));
+      count = done.count ∙ is.cycles;
+    }
+
+-- they answer it, and agree with the model
+pub run_answers : (d : Design) (q : Query) (problem : Problem) (model : Model) (run : List Cycle) (bits : List Bool) → IsSound d → IsClaimQuery d q ⊎ IsClauseQuery d q → IsProblemFor q problem → IsModel problem.formula model → RunSoFar d problem.frames model.values problem.live run bits problem.cycles → IsAnswer q run × AgreesWith d problem.frames (by_number problem.frames (value_in model.values)) run
+run_answers d q problem model run bits sound asks is holds done =
+    let asked = answered d q sound asks in
+    let v = value_in model.values in
+    let free : HasFreeBits q.design problem.frames (by_number problem.frames (value_in model.values)) run =
+    subst (λ (e : Design). HasFreeBits e problem.frames (by_number problem.frames (value_in model.values)) run) (sym asked.design) (run_free d problem.frames model.values problem.live run bits problem.cycles done) in
+    let found = asked.law problem.frames problem.formula.vars problem.formula.clauses v run is.clauses (codes_true v problem.formula.clauses holds.1) (cycles_of d q problem model.values run bits asked is done) free in
+    (found.0, subst (λ (e : Design). AgreesWith e problem.frames (by_number problem.frames (value_in model.values)) run) asked.design found.1)

@@ -1,0 +1,87 @@
+-- The definitions of a gate's net and of the start's nets in a layer.
+use Rattle.std.proofs.Common.{◌≡◌, ℕ, suc, ◌+◌, ◌≤◌, Bool, true, false, not, cond, Some, List, [], ◌∷◌, ◌++◌, length, refl, ap, sym, ◌∙◌, subst, arith, add-one, inl, inr}
+use Rattle.std.specs.Prelude.{filter, flat_map, slice_get}
+use Rattle.net_model.specs.Form.{value, IsOver}
+use Rattle.net_model.specs.Netlist.{IsGateInRange}
+use Rattle.net_model.specs.declared.netlist.Design.{Design}
+use Rattle.net_model.specs.declared.netlist.Gate.{Gate}
+use Rattle.net_model.specs.declared.claims.Claim.{Claim}
+use Rattle.net_model.specs.declared.claims.PinRef.TheVariants.{GateIn}
+use Rattle.net_model.proofs.Members.{In}
+use Rattle.std.proofs.lemmas.List.{append-nil}
+use Rattle.std.proofs.lemmas.List.Concat.{flat_map-append}
+use Rattle.std.proofs.lemmas.List.Elements.{filter-append}
+use Rattle.std.proofs.lemmas.Option.{get_or_from_slice_get}
+use Rattle.query_model.specs.Keys.{key, below}
+use Rattle.query_model.specs.Reads.{read_pin, is_start_net}
+use Rattle.query_model.specs.Defined.{Definition, plain, rails, has_own, layer_gate}
+use Rattle.query_model.specs.declared.keys.Key.{Key}
+use Rattle.query_model.specs.declared.keys.KeyLit.{KeyLit}
+use Rattle.query_model.specs.declared.keys.Coding.TheVariants.{Rows}
+use Rattle.query_model.proofs.Lists.{length-numbered}
+use Rattle.frame_unroll.specs.Reading.{AreTables}
+use Rattle.frame_unroll.specs.declared.read_tables.Tables.{Tables}
+use Rattle.cnf_encode.specs.Late.{gate_reads, plain_gate, rails_gate}
+use Rattle.cnf_encode.proofs.Captures.{plain_equal, rails_equal}
+
+-- as many literals as pins
+pub length-gate_reads : (d : Design) (claim : Claim) (moved : List (List Bool)) (c layer rail k : ℕ) (g : Gate) → length (gate_reads d claim moved c layer rail k g) ≡ length g.ins
+length-gate_reads d claim moved c layer rail k g = length-numbered (λ i n. read_pin d claim moved c layer rail (GateIn k i) n) 0 g.ins
+
+pub gate_few : (d : Design) (g : Gate) (reads : List KeyLit) → IsGateInRange d g → length reads ≡ length g.ins → length reads ≤ 7
+gate_few d g reads range count = omega (arith, range.few)
+
+pub gate_over : (d : Design) (g : Gate) (reads : List KeyLit) → IsGateInRange d g → length reads ≡ length g.ins → IsOver (length reads) g.func
+gate_over d g reads range count = subst (λ n. IsOver n g.func) (sym count) range.func
+
+pub plain_gate_is : (d : Design) (claim : Claim) (moved : List (List Bool)) (c layer k : ℕ) (g : Gate) (reads : List KeyLit) (out : Key) → reads ≡ gate_reads d claim moved c layer 0 k g → out ≡ key c layer 0 g.out → plain Rows (value g.func) reads out ≡ plain_gate d claim moved c layer k g
+plain_gate_is d claim moved c layer k g reads out reads_are out_is =
+    plain_equal (value g.func) (value g.func) reads (gate_reads d claim moved c layer 0 k g) out (key c layer 0 g.out) (λ pins. refl) reads_are out_is
+
+pub rails_gate_is : (d : Design) (claim : Claim) (moved : List (List Bool)) (c layer k : ℕ) (g : Gate) (hs ls : List KeyLit) (high low : Key) → hs ≡ gate_reads d claim moved c layer 0 k g → ls ≡ gate_reads d claim moved c layer 1 k g → high ≡ key c layer 0 g.out → low ≡ key c layer 1 g.out → rails Rows (value g.func) hs ls high low ≡ rails_gate d claim moved c layer k g
+rails_gate_is d claim moved c layer k g hs ls high low hs_are ls_are high_is low_is =
+    rails_equal (value g.func) (value g.func) hs (gate_reads d claim moved c layer 0 k g) ls (gate_reads d claim moved c layer 1 k g) high (key c layer 0 g.out) low (key c layer 1 g.out) (λ pins. refl) hs_are ls_are high_is low_is
+
+-- the definition of a net after l through sets
+by_own : (d : Design) (claim : Claim) (moved : List (List Bool)) (c l k : ℕ) (g : Gate) (own hazard : Bool) → has_own claim moved l g.out ≡ own → claim.hazard ≡ hazard → layer_gate Rows d claim moved c l k g ≡ cond (not own) [] (cond hazard (rails_gate d claim moved c (l + 1) k g ∷ []) (plain_gate d claim moved c (l + 1) k g ∷ []))
+by_own d claim moved c l k g own hazard own_is hazard_is =
+    ap (λ (b : Bool). cond (not b) [] (cond claim.hazard (rails_gate d claim moved c (suc l) k g ∷ []) (plain_gate d claim moved c (suc l) k g ∷ []))) own_is
+    ∙ ap (λ (b : Bool). cond (not own) [] (cond b (rails_gate d claim moved c (suc l) k g ∷ []) (plain_gate d claim moved c (suc l) k g ∷ []))) hazard_is
+    ∙ ap (λ (n : ℕ). cond (not own) [] (cond hazard (rails_gate d claim moved c n k g ∷ []) (plain_gate d claim moved c n k g ∷ []))) (sym (add-one l))
+
+pub layer_rails : (d : Design) (claim : Claim) (moved : List (List Bool)) (c l k : ℕ) (g : Gate) → has_own claim moved l g.out ≡ true → claim.hazard ≡ true → layer_gate Rows d claim moved c l k g ≡ rails_gate d claim moved c (l + 1) k g ∷ []
+layer_rails d claim moved c l k g own hazard = by_own d claim moved c l k g true true own hazard
+
+pub layer_plain : (d : Design) (claim : Claim) (moved : List (List Bool)) (c l k : ℕ) (g : Gate) → has_own claim moved l g.out ≡ true → claim.hazard ≡ false → layer_gate Rows d claim moved c l k g ≡ plain_gate d claim moved c (l + 1) k g ∷ []
+layer_plain d claim moved c l k g own hazard = by_own d claim moved c l k g true false own hazard
+
+-- an item that passes the test
+pub In-filter : {X : Type 0} (p : X → Bool) (x : X) (xs : List X) → In x xs → p x ≡ true → In x (filter p xs)
+In-filter p x [] has e = absurd has
+In-filter p x (y ∷ ys) (inl here) e = by (p y) (ap p here ∙ e)
+  where
+    by : (b : Bool) → b ≡ true → In x (cond b (y ∷ filter p ys) (filter p ys))
+    by true is = inl here
+    by false is = absurd cc
+In-filter p x (y ∷ ys) (inr later) e = by (p y) (In-filter p x ys later e)
+  where
+    by : (b : Bool) → In x (filter p ys) → In x (cond b (y ∷ filter p ys) (filter p ys))
+    by true more = inr more
+    by false more = more
+
+-- the nets of the start, by one more number
+pub starts_more : (p : ℕ → Bool) (f : ℕ → List Definition) (n : ℕ) → p n ≡ true → flat_map f (filter p (below (n + 1))) ≡ flat_map f (filter p (below n)) ++ f n
+starts_more p f n is =
+    ap (λ (ns : List ℕ). flat_map f (filter p ns)) (ap below (add-one n)) ∙ ap (flat_map f) (filter-append p (below n) (n ∷ []))
+    ∙ ap (λ (b : Bool). flat_map f (filter p (below n) ++ cond b (n ∷ []) [])) is
+    ∙ flat_map-append f (filter p (below n)) (n ∷ []) ∙ ap (λ (ds : List Definition). flat_map f (filter p (below n)) ++ ds) (append-nil (f n))
+
+pub starts_skip : (p : ℕ → Bool) (f : ℕ → List Definition) (n : ℕ) → p n ≡ false → flat_map f (filter p (below (n + 1))) ≡ flat_map f (filter p (below n))
+starts_skip p f n is =
+    ap (λ (ns : List ℕ). flat_map f (filter p ns)) (ap below (add-one n)) ∙ ap (flat_map f) (filter-append p (below n) (n ∷ []))
+    ∙ ap (λ (b : Bool). flat_map f (filter p (below n) ++ cond b (n ∷ []) [])) is
+    ∙ ap (flat_map f) (append-nil (filter p (below n)))
+
+-- what the marks say of a net
+pub start_is : (d : Design) (claim : Claim) (tables : Tables) (n : ℕ) (b : Bool) → AreTables d claim tables → slice_get tables.starts n ≡ Some b → is_start_net d claim n ≡ b
+start_is d claim tables n b are at = sym (are.starts n) ∙ get_or_from_slice_get tables.starts n b false at

@@ -1,0 +1,76 @@
+-- The problems of the queries about a claim and about a clause.
+use Rattle.std.proofs.Common.{◌≡◌, ℕ, ◌^◌, ◌<◌, Bool, List, [], length, ap, sym, ◌∙◌, subst}
+use Rattle.std.specs.Prelude.{All}
+use Rattle.std.proofs.lemmas.List.Elements.{All-contains}
+use Rattle.net_model.specs.Netlist.{IsSound}
+use Rattle.net_model.specs.Fits.{Fits}
+use Rattle.net_model.specs.declared.netlist.Design.{Design}
+use Rattle.net_model.specs.declared.cycles.Cycle.{Cycle}
+use Rattle.net_model.specs.declared.claims.Claim.{Claim}
+use Rattle.net_model.specs.declared.invariants.InvClause.{InvClause}
+use Rattle.net_model.specs.declared.queries.Phase.{Phase}
+use Rattle.query_model.specs.Queries.{Query, Question, IsAnswer, claim_query, clause_query}
+use Rattle.query_model.specs.Defined.{Definition}
+use Rattle.query_model.specs.Formula.{definitions, asked_clauses, AreMovedFor, AreNeeded}
+use Rattle.query_model.specs.Laws.{NamesRegs, AnswersHaveNumberedModels}
+use Rattle.query_model.proofs.Claims.{claim_answers, clause_answers}
+use Rattle.query_model.proofs.Problems.{numbered_answers}
+use Rattle.query_model.specs.declared.keys.Key.{Key}
+use Rattle.query_model.specs.declared.keys.KeyLit.{KeyLit}
+use Rattle.query_model.specs.declared.keys.Coding.TheVariants.{Rows}
+use Rattle.proof_log.specs.Formulas.{IsModel}
+use Rattle.proof_log.specs.declared.models.Model.{Model}
+use Rattle.cnf_encode.specs.Coded.{Adds}
+use Rattle.cnf_encode.specs.Listed.{Lists}
+use Rattle.cnf_encode.specs.declared.problems.Problem.{Problem}
+use Rattle.cnf_encode.proofs.Completing.{model_listed}
+use Rattle.cnf_encode.proofs.Made.{IsMade, normals_made, made_exact, made_normal}
+
+-- a query of some cycles, whatever it keeps
+abbrev pub asking : Design → ℕ → ℕ → Question → Query
+asking d live cycles question = record { design = d; live = live; cycles = cycles; kept = []; kept_below = 0; question = question }
+
+-- what a problem is made of
+pub record IsOf (problem : Problem) (keys : List Key) (live cycles : ℕ) (clauses : List (List ℕ)) : Type 0 where
+  pub frames : problem.frames ≡ keys
+  pub vars : problem.formula.vars ≡ length keys
+  pub clauses_are : problem.formula.clauses ≡ clauses
+  pub live_is : problem.live ≡ live
+  pub cycles_are : problem.cycles ≡ cycles
+  pub few : length keys < 2 ^ 31
+
+-- a query with as many cycles, whose definitions and whose asked clauses were added
+pub made : (q : Query) (moved : List (List Bool)) (problem : Problem) (keys : List Key) (asked : List (List KeyLit)) (none defined clauses : List (List ℕ)) → AreMovedFor q.design q.question moved → IsOf problem keys q.live q.cycles clauses → AreNeeded (definitions Rows q moved) asked keys → asked ≡ asked_clauses q → none ≡ [] → Lists keys (definitions Rows q moved) none defined → Adds keys asked defined clauses → IsMade q moved problem
+made q moved problem keys asked none defined clauses are_moved of needed asked_are empty lists adds =
+    let defs : List Definition = definitions Rows q moved in
+    let needed_are : AreNeeded defs (asked_clauses q) keys = subst (λ (cs : List (List KeyLit)). AreNeeded defs cs keys) asked_are needed in
+    let lists_are : Lists keys defs [] defined = subst (λ (old : List (List ℕ)). Lists keys defs old defined) empty lists in
+    let adds_are : Adds keys (asked_clauses q) defined clauses = subst (λ (cs : List (List KeyLit)). Adds keys cs defined clauses) asked_are adds in
+    let back : keys ≡ problem.frames = sym of.frames in
+    record {
+      are_moved = are_moved;
+      are_needed = subst (λ (ks : List Key). AreNeeded defs (asked_clauses q) ks) back needed_are;
+      live = of.live_is;
+      cycles = of.cycles_are;
+      vars = of.vars ∙ ap length back;
+      few = subst (λ (ks : List Key). length ks < 2 ^ 31) back of.few;
+      normals = normals_made q moved problem.frames defined problem.formula.clauses (subst (λ (ks : List Key). Lists ks defs [] defined) back lists_are)
+          (subst (λ (new : List (List ℕ)). Adds problem.frames (asked_clauses q) defined new) (sym of.clauses_are)
+          (subst (λ (ks : List Key). Adds ks (asked_clauses q) defined clauses) back adds_are));
+    }
+
+-- each answer gives a model
+complete : (q : Query) (moved : List (List Bool)) (problem : Problem) → AnswersHaveNumberedModels Rows q → IsMade q moved problem → (run : List Cycle) → IsAnswer q run → (m : Model) × IsModel problem.formula m
+complete q moved problem law is run answer =
+    let found = law problem.frames problem.formula.vars problem.formula.clauses run (made_exact q moved problem is).clauses answer in
+    model_listed problem.formula found.0 (made_normal q moved problem is) found.1
+
+pub claim_complete : (d : Design) (claim : Claim) (phase : Phase) (depth : ℕ) (inv : List InvClause) (moved : List (List Bool)) (problem : Problem) → IsSound d → Fits d claim → All (NamesRegs d) inv → IsMade (claim_query d claim phase depth inv) moved problem → (run : List Cycle) → IsAnswer (claim_query d claim phase depth inv) run → (m : Model) × IsModel problem.formula m
+claim_complete d claim phase depth inv moved problem sound fits names is =
+    complete (claim_query d claim phase depth inv) moved problem
+    (numbered_answers Rows (claim_query d claim phase depth inv) (claim_answers Rows d claim phase depth inv sound fits (λ i has. All-contains (NamesRegs d) inv i names has))) is
+
+pub clause_complete : (d : Design) (inv : List InvClause) (clause : InvClause) (phase : Phase) (depth : ℕ) (moved : List (List Bool)) (problem : Problem) → IsSound d → NamesRegs d clause → All (NamesRegs d) inv → IsMade (clause_query d inv clause phase depth) moved problem → (run : List Cycle) → IsAnswer (clause_query d inv clause phase depth) run → (m : Model) × IsModel problem.formula m
+clause_complete d inv clause phase depth moved problem sound name names is =
+    complete (clause_query d inv clause phase depth) moved problem
+    (numbered_answers Rows (clause_query d inv clause phase depth) (clause_answers Rows d inv clause phase depth sound name (λ i has. All-contains (NamesRegs d) inv i names has))) is

@@ -1,0 +1,8 @@
+pub mod Problems
+pub mod FreeBits
+pub mod Runs
+pub mod Coded
+pub mod Chosen
+pub mod Listed
+pub mod Late
+pub mod Points

@@ -1,0 +1,26 @@
+-- The clauses of definitions, where one of their keys is needed.
+use Rattle.std.specs.Prelude.{◌≡◌, ℕ, Bool, true, List, [], ◌++◌, flat_map, Contains}
+use Rattle.std.specs.List.{list_any}
+use Rattle.net_model.specs.declared.netlist.Design.{Design}
+use Rattle.net_model.specs.declared.claims.Claim.{Claim}
+use Rattle.query_model.specs.Defined.{Definition, base_definitions, claim_definitions}
+use Rattle.query_model.specs.declared.keys.Coding.TheVariants.{Rows}
+use Rattle.query_model.specs.Formula.{has_key, listed}
+use Rattle.query_model.specs.declared.keys.Key.{Key}
+use Rattle.cnf_encode.specs.Coded.{HasKeys, Adds}
+
+-- each key that a definition of one of the keys mentions is one of the keys
+pub record IsClosed (keys : List Key) (defs : List Definition) : Type 0 where
+  pub mentioned : (def : Definition) → Contains defs def → list_any (has_key keys) def.outs ≡ true → HasKeys keys def.clauses
+
+-- the clauses of these definitions were added, of those alone that define one of the keys
+pub record Lists (keys : List Key) (defs : List Definition) (old new : List (List ℕ)) : Type 0 where
+  pub adds : Adds keys (flat_map (listed keys) defs) old new
+
+-- the definitions of a cycle in a query about a claim
+abbrev pub claim_cycle : Design → Claim → List (List Bool) → ℕ → ℕ → List Definition
+claim_cycle d claim moved live c = base_definitions Rows d live c ++ claim_definitions Rows d claim moved c
+
+-- and in one about a clause
+abbrev pub clause_cycle : Design → ℕ → ℕ → List Definition
+clause_cycle d live c = base_definitions Rows d live c ++ []

@@ -1,0 +1,245 @@
+//! The definitions of the nets of one cycle, and of the register bits of the cycle after.
+ghost use Rattle.std.specs.Prelude.{◌≡◌, ◌<◌, ◌^◌, [], ◌∷◌, ◌++◌, not, map, flat_map, length, nat_lt, slice_get, slice_index, Some, OnOk};
+ghost use Rattle.net_model.specs.Netlist.{IsSound, IsGateInRange, IsRegInRange};
+ghost use Rattle.query_model.specs.Keys.{key, below};
+ghost use Rattle.query_model.specs.Defined.{numbered, unit_if, set_in, input_definition, gate_definition, bit_definition, base_definitions};
+ghost use Rattle.query_model.specs.declared.keys.Coding.TheVariants.{Rows};
+ghost use Rattle.frame_unroll.specs.Drivers.{AreDrivers};
+ghost use Rattle.cnf_encode.specs.Listed.{IsClosed, Lists};
+
+use crate::needed::{is_needed, list_unit};
+use crate::tables::push_plain;
+use frame_unroll::{Driver, Frames, base_reads, bit_lit, push_own};
+use net_model::{Design, Fixed, Gate, Reg, capture_func};
+use proof_log::Clause;
+use query_model::Key;
+use sdcv_base::Seq;
+use std::alloc::{AllocError, Global};
+
+/// The value of a setting for an input. Of several the first counts.
+fn set_in(settings: &Seq<Fixed>, input: usize) -> Option<bool>
+    ensures { result ≡ set_in settings.now input }
+{
+    for setting in settings.as_slice() {
+        if setting.input == input {
+            return Some(setting.value);
+        }
+    }
+    None
+}
+
+/// That a key has the value of an input's setting, or where `flip` its complement, if there is one.
+fn list_setting(
+    alloc: Global,
+    frames: &Frames,
+    setting: Option<bool>,
+    flip: bool,
+    out: Key,
+    clauses: &mut Seq<Clause>,
+) -> Result<(), AllocError>
+    requires closed { IsClosed frames.now (unit_if setting flip out) }
+    ensures { OnOk result (Lists frames.now (unit_if setting flip out) clauses.old clauses.new) }
+{
+    match setting {
+        None => Ok(()),
+        Some(value) => list_unit(alloc, frames, value != flip, out, clauses),
+    }
+}
+
+/// The definition of an input that is fixed or a reset.
+fn list_input(
+    alloc: Global,
+    frames: &Frames,
+    design: &Design,
+    live: usize,
+    cycle: usize,
+    input: usize,
+    clauses: &mut Seq<Clause>,
+) -> Result<(), AllocError>
+    requires sound { IsSound design.now }
+    requires input { input < length design.now.inputs }
+    requires closed { IsClosed frames.now (input_definition design.now live cycle input) }
+    ensures { OnOk result (Lists frames.now (input_definition design.now live cycle input) clauses.old clauses.new) }
+{
+    let out = Key {
+        cycle,
+        layer: 0,
+        rail: 0,
+        point: design.inputs.at(input),
+    };
+    list_setting(
+        alloc,
+        frames,
+        set_in(&design.fixed, input),
+        false,
+        out,
+        clauses,
+    )?;
+    list_setting(
+        alloc,
+        frames,
+        set_in(&design.resets, input),
+        cycle >= live,
+        out,
+        clauses,
+    )?;
+    Ok(())
+}
+
+fn list_inputs(
+    alloc: Global,
+    frames: &Frames,
+    design: &Design,
+    live: usize,
+    cycle: usize,
+    clauses: &mut Seq<Clause>,
+) -> Result<(), AllocError>
+    requires sound { IsSound design.now }
+    requires closed { IsClosed frames.now (flat_map (input_definition design.now live cycle) (below (length design.now.inputs))) }
+    ensures { OnOk result (Lists frames.now (flat_map (input_definition design.now live cycle) (below (length design.now.inputs))) clauses.old clauses.new) }
+{
+    for input in 0..design.inputs.len() {
+        list_input(alloc, frames, design, live, cycle, input, clauses)?;
+    }
+    Ok(())
+}
+
+/// The definition of the net that a gate drives.
+fn list_gate(
+    alloc: Global,
+    frames: &Frames,
+    design: &Design,
+    drivers: &Seq<Driver>,
+    cycle: usize,
+    gate: &Gate,
+    clauses: &mut Seq<Clause>,
+) -> Result<(), AllocError>
+    requires sound { IsSound design.now }
+    requires drivers { AreDrivers design.now drivers.now }
+    requires gate { IsGateInRange design.now gate.now }
+    requires closed { IsClosed frames.now (gate_definition Rows design.now cycle gate.now ∷ []) }
+    ensures { OnOk result (Lists frames.now (gate_definition Rows design.now cycle gate.now ∷ []) clauses.old clauses.new) }
+{
+    let out = Key {
+        cycle,
+        layer: 0,
+        rail: 0,
+        point: gate.out,
+    };
+    if !is_needed(frames, &out) {
+        return Ok(());
+    }
+    let reads = base_reads(alloc, design, drivers, cycle, &gate.ins)?;
+    push_plain(alloc, frames, &reads, out, &gate.func, clauses)?;
+    Ok(())
+}
+
+fn list_gates(
+    alloc: Global,
+    frames: &Frames,
+    design: &Design,
+    drivers: &Seq<Driver>,
+    cycle: usize,
+    clauses: &mut Seq<Clause>,
+) -> Result<(), AllocError>
+    requires sound { IsSound design.now }
+    requires drivers { AreDrivers design.now drivers.now }
+    requires closed { IsClosed frames.now (map (gate_definition Rows design.now cycle) design.now.gates) }
+    ensures { OnOk result (Lists frames.now (map (gate_definition Rows design.now cycle) design.now.gates) clauses.old clauses.new) }
+{
+    for k in 0..design.gates.len() {
+        list_gate(
+            alloc,
+            frames,
+            design,
+            drivers,
+            cycle,
+            design.gates.item(k),
+            clauses,
+        )?;
+    }
+    Ok(())
+}
+
+/// The definition of a register's bit in the cycle after.
+fn list_bit(
+    alloc: Global,
+    frames: &Frames,
+    design: &Design,
+    drivers: &Seq<Driver>,
+    cycle: usize,
+    r: usize,
+    reg: &Reg,
+    clauses: &mut Seq<Clause>,
+) -> Result<(), AllocError>
+    requires sound { IsSound design.now }
+    requires drivers { AreDrivers design.now drivers.now }
+    requires cycle { cycle < 2 ^ 32 }
+    requires place { r < length design.now.regs }
+    requires reg { IsRegInRange design.now reg.now }
+    requires closed { IsClosed frames.now (bit_definition Rows design.now cycle r reg.now ∷ []) }
+    ensures { OnOk result (Lists frames.now (bit_definition Rows design.now cycle r reg.now ∷ []) clauses.old clauses.new) }
+{
+    let out = bit_lit(design, cycle + 1, r).key;
+    if !is_needed(frames, &out) {
+        return Ok(());
+    }
+    let mut reads = base_reads(alloc, design, drivers, cycle, &reg.ins)?;
+    push_own(&mut reads, reg, bit_lit(design, cycle, r))?;
+    let func = capture_func(alloc, reg)?;
+    push_plain(alloc, frames, &reads, out, &func, clauses)?;
+    Ok(())
+}
+
+fn list_bits(
+    alloc: Global,
+    frames: &Frames,
+    design: &Design,
+    drivers: &Seq<Driver>,
+    cycle: usize,
+    clauses: &mut Seq<Clause>,
+) -> Result<(), AllocError>
+    requires sound { IsSound design.now }
+    requires drivers { AreDrivers design.now drivers.now }
+    requires cycle { cycle < 2 ^ 32 }
+    requires closed { IsClosed frames.now (numbered (bit_definition Rows design.now cycle) 0 design.now.regs) }
+    ensures { OnOk result (Lists frames.now (numbered (bit_definition Rows design.now cycle) 0 design.now.regs) clauses.old clauses.new) }
+{
+    for r in 0..design.regs.len() {
+        list_bit(
+            alloc,
+            frames,
+            design,
+            drivers,
+            cycle,
+            r,
+            design.regs.item(r),
+            clauses,
+        )?;
+    }
+    Ok(())
+}
+
+/// The definitions of a cycle of which no claim asks: of inputs that have a setting, of nets, and of bits.
+///
+/// Resets are active in the cycles below `live`.
+pub fn list_cycle(
+    alloc: Global,
+    frames: &Frames,
+    design: &Design,
+    drivers: &Seq<Driver>,
+    live: usize,
+    cycle: usize,
+    clauses: &mut Seq<Clause>,
+) -> Result<(), AllocError>
+    requires sound { IsSound design.now }
+    requires drivers { AreDrivers design.now drivers.now }
+    requires cycle { cycle < 2 ^ 32 }
+    requires closed { IsClosed frames.now (base_definitions Rows design.now live cycle) }
+    ensures { OnOk result (Lists frames.now (base_definitions Rows design.now live cycle) clauses.old clauses.new) }
+{
+    list_inputs(alloc, frames, design, live, cycle, clauses)?;
+    list_gates(alloc, frames, design, drivers, cycle, clauses)?;
+    list_bits(alloc, frames, design, drivers, cycle, clauses)?;
+    Ok(())
+}

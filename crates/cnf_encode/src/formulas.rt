@@ -1,0 +1,156 @@
+//! The formulas of queries.
+ghost use Rattle.std.specs.Prelude.{◌≡◌, ◌≤◌, ◌<◌, ◌^◌, length, All, List, Some, slice_get, IfOk, OnOk};
+ghost use Rattle.net_model.specs.Netlist.{IsSound};
+ghost use Rattle.net_model.specs.Fits.{Fits};
+ghost use Rattle.net_model.specs.declared.cycles.Cycle.{Cycle};
+ghost use Rattle.net_model.specs.declared.invariants.InvClause.{InvClause};
+ghost use Rattle.query_model.specs.Queries.{IsAnswer, claim_query, clause_query};
+ghost use Rattle.query_model.specs.Laws.{NamesRegs};
+ghost use Rattle.proof_log.specs.Formulas.{IsFormula, IsModel};
+ghost use Rattle.proof_log.specs.declared.models.Model.{Model};
+ghost use Rattle.cnf_encode.specs.Coded.{HasKeys, Adds};
+ghost use Rattle.cnf_encode.specs.Problems.{IsProblemFor};
+
+use crate::claims::{list_claim_cycles, list_clause_cycles};
+use crate::clauses::push_clause;
+use crate::problems::Problem;
+use frame_unroll::{
+    Frames, Span, Tables, claim_asked, claim_span, clause_asked, clause_span, net_drivers,
+};
+use net_model::{Claim, Design, InvClause, Phase};
+use proof_log::{Clause, Formula};
+use query_model::KeyLit;
+use sdcv_base::Seq;
+use std::alloc::{AllocError, Global};
+
+/// Adds the clauses that a query asks.
+fn push_asked(
+    alloc: Global,
+    frames: &Frames,
+    asked: &Seq<Seq<KeyLit>>,
+    clauses: &mut Seq<Clause>,
+) -> Result<(), AllocError>
+    requires keys { HasKeys frames.now asked.now }
+    ensures { OnOk result (Adds frames.now asked.now clauses.old clauses.new) }
+{
+    for k in 0..asked.len() {
+        push_clause(alloc, frames, asked.item(k).as_slice(), clauses)?;
+    }
+    Ok(())
+}
+
+/// The problem of these clauses over the keys.
+fn problem_of(frames: Frames, span: Span, clauses: Seq<Clause>) -> Problem
+    ensures frames { result.frames ≡ frames }
+    ensures vars { result.formula.vars ≡ length frames }
+    ensures clauses { result.formula.clauses ≡ clauses }
+    ensures live { result.live ≡ span.live }
+    ensures cycles { result.cycles ≡ span.cycles }
+    ensures few { length frames < 2 ^ 31 }
+{
+    let vars = frames.vars();
+    Problem {
+        frames,
+        live: span.live,
+        cycles: span.cycles,
+        formula: Formula { vars, clauses },
+    }
+}
+
+/// The query whether a claim is violated at a depth, as a formula.
+///
+/// In the base phase the runs from reset are asked about, in which the start toggles `depth` cycles after the first live
+/// cycle's successor; in the step phase the stretches in which the clauses `inv` hold in each cycle and the claim is
+/// violated at no toggle before. Each model is such a run, and each such run gives a model.
+pub fn formula(
+    alloc: Global,
+    design: &Design,
+    claim: &Claim,
+    phase: Phase,
+    depth: usize,
+    inv: &[InvClause],
+) -> Result<Problem, AllocError>
+    requires sound { IsSound design.now }
+    requires fits { Fits design.now claim.now }
+    requires names { All (NamesRegs design.now) inv.now }
+    requires few { depth ≤ 64 }
+    ensures exact { IfOk result (IsProblemFor (claim_query design.now claim.now phase depth inv.now)) }
+    ensures normal { IfOk result (λ p. IsFormula p.formula) }
+    ensures complete { IfOk result (λ p. (run : List Cycle) → IsAnswer (claim_query design.now claim.now phase depth inv.now) run → (m : Model) × IsModel p.formula m) }
+{
+    let span = claim_span(design, claim, phase, depth);
+    let tables = Tables::of(alloc, design, claim)?;
+    let asked = claim_asked(alloc, design, claim, phase, depth, inv)?;
+    let frames = Frames::by_claim(alloc, design, claim, &tables, span.cycles, &asked)?;
+    let mut clauses = Seq::new(alloc);
+    list_claim_cycles(
+        alloc,
+        &frames,
+        design,
+        claim,
+        &tables,
+        span.live,
+        span.cycles,
+        &mut clauses,
+    )?;
+    push_asked(alloc, &frames, &asked, &mut clauses)?;
+    Ok(problem_of(frames, span, clauses))
+}
+
+/// The query whether a clause over register bits fails at a depth, as a formula.
+///
+/// In the base phase the runs from reset are asked about; in the step phase the stretches in which the clauses `inv` hold
+/// in each cycle before.
+fn clause_formula(
+    alloc: Global,
+    design: &Design,
+    inv: &[InvClause],
+    clause: &InvClause,
+    phase: Phase,
+    depth: usize,
+) -> Result<Problem, AllocError>
+    requires sound { IsSound design.now }
+    requires name { NamesRegs design.now clause.now }
+    requires names { All (NamesRegs design.now) inv.now }
+    requires few { depth ≤ 64 }
+    ensures exact { IfOk result (IsProblemFor (clause_query design.now inv.now clause.now phase depth)) }
+    ensures normal { IfOk result (λ p. IsFormula p.formula) }
+    ensures complete { IfOk result (λ p. (run : List Cycle) → IsAnswer (clause_query design.now inv.now clause.now phase depth) run → (m : Model) × IsModel p.formula m) }
+{
+    let span = clause_span(design, phase, depth);
+    let drivers = net_drivers(alloc, design)?;
+    let asked = clause_asked(alloc, design, inv, clause, phase, depth)?;
+    let frames = Frames::by_clause(alloc, design, &drivers, span.cycles, &asked)?;
+    let mut clauses = Seq::new(alloc);
+    list_clause_cycles(
+        alloc,
+        &frames,
+        design,
+        &drivers,
+        span.live,
+        span.cycles,
+        &mut clauses,
+    )?;
+    push_asked(alloc, &frames, &asked, &mut clauses)?;
+    Ok(problem_of(frames, span, clauses))
+}
+
+/// The query whether the clause at a place of `inv` fails at a depth, as a formula.
+pub fn inv_formula(
+    alloc: Global,
+    design: &Design,
+    inv: &[InvClause],
+    place: usize,
+    phase: Phase,
+    depth: usize,
+) -> Result<Problem, AllocError>
+    requires sound { IsSound design.now }
+    requires names { All (NamesRegs design.now) inv.now }
+    requires place { place < length inv.now }
+    requires few { depth ≤ 64 }
+    ensures exact { IfOk result (λ p. (clause : InvClause) → slice_get inv.now place ≡ Some clause → IsProblemFor (clause_query design.now inv.now clause phase depth) p) }
+    ensures normal { IfOk result (λ p. IsFormula p.formula) }
+    ensures complete { IfOk result (λ p. (clause : InvClause) (run : List Cycle) → slice_get inv.now place ≡ Some clause → IsAnswer (clause_query design.now inv.now clause phase depth) run → (m : Model) × IsModel p.formula m) }
+{
+    clause_formula(alloc, design, inv, &inv[place], phase, depth)
+}

@@ -1,0 +1,29 @@
+//! Queries of an induction as clauses, and runs read back from models.
+//!
+//! Which clauses a query is, and that its models are exactly its answers, is said in query_model's `specs/`.
+#![tactic(auto)]
+
+#[cfg(test)]
+mod cases;
+mod chosen_lits;
+mod claims;
+mod clauses;
+mod codes;
+mod cycles;
+mod ends;
+mod formulas;
+mod free_bits;
+mod layers;
+mod needed;
+#[cfg(test)]
+mod plain_answers;
+mod points;
+mod problems;
+mod runs;
+mod tables;
+#[cfg(test)]
+mod tests;
+
+pub use formulas::{formula, inv_formula};
+pub use problems::Problem;
+pub use runs::read_back;
