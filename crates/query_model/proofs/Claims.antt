@@ -70,7 +70,7 @@ short Base n = omega arith
 short Step n = omega arith
 
 -- the free bits tell what is free
-is_free : (coding : Coding) (q : Query) (moved : List (List Bool)) (keys : List Key) (v : Key → Bool) (run : List Cycle) → AreNeeded (definitions coding q moved) (asked_clauses q) keys → AreCyclesOf q run → HasFreeBits q.design keys v run → IsFree (IsNeeded (definitions coding q moved) (asked_clauses q)) v q.design run
+pub is_free : (coding : Coding) (q : Query) (moved : List (List Bool)) (keys : List Key) (v : Key → Bool) (run : List Cycle) → AreNeeded (definitions coding q moved) (asked_clauses q) keys → AreCyclesOf q run → HasFreeBits q.design keys v run → IsFree (IsNeeded (definitions coding q moved) (asked_clauses q)) v q.design run
 is_free coding q moved keys v run needed are free =
     let first = get_within run 0 are.linked.some in
     record {
@@ -168,7 +168,7 @@ are_hazy d claim moved run sound fits linked are hazard t c at =
       layers = (hazy_rows d claim run sound fits linked).1 t c at;
     }
 
-asked_of : (d : Design) (claim : Claim) (run : List Cycle) → IsSound d → Fits d claim → IsLinked d run → IsAskedOf d claim run
+pub asked_of : (d : Design) (claim : Claim) (run : List Cycle) → IsSound d → Fits d claim → IsLinked d run → IsAskedOf d claim run
 asked_of d claim run sound fits linked = record { sound = sound; linked = linked; start_in = fits.start; end_in = fits.end_ }
 
 -- each model of a claim's query is an answer

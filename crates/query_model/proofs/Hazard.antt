@@ -8,21 +8,12 @@ use Rattle.net_model.specs.declared.terns.Tern.TheVariants.{Zero, One, Unknown}
 use Rattle.query_model.specs.Keys.{lit_value, opposite, is_true, AllTrue}
 use Rattle.query_model.specs.Tables.{Cube, on_list, barred, escapes, may_be, may_clause, must_clause, hazard_clauses}
 use Rattle.query_model.specs.Defined.{lies_in, tern_within}
+use Rattle.query_model.specs.Laws.{may_one, may_zero}
 use Rattle.net_model.proofs.Members.{In, In-left, In-right, In-map}
 use Rattle.query_model.proofs.Members.{true_at}
 use Rattle.query_model.proofs.Tabled.{Inside, Covers, value_opposite, value_push}
 use Rattle.query_model.specs.declared.keys.Key.{Key}
 use Rattle.query_model.specs.declared.keys.KeyLit.{KeyLit}
-
-abbrev pub may_one : Tern → Bool
-may_one Zero = false
-may_one One = true
-may_one Unknown = true
-
-abbrev pub may_zero : Tern → Bool
-may_zero Zero = true
-may_zero One = false
-may_zero Unknown = true
 
 -- the rails of places tell their values
 abbrev pub RailsTell : (Key → Type 0) → (Key → Bool) → List KeyLit → List KeyLit → List Tern → Type 0

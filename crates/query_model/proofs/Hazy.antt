@@ -1,6 +1,6 @@
 -- What the rails of the layers tell, where hazards count.
-use Rattle.std.proofs.Common.{◌≡◌, ℕ, zero, suc, ◌+◌, ◌<◌, ◌≤◌, Bool, true, false, not, cond, List, [], map, length, refl, ap, sym, ◌∙◌, arith, subst, add-one}
-use Rattle.std.specs.Prelude.{slice_get, slice_index, slice_index_or, ◌&&◌}
+use Rattle.std.proofs.Common.{◌≡◌, ℕ, zero, suc, ◌<◌, ◌≤◌, Bool, true, false, not, cond, List, [], map, length, refl, ap, sym, ◌∙◌, arith, subst, add-one}
+use Rattle.std.specs.Prelude.{slice_index, slice_index_or, ◌&&◌}
 use Rattle.net_model.specs.FormLaws.{IsOver-weaker}
 use Rattle.net_model.specs.Netlist.{IsSound, IsGateInRange}
 use Rattle.net_model.specs.Fits.{IsStartIn, IsEndIn}
@@ -19,13 +19,13 @@ use Rattle.net_model.specs.declared.claims.Claim.{Claim}
 use Rattle.net_model.specs.declared.claims.PinRef.{PinRef}
 use Rattle.net_model.specs.declared.claims.PinRef.TheVariants.{Net}
 use Rattle.net_model.specs.declared.terns.Tern.{Tern}
-use Rattle.net_model.specs.declared.terns.Tern.TheVariants.{Zero, One, Unknown}
+use Rattle.net_model.specs.declared.terns.Tern.TheVariants.{Zero, Unknown}
 use Rattle.query_model.specs.Keys.{key, lit, opposite, lit_value}
 use Rattle.query_model.specs.Reads.{read, read_base, read_late, read_pin, is_start_net, AreMoved}
 use Rattle.query_model.proofs.Tabled.{value_opposite}
 use Rattle.query_model.proofs.Told.{ReadTells}
 use Rattle.query_model.proofs.Late.{IsUnmoved, IsUnmovedPin, moved_still, false_true}
-use Rattle.query_model.proofs.Hazard.{may_one, may_zero}
+use Rattle.query_model.specs.Laws.{may_one, may_zero}
 use Rattle.query_model.proofs.RailValues.{RailTells}
 use Rattle.query_model.specs.declared.keys.Key.{Key}
 use Rattle.query_model.specs.declared.keys.KeyLit.{KeyLit}
@@ -89,7 +89,7 @@ OwnMay kind v d claim moved t rows l n =
     net_at false moved l n ≡ true → is_in (Net n) (held_set claim.through l) ≡ false → RailTells kind v (lit true (key t (suc l) 0 n)) (lit true (key t (suc l) 1 n)) (net_at Zero rows l n)
 
 -- where hazards count, a moved net that isn't held is read by its own keys
-read_own : (d : Design) (claim : Claim) (t l rail n : ℕ) → claim.hazard ≡ true → read_late d claim t l rail n ≡ lit true (key t (suc l) rail n)
+pub read_own : (d : Design) (claim : Claim) (t l rail n : ℕ) → claim.hazard ≡ true → read_late d claim t l rail n ≡ lit true (key t (suc l) rail n)
 read_own d claim t zero rail n mode = by_mode (is_start_net d claim n) claim.hazard mode
   where
     by_mode : (s h : Bool) → h ≡ true → cond (s && not h) (opposite (read_base d t n)) (lit true (key t 1 rail n)) ≡ lit true (key t 1 rail n)

@@ -1,12 +1,12 @@
 -- Claims where hazards count: the layers in which the start is unknown.
-use Rattle.std.proofs.Common.{◌≡◌, ◌≢◌, ℕ, zero, suc, ◌+◌, ◌<◌, ◌≤◌, Bool, true, false, cond, not, List, [], ◌∷◌, length, Option, Some, None, refl, ap, sym, ◌∙◌, arith, inl, inr, ◌⊎◌, subst, add-one}
+use Rattle.std.proofs.Common.{◌≡◌, ℕ, ◌+◌, ◌<◌, ◌≤◌, Bool, true, false, cond, not, List, [], ◌∷◌, length, Option, Some, None, refl, ap, sym, ◌∙◌, arith, inl, inr, subst, add-one}
 use Rattle.std.specs.Prelude.{slice_get, if◌then◌else◌, nat_lt, ◌&&◌, ◌||◌}
 use Rattle.std.proofs.lemmas.Bool.{cond-true, cond-false, lt-ltb, le-ltb}
 use Rattle.std.proofs.lemmas.Option.{slice_get_within}
-use Rattle.net_model.specs.Cycles.{bit_at, capture}
+use Rattle.net_model.specs.Cycles.{capture}
 use Rattle.net_model.specs.Layers.{net_at}
 use Rattle.net_model.specs.Ternary.{tern_capture_over, IsTernaryCapture}
-use Rattle.net_model.specs.Judge.{start_bit, judged_count, Changes, MayGlitch, IsBadHazard, IsBadFor}
+use Rattle.net_model.specs.Judge.{start_bit, Changes, MayGlitch, IsBadHazard, IsBadFor}
 use Rattle.net_model.proofs.TernaryOnce.{ternary_once}
 use Rattle.net_model.specs.declared.netlist.Design.{Design}
 use Rattle.net_model.specs.declared.cycles.Cycle.{Cycle}
@@ -17,8 +17,8 @@ use Rattle.net_model.specs.declared.claims.Kind.TheVariants.{False, Multi}
 use Rattle.net_model.specs.declared.terns.Tern.{Tern}
 use Rattle.net_model.specs.declared.terns.Tern.TheVariants.{Zero, One, Unknown}
 use Rattle.query_model.specs.Keys.{key, lit, opposite, lit_value, AllTrue}
-use Rattle.query_model.specs.Defined.{Definition, both, exclusive, extra_definitions, differ_definition, differ_key, change_key, late_key, late_lit, capture_lit}
-use Rattle.query_model.specs.Formula.{alternatives_at, plain_alternatives, hazard_alternatives}
+use Rattle.query_model.specs.Defined.{Definition, both, extra_definitions, differ_definition, differ_key, change_key, late_lit}
+use Rattle.query_model.specs.Formula.{alternatives_at, hazard_alternatives}
 use Rattle.net_model.proofs.Members.{In}
 use Rattle.query_model.proofs.Tabled.{value_opposite}
 use Rattle.query_model.proofs.Told.{LitTells}
@@ -26,10 +26,10 @@ use Rattle.query_model.proofs.Runs.{now_bits, Told, Forces, AnyKey}
 use Rattle.query_model.proofs.Meaning.{meaning_says}
 use Rattle.query_model.proofs.Extras.{ExtrasTold}
 use Rattle.query_model.proofs.Decided.{xor_ne, ne_xor, AllHold, Moment, KindOfAll, IsDecided}
-use Rattle.query_model.proofs.Hazard.{may_one, may_zero}
+use Rattle.query_model.specs.Laws.{may_one, may_zero, rail_value}
 use Rattle.query_model.proofs.Hazy.{IsHazy, LayerMay}
 use Rattle.query_model.proofs.HazyGates.{IsCoding, SaysRails, layers_may, layers_may_said}
-use Rattle.query_model.proofs.HazyEnds.{EndMay, end_may, end_may_said, SaysEnd, layer_hazy_true, end_hazy_true}
+use Rattle.query_model.proofs.HazyEnds.{end_may, end_may_said, SaysEnd, layer_hazy_true, end_hazy_true}
 use Rattle.query_model.proofs.Story.{others, story, story_differ, said_told}
 use Rattle.query_model.proofs.Violated.{IsAskedOf, TellsDiffer, SaysLate}
 use Rattle.query_model.proofs.PlainClaims.{layers_of, ends_of, extras_of}
@@ -219,15 +219,10 @@ hazy_tells coding kind v d claim moved run rows coded hazard is hazy told part t
     EndTold : Type 0
     EndTold = (kind (late_lit d claim moved t 0 claim.end).key → lit_value v (late_lit d claim moved t 0 claim.end) ≡ may_one (tern_at d claim run rows t)) × (kind (late_lit d claim moved t 1 claim.end).key → lit_value v (late_lit d claim moved t 1 claim.end) ≡ may_zero (tern_at d claim run rows t))
 
--- rail 0 says that a value may be 1, rail 1 that it may be 0
-abbrev pub rail_bit : ℕ → Tern → Bool
-rail_bit zero x = may_one x
-rail_bit (suc rail) x = may_zero x
-
 -- the keys of the layers, read off layers in which the start is unknown
 abbrev pub hazy_layer : Design → Claim → List Cycle → (ℕ → List (List Tern)) → Key → ℕ → Bool
 hazy_layer d claim run rows k l =
-    if nat_lt k.point d.nets then rail_bit k.rail (net_at Zero (rows k.cycle) l k.point) else rail_bit k.rail (tern_at d claim run rows k.cycle)
+    if nat_lt k.point d.nets then rail_value k.rail (net_at Zero (rows k.cycle) l k.point) else rail_value k.rail (tern_at d claim run rows k.cycle)
 
 abbrev pub hazy_story : Design → Claim → List Cycle → (ℕ → List (List Tern)) → (ℕ → Bool) → Key → Bool
 hazy_story d claim run rows bad = story d claim run (hazy_layer d claim run rows) (unknown_at d claim run rows) bad

@@ -1,16 +1,15 @@
 -- The definitions of the layers and of the end's late capture, where hazards count.
-use Rattle.std.proofs.Common.{◌≡◌, ℕ, zero, suc, ◌+◌, ◌<◌, ◌≤◌, Bool, true, false, not, cond, List, [], ◌∷◌, ◌++◌, map, length, Option, Some, None, refl, ap, sym, ◌∙◌, arith, inl, inr, ◌⊎◌, subst, add-one}
-use Rattle.std.specs.Prelude.{slice_get, slice_index, slice_index_or, if◌then◌else◌, flat_map, filter, nat_lt, ◌&&◌}
+use Rattle.std.proofs.Common.{◌≡◌, ℕ, zero, suc, ◌+◌, ◌<◌, ◌≤◌, Bool, true, false, not, cond, List, [], ◌∷◌, ◌++◌, length, Option, Some, refl, ap, sym, ◌∙◌, arith, inl, inr, subst, add-one}
+use Rattle.std.specs.Prelude.{slice_get, slice_index, if◌then◌else◌, flat_map, filter}
 use Rattle.std.proofs.lemmas.Bool.{cases_Bool, and_parts, not-true}
-use Rattle.std.proofs.lemmas.Option.{slice_get_within}
 use Rattle.std.proofs.lemmas.List.Elements.{All-weaker}
 use Rattle.net_model.specs.Form.{value}
 use Rattle.net_model.specs.Netlist.{IsSound, IsGateInRange, IsRegInRange}
 use Rattle.net_model.specs.Fits.{IsEndIn}
 use Rattle.net_model.specs.Cycles.{bit_at, reg_capture}
-use Rattle.net_model.specs.Pins.{is_in, start_nets}
-use Rattle.net_model.specs.Layers.{net_at, held_set, pin_reads, late_reg_pins}
-use Rattle.net_model.specs.Ternary.{tern_of, cell_value, tern_reg_capture, tern_capture_over}
+use Rattle.net_model.specs.Pins.{is_in}
+use Rattle.net_model.specs.Layers.{net_at, held_set, pin_reads}
+use Rattle.net_model.specs.Ternary.{tern_of, tern_reg_capture, tern_capture_over}
 use Rattle.net_model.proofs.Settling.{All-at}
 use Rattle.net_model.proofs.Members.{In, In-cases, from_flat}
 use Rattle.net_model.specs.declared.netlist.Design.{Design}
@@ -22,10 +21,10 @@ use Rattle.net_model.specs.declared.claims.PinRef.TheVariants.{Net, GateIn, RegI
 use Rattle.net_model.specs.declared.claims.End.{End}
 use Rattle.net_model.specs.declared.claims.End.TheVariants.{Reg as RegEnd, Output as OutputEnd}
 use Rattle.net_model.specs.declared.terns.Tern.{Tern}
-use Rattle.net_model.specs.declared.terns.Tern.TheVariants.{Zero, Unknown}
-use Rattle.query_model.specs.Keys.{key, lit, opposite, AllTrue, lit_value, below}
+use Rattle.net_model.specs.declared.terns.Tern.TheVariants.{Zero}
+use Rattle.query_model.specs.Keys.{key, lit, AllTrue, below}
 use Rattle.query_model.specs.Reads.{bit_key, read_pin, is_start_net}
-use Rattle.query_model.specs.Defined.{Definition, numbered, rails, plain, unit, has_own, layer_gate, layer_definitions, start_units, with_own, reads_own, late_key, late_reg_definition, end_definition, late_lit}
+use Rattle.query_model.specs.Defined.{Definition, numbered, rails, has_own, layer_gate, layer_definitions, start_units, with_own, reads_own, late_key, late_reg_definition, end_definition, late_lit}
 use Rattle.query_model.proofs.Members.{below_less}
 use Rattle.query_model.proofs.Told.{LitTells, ReadTells}
 use Rattle.query_model.proofs.Runs.{AnyKey, Forces, unit_true, capture_reads}
@@ -33,7 +32,8 @@ use Rattle.query_model.proofs.Based.{get_within, from_numbered}
 use Rattle.query_model.proofs.Lists.{length-numbered}
 use Rattle.query_model.proofs.Prime.{from_filter}
 use Rattle.query_model.proofs.Late.{start_net_in}
-use Rattle.query_model.proofs.Hazard.{may_one, may_zero, RailsTell}
+use Rattle.query_model.specs.Laws.{may_one, may_zero}
+use Rattle.query_model.proofs.Hazard.{RailsTell}
 use Rattle.query_model.proofs.RailValues.{RailTells, AreRails, on_terns}
 use Rattle.query_model.proofs.TernCells.{on_gate_terns, own_terns, on_reg_terns}
 use Rattle.query_model.proofs.Hazy.{IsHazy, LayerMay, pin_may, known_rails}

@@ -1,41 +1,39 @@
 -- The definitions of the layers of a cycle, where hazards count.
-use Rattle.std.proofs.Common.{◌≡◌, ℕ, zero, suc, ◌+◌, ◌<◌, ◌≤◌, Bool, true, false, not, cond, List, [], ◌∷◌, ◌++◌, map, length, Option, Some, None, refl, ap, sym, ◌∙◌, arith, inl, inr, ◌⊎◌, subst, add-one, below_more}
-use Rattle.std.specs.Prelude.{All, Contains, slice_get, slice_index, slice_index_or, if◌then◌else◌, flat_map, filter, ◌&&◌, ◌==◌}
-use Rattle.std.proofs.lemmas.Bool.{cases_Bool, cases_lt, and_from, and_parts, not-true, both_ways, eq-eqb}
-use Rattle.std.proofs.lemmas.Option.{slice_get_within}
-use Rattle.std.proofs.lemmas.List.Elements.{All-weaker}
+use Rattle.std.proofs.Common.{◌≡◌, ℕ, zero, suc, ◌+◌, ◌<◌, ◌≤◌, Bool, true, false, not, cond, List, [], ◌∷◌, length, Some, refl, ap, sym, ◌∙◌, arith, inl, inr, ◌⊎◌, subst, add-one, below_more}
+use Rattle.std.specs.Prelude.{All, Contains, slice_get, flat_map, filter, ◌==◌}
+use Rattle.std.proofs.lemmas.Bool.{cases_lt, and_from, both_ways, eq-eqb}
 use Rattle.net_model.specs.Form.{value}
 use Rattle.net_model.specs.FormLaws.{IsOver-weaker}
 use Rattle.net_model.specs.Completions.{ReadsOnly, value_reads}
-use Rattle.net_model.specs.Netlist.{IsSound, IsGateInRange, source_nets}
+use Rattle.net_model.specs.Netlist.{IsGateInRange, source_nets}
 use Rattle.net_model.specs.Cycles.{bit_at}
 use Rattle.net_model.specs.Pins.{is_in, start_nets, start_outs}
 use Rattle.net_model.specs.Layers.{net_at, held_set, pin_reads}
 use Rattle.net_model.proofs.Settling.{All-at}
 use Rattle.net_model.proofs.LayerRows.{source_low}
-use Rattle.net_model.proofs.Members.{In, In-left, In-right, In-flat, In-cases, In-from_Contains, from_map, from_flat, in_or}
+use Rattle.net_model.proofs.Members.{In, In-left, In-right, In-flat, In-from_Contains, from_map, in_or}
 use Rattle.net_model.proofs.NetOrder.{over_nets}
 use Rattle.net_model.specs.declared.netlist.Design.{Design}
 use Rattle.net_model.specs.declared.netlist.Gate.{Gate}
 use Rattle.net_model.specs.declared.netlist.RegOut.{RegOut}
 use Rattle.net_model.specs.declared.cycles.Cycle.{Cycle}
 use Rattle.net_model.specs.declared.claims.Claim.{Claim}
-use Rattle.net_model.specs.declared.claims.PinRef.{PinRef}
 use Rattle.net_model.specs.declared.claims.PinRef.TheVariants.{Net, GateIn}
 use Rattle.net_model.specs.declared.terns.Tern.{Tern}
 use Rattle.net_model.specs.declared.terns.Tern.TheVariants.{Zero, Unknown}
-use Rattle.query_model.specs.Keys.{key, lit, AllTrue, lit_value, below}
+use Rattle.query_model.specs.Keys.{key, lit, AllTrue, below}
 use Rattle.query_model.specs.Reads.{read_pin, is_start_net}
-use Rattle.query_model.specs.Defined.{Definition, numbered, rails, plain, unit, covering, settling, has_own, layer_gate, layer_definitions, start_units}
+use Rattle.query_model.specs.Defined.{Definition, numbered, rails, unit, covering, settling, has_own, layer_gate, layer_definitions, start_units}
 use Rattle.query_model.proofs.Members.{In-below}
 use Rattle.query_model.proofs.Tabled.{Covers}
 use Rattle.query_model.proofs.Told.{ReadTells}
-use Rattle.query_model.proofs.Runs.{CodingCovers, AnyKey, Forces, unit_says, unit_true}
+use Rattle.query_model.proofs.Runs.{CodingCovers, AnyKey, Forces, unit_says}
 use Rattle.query_model.proofs.Needs.{any_in}
-use Rattle.query_model.proofs.Based.{placed, from_numbered, in_numbered}
+use Rattle.query_model.proofs.Based.{placed, in_numbered}
 use Rattle.query_model.proofs.Lists.{length-numbered}
 use Rattle.query_model.proofs.Prime.{in_filter}
-use Rattle.query_model.proofs.Hazard.{may_one, may_zero, RailsTell, Settles}
+use Rattle.query_model.specs.Laws.{may_one, may_zero}
+use Rattle.query_model.proofs.Hazard.{RailsTell, Settles}
 use Rattle.query_model.proofs.RailValues.{RailTells, AreRails, on_terns, rails_give, rails_true}
 use Rattle.query_model.proofs.TernCells.{on_gate_terns}
 use Rattle.query_model.proofs.Hazy.{IsHazy, LayerMay, OwnMay, layer_may, pin_may}

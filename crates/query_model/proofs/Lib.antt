@@ -31,5 +31,7 @@ pub mod Hazy
 pub mod HazyGates
 pub mod HazyEnds
 pub mod Claims
+pub mod Mentioned
 pub mod NetKeys
+pub mod Railed
 pub mod Problems

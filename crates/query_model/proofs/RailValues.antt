@@ -10,7 +10,8 @@ use Rattle.query_model.specs.Keys.{lit_value, AllTrue}
 use Rattle.query_model.specs.Tables.{on_list, may_be, hazard_clauses}
 use Rattle.query_model.proofs.Tabled.{Inside, Covers}
 use Rattle.query_model.proofs.Runs.{AnyKey}
-use Rattle.query_model.proofs.Hazard.{may_one, may_zero, RailsTell, Settles, hazard_may, hazard_must}
+use Rattle.query_model.specs.Laws.{may_one, may_zero}
+use Rattle.query_model.proofs.Hazard.{RailsTell, Settles, hazard_may, hazard_must}
 use Rattle.query_model.proofs.Codings.{constant_right, list_of, listed_at, inside_listed}
 use Rattle.query_model.proofs.Rails.{some_bits, hazard_true}
 use Rattle.query_model.specs.declared.keys.Key.{Key}

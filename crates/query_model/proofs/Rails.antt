@@ -14,7 +14,8 @@ use Rattle.net_model.proofs.Members.{In-cases, from_map}
 use Rattle.query_model.proofs.Members.{all_true}
 use Rattle.query_model.proofs.Tabled.{Inside, Covers, value_opposite, value_push}
 use Rattle.query_model.proofs.Runs.{AnyKey}
-use Rattle.query_model.proofs.Hazard.{may_one, may_zero, RailsTell, Settles}
+use Rattle.query_model.specs.Laws.{may_one, may_zero}
+use Rattle.query_model.proofs.Hazard.{RailsTell, Settles}
 use Rattle.query_model.proofs.Codings.{list_of, listed_at, listed_past, inside_listed, past_zero, with_same, with_other}
 use Rattle.query_model.specs.declared.keys.Key.{Key}
 use Rattle.query_model.specs.declared.keys.KeyLit.{KeyLit}

@@ -102,7 +102,7 @@ bad_in d live cycles kept kept_below claim offset clean clause has =
     In-right clause (kept_clauses q) (question_clauses q (Violates claim offset clean))
     (In-right clause (flat_map (λ i. clean_clauses d claim (live + 1 + i)) (below clean)) (bad_clauses d claim (live + 1 + offset)) has)
 
-claim_in : (coding : Coding) (q : Query) (moved : List (List Bool)) (claim : Claim) (offset clean t : ℕ) → q.question ≡ Violates claim offset clean → t < q.cycles → (def : Definition) → In def (claim_definitions coding q.design claim moved t) → In def (definitions coding q moved)
+pub claim_in : (coding : Coding) (q : Query) (moved : List (List Bool)) (claim : Claim) (offset clean t : ℕ) → q.question ≡ Violates claim offset clean → t < q.cycles → (def : Definition) → In def (claim_definitions coding q.design claim moved t) → In def (definitions coding q moved)
 claim_in coding q moved claim offset clean t is lt def has =
     In-flat (cycle_definitions coding q moved) def t (below q.cycles) (In-below q.cycles t lt)
     (In-right def (base_definitions coding q.design q.live t) (question_definitions coding q.design moved q.question t)

@@ -1,15 +1,20 @@
--- What the models of a query's formula are: its answers, in both directions.
-use Rattle.std.specs.Prelude.{◌≡◌, ℕ, ◌+◌, ◌<◌, Bool, List, length, All, Contains, None, Some, slice_get, slice_index, nat_lt}
+-- What the models of a query's formula are: its answers, in both directions; and what rails the layers have in them.
+use Rattle.std.specs.Prelude.{◌≡◌, ℕ, zero, suc, ◌+◌, ◌<◌, ◌≤◌, Bool, true, false, List, map, length, All, Contains, None, Some, slice_get, slice_index, nat_lt}
 use Rattle.net_model.specs.Cycles.{bit_at, capture, IsLinked, HasResets}
+use Rattle.net_model.specs.Layers.{net_at, AreLayers}
+use Rattle.net_model.specs.Ternary.{tern_of, tern_value, IsTernaryCapture}
 use Rattle.net_model.specs.declared.netlist.Design.{Design}
 use Rattle.net_model.specs.declared.cycles.Cycle.{Cycle}
 use Rattle.net_model.specs.declared.invariants.StateLit.{StateLit}
 use Rattle.net_model.specs.declared.invariants.InvClause.{InvClause}
+use Rattle.net_model.specs.declared.claims.Claim.{Claim}
 use Rattle.net_model.specs.declared.claims.End.TheVariants.{Reg as RegEnd}
+use Rattle.net_model.specs.declared.terns.Tern.{Tern}
+use Rattle.net_model.specs.declared.terns.Tern.TheVariants.{Zero, One, Unknown}
 use Rattle.query_model.specs.Keys.{key, AllTrue}
 use Rattle.query_model.specs.Reads.{bit_key}
 use Rattle.query_model.specs.Queries.{Query, IsAnswer}
-use Rattle.query_model.specs.Defined.{set_in}
+use Rattle.query_model.specs.Defined.{set_in, late_key}
 use Rattle.query_model.specs.Formula.{IsFormulaOf}
 use Rattle.query_model.specs.Variables.{IsProblemOf, AllCodesTrue, by_number}
 use Rattle.query_model.specs.declared.keys.Key.{Key}
@@ -57,3 +62,36 @@ NumberedModelsAnswer coding q =
 abbrev pub AnswersHaveNumberedModels : Coding → Query → Type 0
 AnswersHaveNumberedModels coding q =
     (keys : List Key) (vars : ℕ) (clauses : List (List ℕ)) (run : List Cycle) → IsProblemOf coding q keys vars clauses → IsAnswer q run → (v : ℕ → Bool) × AllCodesTrue v clauses
+
+-- a value may be 1
+abbrev pub may_one : Tern → Bool
+may_one Zero = false
+may_one One = true
+may_one Unknown = true
+
+-- a value may be 0
+abbrev pub may_zero : Tern → Bool
+may_zero Zero = true
+may_zero One = false
+may_zero Unknown = true
+
+-- rail 0 says that a value may be 1, and rail 1 that it may be 0
+abbrev pub rail_value : ℕ → Tern → Bool
+rail_value zero x = may_one x
+rail_value (suc rail) x = may_zero x
+
+-- wherever the model has a value for a rail of a net in a layer, or of the late capture, it is that rail of the ternary
+-- value, the start being unknown
+pub record HasRails (d : Design) (claim : Claim) (keys : List Key) (v : Key → Bool) (run : List Cycle) : Type 0 where
+  pub nets : (t l rail n : ℕ) (c : Cycle) (rows : List (List Tern)) → slice_get run t ≡ Some c → AreLayers tern_value Zero d claim.start claim.through (λ _. Unknown) (map tern_of c.nets) rows → l ≤ length claim.through → rail ≤ 1 → n < d.nets → Contains keys (key t (l + 1) rail n) → v (key t (l + 1) rail n) ≡ rail_value rail (net_at Zero rows l n)
+  pub capture : (t rail : ℕ) (c : Cycle) (late : Tern) → slice_get run t ≡ Some c → IsTernaryCapture d claim c late → rail ≤ 1 → Contains keys (late_key d claim t rail) → v (late_key d claim t rail) ≡ rail_value rail late
+
+-- each model of the claim's query has the rails of the ternary layers
+abbrev pub ModelsHaveRails : Coding → Claim → Query → Type 0
+ModelsHaveRails coding claim q =
+    (keys : List Key) (clauses : List (List KeyLit)) (v : Key → Bool) (run : List Cycle) → IsFormulaOf coding q keys clauses → AllTrue v clauses → AreCyclesOf q run → HasFreeBits q.design keys v run → HasRails q.design claim keys v run
+
+-- the same over numbered variables
+abbrev pub NumberedModelsHaveRails : Coding → Claim → Query → Type 0
+NumberedModelsHaveRails coding claim q =
+    (keys : List Key) (vars : ℕ) (clauses : List (List ℕ)) (v : ℕ → Bool) (run : List Cycle) → IsProblemOf coding q keys vars clauses → AllCodesTrue v clauses → AreCyclesOf q run → HasFreeBits q.design keys (by_number keys v) run → HasRails q.design claim keys (by_number keys v) run

@@ -1,9 +1,9 @@
 //! Laws of queries. Each is the contract of a call that does nothing, for callers that cite it.
-ghost use Rattle.std.specs.Prelude.{All};
+ghost use Rattle.std.specs.Prelude.{◌≡◌, true, All};
 ghost use Rattle.net_model.specs.Netlist.{IsSound};
 ghost use Rattle.net_model.specs.Fits.{Fits};
 ghost use Rattle.query_model.specs.Queries.{claim_query, clause_query};
-ghost use Rattle.query_model.specs.Laws.{NamesRegs, ModelsAnswer, AnswersHaveModels, NumberedModelsAnswer, AnswersHaveNumberedModels};
+ghost use Rattle.query_model.specs.Laws.{NamesRegs, ModelsAnswer, AnswersHaveModels, NumberedModelsAnswer, AnswersHaveNumberedModels, ModelsHaveRails, NumberedModelsHaveRails};
 ghost use Rattle.query_model.specs.declared.keys.Coding.{Coding};
 
 use net_model::{Claim, Design, InvClause, Phase};
@@ -13,6 +13,9 @@ use net_model::{Claim, Design, InvClause, Phase};
 ///
 /// So a formula without a model says that there is no such run. It holds for plain claims and where hazards count, for
 /// every kind and any through sets, and for both codings.
+///
+/// Where hazards count, each needed key of a net in a layer, and of the late capture, says in every model what the ternary
+/// value with the start unknown has: rail 0 that it may be 1, and rail 1 that it may be 0.
 pub fn claim_laws(design: &Design, claim: &Claim, phase: Phase, depth: usize, inv: &[InvClause])
     requires sound { IsSound design.now }
     requires fits { Fits design.now claim.now }
@@ -21,6 +24,8 @@ pub fn claim_laws(design: &Design, claim: &Claim, phase: Phase, depth: usize, in
     ensures answers { (coding : Coding) → AnswersHaveModels coding (claim_query design.now claim.now phase depth inv.now) }
     ensures numbered_models { (coding : Coding) → NumberedModelsAnswer coding (claim_query design.now claim.now phase depth inv.now) }
     ensures numbered_answers { (coding : Coding) → AnswersHaveNumberedModels coding (claim_query design.now claim.now phase depth inv.now) }
+    ensures rails { claim.now.hazard ≡ true → (coding : Coding) → ModelsHaveRails coding claim.now (claim_query design.now claim.now phase depth inv.now) }
+    ensures numbered_rails { claim.now.hazard ≡ true → (coding : Coding) → NumberedModelsHaveRails coding claim.now (claim_query design.now claim.now phase depth inv.now) }
 {}
 
 /// The same where it is asked whether a clause over register bits fails in the last cycle.

@@ -1,9 +1,9 @@
 use Rattle.std.proofs.lemmas.List.Elements.{All-contains}
-use Rattle.net_model.specs.declared.invariants.InvClause.{InvClause}
 use Rattle.query_model.specs.Laws.{NamesRegs}
 use Rattle.query_model.proofs.Claims.{claim_models, claim_answers}
 use Rattle.query_model.specs.Queries.{claim_query}
 use Rattle.query_model.proofs.Problems.{numbered_models, numbered_answers}
+use Rattle.query_model.proofs.Railed.{claim_rails, numbered_rails}
 use Rattle.query_model.proofs.laws.claim_laws.Goals as goal
 
 pub returns-clause-models : goal.returns-clause-models
@@ -19,3 +19,11 @@ returns-clause-numbered_models c coding = numbered_models coding (claim_query c.
 
 pub returns-clause-numbered_answers : goal.returns-clause-numbered_answers
 returns-clause-numbered_answers c coding = numbered_answers coding (claim_query c.args.design.now c.args.claim.now c.args.phase c.args.depth c.args.inv.now) (claim_answers coding c.args.design.now c.args.claim.now c.args.phase c.args.depth c.args.inv.now c.requires.sound c.requires.fits (λ i has. All-contains (NamesRegs c.args.design.now) c.args.inv.now i c.requires.names has))
+
+pub returns-clause-rails : goal.returns-clause-rails
+returns-clause-rails c hazard coding =
+    claim_rails coding c.args.design.now c.args.claim.now c.args.phase c.args.depth c.args.inv.now c.requires.sound c.requires.fits hazard
+
+pub returns-clause-numbered_rails : goal.returns-clause-numbered_rails
+returns-clause-numbered_rails c hazard coding =
+    numbered_rails coding c.args.claim.now (claim_query c.args.design.now c.args.claim.now c.args.phase c.args.depth c.args.inv.now) (claim_rails coding c.args.design.now c.args.claim.now c.args.phase c.args.depth c.args.inv.now c.requires.sound c.requires.fits hazard)
