@@ -3,7 +3,7 @@ pub mod Moving
 pub mod Driving
 pub mod Reading
 mod Framing
-mod Numbering
+pub mod Numbering
 mod GateTables
 mod Layering
 pub mod Adding

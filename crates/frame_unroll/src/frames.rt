@@ -50,7 +50,8 @@ impl Model for Frames {
 impl Frames {
     /// The keys that are needed where it is asked about a claim, of which `asked` is what is asked of the keys.
     ///
-    /// It takes the time and memory that the needed keys take, and not those of all keys that a query could have.
+    /// Beside one table of the gates of nets it takes the time and memory that the needed keys take, and not those of all
+    /// keys that a query could have.
     pub fn by_claim(
         alloc: Global,
         design: &Design,

@@ -33,7 +33,7 @@ pub use gathered::{
     Owner, Row, base_reads, bit_lit, capture_lit, late_lit, pin_of, push_own, row_reads, start_lit,
 };
 pub use moved_rows::moved_nets;
-pub use origins::{Origin, has_own};
+pub use origins::has_own;
 pub use own_bits::reads_own;
 pub use read_tables::Tables;
 pub use reads::{net_lit, pin_lit};
