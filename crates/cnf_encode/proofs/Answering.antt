@@ -9,7 +9,8 @@ use Rattle.net_model.specs.declared.netlist.Design.{Design}
 use Rattle.net_model.specs.declared.cycles.Cycle.{Cycle}
 use Rattle.query_model.specs.Queries.{Query, IsAnswer, claim_query, clause_query}
 use Rattle.query_model.specs.Variables.{AllCodesTrue, code_true, by_number}
-use Rattle.query_model.specs.Laws.{NamesRegs, AreCyclesOf, HasFreeBits, AgreesWith, NumberedModelsAnswer}
+use Rattle.query_model.specs.Laws.{NamesRegs, AreCyclesOf, HasFreeBits, AgreesWith, NumberedModelsAnswer, HasRails, NumberedModelsHaveRails}
+use Rattle.query_model.proofs.Railed.{claim_rails, numbered_rails}
 use Rattle.query_model.proofs.Claims.{claim_models, clause_models}
 use Rattle.query_model.proofs.Problems.{numbered_models}
 use Rattle.query_model.specs.declared.keys.Coding.TheVariants.{Rows}
@@ -84,3 +85,16 @@ run_answers d q problem model run bits sound asks is holds done =
     subst (λ (e : Design). HasFreeBits e problem.frames (by_number problem.frames (value_in model.values)) run) (sym asked.design) (run_free d problem.frames model.values problem.live run bits problem.cycles done) in
     let found = asked.law problem.frames problem.formula.vars problem.formula.clauses v run is.clauses (codes_true v problem.formula.clauses holds.1) (cycles_of d q problem model.values run bits asked is done) free in
     (found.0, subst (λ (e : Design). AgreesWith e problem.frames (by_number problem.frames (value_in model.values)) run) asked.design found.1)
+
+-- where hazards count, and the layers of its cycles have the rails of the model
+pub run_rails : (d : Design) (q : Query) (problem : Problem) (model : Model) (run : List Cycle) (bits : List Bool) → IsSound d → (asks : IsClaimQuery d q) → asks.claim.hazard ≡ true → IsProblemFor q problem → IsModel problem.formula model → RunSoFar d problem.frames model.values problem.live run bits problem.cycles → HasRails d asks.claim problem.frames (by_number problem.frames (value_in model.values)) run
+run_rails d q problem model run bits sound asks hazard is holds done =
+    let asked = answered d q sound (inl asks) in
+    let v = value_in model.values in
+    let law : NumberedModelsHaveRails Rows asks.claim q =
+    subst (NumberedModelsHaveRails Rows asks.claim) (sym asks.is) (numbered_rails Rows asks.claim (claim_query d asks.claim asks.phase asks.depth asks.inv)
+    (claim_rails Rows d asks.claim asks.phase asks.depth asks.inv sound asks.fits hazard)) in
+    let free : HasFreeBits q.design problem.frames (by_number problem.frames (value_in model.values)) run =
+    subst (λ (e : Design). HasFreeBits e problem.frames (by_number problem.frames (value_in model.values)) run) (sym asked.design) (run_free d problem.frames model.values problem.live run bits problem.cycles done) in
+    subst (λ (e : Design). HasRails e asks.claim problem.frames (by_number problem.frames (value_in model.values)) run) asked.design
+    (law problem.frames problem.formula.vars problem.formula.clauses v run is.clauses (codes_true v problem.formula.clauses holds.1) (cycles_of d q problem model.values run bits asked is done) free)

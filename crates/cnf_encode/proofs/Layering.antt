@@ -1,20 +1,19 @@
 -- The definitions of a gate's net and of the start's nets in a layer.
-use Rattle.std.proofs.Common.{◌≡◌, ℕ, suc, ◌+◌, ◌≤◌, Bool, true, false, not, cond, Some, List, [], ◌∷◌, ◌++◌, length, refl, ap, sym, ◌∙◌, subst, arith, add-one, inl, inr}
-use Rattle.std.specs.Prelude.{filter, flat_map, slice_get}
+use Rattle.std.proofs.Common.{◌≡◌, ℕ, suc, ◌+◌, ◌≤◌, Bool, true, false, not, cond, Some, List, [], ◌∷◌, ◌++◌, length, refl, ap, sym, ◌∙◌, subst, arith, add-one}
+use Rattle.std.specs.Prelude.{filter, slice_get}
+use Rattle.net_model.specs.Marks.{is_marked}
 use Rattle.net_model.specs.Form.{value, IsOver}
 use Rattle.net_model.specs.Netlist.{IsGateInRange}
 use Rattle.net_model.specs.declared.netlist.Design.{Design}
 use Rattle.net_model.specs.declared.netlist.Gate.{Gate}
 use Rattle.net_model.specs.declared.claims.Claim.{Claim}
 use Rattle.net_model.specs.declared.claims.PinRef.TheVariants.{GateIn}
-use Rattle.net_model.proofs.Members.{In}
 use Rattle.std.proofs.lemmas.List.{append-nil}
-use Rattle.std.proofs.lemmas.List.Concat.{flat_map-append}
 use Rattle.std.proofs.lemmas.List.Elements.{filter-append}
 use Rattle.std.proofs.lemmas.Option.{get_or_from_slice_get}
 use Rattle.query_model.specs.Keys.{key, below}
 use Rattle.query_model.specs.Reads.{read_pin, is_start_net}
-use Rattle.query_model.specs.Defined.{Definition, plain, rails, has_own, layer_gate}
+use Rattle.query_model.specs.Defined.{plain, rails, has_own, layer_gate}
 use Rattle.query_model.specs.declared.keys.Key.{Key}
 use Rattle.query_model.specs.declared.keys.KeyLit.{KeyLit}
 use Rattle.query_model.specs.declared.keys.Coding.TheVariants.{Rows}
@@ -55,33 +54,24 @@ layer_rails d claim moved c l k g own hazard = by_own d claim moved c l k g true
 pub layer_plain : (d : Design) (claim : Claim) (moved : List (List Bool)) (c l k : ℕ) (g : Gate) → has_own claim moved l g.out ≡ true → claim.hazard ≡ false → layer_gate Rows d claim moved c l k g ≡ plain_gate d claim moved c (l + 1) k g ∷ []
 layer_plain d claim moved c l k g own hazard = by_own d claim moved c l k g true false own hazard
 
--- an item that passes the test
-pub In-filter : {X : Type 0} (p : X → Bool) (x : X) (xs : List X) → In x xs → p x ≡ true → In x (filter p xs)
-In-filter p x [] has e = absurd has
-In-filter p x (y ∷ ys) (inl here) e = by (p y) (ap p here ∙ e)
-  where
-    by : (b : Bool) → b ≡ true → In x (cond b (y ∷ filter p ys) (filter p ys))
-    by true is = inl here
-    by false is = absurd cc
-In-filter p x (y ∷ ys) (inr later) e = by (p y) (In-filter p x ys later e)
-  where
-    by : (b : Bool) → In x (filter p ys) → In x (cond b (y ∷ filter p ys) (filter p ys))
-    by true more = inr more
-    by false more = more
+-- the marked numbers, by one more number
+pub marked_more : (p : ℕ → Bool) (n : ℕ) → p n ≡ true → filter p (below (n + 1)) ≡ filter p (below n) ++ n ∷ []
+marked_more p n is =
+    ap (λ (m : ℕ). filter p (below m)) (add-one n) ∙ filter-append p (below n) (n ∷ []) ∙ ap (λ (b : Bool). filter p (below n) ++ cond b (n ∷ []) []) is
 
--- the nets of the start, by one more number
-pub starts_more : (p : ℕ → Bool) (f : ℕ → List Definition) (n : ℕ) → p n ≡ true → flat_map f (filter p (below (n + 1))) ≡ flat_map f (filter p (below n)) ++ f n
-starts_more p f n is =
-    ap (λ (ns : List ℕ). flat_map f (filter p ns)) (ap below (add-one n)) ∙ ap (flat_map f) (filter-append p (below n) (n ∷ []))
-    ∙ ap (λ (b : Bool). flat_map f (filter p (below n) ++ cond b (n ∷ []) [])) is
-    ∙ flat_map-append f (filter p (below n)) (n ∷ []) ∙ ap (λ (ds : List Definition). flat_map f (filter p (below n)) ++ ds) (append-nil (f n))
+pub marked_skip : (p : ℕ → Bool) (n : ℕ) → p n ≡ false → filter p (below (n + 1)) ≡ filter p (below n)
+marked_skip p n is =
+    ap (λ (m : ℕ). filter p (below m)) (add-one n) ∙ filter-append p (below n) (n ∷ []) ∙ ap (λ (b : Bool). filter p (below n) ++ cond b (n ∷ []) []) is
+    ∙ append-nil (filter p (below n))
 
-pub starts_skip : (p : ℕ → Bool) (f : ℕ → List Definition) (n : ℕ) → p n ≡ false → flat_map f (filter p (below (n + 1))) ≡ flat_map f (filter p (below n))
-starts_skip p f n is =
-    ap (λ (ns : List ℕ). flat_map f (filter p ns)) (ap below (add-one n)) ∙ ap (flat_map f) (filter-append p (below n) (n ∷ []))
-    ∙ ap (λ (b : Bool). flat_map f (filter p (below n) ++ cond b (n ∷ []) [])) is
-    ∙ ap (flat_map f) (append-nil (filter p (below n)))
+pub mark_is : (marks : List Bool) (n : ℕ) (b : Bool) → slice_get marks n ≡ Some b → is_marked marks n ≡ b
+mark_is marks n b at = get_or_from_slice_get marks n b false at
 
--- what the marks say of a net
-pub start_is : (d : Design) (claim : Claim) (tables : Tables) (n : ℕ) (b : Bool) → AreTables d claim tables → slice_get tables.starts n ≡ Some b → is_start_net d claim n ≡ b
-start_is d claim tables n b are at = sym (are.starts n) ∙ get_or_from_slice_get tables.starts n b false at
+filter_same : {X : Type 0} (p q : X → Bool) → ((x : X) → p x ≡ q x) → (xs : List X) → filter p xs ≡ filter q xs
+filter_same p q same [] = refl
+filter_same {X} p q same (x ∷ xs) = ap (λ (b : Bool). cond b (x ∷ filter p xs) (filter p xs)) (same x) ∙ ap (λ (ys : List X). cond (q x) (x ∷ ys) ys) (filter_same p q same xs)
+
+-- the marked nets are those of the start
+pub starts_are : (d : Design) (claim : Claim) (tables : Tables) (nets : List ℕ) → AreTables d claim tables → nets ≡ filter (is_marked tables.starts) (below (length tables.starts)) → nets ≡ filter (is_start_net d claim) (below d.nets)
+starts_are d claim tables nets are is =
+    is ∙ ap (λ (n : ℕ). filter (is_marked tables.starts) (below n)) are.starts_len ∙ filter_same (is_marked tables.starts) (is_start_net d claim) are.starts (below d.nets)

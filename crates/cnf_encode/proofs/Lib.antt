@@ -18,3 +18,9 @@ mod Layering
 mod Needing
 mod Made
 mod MadeQueries
+mod Covered
+mod Covering
+mod Placing
+mod Pushing
+mod Valued
+mod Standing

@@ -1,8 +1,8 @@
 -- Definitions whose clauses are added one after the other.
-use Rattle.std.proofs.Common.{◌≡◌, ℕ, zero, suc, ◌+◌, ◌<◌, ◌≤◌, Bool, true, false, cond, List, [], ◌∷◌, ◌++◌, map, length, take, Some, refl, ap, sym, ◌∙◌, subst, arith, add-one, inl, inr}
+use Rattle.std.proofs.Common.{◌≡◌, ℕ, ◌+◌, ◌<◌, Bool, true, false, cond, List, [], ◌∷◌, ◌++◌, map, take, Some, refl, ap, sym, ◌∙◌, subst, arith, add-one, inl, inr}
 use Rattle.std.specs.Prelude.{flat_map, slice_get, ◌||◌}
 use Rattle.std.specs.List.{list_any}
-use Rattle.std.proofs.lemmas.List.{append-nil, map-append, take_all}
+use Rattle.std.proofs.lemmas.List.{append-nil, map-append}
 use Rattle.std.proofs.lemmas.List.Concat.{flat_map-append}
 use Rattle.net_model.proofs.Members.{In, In-left, In-right, In-map, In-flat, In-from_Contains, Contains-from_In}
 use Rattle.query_model.proofs.Members.{In-below}
@@ -11,12 +11,10 @@ use Rattle.query_model.specs.Keys.{below}
 use Rattle.query_model.specs.Defined.{Definition, numbered}
 use Rattle.query_model.specs.Formula.{has_key, listed}
 use Rattle.query_model.specs.declared.keys.Key.{Key}
+use Rattle.frame_unroll.proofs.Numbering.{take_at, numbered-take}
 use Rattle.cnf_encode.specs.Coded.{HasKeys, Adds}
 use Rattle.cnf_encode.specs.Listed.{IsClosed, Lists}
-use Rattle.cnf_encode.proofs.Normals.{Adds-nil, Adds-append}
-
-pub Lists-none : (keys : List Key) (old : List (List ℕ)) → Lists keys [] old old
-Lists-none keys old = record { adds = Adds-nil keys old }
+use Rattle.cnf_encode.proofs.Normals.{Adds-append}
 
 pub Lists-append : {keys : List Key} {a b : List Definition} {old mid new : List (List ℕ)} → Lists keys a old mid → Lists keys b mid new → Lists keys (a ++ b) old new
 Lists-append {keys} {a} {b} {old} {mid} {new} first second =
@@ -29,12 +27,6 @@ pub Lists-needed : (keys : List Key) (def : Definition) (old new : List (List �
 Lists-needed keys def old new hit adds =
     let whole : listed keys def ++ [] ≡ def.clauses = append-nil (listed keys def) ∙ ap (λ (b : Bool). cond b def.clauses []) hit in
     record { adds = subst (λ cs. Adds keys cs old new) (sym whole) adds }
-
--- a definition of other keys
-pub Lists-absent : (keys : List Key) (def : Definition) (old : List (List ℕ)) → list_any (has_key keys) def.outs ≡ false → Lists keys (def ∷ []) old old
-Lists-absent keys def old miss =
-    let whole : listed keys def ++ [] ≡ [] = append-nil (listed keys def) ∙ ap (λ (b : Bool). cond b def.clauses []) miss in
-    record { adds = subst (λ cs. Adds keys cs old old) (sym whole) (Adds-nil keys old) }
 
 -- equal lists of definitions
 pub Lists-same : {keys : List Key} {a b : List Definition} {old new : List (List ℕ)} → a ≡ b → Lists keys a old new → Lists keys b old new
@@ -84,33 +76,11 @@ Closed-numbered f xs i x at closed =
 pub Closed-flat_numbered : {keys : List Key} {X : Type 0} (f : ℕ → X → List Definition) (xs : List X) (i : ℕ) (x : X) → slice_get xs i ≡ Some x → IsClosed keys (flat_map (λ (defs : List Definition). defs) (numbered f 0 xs)) → IsClosed keys (f i x)
 Closed-flat_numbered f xs i x at closed = Closed-flat (λ (defs : List Definition). defs) (numbered f 0 xs) (f i x) (number_in f xs i x at) closed
 
--- one more item
-numbered-push : {X A : Type 0} (f : ℕ → X → A) (i : ℕ) (xs : List X) (x : X) → numbered f i (xs ++ x ∷ []) ≡ numbered f i xs ++ f (i + length xs) x ∷ []
-numbered-push f i [] x = let e : i ≡ i + 0 = omega arith in ap (λ (n : ℕ). f n x ∷ []) e
-numbered-push f i (y ∷ ys) x =
-    let e : i + 1 + length ys ≡ i + length (y ∷ ys) = omega arith in
-    ap (λ zs. f i y ∷ zs) (numbered-push f (i + 1) ys x ∙ ap (λ (n : ℕ). numbered f (i + 1) ys ++ f n x ∷ []) e)
-
-pub take_at : {X : Type 0} (xs : List X) (i : ℕ) (x : X) → slice_get xs i ≡ Some x → (take (i + 1) xs ≡ take i xs ++ x ∷ []) × (length (take i xs) ≡ i)
-take_at [] i x at = absurd cc
-take_at (y ∷ ys) zero x at = ((let e : y ≡ x = cc in ap (λ z. z ∷ []) e), refl)
-take_at (y ∷ ys) (suc i) x at =
-    let rest = take_at ys i x at in
-    let e : suc i + 1 ≡ suc (i + 1) = omega arith in
-    let n : length (take (suc i) (y ∷ ys)) ≡ suc (length (take i ys)) = omega arith in
-    (ap (λ (k : ℕ). take k (y ∷ ys)) e ∙ ap (λ zs. y ∷ zs) rest.0, n ∙ ap suc rest.1)
-
 map-take : {X A : Type 0} (f : X → A) (xs : List X) (i : ℕ) (x : X) → slice_get xs i ≡ Some x → map f (take (i + 1) xs) ≡ map f (take i xs) ++ f x ∷ []
 map-take f xs i x at = ap (map f) (take_at xs i x at).0 ∙ map-append f (take i xs) (x ∷ [])
 
-flat-push : {X A : Type 0} (f : X → List A) (xs : List X) (x : X) → flat_map f (xs ++ x ∷ []) ≡ flat_map f xs ++ f x
+pub flat-push : {X A : Type 0} (f : X → List A) (xs : List X) (x : X) → flat_map f (xs ++ x ∷ []) ≡ flat_map f xs ++ f x
 flat-push f xs x = flat_map-append f xs (x ∷ []) ∙ ap (λ ys. flat_map f xs ++ ys) (append-nil (f x))
-
-pub numbered-take : {X A : Type 0} (f : ℕ → X → A) (xs : List X) (i : ℕ) (x : X) → slice_get xs i ≡ Some x → numbered f 0 (take (i + 1) xs) ≡ numbered f 0 (take i xs) ++ f i x ∷ []
-numbered-take f xs i x at =
-    let more = take_at xs i x at in
-    let place : 0 + length (take i xs) ≡ i = omega (arith, more.1) in
-    ap (numbered f 0) more.0 ∙ numbered-push f 0 (take i xs) x ∙ ap (λ (n : ℕ). numbered f 0 (take i xs) ++ f n x ∷ []) place
 
 below-more : (n : ℕ) → below (n + 1) ≡ below n ++ n ∷ []
 below-more n = ap below (add-one n)
@@ -134,13 +104,6 @@ pub Lists-map_below_more : {keys : List Key} (f : ℕ → Definition) (i : ℕ) 
 Lists-map_below_more f i before here =
     Lists-same (sym (ap (map f) (below-more i) ∙ map-append f (below i) (i ∷ []))) (Lists-append before here)
 
--- all items
-pub Lists-all : {keys : List Key} {X : Type 0} (f : List X → List Definition) (xs : List X) {n : ℕ} {old new : List (List ℕ)} → length xs ≤ n → Lists keys (f (take n xs)) old new → Lists keys (f xs) old new
-Lists-all f xs {n} all lists = Lists-same (ap f (take_all n xs all)) lists
-
 -- a definition of one key, and of two
 pub one_needed : (keys : List Key) (out : Key) → has_key keys out ≡ true → list_any (has_key keys) (out ∷ []) ≡ true
 one_needed keys out hit = ap (λ (b : Bool). b || false) hit
-
-pub one_absent : (keys : List Key) (out : Key) → has_key keys out ≡ false → list_any (has_key keys) (out ∷ []) ≡ false
-one_absent keys out miss = ap (λ (b : Bool). b || false) miss

@@ -6,3 +6,5 @@ pub mod Chosen
 pub mod Listed
 pub mod Late
 pub mod Points
+pub mod Coned
+pub mod Placed

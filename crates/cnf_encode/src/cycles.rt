@@ -1,32 +1,22 @@
 //! The definitions of the nets of one cycle, and of the register bits of the cycle after.
-ghost use Rattle.std.specs.Prelude.{◌≡◌, ◌<◌, ◌^◌, [], ◌∷◌, ◌++◌, not, map, flat_map, length, nat_lt, slice_get, slice_index, Some, OnOk};
+ghost use Rattle.std.specs.Prelude.{◌+◌, ◌≡◌, ◌<◌, ◌^◌, [], ◌∷◌, ◌++◌, not, map, flat_map, length, nat_lt, slice_get, slice_index, Some, OnOk};
 ghost use Rattle.net_model.specs.Netlist.{IsSound, IsGateInRange, IsRegInRange};
 ghost use Rattle.query_model.specs.Keys.{key, below};
 ghost use Rattle.query_model.specs.Defined.{numbered, unit_if, set_in, input_definition, gate_definition, bit_definition, base_definitions};
 ghost use Rattle.query_model.specs.declared.keys.Coding.TheVariants.{Rows};
 ghost use Rattle.frame_unroll.specs.Drivers.{AreDrivers};
 ghost use Rattle.cnf_encode.specs.Listed.{IsClosed, Lists};
+ghost use Rattle.cnf_encode.specs.Coned.{Covers, IsConeFor, gate_points, bit_points};
 
+use crate::cones::Cone;
 use crate::needed::{is_needed, list_unit};
 use crate::tables::push_plain;
 use frame_unroll::{Driver, Frames, base_reads, bit_lit, push_own};
-use net_model::{Design, Fixed, Gate, Reg, capture_func};
+use net_model::{Design, Gate, Reg, capture_func};
 use proof_log::Clause;
 use query_model::Key;
 use sdcv_base::Seq;
 use std::alloc::{AllocError, Global};
-
-/// The value of a setting for an input. Of several the first counts.
-fn set_in(settings: &Seq<Fixed>, input: usize) -> Option<bool>
-    ensures { result ≡ set_in settings.now input }
-{
-    for setting in settings.as_slice() {
-        if setting.input == input {
-            return Some(setting.value);
-        }
-    }
-    None
-}
 
 /// That a key has the value of an input's setting, or where `flip` its complement, if there is one.
 fn list_setting(
@@ -51,12 +41,13 @@ fn list_input(
     alloc: Global,
     frames: &Frames,
     design: &Design,
+    cone: &Cone,
     live: usize,
     cycle: usize,
     input: usize,
     clauses: &mut Seq<Clause>,
 ) -> Result<(), AllocError>
-    requires sound { IsSound design.now }
+    requires cone { IsConeFor design.now frames.now cycle cone.now }
     requires input { input < length design.now.inputs }
     requires closed { IsClosed frames.now (input_definition design.now live cycle input) }
     ensures { OnOk result (Lists frames.now (input_definition design.now live cycle input) clauses.old clauses.new) }
@@ -67,18 +58,11 @@ fn list_input(
         rail: 0,
         point: design.inputs.at(input),
     };
+    list_setting(alloc, frames, cone.fixed.at(input), false, out, clauses)?;
     list_setting(
         alloc,
         frames,
-        set_in(&design.fixed, input),
-        false,
-        out,
-        clauses,
-    )?;
-    list_setting(
-        alloc,
-        frames,
-        set_in(&design.resets, input),
+        cone.resets.at(input),
         cycle >= live,
         out,
         clauses,
@@ -90,16 +74,27 @@ fn list_inputs(
     alloc: Global,
     frames: &Frames,
     design: &Design,
+    cone: &Cone,
     live: usize,
     cycle: usize,
     clauses: &mut Seq<Clause>,
 ) -> Result<(), AllocError>
-    requires sound { IsSound design.now }
+    requires cone { IsConeFor design.now frames.now cycle cone.now }
     requires closed { IsClosed frames.now (flat_map (input_definition design.now live cycle) (below (length design.now.inputs))) }
     ensures { OnOk result (Lists frames.now (flat_map (input_definition design.now live cycle) (below (length design.now.inputs))) clauses.old clauses.new) }
 {
-    for input in 0..design.inputs.len() {
-        list_input(alloc, frames, design, live, cycle, input, clauses)?;
+    let inputs = cone.inputs.item(cycle);
+    for j in 0..inputs.len() {
+        list_input(
+            alloc,
+            frames,
+            design,
+            cone,
+            live,
+            cycle,
+            inputs.at(j),
+            clauses,
+        )?;
     }
     Ok(())
 }
@@ -139,24 +134,19 @@ fn list_gates(
     frames: &Frames,
     design: &Design,
     drivers: &Seq<Driver>,
+    gates: &Seq<usize>,
     cycle: usize,
     clauses: &mut Seq<Clause>,
 ) -> Result<(), AllocError>
     requires sound { IsSound design.now }
     requires drivers { AreDrivers design.now drivers.now }
+    requires gates { Covers frames.now cycle (gate_points design.now) gates.now }
     requires closed { IsClosed frames.now (map (gate_definition Rows design.now cycle) design.now.gates) }
     ensures { OnOk result (Lists frames.now (map (gate_definition Rows design.now cycle) design.now.gates) clauses.old clauses.new) }
 {
-    for k in 0..design.gates.len() {
-        list_gate(
-            alloc,
-            frames,
-            design,
-            drivers,
-            cycle,
-            design.gates.item(k),
-            clauses,
-        )?;
+    for j in 0..gates.len() {
+        let gate = design.gates.item(gates.at(j));
+        list_gate(alloc, frames, design, drivers, cycle, gate, clauses)?;
     }
     Ok(())
 }
@@ -196,26 +186,21 @@ fn list_bits(
     frames: &Frames,
     design: &Design,
     drivers: &Seq<Driver>,
+    regs: &Seq<usize>,
     cycle: usize,
     clauses: &mut Seq<Clause>,
 ) -> Result<(), AllocError>
     requires sound { IsSound design.now }
     requires drivers { AreDrivers design.now drivers.now }
     requires cycle { cycle < 2 ^ 32 }
+    requires regs { Covers frames.now (cycle + 1) (bit_points design.now) regs.now }
     requires closed { IsClosed frames.now (numbered (bit_definition Rows design.now cycle) 0 design.now.regs) }
     ensures { OnOk result (Lists frames.now (numbered (bit_definition Rows design.now cycle) 0 design.now.regs) clauses.old clauses.new) }
 {
-    for r in 0..design.regs.len() {
-        list_bit(
-            alloc,
-            frames,
-            design,
-            drivers,
-            cycle,
-            r,
-            design.regs.item(r),
-            clauses,
-        )?;
+    for j in 0..regs.len() {
+        let r = regs.at(j);
+        let reg = design.regs.item(r);
+        list_bit(alloc, frames, design, drivers, cycle, r, reg, clauses)?;
     }
     Ok(())
 }
@@ -228,18 +213,22 @@ pub fn list_cycle(
     frames: &Frames,
     design: &Design,
     drivers: &Seq<Driver>,
+    cone: &Cone,
     live: usize,
     cycle: usize,
     clauses: &mut Seq<Clause>,
 ) -> Result<(), AllocError>
     requires sound { IsSound design.now }
     requires drivers { AreDrivers design.now drivers.now }
+    requires cone { IsConeFor design.now frames.now cycle cone.now }
     requires cycle { cycle < 2 ^ 32 }
     requires closed { IsClosed frames.now (base_definitions Rows design.now live cycle) }
     ensures { OnOk result (Lists frames.now (base_definitions Rows design.now live cycle) clauses.old clauses.new) }
 {
-    list_inputs(alloc, frames, design, live, cycle, clauses)?;
-    list_gates(alloc, frames, design, drivers, cycle, clauses)?;
-    list_bits(alloc, frames, design, drivers, cycle, clauses)?;
+    let gates = cone.gates.item(cycle);
+    let regs = cone.bits.item(cycle + 1);
+    list_inputs(alloc, frames, design, cone, live, cycle, clauses)?;
+    list_gates(alloc, frames, design, drivers, gates, cycle, clauses)?;
+    list_bits(alloc, frames, design, drivers, regs, cycle, clauses)?;
     Ok(())
 }

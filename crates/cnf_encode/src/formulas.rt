@@ -13,6 +13,8 @@ ghost use Rattle.cnf_encode.specs.Problems.{IsProblemFor};
 
 use crate::claims::{list_claim_cycles, list_clause_cycles};
 use crate::clauses::push_clause;
+use crate::cones::Cone;
+use crate::layers::start_nets;
 use crate::problems::Problem;
 use frame_unroll::{
     Frames, Span, Tables, claim_asked, claim_span, clause_asked, clause_span, net_drivers,
@@ -82,6 +84,8 @@ pub fn formula(
     let tables = Tables::of(alloc, design, claim)?;
     let asked = claim_asked(alloc, design, claim, phase, depth, inv)?;
     let frames = Frames::by_claim(alloc, design, claim, &tables, span.cycles, &asked)?;
+    let cone = Cone::of(alloc, design, &frames, span.cycles)?;
+    let starts = start_nets(alloc, &tables)?;
     let mut clauses = Seq::new(alloc);
     list_claim_cycles(
         alloc,
@@ -89,6 +93,8 @@ pub fn formula(
         design,
         claim,
         &tables,
+        &starts,
+        &cone,
         span.live,
         span.cycles,
         &mut clauses,
@@ -121,12 +127,14 @@ fn clause_formula(
     let drivers = net_drivers(alloc, design)?;
     let asked = clause_asked(alloc, design, inv, clause, phase, depth)?;
     let frames = Frames::by_clause(alloc, design, &drivers, span.cycles, &asked)?;
+    let cone = Cone::of(alloc, design, &frames, span.cycles)?;
     let mut clauses = Seq::new(alloc);
     list_clause_cycles(
         alloc,
         &frames,
         design,
         &drivers,
+        &cone,
         span.live,
         span.cycles,
         &mut clauses,

@@ -4,6 +4,7 @@ ghost use Rattle.net_model.specs.Netlist.{IsSound, setting_inputs, AllBelow};
 ghost use Rattle.net_model.specs.Cycles.{bit_at};
 ghost use Rattle.net_model.specs.declared.netlist.Fixed.{Fixed as Setting};
 ghost use Rattle.query_model.specs.Keys.{key};
+ghost use Rattle.query_model.specs.Reads.{bit_key};
 ghost use Rattle.cnf_encode.specs.FreeBits.{value_or_zero, AreApart, AreFirstBits, AreInputsAt};
 
 use crate::problems::Problem;
@@ -24,6 +25,22 @@ fn key_value(frames: &Frames, model: &Model, key: &Key) -> bool
     }
 }
 
+/// A register's bit in the first cycle.
+fn first_bit(design: &Design, frames: &Frames, model: &Model, reg: usize) -> bool
+    requires sound { IsSound design.now }
+    requires count { length model.now.values ≡ length frames.now }
+    requires place { reg < length design.now.regs }
+    ensures { result ≡ value_or_zero frames.now model.now.values (bit_key design.now 0 reg) }
+{
+    let bit = Key {
+        cycle: 0,
+        layer: 0,
+        rail: 0,
+        point: design.nets + reg,
+    };
+    key_value(frames, model, &bit)
+}
+
 /// Writes the register bits of the first cycle.
 pub fn put_first_bits(design: &Design, frames: &Frames, model: &Model, bits: &mut Seq<bool>)
     requires sound { IsSound design.now }
@@ -32,13 +49,7 @@ pub fn put_first_bits(design: &Design, frames: &Frames, model: &Model, bits: &mu
     ensures { AreFirstBits design.now frames.now model.now.values bits.new }
 {
     for r in 0..design.regs.len() {
-        let key = Key {
-            cycle: 0,
-            layer: 0,
-            rail: 0,
-            point: design.nets + r,
-        };
-        bits.put(r, key_value(frames, model, &key));
+        bits.put(r, first_bit(design, frames, model, r));
     }
 }
 

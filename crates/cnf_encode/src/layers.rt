@@ -1,13 +1,15 @@
 //! The definitions of nets in the layers of a cycle whose start is late.
-ghost use Rattle.std.specs.Prelude.{◌≡◌, ◌<◌, ◌≤◌, ◌+◌, [], ◌∷◌, true, flat_map, filter, length, OnOk, List};
+ghost use Rattle.std.specs.Prelude.{◌≡◌, ◌<◌, ◌≤◌, ◌+◌, [], ◌∷◌, true, flat_map, filter, length, IfOk, OnOk, List};
 ghost use Rattle.net_model.specs.Netlist.{IsSound, IsGateInRange};
 ghost use Rattle.net_model.specs.Layers.{row_at};
+ghost use Rattle.net_model.specs.Marks.{is_marked};
 ghost use Rattle.query_model.specs.Keys.{key, below};
 ghost use Rattle.query_model.specs.Reads.{is_start_net};
 ghost use Rattle.query_model.specs.Defined.{Definition, numbered, unit, has_own, layer_gate, start_units, layer_definitions};
 ghost use Rattle.query_model.specs.declared.keys.Coding.TheVariants.{Rows};
 ghost use Rattle.frame_unroll.specs.Reading.{AreTables};
 ghost use Rattle.cnf_encode.specs.Listed.{IsClosed, Lists};
+ghost use Rattle.cnf_encode.specs.Coned.{Covers, gate_points};
 ghost use Rattle.cnf_encode.specs.Late.{plain_gate, rails_gate, start_net};
 
 use crate::needed::{is_either_needed, is_needed, list_unit};
@@ -18,6 +20,19 @@ use proof_log::Clause;
 use query_model::Key;
 use sdcv_base::Seq;
 use std::alloc::{AllocError, Global};
+
+/// The nets of the start, ascending.
+pub fn start_nets(alloc: Global, tables: &Tables) -> Result<Seq<usize>, AllocError>
+    ensures { IfOk result (λ nets. nets ≡ filter (is_marked tables.now.starts) (below (length tables.now.starts))) }
+{
+    let mut nets = Seq::new(alloc);
+    for net in 0..tables.starts.len() {
+        if tables.starts.at(net) {
+            nets.push(net)?;
+        }
+    }
+    Ok(nets)
+}
 
 /// The keys of a point of a layer, by which it may be 1 and may be 0.
 pub fn rails_of(cycle: usize, layer: usize, point: usize) -> (Key, Key)
@@ -163,6 +178,7 @@ fn list_layer_gates(
     design: &Design,
     claim: &Claim,
     tables: &Tables,
+    gates: &Seq<usize>,
     cycle: usize,
     layer: usize,
     clauses: &mut Seq<Clause>,
@@ -170,11 +186,13 @@ fn list_layer_gates(
     requires sound { IsSound design.now }
     requires few { length claim.now.through ≤ 4 }
     requires tables { AreTables design.now claim.now tables.now }
+    requires gates { Covers frames.now cycle (gate_points design.now) gates.now }
     requires layer { layer ≤ length claim.now.through }
     requires closed { IsClosed frames.now (flat_map (λ (defs : List Definition). defs) (numbered (layer_gate Rows design.now claim.now tables.now.moved cycle layer) 0 design.now.gates)) }
     ensures { OnOk result (Lists frames.now (flat_map (λ (defs : List Definition). defs) (numbered (layer_gate Rows design.now claim.now tables.now.moved cycle layer) 0 design.now.gates)) clauses.old clauses.new) }
 {
-    for k in 0..design.gates.len() {
+    for j in 0..gates.len() {
+        let k = gates.at(j);
         list_layer_gate(
             alloc,
             frames,
@@ -211,20 +229,15 @@ fn list_start_net(
 fn list_start_nets(
     alloc: Global,
     frames: &Frames,
-    design: &Design,
-    claim: &Claim,
-    tables: &Tables,
+    starts: &Seq<usize>,
     cycle: usize,
     clauses: &mut Seq<Clause>,
 ) -> Result<(), AllocError>
-    requires tables { AreTables design.now claim.now tables.now }
-    requires closed { IsClosed frames.now (flat_map (start_net cycle) (filter (is_start_net design.now claim.now) (below design.now.nets))) }
-    ensures { OnOk result (Lists frames.now (flat_map (start_net cycle) (filter (is_start_net design.now claim.now) (below design.now.nets))) clauses.old clauses.new) }
+    requires closed { IsClosed frames.now (flat_map (start_net cycle) starts.now) }
+    ensures { OnOk result (Lists frames.now (flat_map (start_net cycle) starts.now) clauses.old clauses.new) }
 {
-    for net in 0..design.nets {
-        if tables.starts.at(net) {
-            list_start_net(alloc, frames, cycle, net, clauses)?;
-        }
+    for j in 0..starts.len() {
+        list_start_net(alloc, frames, cycle, starts.at(j), clauses)?;
     }
     Ok(())
 }
@@ -235,20 +248,19 @@ fn list_starts(
     frames: &Frames,
     design: &Design,
     claim: &Claim,
-    tables: &Tables,
+    starts: &Seq<usize>,
     cycle: usize,
     layer: usize,
     clauses: &mut Seq<Clause>,
 ) -> Result<(), AllocError>
-    requires tables { AreTables design.now claim.now tables.now }
+    requires starts { starts.now ≡ filter (is_start_net design.now claim.now) (below design.now.nets) }
     requires closed { IsClosed frames.now (start_units design.now claim.now cycle layer) }
     ensures { OnOk result (Lists frames.now (start_units design.now claim.now cycle layer) clauses.old clauses.new) }
 {
     if layer > 0 || !claim.hazard {
         return Ok(());
     }
-    list_start_nets(alloc, frames, design, claim, tables, cycle, clauses)?;
-    Ok(())
+    list_start_nets(alloc, frames, starts, cycle, clauses)
 }
 
 /// The definitions of a cycle after so many through sets.
@@ -258,6 +270,8 @@ fn list_layer(
     design: &Design,
     claim: &Claim,
     tables: &Tables,
+    starts: &Seq<usize>,
+    gates: &Seq<usize>,
     cycle: usize,
     layer: usize,
     clauses: &mut Seq<Clause>,
@@ -265,12 +279,16 @@ fn list_layer(
     requires sound { IsSound design.now }
     requires few { length claim.now.through ≤ 4 }
     requires tables { AreTables design.now claim.now tables.now }
+    requires starts { starts.now ≡ filter (is_start_net design.now claim.now) (below design.now.nets) }
+    requires gates { Covers frames.now cycle (gate_points design.now) gates.now }
     requires layer { layer ≤ length claim.now.through }
     requires closed { IsClosed frames.now (layer_definitions Rows design.now claim.now tables.now.moved cycle layer) }
     ensures { OnOk result (Lists frames.now (layer_definitions Rows design.now claim.now tables.now.moved cycle layer) clauses.old clauses.new) }
 {
-    list_starts(alloc, frames, design, claim, tables, cycle, layer, clauses)?;
-    list_layer_gates(alloc, frames, design, claim, tables, cycle, layer, clauses)?;
+    list_starts(alloc, frames, design, claim, starts, cycle, layer, clauses)?;
+    list_layer_gates(
+        alloc, frames, design, claim, tables, gates, cycle, layer, clauses,
+    )?;
     Ok(())
 }
 
@@ -281,17 +299,23 @@ pub fn list_layers(
     design: &Design,
     claim: &Claim,
     tables: &Tables,
+    starts: &Seq<usize>,
+    gates: &Seq<usize>,
     cycle: usize,
     clauses: &mut Seq<Clause>,
 ) -> Result<(), AllocError>
     requires sound { IsSound design.now }
     requires few { length claim.now.through ≤ 4 }
     requires tables { AreTables design.now claim.now tables.now }
+    requires starts { starts.now ≡ filter (is_start_net design.now claim.now) (below design.now.nets) }
+    requires gates { Covers frames.now cycle (gate_points design.now) gates.now }
     requires closed { IsClosed frames.now (flat_map (layer_definitions Rows design.now claim.now tables.now.moved cycle) (below (length claim.now.through + 1))) }
     ensures { OnOk result (Lists frames.now (flat_map (layer_definitions Rows design.now claim.now tables.now.moved cycle) (below (length claim.now.through + 1))) clauses.old clauses.new) }
 {
     for layer in 0..claim.through.len() + 1 {
-        list_layer(alloc, frames, design, claim, tables, cycle, layer, clauses)?;
+        list_layer(
+            alloc, frames, design, claim, tables, starts, gates, cycle, layer, clauses,
+        )?;
     }
     Ok(())
 }

@@ -9,14 +9,17 @@ mod chosen_lits;
 mod claims;
 mod clauses;
 mod codes;
+mod cones;
 mod cycles;
 mod ends;
 mod formulas;
 mod free_bits;
+mod input_values;
 mod layers;
 mod needed;
 #[cfg(test)]
 mod plain_answers;
+mod point_rows;
 mod points;
 mod problems;
 mod runs;

@@ -1,11 +1,11 @@
 //! Runs and stretches that answer a query, read back from models of its clauses.
-ghost use Rattle.std.specs.Prelude.{IfOk, ◌⊎◌};
+ghost use Rattle.std.specs.Prelude.{◌≡◌, true, IfOk, ◌⊎◌};
 ghost use Rattle.net_model.specs.Netlist.{IsSound};
 ghost use Rattle.net_model.specs.Cycles.{HasShape};
 ghost use Rattle.proof_log.specs.Formulas.{IsModel, value_in};
 ghost use Rattle.query_model.specs.Queries.{Query, IsAnswer};
 ghost use Rattle.query_model.specs.Variables.{by_number};
-ghost use Rattle.query_model.specs.Laws.{AgreesWith};
+ghost use Rattle.query_model.specs.Laws.{AgreesWith, HasRails};
 ghost use Rattle.cnf_encode.specs.Problems.{IsClaimQuery, IsClauseQuery, IsProblemFor, IsMadeFor};
 ghost use Rattle.cnf_encode.specs.Runs.{HasZeros};
 
@@ -30,7 +30,8 @@ pub fn blank(alloc: Global, design: &Design) -> Result<Cycle, AllocError>
 
 /// The cycles of the answer that a model of a query's clauses stands for.
 ///
-/// What is free and has no key is 0, so a model stands for one answer alone.
+/// What is free and has no key is 0, so a model stands for one answer alone. Where hazards count, the rails of a cycle's
+/// layers are in the model as the start's being unknown has them (Eichelberger).
 pub fn read_back(
     alloc: Global,
     design: &Design,
@@ -42,6 +43,7 @@ pub fn read_back(
     requires model { IsModel problem.now.formula model.now }
     ensures answers { IfOk result (λ run. (q : Query) → IsClaimQuery design.now q ⊎ IsClauseQuery design.now q → IsProblemFor q problem.now → IsAnswer q run) }
     ensures agrees { IfOk result (AgreesWith design.now problem.now.frames (by_number problem.now.frames (value_in model.now.values))) }
+    ensures rails { IfOk result (λ run. (q : Query) (asks : IsClaimQuery design.now q) → asks.claim.hazard ≡ true → IsProblemFor q problem.now → HasRails design.now asks.claim problem.now.frames (by_number problem.now.frames (value_in model.now.values)) run) }
     ensures zeros { IfOk result (HasZeros design.now problem.now.frames) }
 {
     let mut run = Seq::new(alloc);

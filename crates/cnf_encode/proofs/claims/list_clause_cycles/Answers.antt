@@ -15,3 +15,6 @@ pub loop-cycle-preserved : goal.loop-cycle-preserved
 loop-cycle-preserved c =
     Lists-below_more (clause_cycle c.args.design.now c.args.live) c.loop-cycle.cycle c.loop-cycle.invariant
     (Lists-same (sym (append-nil (base_definitions Rows c.args.design.now c.args.live c.loop-cycle.cycle))) c.in_ok-list_cycle.ensures)
+
+pub list_cycle-requires-clause-cone : goal.list_cycle-requires-clause-cone
+list_cycle-requires-clause-cone c = record { cycles = c.args.cycles; of = c.requires.cone; lt = c.loop-cycle-test.true }

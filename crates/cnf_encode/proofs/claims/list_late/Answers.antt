@@ -1,9 +1,10 @@
-use Rattle.std.proofs.Common.{List, ◌++◌, ◌+◌, length}
+use Rattle.std.proofs.Common.{List, ◌++◌, ◌+◌, length, arith}
 use Rattle.std.specs.Prelude.{flat_map}
 use Rattle.query_model.specs.Keys.{below}
 use Rattle.query_model.specs.Defined.{Definition, layer_definitions, end_definition, extra_definitions}
 use Rattle.query_model.specs.declared.keys.Coding.TheVariants.{Rows}
 use Rattle.cnf_encode.proofs.Listing.{Closed-left, Closed-right, Lists-append}
+use Rattle.cnf_encode.proofs.Covering.{gate_places}
 use Rattle.cnf_encode.proofs.claims.list_late.Goals as goal
 
 pub list_layers-requires-clause-closed : goal.list_layers-requires-clause-closed
@@ -29,3 +30,9 @@ list_points-requires-clause-closed c =
 
 pub returns : goal.returns
 returns c = Lists-append c.in_ok-list_layers.ensures (Lists-append c.in_ok-list_end.ensures c.in_ok-list_points.ensures)
+
+pub list_layers-requires-clause-gates : goal.list_layers-requires-clause-gates
+list_layers-requires-clause-gates c = gate_places c.args.design.now c.args.frames.now c.args.cycle c.args.cone.now c.item-gates.result.now c.requires.cone c.item-gates.ensures
+
+pub item-gates-requires : goal.item-gates-requires
+item-gates-requires c = omega (arith, c.requires.cone.of.gates.count, c.requires.cone.lt)

@@ -1,8 +1,8 @@
 use Rattle.std.proofs.Common.{take}
-use Rattle.query_model.specs.Defined.{numbered, bit_definition}
-use Rattle.query_model.specs.declared.keys.Coding.TheVariants.{Rows}
+use Rattle.std.specs.Prelude.{flat_map}
 use Rattle.cnf_encode.specs.Listed.{Lists}
+use Rattle.cnf_encode.proofs.Covering.{at_place, bit_defs}
 use Rattle.cnf_encode.proofs.cycles.list_bits.Given as goal
 
-abbrev pub invariant-loop-r : goal.invariant-loop-r
-invariant-loop-r l = Lists l.frames (numbered (bit_definition Rows l.design l.cycle) 0 (take l.r l.design.regs)) l.fn.clauses l.clauses
+abbrev pub invariant-loop-j : goal.invariant-loop-j
+invariant-loop-j l = Lists l.frames (flat_map (at_place (bit_defs l.design l.cycle) l.design.regs) (take l.j l.regs)) l.fn.clauses l.clauses

@@ -1,8 +1,8 @@
-use Rattle.std.proofs.Common.{map, take}
-use Rattle.query_model.specs.Defined.{gate_definition}
-use Rattle.query_model.specs.declared.keys.Coding.TheVariants.{Rows}
+use Rattle.std.proofs.Common.{take}
+use Rattle.std.specs.Prelude.{flat_map}
 use Rattle.cnf_encode.specs.Listed.{Lists}
+use Rattle.cnf_encode.proofs.Covering.{at_place, gate_defs}
 use Rattle.cnf_encode.proofs.cycles.list_gates.Given as goal
 
-abbrev pub invariant-loop-k : goal.invariant-loop-k
-invariant-loop-k l = Lists l.frames (map (gate_definition Rows l.design l.cycle) (take l.k l.design.gates)) l.fn.clauses l.clauses
+abbrev pub invariant-loop-j : goal.invariant-loop-j
+invariant-loop-j l = Lists l.frames (flat_map (at_place (gate_defs l.design l.cycle) l.design.gates) (take l.j l.gates)) l.fn.clauses l.clauses

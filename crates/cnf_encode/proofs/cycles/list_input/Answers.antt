@@ -1,19 +1,25 @@
-use Rattle.std.proofs.Common.{false, sym, leb}
+use Rattle.std.proofs.Common.{false, sym, leb, length, arith}
 use Rattle.query_model.specs.Keys.{key}
 use Rattle.query_model.specs.Defined.{unit_if}
 use Rattle.cnf_encode.proofs.Listing.{Lists-append, Lists-same, Closed-right, Closed-same}
-use Rattle.cnf_encode.proofs.Inputs.{input_is, at_least}
+use Rattle.cnf_encode.proofs.Inputs.{input_is, at_least, value_is}
 use Rattle.cnf_encode.proofs.cycles.list_input.Goals as goal
 
 pub list_setting-requires-2 : goal.list_setting-requires-2
 list_setting-requires-2 c =
     let out = key c.args.cycle 0 0 c.at.result in
     record {
-      closed = Closed-right (unit_if c.set_in.result false out) (unit_if c.set_in-2.result (leb c.args.live c.args.cycle) out)
-          (Closed-same (sym (input_is c.args.design.now c.args.live c.args.cycle c.args.input c.at.result c.set_in.result c.set_in-2.result _ c.set_in.ensures c.set_in-2.ensures c.at.ensures (at_least c.args.live c.args.cycle))) c.requires.closed);
+      closed = Closed-right (unit_if c.at-2.result false out) (unit_if c.at-3.result (leb c.args.live c.args.cycle) out)
+          (Closed-same (sym (input_is c.args.design.now c.args.live c.args.cycle c.args.input c.at.result c.at-2.result c.at-3.result _ (value_is c.args.design.now.fixed (length c.args.design.now.inputs) c.args.cone.now.fixed c.args.input c.at-2.result c.requires.cone.of.fixed c.at-2.ensures) (value_is c.args.design.now.resets (length c.args.design.now.inputs) c.args.cone.now.resets c.args.input c.at-3.result c.requires.cone.of.resets c.at-3.ensures) c.at.ensures (at_least c.args.live c.args.cycle))) c.requires.closed);
     }
 
 pub returns : goal.returns
 returns c =
-    Lists-same (input_is c.args.design.now c.args.live c.args.cycle c.args.input c.at.result c.set_in.result c.set_in-2.result _ c.set_in.ensures c.set_in-2.ensures c.at.ensures (at_least c.args.live c.args.cycle))
+    Lists-same (input_is c.args.design.now c.args.live c.args.cycle c.args.input c.at.result c.at-2.result c.at-3.result _ (value_is c.args.design.now.fixed (length c.args.design.now.inputs) c.args.cone.now.fixed c.args.input c.at-2.result c.requires.cone.of.fixed c.at-2.ensures) (value_is c.args.design.now.resets (length c.args.design.now.inputs) c.args.cone.now.resets c.args.input c.at-3.result c.requires.cone.of.resets c.at-3.ensures) c.at.ensures (at_least c.args.live c.args.cycle))
     (Lists-append c.in_ok-list_setting.ensures c.in_ok-list_setting-2.ensures)
+
+pub at-requires-2 : goal.at-requires-2
+at-requires-2 c = omega (arith, c.requires.cone.of.fixed.len, c.requires.input)
+
+pub at-requires-3 : goal.at-requires-3
+at-requires-3 c = omega (arith, c.requires.cone.of.resets.len, c.requires.input)

@@ -8,6 +8,7 @@ use Rattle.cnf_encode.specs.Listed.{Lists, claim_cycle}
 use Rattle.cnf_encode.proofs.Needing.{closed_from, asked_keys}
 use Rattle.cnf_encode.proofs.Made.{IsMade, made_exact, made_normal}
 use Rattle.cnf_encode.proofs.MadeQueries.{asking, IsOf, made, claim_complete}
+use Rattle.cnf_encode.proofs.Layering.{starts_are}
 use Rattle.cnf_encode.proofs.formulas.formula.Goals as goal
 
 pub list_claim_cycles-requires-clause-closed : goal.list_claim_cycles-requires-clause-closed
@@ -79,3 +80,6 @@ returns-clause-complete c =
     let is : IsMade q c.in_ok-tables.tables.moved c.problem_of.result =
     made q c.in_ok-tables.tables.moved c.problem_of.result c.in_ok-frames.frames c.in_ok-asked.asked c.new-clauses.result c.list_claim_cycles.new.clauses c.push_asked.new.clauses c.in_ok-tables.ensures.moved of needed c.in_ok-asked.ensures.asked c.new-clauses.ensures lists c.in_ok-push_asked.ensures in
     claim_complete c.args.design.now c.args.claim.now c.args.phase c.args.depth c.args.inv.now c.in_ok-tables.tables.moved c.problem_of.result c.requires.sound c.requires.fits c.requires.names is
+
+pub list_claim_cycles-requires-clause-starts : goal.list_claim_cycles-requires-clause-starts
+list_claim_cycles-requires-clause-starts c = starts_are c.args.design.now c.args.claim.now c.in_ok-tables.tables c.in_ok-starts.starts c.in_ok-tables.ensures c.in_ok-starts.ensures

@@ -5,7 +5,7 @@ use Rattle.query_model.specs.declared.keys.KeyLit.{KeyLit}
 use Rattle.cnf_encode.specs.Coded.{HasKey, HasKeys, Adds}
 use Rattle.cnf_encode.proofs.Keyed.{HasKeys-one}
 use Rattle.cnf_encode.proofs.Normals.{Adds-append}
-use Rattle.cnf_encode.proofs.Listing.{take_at}
+use Rattle.frame_unroll.proofs.Numbering.{take_at}
 use Rattle.cnf_encode.proofs.formulas.push_asked.Goals as goal
 
 pub push_clause-requires : goal.push_clause-requires

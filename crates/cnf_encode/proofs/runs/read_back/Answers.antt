@@ -2,7 +2,7 @@ use Rattle.std.proofs.Common.{◌≡◌, ◌+◌, List, arith, subst, sym}
 use Rattle.net_model.specs.declared.cycles.Cycle.{Cycle}
 use Rattle.cnf_encode.specs.FreeBits.{AreInputsAt}
 use Rattle.cnf_encode.proofs.Running.{RunSoFar, run_more, run_zeros}
-use Rattle.cnf_encode.proofs.Answering.{run_answers}
+use Rattle.cnf_encode.proofs.Answering.{run_answers, run_rails}
 use Rattle.cnf_encode.proofs.runs.read_back.Goals as goal
 
 pub loop-t-preserved : goal.loop-t-preserved
@@ -40,3 +40,12 @@ returns-clause-agrees c =
 pub returns-clause-zeros : goal.returns-clause-zeros
 returns-clause-zeros c =
     run_zeros c.args.design.now c.args.problem.now.frames c.args.model.now.values c.args.problem.now.live c.loop-t.run c.loop-t.cycle.bits c.loop-t.t c.loop-t.invariant.done
+
+pub returns-clause-rails : goal.returns-clause-rails
+returns-clause-rails c =
+    let d = c.args.design.now in
+    let problem = c.args.problem.now in
+    let all : c.loop-t.t ≡ problem.cycles = omega arith in
+    λ q asks hazard is.
+    run_rails d q problem c.args.model.now c.loop-t.run c.loop-t.cycle.bits c.requires.sound asks hazard is c.requires.model
+    (subst (RunSoFar d problem.frames c.args.model.now.values problem.live c.loop-t.run c.loop-t.cycle.bits) all c.loop-t.invariant.done)

@@ -1,0 +1,8 @@
+use Rattle.std.proofs.Common.{◌≡◌}
+use Rattle.std.specs.Prelude.{filter}
+use Rattle.net_model.specs.Marks.{is_marked}
+use Rattle.query_model.specs.Keys.{below}
+use Rattle.cnf_encode.proofs.layers.start_nets.Given as goal
+
+abbrev pub invariant-loop-net : goal.invariant-loop-net
+invariant-loop-net l = l.nets ≡ filter (is_marked l.tables.starts) (below l.net)

@@ -1,0 +1,53 @@
+-- What the keys of a query are about: inputs, gates and register bits, listed cycle by cycle.
+use Rattle.std.specs.Prelude.{◌≡◌, ℕ, ◌+◌, ◌<◌, ◌==◌, ◌&&◌, Bool, true, List, [], map, length, All, Contains, Option, Some, None, slice_get, slice_index_or}
+use Rattle.std.specs.List.{list_any}
+use Rattle.std.specs.List.Sorted.{IsStrictlyIncreasing}
+use Rattle.net_model.specs.declared.netlist.Design.{Design}
+use Rattle.net_model.specs.declared.netlist.Gate.{Gate}
+use Rattle.net_model.specs.declared.netlist.Fixed.{Fixed}
+use Rattle.query_model.specs.Keys.{below}
+use Rattle.query_model.specs.Defined.{set_in}
+use Rattle.query_model.specs.declared.keys.Key.{Key}
+use Rattle.cnf_encode.specs.declared.cones.Cone.{Cone}
+
+-- one of the keys is about this point in this cycle, in whatever layer and on whatever rail
+abbrev pub has_point : List Key → ℕ → ℕ → Bool
+has_point keys c p = list_any (λ (k : Key). (k.cycle == c) && (k.point == p)) keys
+
+-- places in this list of points, ascending, and among them each whose point one of the keys is about in the cycle
+pub record Covers (keys : List Key) (c : ℕ) (points : List ℕ) (places : List ℕ) : Type 0 where
+  pub ascending : IsStrictlyIncreasing places
+  pub below : All (λ k. k < length points) places
+  pub all : (k p : ℕ) → slice_get points k ≡ Some p → has_point keys c p ≡ true → Contains places k
+
+-- a row of such places for each of these cycles
+pub record AreRows (keys : List Key) (points : List ℕ) (cycles : ℕ) (rows : List (List ℕ)) : Type 0 where
+  pub count : length rows ≡ cycles
+  pub each : (c : ℕ) → c < cycles → Covers keys c points (slice_index_or rows c [])
+
+-- the nets that gates drive
+abbrev pub gate_points : Design → List ℕ
+gate_points d = map (λ (g : Gate). g.out) d.gates
+
+-- the points of register bits
+abbrev pub bit_points : Design → List ℕ
+bit_points d = map (λ r. d.nets + r) (below (length d.regs))
+
+-- for each input the value of its setting among these, if it has one
+pub record AreValuesOf (settings : List Fixed) (inputs : ℕ) (values : List (Option Bool)) : Type 0 where
+  pub len : length values ≡ inputs
+  pub each : (i : ℕ) → i < inputs → slice_index_or values i None ≡ set_in settings i
+
+-- inputs with their settings, and what the keys are about in the cycles up to this one
+pub record IsConeOf (d : Design) (keys : List Key) (cycles : ℕ) (cone : Cone) : Type 0 where
+  pub fixed : AreValuesOf d.fixed (length d.inputs) cone.fixed
+  pub resets : AreValuesOf d.resets (length d.inputs) cone.resets
+  pub inputs : AreRows keys d.inputs (cycles + 1) cone.inputs
+  pub gates : AreRows keys (gate_points d) (cycles + 1) cone.gates
+  pub bits : AreRows keys (bit_points d) (cycles + 1) cone.bits
+
+-- a cone of keys of more cycles than this one's number
+pub record IsConeFor (d : Design) (keys : List Key) (c : ℕ) (cone : Cone) : Type 0 where
+  pub cycles : ℕ
+  pub of : IsConeOf d keys cycles cone
+  pub lt : c < cycles
