@@ -1,177 +1,251 @@
-//! Queries of small designs from texts, for tests.
-//!
-//! Items are separated by `;`. Nets, places and registers are digits, and an inverted output is a letter, `b` for net 2. A
-//! function is in postfix form: `01&2!|` is 1 where places 0 and 1 are, or place 2 is not.
+//! Small designs and queries as lists of parts, for tests.
 use net_model::{
     Claim, Design, End, Fixed, Func, Gate, InvClause, Kind, Node, PinRef, Reg, RegOut, Start,
     StateLit,
 };
 use sdcv_base::Seq;
 use std::alloc::{AllocError, Global};
-use std::test::Fail;
 
-/// A design, a claim from register 0 to register 1 unless said otherwise, and clauses.
+/// A function of the places given.
+#[derive(Clone, Copy)]
+pub enum Form {
+    One,
+    Pin(usize),
+    Not(usize),
+    And(usize, usize),
+    Or(usize, usize),
+    Xor(usize, usize),
+    /// Whether the first two are 1, or the third.
+    AndOr(usize, usize, usize),
+    /// The first where the third is 1, and else the second.
+    Choice(usize, usize, usize),
+}
+
+/// A net that shows a register's bit, or its complement.
+#[derive(Clone, Copy)]
+pub enum Out {
+    Q(usize),
+    Qn(usize),
+}
+
+/// The clear and preset of a register, and its value where both are 1.
+#[derive(Clone, Copy)]
+pub struct Controls(pub Option<Form>, pub Option<Form>, pub bool);
+
+/// A part of a design. Places of functions are those of the nets that follow.
+pub enum Part {
+    /// How many nets there are, and those of inputs.
+    Nets(usize, &'static [usize]),
+    Outputs(&'static [usize]),
+    /// An input that is 0.
+    Zero(usize),
+    /// An input that has this value in the first cycle, and the other one after it.
+    Reset(usize, bool),
+    /// A function, its nets, and the net that it drives.
+    Drives(Form, &'static [usize], usize),
+    /// A next state with controls, their nets, and those that the register drives.
+    Holds(Form, Controls, &'static [usize], &'static [Out]),
+}
+
+/// A clause: registers with values, of which one is to be there.
+pub type Lits = &'static [(usize, bool)];
+
+/// A part of a query. It is about a plain false path from register 0 to register 1, unless parts say otherwise.
+pub enum Ask {
+    From(usize),
+    To(usize),
+    In(usize),
+    Out(usize),
+    Multi(u8),
+    Hazard,
+    /// Through this pin.
+    Via(PinRef),
+    /// Through one of these two.
+    Either(PinRef, PinRef),
+    /// A clause that is kept.
+    Keeps(Lits),
+    /// Not about a path, but about this clause, which comes first.
+    Fails(Lits),
+}
+
+/// A design, and a query about its claim, or else about the first of its clauses.
 #[derive(Drop)]
 pub struct Case {
     pub design: Design,
     pub claim: Claim,
     pub has_claim: bool,
-    pub toggle: usize,
     pub clauses: Seq<InvClause>,
 }
 
-fn digit(byte: u8) -> usize {
-    usize::from(byte & 15)
+fn pin(alloc: Global, place: usize) -> Result<Box<Func>, AllocError> {
+    let node = Node::Pin(place);
+    Ok(Box::new(alloc, Func { node })?)
 }
 
-fn digits(alloc: Global, word: &str) -> Result<Seq<usize>, AllocError> {
-    let numbers = word.as_bytes().iter().map(|byte| digit(*byte));
-    Ok(Seq::from_vec(numbers.collect(alloc)?))
+fn not(alloc: Global, place: usize) -> Result<Box<Func>, AllocError> {
+    let node = Node::Not(pin(alloc, place)?);
+    Ok(Box::new(alloc, Func { node })?)
 }
 
-fn operand(alloc: Global, stack: &mut Vec<Func>) -> Result<Box<Func>, Fail> {
-    match stack.pop() {
-        Some(func) => Ok(Box::new(alloc, func)?),
-        None => Err(Fail::new("no function")),
-    }
+fn and(alloc: Global, first: Box<Func>, second: Box<Func>) -> Result<Box<Func>, AllocError> {
+    let node = Node::And(first, second);
+    Ok(Box::new(alloc, Func { node })?)
 }
 
-fn func(alloc: Global, word: &str) -> Result<Func, Fail> {
-    let mut stack = Vec::new(alloc);
-    for byte in word.as_bytes() {
-        let node = match byte {
-            b'!' => Node::Not(operand(alloc, &mut stack)?),
-            b'&' => Node::And(operand(alloc, &mut stack)?, operand(alloc, &mut stack)?),
-            b'|' => Node::Or(operand(alloc, &mut stack)?, operand(alloc, &mut stack)?),
-            b'^' => Node::Xor(operand(alloc, &mut stack)?, operand(alloc, &mut stack)?),
-            place => Node::Pin(digit(*place)),
-        };
-        stack.push(Func { node })?;
-    }
-    Ok(Box::into_inner(operand(alloc, &mut stack)?))
+fn choice(alloc: Global, first: usize, second: usize, select: usize) -> Result<Node, AllocError> {
+    let first = and(alloc, pin(alloc, first)?, pin(alloc, select)?)?;
+    let second = and(alloc, pin(alloc, second)?, not(alloc, select)?)?;
+    Ok(Node::Or(first, second))
 }
 
-fn func_if_any(alloc: Global, word: &str) -> Result<Option<Func>, Fail> {
-    if word == "-" {
-        return Ok(None);
-    }
-    Ok(Some(func(alloc, word)?))
-}
-
-fn reg_outs(alloc: Global, word: &str) -> Result<Seq<RegOut>, AllocError> {
-    let outs = word.as_bytes().iter().map(|byte| RegOut {
-        net: digit(*byte),
-        inverted: byte.is_ascii_lowercase(),
-    });
-    Ok(Seq::from_vec(outs.collect(alloc)?))
-}
-
-fn pins(alloc: Global, words: &[&str]) -> Result<Seq<PinRef>, Fail> {
-    let mut set = Seq::new(alloc);
-    for word in words.iter().skip(1) {
-        set.push(match word.as_bytes() {
-            [b'n', net] => PinRef::Net(digit(*net)),
-            [b'g', gate, place] => PinRef::GateIn(digit(*gate), digit(*place)),
-            [b'r', reg, place] => PinRef::RegIn(digit(*reg), digit(*place)),
-            [b'o', output] => PinRef::OutPort(digit(*output)),
-            _ => return Err(Fail::new("no pin")),
-        })?;
-    }
-    Ok(set)
-}
-
-fn clause(alloc: Global, words: &[&str]) -> Result<InvClause, AllocError> {
-    let mut lits = Seq::new(alloc);
-    for word in words.iter().skip(1) {
-        if let [reg, sign] = word.as_bytes() {
-            lits.push(StateLit {
-                reg: digit(*reg),
-                value: *sign == b'+',
-            })?;
+fn func(alloc: Global, form: Form) -> Result<Func, AllocError> {
+    let node = match form {
+        Form::One => Node::One,
+        Form::Pin(a) => Node::Pin(a),
+        Form::Not(a) => Node::Not(pin(alloc, a)?),
+        Form::And(a, b) => Node::And(pin(alloc, a)?, pin(alloc, b)?),
+        Form::Or(a, b) => Node::Or(pin(alloc, a)?, pin(alloc, b)?),
+        Form::Xor(a, b) => Node::Xor(pin(alloc, a)?, pin(alloc, b)?),
+        Form::AndOr(a, b, c) => {
+            let first = and(alloc, pin(alloc, a)?, pin(alloc, b)?)?;
+            Node::Or(first, pin(alloc, c)?)
         }
+        Form::Choice(a, b, select) => choice(alloc, a, b, select)?,
+    };
+    Ok(Func { node })
+}
+
+fn func_if_any(alloc: Global, form: Option<Form>) -> Result<Option<Func>, AllocError> {
+    match form {
+        Some(form) => Ok(Some(func(alloc, form)?)),
+        None => Ok(None),
+    }
+}
+
+fn seq<T: Copy>(alloc: Global, items: &[T]) -> Result<Seq<T>, AllocError> {
+    Ok(Seq::from_vec(Vec::from_slice(alloc, items)?))
+}
+
+fn gate(alloc: Global, form: Form, ins: &[usize], out: usize) -> Result<Gate, AllocError> {
+    let func = func(alloc, form)?;
+    let ins = seq(alloc, ins)?;
+    Ok(Gate { func, ins, out })
+}
+
+fn reg_outs(alloc: Global, nets: &[Out]) -> Result<Seq<RegOut>, AllocError> {
+    let mut outs = Seq::new(alloc);
+    for out in nets {
+        let (net, inverted) = match *out {
+            Out::Q(net) => (net, false),
+            Out::Qn(net) => (net, true),
+        };
+        outs.push(RegOut { net, inverted })?;
+    }
+    Ok(outs)
+}
+
+fn set_reg(
+    alloc: Global,
+    reg: &mut Reg,
+    next: Form,
+    controls: Controls,
+    ins: &[usize],
+    outs: &[Out],
+) -> Result<(), AllocError> {
+    reg.next = func(alloc, next)?;
+    reg.clear = func_if_any(alloc, controls.0)?;
+    reg.preset = func_if_any(alloc, controls.1)?;
+    reg.both = controls.2;
+    reg.ins = seq(alloc, ins)?;
+    reg.outs = reg_outs(alloc, outs)?;
+    Ok(())
+}
+
+fn blank_reg(alloc: Global) -> Reg {
+    Reg {
+        next: Func { node: Node::Zero },
+        clear: None,
+        preset: None,
+        both: false,
+        ins: Seq::new(alloc),
+        outs: Seq::new(alloc),
+    }
+}
+
+fn add_part(alloc: Global, design: &mut Design, part: &Part) -> Result<(), AllocError> {
+    match *part {
+        Part::Nets(count, inputs) => {
+            design.nets = count;
+            design.inputs = seq(alloc, inputs)?;
+        }
+        Part::Outputs(nets) => design.outputs = seq(alloc, nets)?,
+        Part::Zero(input) => {
+            let value = false;
+            design.fixed.push(Fixed { input, value })?;
+        }
+        Part::Reset(input, value) => {
+            design.resets.push(Fixed { input, value })?;
+            design.reset_len = 1;
+        }
+        Part::Drives(form, ins, out) => design.gates.push(gate(alloc, form, ins, out)?)?,
+        Part::Holds(next, controls, ins, outs) => {
+            let mut reg = blank_reg(alloc);
+            set_reg(alloc, &mut reg, next, controls, ins, outs)?;
+            design.regs.push(reg)?;
+        }
+    }
+    Ok(())
+}
+
+pub fn design(alloc: Global, parts: &[Part]) -> Result<Design, AllocError> {
+    let mut design = Design {
+        nets: 0,
+        gates: Seq::new(alloc),
+        regs: Seq::new(alloc),
+        inputs: Seq::new(alloc),
+        outputs: Seq::new(alloc),
+        fixed: Seq::new(alloc),
+        resets: Seq::new(alloc),
+        reset_len: 0,
+    };
+    for part in parts {
+        add_part(alloc, &mut design, part)?;
+    }
+    Ok(design)
+}
+
+fn clause(alloc: Global, pairs: Lits) -> Result<InvClause, AllocError> {
+    let mut lits = Seq::new(alloc);
+    for (reg, value) in pairs {
+        let (reg, value) = (*reg, *value);
+        lits.push(StateLit { reg, value })?;
     }
     Ok(InvClause { lits })
 }
 
-fn reg(alloc: Global, words: &[&str]) -> Result<Reg, Fail> {
-    Ok(Reg {
-        next: func(alloc, arg(words, 1))?,
-        clear: func_if_any(alloc, arg(words, 2))?,
-        preset: func_if_any(alloc, arg(words, 3))?,
-        both: true,
-        ins: digits(alloc, arg(words, 4))?,
-        outs: reg_outs(alloc, arg(words, 5))?,
-    })
-}
-
-fn arg<'a>(words: &[&'a str], place: usize) -> &'a str {
-    words.get(place).copied().unwrap_or("")
-}
-
-fn read_part(alloc: Global, design: &mut Design, words: &[&str]) -> Result<bool, Fail> {
-    let first = arg(words, 1);
-    match arg(words, 0) {
-        "nets" => design.nets = first.parse()?,
-        "inputs" => design.inputs = digits(alloc, first)?,
-        "outputs" => design.outputs = digits(alloc, first)?,
-        "zero" => design.fixed.push(fixed(first, false)?)?,
-        "reset" => design.resets.push(fixed(first, true)?)?,
-        "cycles" => design.reset_len = first.parse()?,
-        "gate" => design.gates.push(Gate {
-            func: func(alloc, first)?,
-            ins: digits(alloc, arg(words, 2))?,
-            out: arg(words, 3).parse()?,
-        })?,
-        "reg" => design.regs.push(reg(alloc, words)?)?,
-        _ => return Ok(false),
-    }
-    Ok(true)
-}
-
-fn read_ask(alloc: Global, claim: &mut Claim, words: &[&str]) -> Result<(), Fail> {
-    let first = arg(words, 1);
-    match arg(words, 0) {
-        "from" => claim.start = Start::Reg(first.parse()?),
-        "input" => claim.start = Start::Input(first.parse()?),
-        "to" => claim.end = End::Reg(first.parse()?),
-        "output" => claim.end = End::Output(first.parse()?),
-        "multi" => claim.kind = Kind::Multi(first.parse()?),
-        "hazard" => claim.hazard = true,
-        "via" => claim.through.push(pins(alloc, words)?)?,
-        _ => return Err(Fail::new("no item")),
+fn add_ask(alloc: Global, case: &mut Case, ask: &Ask) -> Result<(), AllocError> {
+    let claim = &mut case.claim;
+    match *ask {
+        Ask::From(reg) => claim.start = Start::Reg(reg),
+        Ask::To(reg) => claim.end = End::Reg(reg),
+        Ask::In(input) => claim.start = Start::Input(input),
+        Ask::Out(output) => claim.end = End::Output(output),
+        Ask::Multi(multiplier) => claim.kind = Kind::Multi(multiplier),
+        Ask::Hazard => claim.hazard = true,
+        Ask::Via(pin) => claim.through.push(seq(alloc, &[pin])?)?,
+        Ask::Either(first, second) => claim.through.push(seq(alloc, &[first, second])?)?,
+        Ask::Keeps(lits) => case.clauses.push(clause(alloc, lits)?)?,
+        Ask::Fails(lits) => {
+            case.clauses.push(clause(alloc, lits)?)?;
+            case.has_claim = false;
+        }
     }
     Ok(())
 }
 
-fn read_item(alloc: Global, case: &mut Case, words: &[&str]) -> Result<(), Fail> {
-    if read_part(alloc, &mut case.design, words)? {
-        return Ok(());
-    }
-    match arg(words, 0) {
-        "claim" => case.has_claim = true,
-        "clause" => case.clauses.push(clause(alloc, words)?)?,
-        _ => read_ask(alloc, &mut case.claim, words)?,
-    }
-    Ok(())
-}
-
-fn fixed(input: &str, value: bool) -> Result<Fixed, Fail> {
-    let input = input.parse()?;
-    Ok(Fixed { input, value })
-}
-
-pub fn read_case(alloc: Global, design: &str, query: &str) -> Result<Case, Fail> {
+pub fn case_of(alloc: Global, parts: &[Part], query: &[Ask]) -> Result<Case, AllocError> {
     let mut case = Case {
-        design: Design {
-            nets: 0,
-            gates: Seq::new(alloc),
-            regs: Seq::new(alloc),
-            inputs: Seq::new(alloc),
-            outputs: Seq::new(alloc),
-            fixed: Seq::new(alloc),
-            resets: Seq::new(alloc),
-            reset_len: 0,
-        },
+        design: design(alloc, parts)?,
         claim: Claim {
             kind: Kind::False,
             hazard: false,
@@ -179,13 +253,11 @@ pub fn read_case(alloc: Global, design: &str, query: &str) -> Result<Case, Fail>
             end: End::Reg(1),
             through: Seq::new(alloc),
         },
-        has_claim: false,
-        toggle: 0,
+        has_claim: true,
         clauses: Seq::new(alloc),
     };
-    for item in design.split(';').chain(query.split(';')) {
-        let words = item.split_ascii_whitespace().collect::<Vec<&str>>(alloc)?;
-        read_item(alloc, &mut case, words.as_slice())?;
+    for ask in query {
+        add_ask(alloc, &mut case, ask)?;
     }
     Ok(case)
 }
