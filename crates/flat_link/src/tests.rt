@@ -1,105 +1,168 @@
-use crate::{FlatFault, flat_link};
+use crate::{Flat, FlatFault, flat_link};
 use cell_lib::builtin;
+use net_model::Design;
 use sdcv_base::{Name, Seq};
 use std::alloc::{AllocError, Global};
-use std::test;
+use std::process::Abort;
 use verilog_net::{Conn, Dir, Item, Module, Port, Source, Wire};
 
+/// An instance of a cell, its name, and its pins with their nets.
+struct Inst(
+    &'static [u8],
+    &'static [u8],
+    &'static [(&'static [u8], usize)],
+);
+
+fn one<T: Drop>(alloc: Global, item: T) -> Result<Seq<T>, AllocError> {
+    let mut items = Seq::new(alloc);
+    items.push(item)?;
+    Ok(items)
+}
+
 fn port(alloc: Global, name: &[u8], dir: Dir, net: usize) -> Result<Port, AllocError> {
-    let mut bits = Seq::new(alloc);
-    bits.push(net)?;
+    let name = Name::new(alloc, name)?;
+    let bits = one(alloc, net)?;
     Ok(Port {
-        name: Name::new(alloc, name)?,
+        name,
         dir,
         bits,
         bus: false,
     })
 }
 
-fn instance(
-    alloc: Global,
-    cell: &[u8],
-    name: &[u8],
-    pins: &[(&[u8], usize)],
-) -> Result<Item, AllocError> {
-    let mut conns = Seq::new(alloc);
-    for (pin, net) in pins {
-        let mut wires = Seq::new(alloc);
-        wires.push(Wire::Net(*net))?;
-        conns.push(Conn {
-            pin: Name::new(alloc, pin)?,
-            wires: Some(wires),
-        })?;
-    }
-    Ok(Item::Inst {
-        cell: Name::new(alloc, cell)?,
-        name: Name::new(alloc, name)?,
-        conns,
-    })
+fn conn(alloc: Global, pin: &[u8], net: usize) -> Result<Conn, AllocError> {
+    let pin = Name::new(alloc, pin)?;
+    let wires = Some(one(alloc, Wire::Net(net))?);
+    Ok(Conn { pin, wires })
 }
 
-// The nets are 0 clk, 1 d, 2 qa, 3 n, 4 y: a register a on d, an inverter, a register b that drives the output y.
-fn chain(alloc: Global, clock_of_b: usize, read_by_inverter: usize) -> Result<Source, AllocError> {
+fn conns(alloc: Global, pins: &[(&[u8], usize)]) -> Result<Seq<Conn>, AllocError> {
+    let mut conns = Seq::new(alloc);
+    for (pin, net) in pins {
+        conns.push(conn(alloc, pin, *net)?)?;
+    }
+    Ok(conns)
+}
+
+fn item(alloc: Global, inst: &Inst) -> Result<Item, AllocError> {
+    let cell = Name::new(alloc, inst.0)?;
+    let name = Name::new(alloc, inst.1)?;
+    let conns = conns(alloc, inst.2)?;
+    Ok(Item::Inst { cell, name, conns })
+}
+
+const PORTS: &[(&[u8], Dir, usize)] = &[
+    (b"clk", Dir::Input, 0),
+    (b"d", Dir::Input, 1),
+    (b"y", Dir::Output, 4),
+];
+
+fn ports(alloc: Global) -> Result<Seq<Port>, AllocError> {
     let mut ports = Seq::new(alloc);
-    ports.push(port(alloc, b"clk", Dir::Input, 0)?)?;
-    ports.push(port(alloc, b"d", Dir::Input, 1)?)?;
-    ports.push(port(alloc, b"y", Dir::Output, 4)?)?;
+    for (name, dir, net) in PORTS {
+        ports.push(port(alloc, name, *dir, *net)?)?;
+    }
+    Ok(ports)
+}
+
+fn items(alloc: Global, insts: &[Inst]) -> Result<Seq<Item>, AllocError> {
     let mut items = Seq::new(alloc);
-    items.push(instance(alloc, b"DFF", b"a", &[(b"D", 1), (b"CK", 0), (b"Q", 2)])?)?;
-    items.push(instance(alloc, b"INV", b"i", &[(b"A", read_by_inverter), (b"Y", 3)])?)?;
-    items.push(instance(
-        alloc,
-        b"DFF",
-        b"b",
-        &[(b"Q", 4), (b"D", 3), (b"CK", clock_of_b)],
-    )?)?;
-    let mut modules = Seq::new(alloc);
-    modules.push(Module {
-        name: Name::new(alloc, b"top")?,
+    for inst in insts {
+        items.push(item(alloc, inst)?)?;
+    }
+    Ok(items)
+}
+
+fn module(alloc: Global, insts: &[Inst]) -> Result<Module, AllocError> {
+    let name = Name::new(alloc, b"top")?;
+    let ports = ports(alloc)?;
+    let items = items(alloc, insts)?;
+    Ok(Module {
+        name,
         ports,
         nets: Seq::new(alloc),
         items,
-    })?;
+    })
+}
+
+fn source(alloc: Global, insts: &[Inst]) -> Result<Source, AllocError> {
+    let modules = one(alloc, module(alloc, insts)?)?;
     Ok(Source { modules })
 }
 
-// By hand: the nets in order of their drivers are d, qa, y, n.
-#[test]
-fn a_chain_of_two_registers_is_a_design(rt: HostRuntime) -> Result<(), test::Fail> {
-    let alloc = rt.alloc();
-    let library = builtin(alloc)?;
-    let clock = Name::new(alloc, b"clk")?;
-    let flat = flat_link(alloc, &chain(alloc, 0, 2)?, &library, &clock)?;
-    assert_eq!(rt; flat.design.nets, 4);
-    assert!(rt; flat.design.inputs.as_slice() == [0].as_slice());
-    assert!(rt; flat.design.outputs.as_slice() == [2].as_slice());
-    assert_eq!(rt; flat.design.regs.len(), 2);
-    assert_eq!(rt; flat.regs.len(), 2);
-    for gate in flat.design.gates.as_slice() {
-        assert!(rt; gate.ins.as_slice() == [1].as_slice());
-        assert_eq!(rt; gate.out, 3);
+fn link(alloc: Global, source: &Source, clock: &[u8]) -> Result<Flat, FlatFault> {
+    let clock = Name::new(alloc, clock)?;
+    flat_link(alloc, source, &builtin(alloc)?, &clock)
+}
+
+fn linked(alloc: Global, insts: &[Inst], clock: &[u8]) -> Result<Flat, FlatFault> {
+    let source = source(alloc, insts)?;
+    link(alloc, &source, clock)
+}
+
+// The nets are 0 clk, 1 d, 2 qa, 3 n, 4 y: a register a on d, an inverter, a register b that drives the output y.
+const A: Inst = Inst(b"DFF", b"a", &[(b"D", 1), (b"CK", 0), (b"Q", 2)]);
+
+const INV: Inst = Inst(b"INV", b"i", &[(b"A", 2), (b"Y", 3)]);
+
+const B: Inst = Inst(b"DFF", b"b", &[(b"Q", 4), (b"D", 3), (b"CK", 0)]);
+
+const CHAIN: &[Inst] = &[A, INV, B];
+
+fn is_just(nets: &Seq<usize>, net: usize) -> bool {
+    matches!(nets.as_slice(), [only] if *only == net)
+}
+
+// The nets in order of their drivers are d, qa, y, n.
+fn check_gates(rt: &impl Abort, design: &Design) {
+    for gate in design.gates.as_slice() {
+        assert!(rt; is_just(&gate.ins, 1));
+        assert!(rt; gate.out == 3);
     }
+}
+
+fn check_design(rt: &impl Abort, design: &Design) {
+    assert!(rt; design.nets == 4);
+    assert!(rt; is_just(&design.inputs, 0));
+    assert!(rt; is_just(&design.outputs, 2));
+    assert!(rt; design.regs.len() == 2);
+    check_gates(rt, design);
+}
+
+fn check_flat(rt: &impl Abort, flat: &Flat) {
+    check_design(rt, &flat.design);
+    assert!(rt; flat.regs.len() == 2);
+}
+
+// Worked out by hand.
+#[test]
+fn a_chain_of_two_registers_is_a_design(rt: HostRuntime) -> Result<(), FlatFault> {
+    let flat = linked(rt.alloc(), CHAIN, b"clk")?;
+    check_flat(&rt, &flat);
     Ok(())
 }
 
+const B_ON_D: Inst = Inst(b"DFF", b"b", &[(b"Q", 4), (b"D", 3), (b"CK", 1)]);
+
+const INV_ON_ITSELF: Inst = Inst(b"INV", b"i", &[(b"A", 3), (b"Y", 3)]);
+
+const INV_ON_CLOCK: Inst = Inst(b"INV", b"i", &[(b"A", 0), (b"Y", 3)]);
+
 // A clock pin on another net, a gate that reads its own output, a gate that reads the clock, an unknown clock port.
+const REFUSED: &[(&[Inst], &[u8])] = &[
+    (&[A, INV, B_ON_D], b"clk"),
+    (&[A, INV_ON_ITSELF, B], b"clk"),
+    (&[A, INV_ON_CLOCK, B], b"clk"),
+    (CHAIN, b"ck"),
+];
+
+fn is_refused(alloc: Global, insts: &[Inst], clock: &[u8]) -> bool {
+    matches!(linked(alloc, insts, clock), Err(FlatFault::NotFlat))
+}
+
 #[test]
-fn other_forms_are_refused(rt: HostRuntime) -> Result<(), test::Fail> {
-    let alloc = rt.alloc();
-    let library = builtin(alloc)?;
-    let cases: [(usize, usize, &[u8]); 4] = [
-        (1, 2, b"clk"),
-        (0, 3, b"clk"),
-        (0, 0, b"clk"),
-        (0, 2, b"ck"),
-    ];
-    for (clock_of_b, read, clock) in cases {
-        let clock = Name::new(alloc, clock)?;
-        let refused = flat_link(alloc, &chain(alloc, clock_of_b, read)?, &library, &clock);
-        assert!(rt;
-            matches!(refused, Err(FlatFault::NotFlat)),
-            "clock pin on {clock_of_b}, inverter on {read}"
-        );
+fn other_forms_are_refused(rt: HostRuntime) {
+    for (place, (insts, clock)) in REFUSED.iter().enumerate() {
+        assert!(rt; is_refused(rt.alloc(), insts, clock), "case {place}");
     }
-    Ok(())
 }

@@ -5,29 +5,37 @@ ghost use Rattle.net_model.specs.Fits.{Fits};
 ghost use Rattle.net_model.specs.Cycles.{IsSettled};
 
 use crate::slow_layers::SlowLayers;
-use crate::test_designs::{glitching_pair, sets_of};
-use net_model::{Claim, Cycle, Design, End, Kind, PinRef, Start, Tern, Value};
+use crate::test_designs::{GLITCHING_PAIR, false_path, seq, sound_design};
+use net_model::PinRef::{GateIn, Net, OutPort, RegIn};
+use net_model::{Claim, Cycle, Design, End, PinRef, Start, Tern, Value};
 use net_sim::{Layers, capture, layer_capture, settle};
 use sdcv_base::Seq;
 use std::alloc::{AllocError, Global};
 use std::process::Abort;
-use std::test::Fail;
 use ternary_sim::{Layers3, capture3};
 
-// The settled cycle in which register 0 and input 1 have these bits, and all else is 0.
-fn cycle(alloc: Global, design: &Design, a: bool, e: bool) -> Result<Cycle, Fail>
+// The cycle in which register 0 and input 1 have these bits, and all else is 0.
+fn unsettled(alloc: Global, nets: usize, a: bool, e: bool) -> Result<Cycle, AllocError> {
+    let bits = seq(alloc, &[a, false, false, false])?;
+    let ins = seq(alloc, &[false, e])?;
+    let nets = Seq::from_vec(vec![in alloc; false; nets]?);
+    Ok(Cycle { bits, ins, nets })
+}
+
+// The settled cycle of these two bits.
+fn cycle(
+    rt: &impl Abort,
+    alloc: Global,
+    design: &Design,
+    a: bool,
+    e: bool,
+) -> Result<Cycle, AllocError>
     requires sound { IsSound design.now }
     ensures { IfOk result (IsSettled design.now) }
 {
-    let mut cycle = Cycle {
-        bits: Seq::from_vec(vec![in alloc; a, false, false, false]?),
-        ins: Seq::from_vec(vec![in alloc; false, e]?),
-        nets: Seq::from_vec(vec![in alloc; false; design.nets]?),
-    };
+    let mut cycle = unsettled(alloc, design.nets, a, e)?;
     let shape = (cycle.bits.len(), cycle.ins.len(), cycle.nets.len());
-    if shape != (design.regs.len(), design.inputs.len(), design.nets) {
-        return Err(Fail::new("no cycle of the design"));
-    }
+    assert!(rt; shape == (design.regs.len(), design.inputs.len(), design.nets));
     settle(design, &mut cycle);
     Ok(cycle)
 }
@@ -91,214 +99,213 @@ fn push_word(text: &mut String, values: &[Tern; 4]) -> Result<(), AllocError> {
     text.push(' ')
 }
 
-// For a and e 00, 01, 10 and 11: what the end captures, with each stale bit, and where the start is unknown.
-fn shows(
+// A start, an end and a pin for each set, and then for a and e 00, 01, 10 and 11: what the end captures, with each stale
+// bit, and where the start is unknown.
+struct Row(Start, End, &'static [PinRef], &'static str);
+
+const A_AND_E: &[(bool, bool)] = &[(false, false), (false, true), (true, false), (true, true)];
+
+fn push_captured(
+    rt: &impl Abort,
+    alloc: Global,
+    text: &mut String,
+    design: &Design,
+    claim: &Claim,
+    a: bool,
+    e: bool,
+) -> Result<(), AllocError>
+    requires sound { IsSound design.now }
+    requires fits { Fits design.now claim.now }
+{
+    let cycle = cycle(rt, alloc, design, a, e)?;
+    push_word(text, &captured(alloc, design, claim, &cycle)?)
+}
+
+fn push_evaluated(
+    rt: &impl Abort,
+    alloc: Global,
+    text: &mut String,
+    design: &Design,
+    claim: &Claim,
+    a: bool,
+    e: bool,
+) -> Result<(), AllocError>
+    requires sound { IsSound design.now }
+{
+    let cycle = cycle(rt, alloc, design, a, e)?;
+    let own = claim.start == Start::Reg(0) && a || claim.start == Start::Input(1) && e;
+    push_word(text, &evaluated(design, claim, &cycle, own))
+}
+
+// The captures for all values of a and e, as words of a text.
+fn captures(
     rt: &impl Abort,
     alloc: Global,
     design: &Design,
-    ends: (Start, End, &[PinRef]),
-    want: &str,
-) -> Result<(), Fail>
+    claim: &Claim,
+) -> Result<String, AllocError>
+    requires sound { IsSound design.now }
+    requires fits { Fits design.now claim.now }
+{
+    let mut text = String::new(alloc);
+    for (a, e) in A_AND_E {
+        push_captured(rt, alloc, &mut text, design, claim, *a, *e)?;
+    }
+    Ok(text)
+}
+
+// The same by the plain evaluator.
+fn evaluations(
+    rt: &impl Abort,
+    alloc: Global,
+    design: &Design,
+    claim: &Claim,
+) -> Result<String, AllocError>
     requires sound { IsSound design.now }
 {
-    let (start, end, pins) = ends;
-    let claim = Claim {
-        kind: Kind::False,
-        hazard: false,
-        start,
-        end,
-        through: sets_of(alloc, pins)?,
-    };
-    assert!(rt; claim.fits(design));
-    let mut found = String::new(alloc);
-    let mut plain = String::new(alloc);
-    for (a, e) in [(false, false), (false, true), (true, false), (true, true)] {
-        let cycle = cycle(alloc, design, a, e)?;
-        push_word(&mut found, &captured(alloc, design, &claim, &cycle)?)?;
-        let own = start == Start::Reg(0) && a || start == Start::Input(1) && e;
-        push_word(&mut plain, &evaluated(design, &claim, &cycle, own))?;
+    let mut text = String::new(alloc);
+    for (a, e) in A_AND_E {
+        push_evaluated(rt, alloc, &mut text, design, claim, *a, *e)?;
     }
-    assert_eq!(rt; found.as_str(), want, "{start:?} {end:?} {pins:?}");
-    assert_eq!(rt; plain.as_str(), want, "{start:?} {end:?} {pins:?}");
+    Ok(text)
+}
+
+fn check_text(rt: &impl Abort, text: &str, row: &Row) {
+    let Row(start, end, pins, want) = *row;
+    assert_eq!(rt; text, want, "{start:?} {end:?} {pins:?}");
+}
+
+fn check_captures(
+    rt: &impl Abort,
+    alloc: Global,
+    design: &Design,
+    claim: &Claim,
+    row: &Row,
+) -> Result<(), AllocError>
+    requires sound { IsSound design.now }
+{
+    assert!(rt; claim.fits(design));
+    let found = captures(rt, alloc, design, claim)?;
+    check_text(rt, found.as_str(), row);
     Ok(())
 }
 
-const START: Start = Start::Reg(0);
+fn check_evaluations(
+    rt: &impl Abort,
+    alloc: Global,
+    design: &Design,
+    claim: &Claim,
+    row: &Row,
+) -> Result<(), AllocError>
+    requires sound { IsSound design.now }
+{
+    let plain = evaluations(rt, alloc, design, claim)?;
+    check_text(rt, plain.as_str(), row);
+    Ok(())
+}
+
+fn check_row(rt: &impl Abort, alloc: Global, design: &Design, row: &Row) -> Result<(), AllocError>
+    requires sound { IsSound design.now }
+{
+    let claim = false_path(alloc, row.0, row.1, row.2)?;
+    check_captures(rt, alloc, design, &claim, row)?;
+    check_evaluations(rt, alloc, design, &claim, row)
+}
+
+fn check_each(
+    rt: &impl Abort,
+    alloc: Global,
+    design: &Design,
+    rows: &[Row],
+) -> Result<(), AllocError>
+    requires sound { IsSound design.now }
+{
+    for row in rows {
+        check_row(rt, alloc, design, row)?;
+    }
+    Ok(())
+}
+
+fn check_rows(rt: &impl Abort, alloc: Global, rows: &[Row]) -> Result<(), AllocError> {
+    let design = sound_design(rt, alloc, GLITCHING_PAIR)?;
+    check_each(rt, alloc, &design, rows)
+}
+
+const A: Start = Start::Reg(0);
+
+const E: Start = Start::Input(1);
 
 const END: End = End::Reg(1);
 
+const CELLS: &[Row] = &[
+    Row(A, End::Output(0), &[], "110X 111X 010X 111X "),
+    Row(A, End::Output(2), &[], "110X 1111 010X 1111 "),
+    Row(A, End::Output(1), &[], "001X 001X 101X 101X "),
+];
+
 // The start reaches net 5 on both of its nets, so four gates may glitch where one cell of the same function does not.
 #[test]
-fn one_cell_does_not_glitch(rt: HostRuntime) -> Result<(), Fail> {
-    let alloc = rt.alloc();
-    let design = glitching_pair(alloc)?;
-    design.check(alloc)?;
-    shows(
-        &rt,
-        alloc,
-        &design,
-        (START, End::Output(0), &[]),
-        "110X 111X 010X 111X ",
-    )?;
-    shows(
-        &rt,
-        alloc,
-        &design,
-        (START, End::Output(2), &[]),
-        "110X 1111 010X 1111 ",
-    )?;
-    shows(
-        &rt,
-        alloc,
-        &design,
-        (START, End::Output(1), &[]),
-        "001X 001X 101X 101X ",
-    )?;
-    Ok(())
+fn one_cell_does_not_glitch(rt: HostRuntime) -> Result<(), AllocError> {
+    check_rows(&rt, rt.alloc(), CELLS)
 }
+
+const ORDERS: &[Row] = &[
+    Row(
+        A,
+        END,
+        &[GateIn(0, 0), GateIn(0, 0)],
+        "1111 1111 0000 101X ",
+    ),
+    Row(
+        A,
+        END,
+        &[GateIn(0, 0), GateIn(1, 1)],
+        "1111 1111 0000 1111 ",
+    ),
+    Row(A, END, &[Net(2), Net(4)], "1111 1111 0000 101X "),
+    Row(A, END, &[Net(4), Net(2)], "1111 1111 0000 1111 "),
+    Row(A, END, &[RegIn(1, 0)], "110X 111X 010X 111X "),
+];
 
 // A late value passes only through pins of the sets in their order; one pin may meet two sets.
 #[test]
-fn late_values_pass_through_pins_in_order(rt: HostRuntime) -> Result<(), Fail> {
-    let alloc = rt.alloc();
-    let design = glitching_pair(alloc)?;
-    design.check(alloc)?;
-    let first = PinRef::GateIn(0, 0);
-    let other = PinRef::GateIn(1, 1);
-    shows(
-        &rt,
-        alloc,
-        &design,
-        (START, END, &[first, first]),
-        "1111 1111 0000 101X ",
-    )?;
-    shows(
-        &rt,
-        alloc,
-        &design,
-        (START, END, &[first, other]),
-        "1111 1111 0000 1111 ",
-    )?;
-    let (source, joined) = (PinRef::Net(2), PinRef::Net(4));
-    shows(
-        &rt,
-        alloc,
-        &design,
-        (START, END, &[source, joined]),
-        "1111 1111 0000 101X ",
-    )?;
-    shows(
-        &rt,
-        alloc,
-        &design,
-        (START, END, &[joined, source]),
-        "1111 1111 0000 1111 ",
-    )?;
-    shows(
-        &rt,
-        alloc,
-        &design,
-        (START, END, &[PinRef::RegIn(1, 0)]),
-        "110X 111X 010X 111X ",
-    )?;
-    Ok(())
+fn late_values_pass_through_pins_in_order(rt: HostRuntime) -> Result<(), AllocError> {
+    check_rows(&rt, rt.alloc(), ORDERS)
 }
+
+const STARTS: &[Row] = &[
+    Row(A, END, &[Net(2)], "1111 1111 0000 101X "),
+    Row(A, END, &[Net(3)], "110X 110X 010X 1111 "),
+    Row(A, End::Output(0), &[OutPort(0)], "110X 111X 010X 111X "),
+    Row(A, End::Output(1), &[Net(5)], "0000 0000 1111 1111 "),
+];
 
 // A pin that drives a net of the start keeps that net late, and the start's other net is as in the cycle.
 #[test]
-fn a_net_of_the_start_may_be_in_a_set(rt: HostRuntime) -> Result<(), Fail> {
-    let alloc = rt.alloc();
-    let design = glitching_pair(alloc)?;
-    design.check(alloc)?;
-    shows(
-        &rt,
-        alloc,
-        &design,
-        (START, END, &[PinRef::Net(2)]),
-        "1111 1111 0000 101X ",
-    )?;
-    shows(
-        &rt,
-        alloc,
-        &design,
-        (START, END, &[PinRef::Net(3)]),
-        "110X 110X 010X 1111 ",
-    )?;
-    let out = PinRef::OutPort(0);
-    shows(
-        &rt,
-        alloc,
-        &design,
-        (START, End::Output(0), &[out]),
-        "110X 111X 010X 111X ",
-    )?;
-    shows(
-        &rt,
-        alloc,
-        &design,
-        (START, End::Output(1), &[PinRef::Net(5)]),
-        "0000 0000 1111 1111 ",
-    )?;
-    Ok(())
+fn a_net_of_the_start_may_be_in_a_set(rt: HostRuntime) -> Result<(), AllocError> {
+    check_rows(&rt, rt.alloc(), STARTS)
 }
+
+const CONTROLS: &[Row] = &[
+    Row(A, End::Reg(2), &[], "110X 1111 010X 1111 "),
+    Row(A, End::Reg(3), &[], "110X 0000 010X 0000 "),
+    Row(E, End::Reg(3), &[], "110X 010X 000X 000X "),
+    Row(E, End::Reg(3), &[RegIn(3, 1)], "110X 010X 0000 010X "),
+];
 
 // Clear and preset of registers 2 and 3 are both e: they then capture 1 and 0, however their data pin glitches.
 #[test]
-fn both_controls_give_the_stated_value(rt: HostRuntime) -> Result<(), Fail> {
-    let alloc = rt.alloc();
-    let design = glitching_pair(alloc)?;
-    design.check(alloc)?;
-    shows(
-        &rt,
-        alloc,
-        &design,
-        (START, End::Reg(2), &[]),
-        "110X 1111 010X 1111 ",
-    )?;
-    shows(
-        &rt,
-        alloc,
-        &design,
-        (START, End::Reg(3), &[]),
-        "110X 0000 010X 0000 ",
-    )?;
-    let e = Start::Input(1);
-    shows(
-        &rt,
-        alloc,
-        &design,
-        (e, End::Reg(3), &[]),
-        "110X 010X 000X 000X ",
-    )?;
-    shows(
-        &rt,
-        alloc,
-        &design,
-        (e, End::Reg(3), &[PinRef::RegIn(3, 1)]),
-        "110X 010X 0000 010X ",
-    )?;
-    Ok(())
+fn both_controls_give_the_stated_value(rt: HostRuntime) -> Result<(), AllocError> {
+    check_rows(&rt, rt.alloc(), CONTROLS)
 }
+
+const INPUTS: &[Row] = &[
+    Row(E, End::Output(0), &[], "1111 1111 001X 101X "),
+    Row(Start::Input(0), End::Reg(0), &[], "001X 001X 001X 001X "),
+];
 
 // An input that comes late, at an output port and at a register that takes it.
 #[test]
-fn an_input_may_come_late(rt: HostRuntime) -> Result<(), Fail> {
-    let alloc = rt.alloc();
-    let design = glitching_pair(alloc)?;
-    design.check(alloc)?;
-    shows(
-        &rt,
-        alloc,
-        &design,
-        (Start::Input(1), End::Output(0), &[]),
-        "1111 1111 001X 101X ",
-    )?;
-    shows(
-        &rt,
-        alloc,
-        &design,
-        (Start::Input(0), End::Reg(0), &[]),
-        "001X 001X 001X 001X ",
-    )?;
-    Ok(())
+fn an_input_may_come_late(rt: HostRuntime) -> Result<(), AllocError> {
+    check_rows(&rt, rt.alloc(), INPUTS)
 }

@@ -1,7 +1,68 @@
-//! Designs by hand, for the tests.
-use net_model::{Design, Fixed, Func, Gate, Node, PinRef, Reg, RegOut};
+//! Designs and claims by hand, for the tests.
+ghost use Rattle.std.specs.Prelude.{IfOk};
+ghost use Rattle.net_model.specs.Netlist.{IsSound};
+
+use net_model::{Claim, Design, End, Fixed, Func, Gate, Kind, Node, PinRef, Reg, RegOut, Start};
 use sdcv_base::Seq;
 use std::alloc::{AllocError, Global};
+use std::process::Abort;
+
+/// A function of pins 0 and 1.
+#[derive(Clone, Copy)]
+pub enum Form {
+    And,
+    Or,
+    /// Both, or not the first.
+    AndOrNot,
+}
+
+/// What controls a register that takes its first pin.
+#[derive(Clone, Copy)]
+pub enum Controls {
+    Free,
+    /// Pin 1 clears it.
+    Cleared,
+    /// Pin 1 clears and presets it, and this is its value then.
+    Both(bool),
+}
+
+/// A part of a design. Places of functions are those of the nets that follow.
+pub enum Part {
+    /// How many nets there are, and those of inputs.
+    Nets(usize, &'static [usize]),
+    Outputs(&'static [usize]),
+    /// An input that is 1 in the first cycle, and 0 after it.
+    Reset(usize),
+    /// A function, its nets, and the net that it drives.
+    Drives(Form, &'static [usize], usize),
+    /// A register's controls, its nets, and those that it drives, with whether they show its complement.
+    Holds(Controls, &'static [usize], &'static [(usize, bool)]),
+}
+
+/// Inputs d and e, nets 0 and 1. Register 0 takes d, and shows its bit a on net 2 and its complement on net 3. Net 4 is
+/// a and e, net 5 is net 4 or net 3, and net 6 is the same in one cell. Register 1 takes net 5, registers 2 and 3 too,
+/// cleared and preset at once by e: the first is then 1, the second 0. The outputs are nets 5, 2 and 6.
+pub const GLITCHING_PAIR: &[Part] = &[
+    Part::Nets(7, &[0, 1]),
+    Part::Outputs(&[5, 2, 6]),
+    Part::Drives(Form::And, &[2, 1], 4),
+    Part::Drives(Form::Or, &[4, 3], 5),
+    Part::Drives(Form::AndOrNot, &[2, 1], 6),
+    Part::Holds(Controls::Free, &[0], &[(2, false), (3, true)]),
+    Part::Holds(Controls::Free, &[5], &[]),
+    Part::Holds(Controls::Both(true), &[5, 1], &[]),
+    Part::Holds(Controls::Both(false), &[5, 1], &[]),
+];
+
+/// Inputs rst and d, nets 0 and 1. Register 0 takes d and register 1 takes register 0; both are cleared by rst, which is
+/// active at 1 for one cycle.
+pub const TWO_FLOPS: &[Part] = &[
+    Part::Nets(4, &[0, 1]),
+    Part::Outputs(&[3]),
+    Part::Reset(0),
+    Part::Holds(Controls::Cleared, &[1, 0], &[(2, false)]),
+    Part::Holds(Controls::Cleared, &[2, 0], &[(3, false)]),
+];
 
 fn at(place: usize) -> Func {
     Func {
@@ -9,123 +70,156 @@ fn at(place: usize) -> Func {
     }
 }
 
-fn complement(alloc: Global, func: Func) -> Result<Func, AllocError> {
-    Ok(Func {
-        node: Node::Not(Box::new(alloc, func)?),
-    })
+fn boxed(alloc: Global, node: Node) -> Result<Box<Func>, AllocError> {
+    Ok(Box::new(alloc, Func { node })?)
 }
 
-fn both(alloc: Global, first: Func, second: Func) -> Result<Func, AllocError> {
-    Ok(Func {
-        node: Node::And(Box::new(alloc, first)?, Box::new(alloc, second)?),
-    })
+fn pin(alloc: Global, place: usize) -> Result<Box<Func>, AllocError> {
+    boxed(alloc, Node::Pin(place))
 }
 
-fn either(alloc: Global, first: Func, second: Func) -> Result<Func, AllocError> {
-    Ok(Func {
-        node: Node::Or(Box::new(alloc, first)?, Box::new(alloc, second)?),
-    })
+fn both(alloc: Global) -> Result<Node, AllocError> {
+    Ok(Node::And(pin(alloc, 0)?, pin(alloc, 1)?))
 }
 
-fn gate(func: Func, ins: Vec<usize>, out: usize) -> Gate {
-    Gate {
-        func,
-        ins: Seq::from_vec(ins),
-        out,
+fn and_or_not(alloc: Global) -> Result<Node, AllocError> {
+    let both = boxed(alloc, both(alloc)?)?;
+    let not = Node::Not(pin(alloc, 0)?);
+    Ok(Node::Or(both, boxed(alloc, not)?))
+}
+
+fn func(alloc: Global, form: Form) -> Result<Func, AllocError> {
+    let node = match form {
+        Form::And => both(alloc)?,
+        Form::Or => Node::Or(pin(alloc, 0)?, pin(alloc, 1)?),
+        Form::AndOrNot => and_or_not(alloc)?,
+    };
+    Ok(Func { node })
+}
+
+/// A list of these items.
+pub fn seq<T: Copy>(alloc: Global, items: &[T]) -> Result<Seq<T>, AllocError> {
+    Ok(Seq::from_vec(Vec::from_slice(alloc, items)?))
+}
+
+fn gate(alloc: Global, form: Form, ins: &[usize], out: usize) -> Result<Gate, AllocError> {
+    let func = func(alloc, form)?;
+    let ins = seq(alloc, ins)?;
+    Ok(Gate { func, ins, out })
+}
+
+fn set_controls(reg: &mut Reg, controls: Controls) {
+    match controls {
+        Controls::Free => {}
+        Controls::Cleared => reg.clear = Some(at(1)),
+        Controls::Both(stated) => {
+            reg.clear = Some(at(1));
+            reg.preset = Some(at(1));
+            reg.both = stated;
+        }
     }
 }
 
-fn out(net: usize, inverted: bool) -> RegOut {
-    RegOut { net, inverted }
+fn reg_outs(alloc: Global, nets: &[(usize, bool)]) -> Result<Seq<RegOut>, AllocError> {
+    let mut outs = Seq::new(alloc);
+    for (net, inverted) in nets {
+        let (net, inverted) = (*net, *inverted);
+        outs.push(RegOut { net, inverted })?;
+    }
+    Ok(outs)
 }
 
-// A register that takes its first pin.
-fn plain(ins: Vec<usize>, outs: Vec<RegOut>) -> Reg {
-    Reg {
+fn reg(
+    alloc: Global,
+    controls: Controls,
+    ins: &[usize],
+    outs: &[(usize, bool)],
+) -> Result<Reg, AllocError> {
+    let ins = seq(alloc, ins)?;
+    let outs = reg_outs(alloc, outs)?;
+    let mut reg = Reg {
         next: at(0),
         clear: None,
         preset: None,
         both: false,
-        ins: Seq::from_vec(ins),
-        outs: Seq::from_vec(outs),
-    }
-}
-
-// A register that takes net 5, with clear and preset both at net 1.
-fn controlled(alloc: Global, stated: bool) -> Result<Reg, AllocError> {
-    let mut reg = plain(vec![in alloc; 5, 1]?, vec![in alloc]?);
-    reg.clear = Some(at(1));
-    reg.preset = Some(at(1));
-    reg.both = stated;
+        ins,
+        outs,
+    };
+    set_controls(&mut reg, controls);
     Ok(reg)
 }
 
-// A register that takes its first pin and is cleared by its second.
-fn cleared(ins: Vec<usize>, outs: Vec<RegOut>) -> Reg {
-    let mut reg = plain(ins, outs);
-    reg.clear = Some(at(1));
-    reg
+fn set_nets(
+    alloc: Global,
+    design: &mut Design,
+    count: usize,
+    inputs: &[usize],
+) -> Result<(), AllocError> {
+    design.nets = count;
+    design.inputs = seq(alloc, inputs)?;
+    Ok(())
 }
 
-fn pair_gates(alloc: Global) -> Result<Vec<Gate>, AllocError> {
-    let selected = gate(both(alloc, at(0), at(1))?, vec![in alloc; 2, 1]?, 4);
-    let joined = gate(either(alloc, at(0), at(1))?, vec![in alloc; 4, 3]?, 5);
-    let whole = either(alloc, both(alloc, at(0), at(1))?, complement(alloc, at(0))?)?;
-    let cell = gate(whole, vec![in alloc; 2, 1]?, 6);
-    Ok(vec![in alloc; selected, joined, cell]?)
+fn add_reset(design: &mut Design, input: usize) -> Result<(), AllocError> {
+    let value = true;
+    design.resets.push(Fixed { input, value })?;
+    design.reset_len = 1;
+    Ok(())
 }
 
-/// Inputs d and e, nets 0 and 1. Register 0 takes d, and shows its bit a on net 2 and its complement on net 3. Net 4 is
-/// a and e, net 5 is net 4 or net 3, and net 6 is the same in one cell. Register 1 takes net 5, registers 2 and 3 too,
-/// cleared and preset at once by e: the first is then 1, the second 0. The outputs are nets 5, 2 and 6.
-pub fn glitching_pair(alloc: Global) -> Result<Design, AllocError> {
-    let outs = vec![in alloc; out(2, false), out(3, true)]?;
-    let start = plain(vec![in alloc; 0]?, outs);
-    let end = plain(vec![in alloc; 5]?, vec![in alloc]?);
-    let regs = vec![in alloc;
-        start,
-        end,
-        controlled(alloc, true)?,
-        controlled(alloc, false)?,
-    ]?;
-    Ok(Design {
-        nets: 7,
-        gates: Seq::from_vec(pair_gates(alloc)?),
-        regs: Seq::from_vec(regs),
-        inputs: Seq::from_vec(vec![in alloc; 0, 1]?),
-        outputs: Seq::from_vec(vec![in alloc; 5, 2, 6]?),
+fn add_part(alloc: Global, design: &mut Design, part: &Part) -> Result<(), AllocError> {
+    match *part {
+        Part::Nets(count, inputs) => set_nets(alloc, design, count, inputs)?,
+        Part::Outputs(nets) => design.outputs = seq(alloc, nets)?,
+        Part::Reset(input) => add_reset(design, input)?,
+        Part::Drives(form, ins, out) => design.gates.push(gate(alloc, form, ins, out)?)?,
+        Part::Holds(controls, ins, outs) => design.regs.push(reg(alloc, controls, ins, outs)?)?,
+    }
+    Ok(())
+}
+
+fn design(alloc: Global, parts: &[Part]) -> Result<Design, AllocError> {
+    let mut design = Design {
+        nets: 0,
+        gates: Seq::new(alloc),
+        regs: Seq::new(alloc),
+        inputs: Seq::new(alloc),
+        outputs: Seq::new(alloc),
         fixed: Seq::new(alloc),
         resets: Seq::new(alloc),
         reset_len: 0,
-    })
-}
-
-/// Inputs rst and d, nets 0 and 1. Register 0 takes d and register 1 takes register 0; both are cleared by rst, which is
-/// active at 1 for one cycle.
-pub fn two_flops(alloc: Global) -> Result<Design, AllocError> {
-    let first = cleared(vec![in alloc; 1, 0]?, vec![in alloc; out(2, false)]?);
-    let second = cleared(vec![in alloc; 2, 0]?, vec![in alloc; out(3, false)]?);
-    let rst = Fixed {
-        input: 0,
-        value: true,
     };
-    Ok(Design {
-        nets: 4,
-        gates: Seq::new(alloc),
-        regs: Seq::from_vec(vec![in alloc; first, second]?),
-        inputs: Seq::from_vec(vec![in alloc; 0, 1]?),
-        outputs: Seq::from_vec(vec![in alloc; 3]?),
-        fixed: Seq::new(alloc),
-        resets: Seq::from_vec(vec![in alloc; rst]?),
-        reset_len: 1,
-    })
+    for part in parts {
+        add_part(alloc, &mut design, part)?;
+    }
+    Ok(design)
 }
 
-/// A set of one pin for each pin.
-pub fn sets_of(alloc: Global, pins: &[PinRef]) -> Result<Seq<Seq<PinRef>>, AllocError> {
-    let mut sets = Seq::new(alloc);
+/// The design of these parts, which is sound.
+pub fn sound_design(rt: &impl Abort, alloc: Global, parts: &[Part]) -> Result<Design, AllocError>
+    ensures { IfOk result IsSound }
+{
+    let design = design(alloc, parts)?;
+    assert!(rt; design.check(alloc).is_ok());
+    Ok(design)
+}
+
+/// A false path, with a set of one pin for each pin.
+pub fn false_path(
+    alloc: Global,
+    start: Start,
+    end: End,
+    pins: &[PinRef],
+) -> Result<Claim, AllocError> {
+    let mut through = Seq::new(alloc);
     for pin in pins {
-        sets.push(Seq::from_vec(vec![in alloc; *pin]?))?;
+        through.push(seq(alloc, &[*pin])?)?;
     }
-    Ok(sets)
+    Ok(Claim {
+        kind: Kind::False,
+        hazard: false,
+        start,
+        end,
+        through,
+    })
 }
