@@ -1,73 +1,96 @@
-ghost use Rattle.std.specs.Prelude.{IfOk};
+ghost use Rattle.std.specs.Prelude.{◌≡◌, IfOk};
 ghost use Rattle.net_model.specs.Netlist.{IsSound};
 ghost use Rattle.net_model.specs.Fits.{Fits};
 ghost use Rattle.frame_unroll.specs.Reading.{AreTables};
 
 use crate::{Frames, Tables, base_lit, moved_nets, net_drivers, net_lit, pin_lit};
+use net_model::PinRef::{GateIn, Net, RegIn};
+use net_model::Start::Input;
 use net_model::{
-    Claim, Design, DesignFault, End, Func, Gate, InvClause, Kind, Node, Phase, PinRef, Reg, RegOut,
-    Start, StateLit,
+    Claim, Design, End, Func, Gate, InvClause, Kind, Node, Phase, PinRef, Reg, RegOut, Start,
+    StateLit,
 };
 use query_model::{Key, KeyLit};
 use sdcv_base::Seq;
 use std::alloc::{AllocError, Global};
-use std::test;
+use std::process::Abort;
+use std::slice;
+
+fn seq<T: Copy>(alloc: Global, items: &[T]) -> Result<Seq<T>, AllocError>
+    ensures { IfOk result (λ s. s ≡ items.now) }
+{
+    Ok(Seq::from_vec(Vec::from_slice(alloc, items)?))
+}
 
 // A gate whose function reads its first pin alone.
-fn gate(alloc: Global, ins: [usize; 2], out: usize) -> Result<Gate, AllocError> {
+fn gate(alloc: Global, ins: &[usize], out: usize) -> Result<Gate, AllocError> {
+    let ins = seq(alloc, ins)?;
     Ok(Gate {
         func: Func { node: Node::Pin(0) },
-        ins: Seq::from_vec(vec![in alloc; ins[0], ins[1]]?),
+        ins,
         out,
     })
 }
 
+const OUTS: &[RegOut] = &[
+    RegOut {
+        net: 2,
+        inverted: false,
+    },
+    RegOut {
+        net: 3,
+        inverted: true,
+    },
+];
+
 fn register(alloc: Global) -> Result<Reg, AllocError> {
-    let outs = vec![in alloc;
-        RegOut {
-            net: 2,
-            inverted: false
-        },
-        RegOut {
-            net: 3,
-            inverted: true
-        },
-    ]?;
+    let ins = seq(alloc, &[5])?;
+    let outs = seq(alloc, OUTS)?;
     Ok(Reg {
         next: Func { node: Node::Pin(0) },
         clear: None,
         preset: None,
         both: false,
-        ins: Seq::from_vec(vec![in alloc; 5]?),
-        outs: Seq::from_vec(outs),
+        ins,
+        outs,
     })
+}
+
+// The nets that a gate reads, and that which it drives.
+const GATES: &[(&[usize], usize)] = &[(&[0, 1], 4), (&[4, 2], 5), (&[1, 3], 6)];
+
+fn fill(alloc: Global, design: &mut Design) -> Result<(), AllocError> {
+    for (ins, out) in GATES {
+        design.gates.push(gate(alloc, ins, *out)?)?;
+    }
+    design.regs.push(register(alloc)?)?;
+    design.inputs = seq(alloc, &[0, 1])?;
+    design.outputs = seq(alloc, &[6])?;
+    Ok(())
+}
+
+fn unchecked(alloc: Global) -> Result<Design, AllocError> {
+    let mut design = Design {
+        nets: 7,
+        gates: Seq::new(alloc),
+        regs: Seq::new(alloc),
+        inputs: Seq::new(alloc),
+        outputs: Seq::new(alloc),
+        fixed: Seq::new(alloc),
+        resets: Seq::new(alloc),
+        reset_len: 0,
+    };
+    fill(alloc, &mut design)?;
+    Ok(design)
 }
 
 // Inputs on nets 0 and 1, a register that shows its bit on net 2 and the complement on net 3, and gates that read the
 // nets 0 and 1, 4 and 2, 1 and 3, on the nets 4, 5 and 6.
-fn unchecked(alloc: Global) -> Result<Design, AllocError> {
-    let gates = vec![in alloc;
-        gate(alloc, [0, 1], 4)?,
-        gate(alloc, [4, 2], 5)?,
-        gate(alloc, [1, 3], 6)?,
-    ]?;
-    Ok(Design {
-        nets: 7,
-        gates: Seq::from_vec(gates),
-        regs: Seq::from_vec(vec![in alloc; register(alloc)?]?),
-        inputs: Seq::from_vec(vec![in alloc; 0, 1]?),
-        outputs: Seq::from_vec(vec![in alloc; 6]?),
-        fixed: Seq::new(alloc),
-        resets: Seq::new(alloc),
-        reset_len: 0,
-    })
-}
-
-fn design(alloc: Global) -> Result<Design, DesignFault>
+fn design(rt: &impl Abort, alloc: Global) -> Result<Design, AllocError>
     ensures { IfOk result IsSound }
 {
     let design = unchecked(alloc)?;
-    design.check(alloc)?;
+    assert!(rt; design.check(alloc).is_ok());
     Ok(design)
 }
 
@@ -81,53 +104,90 @@ fn claim(hazard: bool, start: Start, through: Seq<Seq<PinRef>>) -> Claim {
     }
 }
 
-// A through set of one pin for each that is there.
-fn sets_of(alloc: Global, pins: [Option<PinRef>; 2]) -> Result<Seq<Seq<PinRef>>, AllocError> {
-    let mut sets = Seq::new(alloc);
-    for pin in pins {
-        if let Some(pin) = pin {
-            sets.push(Seq::from_vec(vec![in alloc; pin]?))?;
-        }
+fn claim_through(
+    alloc: Global,
+    hazard: bool,
+    start: Start,
+    sets: &[&[PinRef]],
+) -> Result<Claim, AllocError> {
+    let mut through = Seq::new(alloc);
+    for set in sets {
+        through.push(seq(alloc, set)?)?;
     }
-    Ok(sets)
+    Ok(claim(hazard, start, through))
 }
 
 const O: bool = false;
 
 const I: bool = true;
 
-// The last row, by hand: what is moved came through a pin of each set in order.
+/// A start, the through sets, and which nets are moved in the last row.
+struct Moved(Start, &'static [&'static [PinRef]], &'static [bool]);
+
+const HELD: &[PinRef] = &[GateIn(1, 0)];
+
+// By hand: what is moved came through a pin of each set in order.
+const MOVED: &[Moved] = &[
+    Moved(Input(0), &[], &[I, O, O, O, I, I, O]),
+    // Through the second pins of two gates, on which their functions do not depend.
+    Moved(Start::Reg(0), &[], &[O, O, I, I, O, I, I]),
+    Moved(Input(0), &[HELD], &[O, O, O, O, O, I, O]),
+    // One pin may be that of two sets.
+    Moved(Input(0), &[HELD, HELD], &[O, O, O, O, O, I, O]),
+    Moved(Input(0), &[&[Net(0)]], &[I, O, O, O, I, I, O]),
+    Moved(Input(0), &[&[Net(4)]], &[O, O, O, O, I, I, O]),
+    Moved(Input(0), &[&[Net(4)], &[Net(5)]], &[O, O, O, O, O, I, O]),
+    Moved(Input(0), &[&[Net(5)], &[Net(4)]], &[O, O, O, O, O, O, O]),
+];
+
+// Whether just these nets are moved in the last row of a claim.
+fn are_moved(
+    rt: &impl Abort,
+    alloc: Global,
+    design: &Design,
+    claim: &Claim,
+    want: &[bool],
+) -> Result<bool, AllocError>
+    requires sound { IsSound design.now }
+{
+    assert!(rt; claim.fits(design));
+    let rows = moved_nets(alloc, design, claim)?;
+    Ok(rows.item(claim.through.len()).as_slice() == want)
+}
+
+fn is_moved(
+    rt: &impl Abort,
+    alloc: Global,
+    design: &Design,
+    row: &Moved,
+) -> Result<bool, AllocError>
+    requires sound { IsSound design.now }
+{
+    let claim = claim_through(alloc, false, row.0, row.1)?;
+    are_moved(rt, alloc, design, &claim, row.2)
+}
+
 #[test]
-fn nets_moved_through_sets(rt: HostRuntime) -> Result<(), test::Fail> {
-    let alloc = rt.alloc();
-    let design = design(alloc)?;
-    let input = Start::Input(0);
-    let held = Some(PinRef::GateIn(1, 0));
-    let (net_0, net_4, net_5) = (
-        Some(PinRef::Net(0)),
-        Some(PinRef::Net(4)),
-        Some(PinRef::Net(5)),
-    );
-    let cases = [
-        (input, [None, None], [I, O, O, O, I, I, O]),
-        // Through the second pins of two gates, on which their functions do not depend.
-        (Start::Reg(0), [None, None], [O, O, I, I, O, I, I]),
-        (input, [held, None], [O, O, O, O, O, I, O]),
-        // One pin may be that of two sets.
-        (input, [held, held], [O, O, O, O, O, I, O]),
-        (input, [net_0, None], [I, O, O, O, I, I, O]),
-        (input, [net_4, None], [O, O, O, O, I, I, O]),
-        (input, [net_4, net_5], [O, O, O, O, O, I, O]),
-        (input, [net_5, net_4], [O, O, O, O, O, O, O]),
-    ];
-    for (start, pins, want) in cases {
-        let claim = claim(false, start, sets_of(alloc, pins)?);
-        assert!(rt; claim.fits(&design));
-        let rows = moved_nets(alloc, &design, &claim)?;
-        let last = rows.item(claim.through.len());
-        assert!(rt; last.as_slice() == want.as_slice(), "{start:?} {pins:?}");
+fn nets_moved_through_sets(rt: HostRuntime) -> Result<(), AllocError> {
+    let design = design(&rt, rt.alloc())?;
+    for (place, row) in MOVED.iter().enumerate() {
+        assert!(rt; is_moved(&rt, rt.alloc(), &design, row)?, "case {place}");
     }
     Ok(())
+}
+
+/// Layer, rail and point of a key in cycle 3.
+#[derive(Clone, Copy)]
+struct At(usize, usize, usize);
+
+fn key(at: At) -> Key {
+    let At(layer, rail, point) = at;
+    Key {
+        cycle: 3,
+        layer,
+        rail,
+        point,
+    }
 }
 
 // What a pin reads, or where there is none its net.
@@ -151,89 +211,83 @@ fn lit(
     }
 }
 
-fn key(layer: usize, rail: usize, point: usize) -> Key {
-    Key {
-        cycle: 3,
-        layer,
-        rail,
-        point,
-    }
+/// Whether hazards count, the pin if any, layer, rail and net; the layer, rail and point that are read, and whether as
+/// they are.
+#[derive(Clone, Copy)]
+struct Read(bool, Option<PinRef>, At, At, bool);
+
+// The driver pin of net 5, and the pin by which its gate reads net 2.
+const THROUGH: &[&[PinRef]] = &[&[Net(5), GateIn(1, 1)]];
+
+// The register is the start. Its bit is point 7.
+const READS: &[Read] = &[
+    Read(false, None, At(0, 0, 0), At(0, 0, 0), true),
+    Read(false, None, At(0, 0, 2), At(0, 0, 7), true),
+    Read(false, None, At(0, 0, 3), At(0, 0, 7), false),
+    Read(true, None, At(0, 1, 3), At(0, 0, 7), true),
+    Read(true, None, At(1, 1, 0), At(0, 0, 0), false),
+    // The start's nets are flipped, or where hazards count have keys of their own.
+    Read(false, None, At(1, 0, 2), At(0, 0, 7), false),
+    Read(false, None, At(1, 0, 3), At(0, 0, 7), true),
+    Read(true, None, At(1, 1, 2), At(1, 1, 2), true),
+    Read(false, None, At(1, 0, 5), At(1, 0, 5), true),
+    Read(true, None, At(2, 1, 5), At(1, 1, 5), true),
+    Read(false, None, At(2, 0, 2), At(0, 0, 7), true),
+    Read(false, None, At(2, 0, 6), At(0, 0, 6), true),
+    Read(false, Some(GateIn(1, 1)), At(2, 0, 2), At(0, 0, 7), false),
+    Read(false, Some(GateIn(1, 0)), At(2, 0, 4), At(0, 0, 4), true),
+    Read(false, Some(RegIn(0, 0)), At(2, 0, 5), At(1, 0, 5), true),
+];
+
+fn read_lit(
+    rt: &impl Abort,
+    alloc: Global,
+    design: &Design,
+    claim: &Claim,
+    pin: Option<PinRef>,
+    at: At,
+) -> Result<Option<KeyLit>, AllocError>
+    requires sound { IsSound design.now }
+{
+    assert!(rt; claim.fits(design));
+    let tables = Tables::of(alloc, design, claim)?;
+    Ok(lit(design, claim, &tables, pin, key(at)))
 }
 
-// The register is the start, and the through set has the driver pin of net 5 and the pin by which its gate reads net 2.
-// The register's bit is point 7.
+fn is_read(rt: &impl Abort, alloc: Global, design: &Design, row: &Read) -> Result<bool, AllocError>
+    requires sound { IsSound design.now }
+{
+    let Read(hazard, pin, at, read, positive) = *row;
+    let claim = claim_through(alloc, hazard, Start::Reg(0), THROUGH)?;
+    let found = read_lit(rt, alloc, design, &claim, pin, at)?;
+    let key = key(read);
+    Ok(found == Some(KeyLit { key, positive }))
+}
+
 #[test]
-fn literals_of_nets_and_pins(rt: HostRuntime) -> Result<(), test::Fail> {
-    let alloc = rt.alloc();
-    let design = design(alloc)?;
-    let set = [PinRef::Net(5), PinRef::GateIn(1, 1)];
-    // Whether hazards count, the pin if any, layer, rail and net; the layer, rail and point that are read, and whether
-    // as they are.
-    let cases = [
-        (false, None, key(0, 0, 0), key(0, 0, 0), true),
-        (false, None, key(0, 0, 2), key(0, 0, 7), true),
-        (false, None, key(0, 0, 3), key(0, 0, 7), false),
-        (true, None, key(0, 1, 3), key(0, 0, 7), true),
-        (true, None, key(1, 1, 0), key(0, 0, 0), false),
-        // The start's nets are flipped, or where hazards count have keys of their own.
-        (false, None, key(1, 0, 2), key(0, 0, 7), false),
-        (false, None, key(1, 0, 3), key(0, 0, 7), true),
-        (true, None, key(1, 1, 2), key(1, 1, 2), true),
-        (false, None, key(1, 0, 5), key(1, 0, 5), true),
-        (true, None, key(2, 1, 5), key(1, 1, 5), true),
-        (false, None, key(2, 0, 2), key(0, 0, 7), true),
-        (false, None, key(2, 0, 6), key(0, 0, 6), true),
-        (
-            false,
-            Some(PinRef::GateIn(1, 1)),
-            key(2, 0, 2),
-            key(0, 0, 7),
-            false,
-        ),
-        (
-            false,
-            Some(PinRef::GateIn(1, 0)),
-            key(2, 0, 4),
-            key(0, 0, 4),
-            true,
-        ),
-        (
-            false,
-            Some(PinRef::RegIn(0, 0)),
-            key(2, 0, 5),
-            key(1, 0, 5),
-            true,
-        ),
-    ];
-    for (hazard, pin, at, read, positive) in cases {
-        let set = Seq::from_vec(Vec::from_slice(alloc, &set)?);
-        let claim = claim(hazard, Start::Reg(0), Seq::from_vec(vec![in alloc; set]?));
-        assert!(rt; claim.fits(&design));
-        let tables = Tables::of(alloc, &design, &claim)?;
-        let want = KeyLit {
-            key: read,
-            positive,
-        };
-        assert_eq!(rt;
-            lit(&design, &claim, &tables, pin, at),
-            Some(want),
-            "{hazard} {pin:?} {at:?}"
-        );
+fn literals_of_nets_and_pins(rt: HostRuntime) -> Result<(), AllocError> {
+    let design = design(&rt, rt.alloc())?;
+    for (place, row) in READS.iter().enumerate() {
+        assert!(rt; is_read(&rt, rt.alloc(), &design, row)?, "case {place}");
     }
     Ok(())
 }
 
-#[test]
-fn literal_of_an_inverted_output(rt: HostRuntime) -> Result<(), test::Fail> {
-    let alloc = rt.alloc();
-    let design = design(alloc)?;
-    let drivers = net_drivers(alloc, &design)?;
+// Whether the complement of the register's bit is read where net 3 is.
+fn is_inverted(rt: &impl Abort, alloc: Global, design: &Design) -> Result<bool, AllocError>
+    requires sound { IsSound design.now }
+{
     assert!(rt; design.nets == 7);
-    let want = KeyLit {
-        key: key(0, 0, 7),
-        positive: false,
-    };
-    assert_eq!(rt; base_lit(&design, &drivers, 3, 3), want);
+    let drivers = net_drivers(alloc, design)?;
+    let key = key(At(0, 0, 7));
+    let positive = false;
+    Ok(base_lit(design, &drivers, 3, 3) == KeyLit { key, positive })
+}
+
+#[test]
+fn literal_of_an_inverted_output(rt: HostRuntime) -> Result<(), AllocError> {
+    let design = design(&rt, rt.alloc())?;
+    assert!(rt; is_inverted(&rt, rt.alloc(), &design)?);
     Ok(())
 }
 
@@ -249,76 +303,82 @@ fn is_numbered(frames: &Frames, var: u32, want: (usize, usize, usize)) -> bool {
     frames.number(&key) == Some(var) && frames.key(var) == Some(key)
 }
 
+// The variables are those of these keys, in order.
+fn check_keys(rt: &impl Abort, frames: &Frames, keys: &[(usize, usize, usize)]) {
+    let mut var = 0_u32;
+    for want in keys {
+        var = var.wrapping_add(1);
+        assert!(rt; is_numbered(frames, var, *want), "{var}");
+    }
+    assert_eq!(rt; frames.vars(), var);
+}
+
+fn frames_of_input(rt: &impl Abort, alloc: Global, design: &Design) -> Result<Frames, AllocError>
+    requires sound { IsSound design.now }
+{
+    let claim = claim(false, Input(0), Seq::new(alloc));
+    assert!(rt; claim.fits(design));
+    Frames::of_claim(alloc, design, &claim, Phase::Step, 0, &[])
+}
+
 // By hand: the false path from the first input to the register, in a stretch of two cycles. Point 8 is in layer 0 that
 // the start toggles and in layer 1 the late capture, point 10 that this differs, and point 28 that the cycle is bad.
+const CLAIM_KEYS: &[(usize, usize, usize)] = &[
+    (0, 0, 0),
+    (0, 0, 1),
+    (0, 0, 4),
+    (0, 0, 5),
+    (0, 0, 7),
+    (1, 0, 0),
+    (1, 0, 1),
+    (1, 0, 4),
+    (1, 0, 5),
+    (1, 0, 7),
+    (1, 0, 8),
+    (1, 0, 10),
+    (1, 0, 28),
+    (1, 1, 4),
+    (1, 1, 5),
+    (1, 1, 8),
+    (2, 0, 7),
+];
+
 #[test]
-fn needed_keys_of_a_claim(rt: HostRuntime) -> Result<(), test::Fail> {
-    let alloc = rt.alloc();
-    let design = design(alloc)?;
-    let claim = claim(false, Start::Input(0), Seq::new(alloc));
-    assert!(rt; claim.fits(&design));
-    let frames = Frames::of_claim(alloc, &design, &claim, Phase::Step, 0, &[])?;
-    let want = [
-        (0, 0, 0),
-        (0, 0, 1),
-        (0, 0, 4),
-        (0, 0, 5),
-        (0, 0, 7),
-        (1, 0, 0),
-        (1, 0, 1),
-        (1, 0, 4),
-        (1, 0, 5),
-        (1, 0, 7),
-        (1, 0, 8),
-        (1, 0, 10),
-        (1, 0, 28),
-        (1, 1, 4),
-        (1, 1, 5),
-        (1, 1, 8),
-        (2, 0, 7),
-    ];
-    assert_eq!(rt; frames.vars(), 17);
-    for place in 0..17u32 {
-        assert!(rt;
-            is_numbered(&frames, place + 1, want[place as usize]),
-            "{place}"
-        );
-    }
+fn needed_keys_of_a_claim(rt: HostRuntime) -> Result<(), AllocError> {
+    let design = design(&rt, rt.alloc())?;
+    let frames = frames_of_input(&rt, rt.alloc(), &design)?;
+    check_keys(&rt, &frames, CLAIM_KEYS);
     Ok(())
+}
+
+fn frames_of_clause(rt: &impl Abort, alloc: Global, design: &Design) -> Result<Frames, AllocError>
+    requires sound { IsSound design.now }
+{
+    assert!(rt; design.regs.len() == 1);
+    let is_set = StateLit {
+        reg: 0,
+        value: true,
+    };
+    let lits = seq(alloc, slice::from_ref(&is_set))?;
+    let clause = InvClause { lits };
+    Frames::of_invariant(alloc, design, slice::from_ref(&clause), 0, Phase::Step, 1)
 }
 
 // By hand: the register's bit in the second cycle, and all that its capture in the first one reads. The clause is kept in
 // the first cycle, where its bit is read anyway.
+const CLAUSE_KEYS: &[(usize, usize, usize)] = &[
+    (0, 0, 0),
+    (0, 0, 1),
+    (0, 0, 4),
+    (0, 0, 5),
+    (0, 0, 7),
+    (1, 0, 7),
+];
+
 #[test]
-fn needed_keys_of_an_invariant(rt: HostRuntime) -> Result<(), test::Fail> {
-    let alloc = rt.alloc();
-    let design = design(alloc)?;
-    assert!(rt; design.regs.len() == 1);
-    let lits = vec![in alloc;
-        StateLit {
-            reg: 0,
-            value: true
-        },
-    ]?;
-    let clause = InvClause {
-        lits: Seq::from_vec(lits),
-    };
-    let inv = vec![in alloc; clause]?;
-    let frames = Frames::of_invariant(alloc, &design, &inv, 0, Phase::Step, 1)?;
-    let want = [
-        (0, 0, 0),
-        (0, 0, 1),
-        (0, 0, 4),
-        (0, 0, 5),
-        (0, 0, 7),
-        (1, 0, 7),
-    ];
-    assert_eq!(rt; frames.vars(), 6);
-    for place in 0..6u32 {
-        assert!(rt;
-            is_numbered(&frames, place + 1, want[place as usize]),
-            "{place}"
-        );
-    }
+fn needed_keys_of_an_invariant(rt: HostRuntime) -> Result<(), AllocError> {
+    let design = design(&rt, rt.alloc())?;
+    let frames = frames_of_clause(&rt, rt.alloc(), &design)?;
+    check_keys(&rt, &frames, CLAUSE_KEYS);
     Ok(())
 }
