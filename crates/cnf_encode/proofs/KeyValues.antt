@@ -62,14 +62,6 @@ value_found keys values k n v number at =
     sym (ap (λ (b : Bool). cond b (slice_index_or values (number_of keys k - 1) false) false) number.has
     ∙ (ap (λ (i : ℕ). slice_index_or values (i - 1) false) (sym number.is) ∙ get_or_from_slice_get values (n - 1) v false at))
 
-pub value_none : (keys : List Key) (values : List Bool) (k : Key) → number_if_any keys k ≡ None → false ≡ value_or_zero keys values k
-value_none keys values k none = by_test (has_key keys k) refl none where
-  by_test : (b : Bool) → has_key keys k ≡ b → cond b (Some (number_of keys k)) None ≡ None → false ≡ value_or_zero keys values k
-  by_test true has e = absurd (some_none e) where
-    some_none : Some (number_of keys k) ≡ None → ⊥
-    some_none e = cc
-  by_test false has e = sym (ap (λ (b : Bool). cond b (slice_index_or values (number_of keys k - 1) false) false) has)
-
 -- a key that is listed has its variable's value, and one that isn't 0
 pub value_listed : (keys : List Key) (values : List Bool) (k : Key) → Contains keys k → value_or_zero keys values k ≡ by_number keys (value_in values) k
 value_listed keys values k has = ap (λ (b : Bool). cond b (by_number keys (value_in values) k) false) (has_listed keys k has)

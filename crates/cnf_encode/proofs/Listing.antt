@@ -1,5 +1,5 @@
 -- Definitions whose clauses are added one after the other.
-use Rattle.std.proofs.Common.{◌≡◌, ℕ, ◌+◌, ◌<◌, Bool, true, false, cond, List, [], ◌∷◌, ◌++◌, map, take, Some, refl, ap, sym, ◌∙◌, subst, arith, add-one, inl, inr}
+use Rattle.std.proofs.Common.{◌≡◌, ℕ, ◌+◌, ◌<◌, Bool, true, false, cond, List, [], ◌∷◌, ◌++◌, map, Some, refl, ap, sym, ◌∙◌, subst, arith, add-one, inl, inr}
 use Rattle.std.specs.Prelude.{flat_map, slice_get, ◌||◌}
 use Rattle.std.specs.List.{list_any}
 use Rattle.std.proofs.lemmas.List.{append-nil, map-append}
@@ -11,7 +11,6 @@ use Rattle.query_model.specs.Keys.{below}
 use Rattle.query_model.specs.Defined.{Definition, numbered}
 use Rattle.query_model.specs.Formula.{has_key, listed}
 use Rattle.query_model.specs.declared.keys.Key.{Key}
-use Rattle.frame_unroll.proofs.Numbering.{take_at, numbered-take}
 use Rattle.cnf_encode.specs.Coded.{HasKeys, Adds}
 use Rattle.cnf_encode.specs.Listed.{IsClosed, Lists}
 use Rattle.cnf_encode.proofs.Normals.{Adds-append}
@@ -31,9 +30,6 @@ Lists-needed keys def old new hit adds =
 -- equal lists of definitions
 pub Lists-same : {keys : List Key} {a b : List Definition} {old new : List (List ℕ)} → a ≡ b → Lists keys a old new → Lists keys b old new
 Lists-same {keys} {a} {b} {old} {new} same lists = subst (λ (defs : List Definition). Lists keys defs old new) same lists
-
-pub Lists-end : {keys : List Key} {defs : List Definition} {old mid new : List (List ℕ)} → mid ≡ new → Lists keys defs old mid → Lists keys defs old new
-Lists-end {keys} {defs} {old} {mid} {new} same lists = subst (Lists keys defs old) same lists
 
 -- some of the definitions
 pub Closed-some : {keys : List Key} {all : List Definition} (some : List Definition) → ((def : Definition) → In def some → In def all) → IsClosed keys all → IsClosed keys some
@@ -76,25 +72,11 @@ Closed-numbered f xs i x at closed =
 pub Closed-flat_numbered : {keys : List Key} {X : Type 0} (f : ℕ → X → List Definition) (xs : List X) (i : ℕ) (x : X) → slice_get xs i ≡ Some x → IsClosed keys (flat_map (λ (defs : List Definition). defs) (numbered f 0 xs)) → IsClosed keys (f i x)
 Closed-flat_numbered f xs i x at closed = Closed-flat (λ (defs : List Definition). defs) (numbered f 0 xs) (f i x) (number_in f xs i x at) closed
 
-map-take : {X A : Type 0} (f : X → A) (xs : List X) (i : ℕ) (x : X) → slice_get xs i ≡ Some x → map f (take (i + 1) xs) ≡ map f (take i xs) ++ f x ∷ []
-map-take f xs i x at = ap (map f) (take_at xs i x at).0 ∙ map-append f (take i xs) (x ∷ [])
-
 pub flat-push : {X A : Type 0} (f : X → List A) (xs : List X) (x : X) → flat_map f (xs ++ x ∷ []) ≡ flat_map f xs ++ f x
 flat-push f xs x = flat_map-append f xs (x ∷ []) ∙ ap (λ ys. flat_map f xs ++ ys) (append-nil (f x))
 
 below-more : (n : ℕ) → below (n + 1) ≡ below n ++ n ∷ []
 below-more n = ap below (add-one n)
-
-pub Lists-map_more : {keys : List Key} {X : Type 0} (f : X → Definition) (xs : List X) (i : ℕ) (x : X) {old mid new : List (List ℕ)} → slice_get xs i ≡ Some x → Lists keys (map f (take i xs)) old mid → Lists keys (f x ∷ []) mid new → Lists keys (map f (take (i + 1) xs)) old new
-Lists-map_more f xs i x at before here = Lists-same (sym (map-take f xs i x at)) (Lists-append before here)
-
-pub Lists-numbered_more : {keys : List Key} {X : Type 0} (f : ℕ → X → Definition) (xs : List X) (i : ℕ) (x : X) {old mid new : List (List ℕ)} → slice_get xs i ≡ Some x → Lists keys (numbered f 0 (take i xs)) old mid → Lists keys (f i x ∷ []) mid new → Lists keys (numbered f 0 (take (i + 1) xs)) old new
-Lists-numbered_more f xs i x at before here = Lists-same (sym (numbered-take f xs i x at)) (Lists-append before here)
-
-pub Lists-flat_numbered_more : {keys : List Key} {X : Type 0} (f : ℕ → X → List Definition) (xs : List X) (i : ℕ) (x : X) {old mid new : List (List ℕ)} → slice_get xs i ≡ Some x → Lists keys (flat_map (λ (defs : List Definition). defs) (numbered f 0 (take i xs))) old mid → Lists keys (f i x) mid new → Lists keys (flat_map (λ (defs : List Definition). defs) (numbered f 0 (take (i + 1) xs))) old new
-Lists-flat_numbered_more f xs i x at before here =
-    let id : List Definition → List Definition = λ defs. defs in
-    Lists-same (sym (ap (flat_map id) (numbered-take f xs i x at) ∙ flat-push id (numbered f 0 (take i xs)) (f i x))) (Lists-append before here)
 
 pub Lists-below_more : {keys : List Key} (f : ℕ → List Definition) (i : ℕ) {old mid new : List (List ℕ)} → Lists keys (flat_map f (below i)) old mid → Lists keys (f i) mid new → Lists keys (flat_map f (below (i + 1))) old new
 Lists-below_more f i before here =

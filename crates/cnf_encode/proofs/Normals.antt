@@ -63,10 +63,6 @@ pub coded-append : (keys : List Key) (a b : List (List KeyLit)) → coded keys (
 coded-append keys [] b = refl
 coded-append keys (c ∷ a) b = ap (λ cs. map (code_of keys) c ∷ cs) (coded-append keys a b)
 
--- nothing was added
-pub Adds-nil : (keys : List Key) (old : List (List ℕ)) → Adds keys [] old old
-Adds-nil keys old before are = subst (λ all. AreNormalsOf all old) (sym (append_nil before)) are
-
 -- these were added, and then those
 pub Adds-append : (keys : List Key) (a b : List (List KeyLit)) (old mid new : List (List ℕ)) → Adds keys a old mid → Adds keys b mid new → Adds keys (a ++ b) old new
 Adds-append keys a b old mid new first then before are =

@@ -27,18 +27,6 @@ pub record RunSoFar (d : Design) (keys : List Key) (values : List Bool) (live : 
   pub follows : (k : ℕ) (c : Cycle) → slice_get run k ≡ Some c → k + 1 ≡ t → (r : ℕ) → r < length d.regs → bit_at bits r ≡ capture d (RegEnd r) c
   pub inputs : (k : ℕ) (c : Cycle) → slice_get run k ≡ Some c → AreInputsAt d keys values live k c.ins
 
-pub run_none : (d : Design) (keys : List Key) (values : List Bool) (live : ℕ) (bits : List Bool) → AreFirstBits d keys values bits → RunSoFar d keys values live [] bits 0
-run_none d keys values live bits first =
-    record {
-      count = refl;
-      settled = All-nil (IsSettled d);
-      next = λ k before c at. absurd (omega (arith, slice_get_within [] k before at));
-      first = λ c at. absurd (omega (arith, slice_get_within [] 0 c at));
-      begins = λ e. first;
-      follows = λ k c at. absurd (omega (arith, slice_get_within [] k c at));
-      inputs = λ k c at. absurd (omega (arith, slice_get_within [] k c at));
-    }
-
 -- an item of a list with one more item
 pushed : {X : Type 0} (xs : List X) (x : X) (k : ℕ) (y : X) → slice_get (xs ++ x ∷ []) k ≡ Some y → (slice_get xs k ≡ Some y) ⊎ ((k ≡ length xs) × (x ≡ y))
 pushed [] x zero y at = inr (refl, same_Some x y at)
