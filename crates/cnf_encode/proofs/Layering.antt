@@ -1,7 +1,7 @@
 -- The definitions of a gate's net and of the start's nets in a layer.
 use Rattle.std.proofs.Common.{◌≡◌, ℕ, suc, ◌+◌, ◌≤◌, Bool, true, false, not, cond, Some, List, [], ◌∷◌, ◌++◌, length, refl, ap, sym, ◌∙◌, subst, arith, add-one}
 use Rattle.std.specs.Prelude.{filter, slice_get}
-use Rattle.net_model.specs.Marks.{is_marked}
+use Rattle.sdcv_base.specs.Seqs.{is_marked}
 use Rattle.net_model.specs.Form.{value, IsOver}
 use Rattle.net_model.specs.Netlist.{IsGateInRange}
 use Rattle.net_model.specs.declared.netlist.Design.{Design}

@@ -2,7 +2,7 @@
 ghost use Rattle.std.specs.Prelude.{◌≡◌, ◌<◌, ◌≤◌, ◌+◌, [], ◌∷◌, true, flat_map, filter, length, IfOk, OnOk, List};
 ghost use Rattle.net_model.specs.Netlist.{IsSound, IsGateInRange};
 ghost use Rattle.net_model.specs.Layers.{row_at};
-ghost use Rattle.net_model.specs.Marks.{is_marked};
+ghost use Rattle.sdcv_base.specs.Seqs.{is_marked};
 ghost use Rattle.query_model.specs.Keys.{key, below};
 ghost use Rattle.query_model.specs.Reads.{is_start_net};
 ghost use Rattle.query_model.specs.Defined.{Definition, numbered, unit, has_own, layer_gate, start_units, layer_definitions};

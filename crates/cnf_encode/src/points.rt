@@ -3,7 +3,7 @@
 ghost use Rattle.std.specs.Prelude.{◌≡◌, ◌<◌, ◌+◌, ◌-◌, ◌^◌, [], ◌∷◌, map, OnOk};
 ghost use Rattle.net_model.specs.Netlist.{IsSound};
 ghost use Rattle.net_model.specs.Fits.{Fits, IsStartIn, IsEndIn};
-ghost use Rattle.net_model.specs.Judge as judge;
+ghost use Rattle.sdcv_base.specs.Kinds as kinds;
 ghost use Rattle.query_model.specs.Keys.{below};
 ghost use Rattle.query_model.specs.Defined.{exclusive, extra, toggle_key, change_key, start_lit, capture_lit, differ_definition, extra_definitions};
 ghost use Rattle.frame_unroll.specs.Drivers.{AreDrivers};
@@ -148,8 +148,8 @@ fn list_stales(
     requires sound { IsSound design.now }
     requires fits { Fits design.now claim.now }
     requires drivers { AreDrivers design.now drivers.now }
-    requires closed { IsClosed frames.now (map (stale_definition design.now claim.now.start cycle) (below (judge.judged_count claim.now.kind - 1))) }
-    ensures { OnOk result (Lists frames.now (map (stale_definition design.now claim.now.start cycle) (below (judge.judged_count claim.now.kind - 1))) clauses.old clauses.new) }
+    requires closed { IsClosed frames.now (map (stale_definition design.now claim.now.start cycle) (below (kinds.judged_count claim.now.kind - 1))) }
+    ensures { OnOk result (Lists frames.now (map (stale_definition design.now claim.now.start cycle) (below (kinds.judged_count claim.now.kind - 1))) clauses.old clauses.new) }
 {
     for r in 0..judged_count(claim.kind).saturating_sub(1) {
         list_stale(

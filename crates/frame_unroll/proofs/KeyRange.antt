@@ -3,7 +3,7 @@ use Rattle.std.proofs.Common.{◌≡◌, ℕ, zero, suc, ◌+◌, ◌-◌, ◌<�
 use Rattle.std.specs.Prelude.{slice_get, slice_index, ◌==◌, ◌&&◌, not}
 use Rattle.std.proofs.lemmas.Bool.{ltb-true}
 use Rattle.std.proofs.lemmas.Option.{slice_get_within}
-use Rattle.net_model.specs.Judge.{judged_count}
+use Rattle.sdcv_base.specs.Kinds.{judged_count}
 use Rattle.net_model.specs.Netlist.{IsSound, IsGateInRange, IsRegInRange, AllBelow}
 use Rattle.net_model.specs.Fits.{Fits, IsStartIn, IsEndIn}
 use Rattle.net_model.specs.Pins.{is_in}

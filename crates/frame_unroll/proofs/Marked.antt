@@ -8,7 +8,7 @@ use Rattle.std.proofs.lemmas.List.Elements.{Contains-append_left, Contains-appen
 use Rattle.std.proofs.lemmas.Map.Views.{Contains-from_any}
 use Rattle.net_model.specs.Netlist.{source_nets, reg_nets}
 use Rattle.net_model.specs.Fits.{IsStartIn, IsPinIn}
-use Rattle.net_model.specs.Marks.{is_marked}
+use Rattle.sdcv_base.specs.Seqs.{is_marked}
 use Rattle.net_model.specs.Pins.{is_in, start_nets, outs_of_reg}
 use Rattle.net_model.proofs.PinTests.{is_in-Contains, Contains-is_in}
 use Rattle.net_model.proofs.Sources.{flat_has}

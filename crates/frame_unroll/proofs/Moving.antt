@@ -7,7 +7,7 @@ use Rattle.std.proofs.lemmas.List.Elements.{Contains-append_left, All-from_get_o
 use Rattle.std.proofs.lemmas.Option.{get_or_from_slice_get}
 use Rattle.net_model.specs.Netlist.{IsSound, IsGateInRange, source_nets, gate_nets}
 use Rattle.net_model.specs.Fits.{IsStartIn}
-use Rattle.net_model.specs.Marks.{is_marked}
+use Rattle.sdcv_base.specs.Seqs.{is_marked}
 use Rattle.net_model.specs.Pins.{is_in, start_nets}
 use Rattle.net_model.specs.Layers.{row_at, net_at, held_set, pin_reads, layer_pins}
 use Rattle.net_model.proofs.Order.{before, before_grows, out_before, not_yet}

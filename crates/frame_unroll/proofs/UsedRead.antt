@@ -5,7 +5,7 @@ use Rattle.std.proofs.lemmas.Bool.{cond-true, cond-false, cases_Bool, lt-ltb, le
 use Rattle.net_model.specs.Form.{value}
 use Rattle.net_model.specs.Netlist.{IsSound, IsGateInRange}
 use Rattle.net_model.specs.Fits.{Fits}
-use Rattle.net_model.specs.Judge.{judged_count}
+use Rattle.sdcv_base.specs.Kinds.{judged_count}
 use Rattle.net_model.specs.Cycles.{reg_capture}
 use Rattle.net_model.proofs.Members.{In, In-cases, In-from_Contains, from_map, from_flat}
 use Rattle.net_model.proofs.Settling.{All-at}

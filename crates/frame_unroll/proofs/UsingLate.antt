@@ -6,7 +6,7 @@ use Rattle.std.proofs.lemmas.List.{length-append}
 use Rattle.net_model.specs.Form.{value}
 use Rattle.net_model.specs.Netlist.{IsSound, IsGateInRange, IsRegInRange}
 use Rattle.net_model.specs.Fits.{Fits}
-use Rattle.net_model.specs.Judge.{judged_count}
+use Rattle.sdcv_base.specs.Kinds.{judged_count}
 use Rattle.net_model.specs.Cycles.{reg_capture}
 use Rattle.net_model.specs.Completions.{ReadsOnly, value_reads}
 use Rattle.net_model.proofs.TernaryOnce.{reads_capture}

@@ -1,8 +1,8 @@
 -- The parts of what a query asks.
 use Rattle.std.specs.Prelude.{ℕ, true, false, List, [], ◌∷◌, map, flat_map}
 use Rattle.net_model.specs.declared.netlist.Design.{Design}
-use Rattle.net_model.specs.declared.claims.Kind.{Kind}
-use Rattle.net_model.specs.declared.claims.Kind.TheVariants.{Multi}
+use Rattle.sdcv_base.specs.declared.kinds.Kind.{Kind}
+use Rattle.sdcv_base.specs.declared.kinds.Kind.TheVariants.{Multi}
 use Rattle.net_model.specs.declared.claims.PinRef.{PinRef}
 use Rattle.net_model.specs.declared.invariants.InvClause.{InvClause}
 use Rattle.query_model.specs.Keys.{lit}

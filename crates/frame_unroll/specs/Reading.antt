@@ -1,6 +1,6 @@
 -- The tables by which the nets and pins of a query are read.
 use Rattle.std.specs.Prelude.{◌≡◌, ℕ, length}
-use Rattle.net_model.specs.Marks.{is_marked}
+use Rattle.sdcv_base.specs.Seqs.{is_marked}
 use Rattle.net_model.specs.declared.netlist.Design.{Design}
 use Rattle.net_model.specs.declared.claims.Claim.{Claim}
 use Rattle.query_model.specs.Reads.{is_start_net, AreMoved}

@@ -2,7 +2,7 @@
 ghost use Rattle.std.specs.Prelude.{◌≡◌, ◌≤◌, ◌+◌, ◌++◌, ◌∷◌, [], map, All, IfOk, OnOk};
 ghost use Rattle.net_model.specs.Netlist.{IsSound};
 ghost use Rattle.net_model.specs.Fits.{Fits};
-ghost use Rattle.net_model.specs.Judge.{judged_count};
+ghost use Rattle.sdcv_base.specs.Kinds.{judged_count};
 ghost use Rattle.query_model.specs.Keys.{opposite};
 ghost use Rattle.query_model.specs.Queries.{live_of, claim_query, clause_query};
 ghost use Rattle.query_model.specs.Laws.{NamesRegs};

@@ -2,7 +2,7 @@
 ghost use Rattle.std.specs.Prelude.{◌≡◌, ◌≢◌, ◌<◌, ◌≤◌, ◌&&◌, ℕ, true, false, length, All, Contains, IfOk};
 ghost use Rattle.net_model.specs.Netlist.{IsSound, source_nets};
 ghost use Rattle.net_model.specs.Fits.{Fits, IsPinIn};
-ghost use Rattle.net_model.specs.Marks.{is_marked};
+ghost use Rattle.sdcv_base.specs.Seqs.{is_marked};
 ghost use Rattle.net_model.specs.Pins.{is_in};
 ghost use Rattle.net_model.specs.Layers.{row_at, net_at, held_set};
 ghost use Rattle.net_model.specs.declared.claims.PinRef.TheVariants.{Net};

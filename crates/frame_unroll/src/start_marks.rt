@@ -2,7 +2,7 @@
 ghost use Rattle.std.specs.Prelude.{◌≡◌, ◌||◌, ℕ, false, length, IfOk};
 ghost use Rattle.net_model.specs.Netlist.{AllBelow, IsSound};
 ghost use Rattle.net_model.specs.Fits.{IsStartIn};
-ghost use Rattle.net_model.specs.Marks.{is_marked};
+ghost use Rattle.sdcv_base.specs.Seqs.{is_marked};
 ghost use Rattle.query_model.specs.Reads.{is_start_net};
 ghost use Rattle.frame_unroll.specs.Marked.{out_nets, is_out};
 

@@ -6,12 +6,13 @@ use Rattle.std.proofs.lemmas.List.{length-take-le, length-drop}
 use Rattle.std.proofs.lemmas.List.Elements.{All-take, All-drop}
 use Rattle.std.proofs.lemmas.Option.{slice_get_within, slice_get-get_or}
 use Rattle.net_model.specs.Cycles.{IsSettled, IsLinked, IsRun, IsStretch, HasFixed, HasResets}
-use Rattle.net_model.specs.Judge.{judged_count, IsViolatedAt, Holds}
+use Rattle.sdcv_base.specs.Kinds.{judged_count}
+use Rattle.net_model.specs.Judge.{IsViolatedAt, Holds}
 use Rattle.net_model.specs.Queries.{IsStepAnswer}
 use Rattle.net_model.specs.declared.netlist.Design.{Design}
 use Rattle.net_model.specs.declared.cycles.Cycle.{Cycle}
 use Rattle.net_model.specs.declared.claims.Claim.{Claim}
-use Rattle.net_model.specs.declared.claims.Kind.TheVariants.{False}
+use Rattle.sdcv_base.specs.declared.kinds.Kind.TheVariants.{False}
 
 -- the m cycles of a run from cycle s on
 abbrev pub window : {X : Type 0} → ℕ → ℕ → List X → List X

@@ -4,8 +4,8 @@ use Rattle.net_model.specs.declared.netlist.Design.{Design}
 use Rattle.net_model.specs.declared.netlist.Gate.{Gate}
 use Rattle.net_model.specs.declared.netlist.Reg.{Reg}
 use Rattle.net_model.specs.declared.claims.Claim.{Claim}
-use Rattle.net_model.specs.declared.claims.Kind.{Kind}
-use Rattle.net_model.specs.declared.claims.Kind.TheVariants.{False, Multi}
+use Rattle.sdcv_base.specs.declared.kinds.Kind.{Kind}
+use Rattle.sdcv_base.specs.declared.kinds.Kind.TheVariants.{False, Multi}
 use Rattle.net_model.specs.declared.claims.Start.{Start}
 use Rattle.net_model.specs.declared.claims.Start.TheVariants.{Reg as RegStart, Input as InputStart}
 use Rattle.net_model.specs.declared.claims.End.{End}

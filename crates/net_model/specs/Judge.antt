@@ -1,5 +1,6 @@
 -- Toggles, bad cycles, and claims that hold.
 use Rattle.std.specs.Prelude.{◌≡◌, ◌≢◌, ℕ, ◌<◌, ◌≤◌, ◌+◌, ◌-◌, Bool, true, false, List, [], ◌∷◌, Some, slice_get, ◌⊎◌}
+use Rattle.sdcv_base.specs.Kinds.{judged_count}
 use Rattle.net_model.specs.Cycles.{bit_at, capture, IsRun}
 use Rattle.net_model.specs.Layers.{IsLateCapture}
 use Rattle.net_model.specs.Ternary.{IsTernaryCapture}
@@ -8,8 +9,8 @@ use Rattle.net_model.specs.declared.cycles.Cycle.{Cycle}
 use Rattle.net_model.specs.declared.claims.Claim.{Claim}
 use Rattle.net_model.specs.declared.claims.PinRef.{PinRef}
 use Rattle.net_model.specs.declared.terns.Tern.TheVariants.{Unknown}
-use Rattle.net_model.specs.declared.claims.Kind.{Kind}
-use Rattle.net_model.specs.declared.claims.Kind.TheVariants.{False, Multi}
+use Rattle.sdcv_base.specs.declared.kinds.Kind.{Kind}
+use Rattle.sdcv_base.specs.declared.kinds.Kind.TheVariants.{False, Multi}
 use Rattle.net_model.specs.declared.claims.Start.{Start}
 use Rattle.net_model.specs.declared.claims.Start.TheVariants.{Reg as RegStart, Input as InputStart}
 
@@ -28,11 +29,6 @@ pub record Toggles (live : ℕ) (start : Start) (run : List Cycle) (t : ℕ) (st
   pub is_live : live + 1 ≤ t
   pub stale_is : start_bit start before ≡ stale
   pub differs : start_bit start now ≢ stale
-
--- how many captures from the toggle on a claim judges
-abbrev pub judged_count : Kind → ℕ
-judged_count False = 1
-judged_count (Multi k) = k - 1
 
 -- the late capture differs from the capture
 abbrev pub DiffersLate : Design → Claim → Cycle → Bool → Type 0

@@ -1,9 +1,6 @@
 -- Marks of numbers: a bit for each.
-use Rattle.std.specs.Prelude.{◌≡◌, ℕ, ◌<◌, ◌+◌, Bool, false, List, length, count_by, ◌==◌, slice_index_or, if◌then◌else◌}
-
--- whether a number is marked
-abbrev pub is_marked : List Bool → ℕ → Bool
-is_marked marks n = slice_index_or marks n false
+use Rattle.std.specs.Prelude.{◌≡◌, ℕ, ◌<◌, ◌+◌, Bool, List, length, count_by, ◌==◌, if◌then◌else◌}
+use Rattle.sdcv_base.specs.Seqs.{is_marked}
 
 -- 1 where it is marked, else 0
 abbrev pub mark_of : List Bool → ℕ → ℕ

@@ -1,7 +1,8 @@
 -- The base and step query of a claim at a depth, without invariants.
 use Rattle.std.specs.Prelude.{◌≡◌, ℕ, ◌<◌, ◌+◌, List, length}
 use Rattle.net_model.specs.Cycles.{IsRun, IsStretch}
-use Rattle.net_model.specs.Judge.{IsViolatedAt, judged_count}
+use Rattle.sdcv_base.specs.Kinds.{judged_count}
+use Rattle.net_model.specs.Judge.{IsViolatedAt}
 use Rattle.net_model.specs.declared.netlist.Design.{Design}
 use Rattle.net_model.specs.declared.cycles.Cycle.{Cycle}
 use Rattle.net_model.specs.declared.claims.Claim.{Claim}

@@ -1,5 +1,5 @@
 //! What a timing exception claims of one pair of a start and an end.
-use sdcv_base::Seq;
+use sdcv_base::{Kind, Seq};
 
 /// Where a path starts: at a register or an input, by its place in the design's list.
 #[derive(Debug, Clone, Copy, PartialEq, Eq)]
@@ -13,13 +13,6 @@ pub enum Start {
 pub enum End {
     Reg(usize),
     Output(usize),
-}
-
-/// A false path, or a multicycle path with its multiplier, from 1 to 16.
-#[derive(Debug, Clone, Copy, PartialEq, Eq)]
-pub enum Kind {
-    False,
-    Multi(u8),
 }
 
 /// A pin on a path: the driver pin of a net, an input pin of a gate or a register, by its number and the place in

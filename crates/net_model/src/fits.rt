@@ -2,9 +2,9 @@
 ghost use Rattle.std.specs.Prelude.{◌↔◌, IsTrue, All};
 ghost use Rattle.net_model.specs.Fits.{IsStartIn, IsEndIn, IsPinIn, IsKindFit, Fits};
 
-use crate::claims::{Claim, End, Kind, PinRef, Start};
+use crate::claims::{Claim, End, PinRef, Start};
 use crate::netlist::Design;
-use sdcv_base::Seq;
+use sdcv_base::{Kind, Seq};
 
 const MOST_CYCLES: u8 = 16;
 

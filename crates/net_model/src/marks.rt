@@ -1,7 +1,8 @@
 //! Marks of numbers, a bit for each.
 ghost use Rattle.std.specs.Prelude.{◌≡◌, ℕ, ◌<◌, List, false, true, length, map, All, Contains, MatchOption, IfOk, slice_set};
 ghost use Rattle.net_model.specs.Netlist.{AllBelow, reg_nets, setting_inputs};
-ghost use Rattle.net_model.specs.Marks.{is_marked, AddsMarks, IsMarkedTwice};
+ghost use Rattle.sdcv_base.specs.Seqs.{is_marked};
+ghost use Rattle.net_model.specs.Marks.{AddsMarks, IsMarkedTwice};
 
 use crate::netlist::{Fixed, Reg};
 use sdcv_base::Seq;

@@ -8,7 +8,8 @@ use Rattle.net_model.specs.FormLaws.{value_agrees}
 use Rattle.net_model.specs.Netlist.{IsSound}
 use Rattle.net_model.specs.Fits.{Fits, IsKindFit}
 use Rattle.net_model.specs.Cycles.{bit_at, shown, IsSettled, IsLinked}
-use Rattle.net_model.specs.Judge.{start_bit, judged_count}
+use Rattle.sdcv_base.specs.Kinds.{judged_count}
+use Rattle.net_model.specs.Judge.{start_bit}
 use Rattle.net_model.specs.Layers.{AreLayers}
 use Rattle.net_model.specs.Pins.{late_value}
 use Rattle.net_model.specs.Ternary.{tern_of, tern_value}
@@ -22,8 +23,8 @@ use Rattle.net_model.specs.declared.cycles.Cycle.{Cycle}
 use Rattle.net_model.specs.declared.invariants.StateLit.{StateLit}
 use Rattle.net_model.specs.declared.invariants.InvClause.{InvClause}
 use Rattle.net_model.specs.declared.claims.Claim.{Claim}
-use Rattle.net_model.specs.declared.claims.Kind.{Kind}
-use Rattle.net_model.specs.declared.claims.Kind.TheVariants.{False, Multi}
+use Rattle.sdcv_base.specs.declared.kinds.Kind.{Kind}
+use Rattle.sdcv_base.specs.declared.kinds.Kind.TheVariants.{False, Multi}
 use Rattle.net_model.specs.declared.queries.Phase.{Phase}
 use Rattle.net_model.specs.declared.queries.Phase.TheVariants.{Base, Step}
 use Rattle.net_model.specs.declared.terns.Tern.{Tern}

@@ -9,7 +9,8 @@ use Rattle.net_model.specs.Fits.{IsStartIn, IsEndIn}
 use Rattle.net_model.specs.Cycles.{bit_at, gate_pins, reg_pins, shown, capture, reg_capture_in, IsSettled, IsLinked}
 use Rattle.net_model.specs.Pins.{start_nets, start_outs}
 use Rattle.net_model.specs.Layers.{net_at, pin_reads, AreLayers, IsLateCapture, capture_over, late_reg_capture, late_reg_pins}
-use Rattle.net_model.specs.Judge.{start_bit, judged_count, DiffersLate, IsBadPlain, IsBadFor, IsViolatedAt}
+use Rattle.sdcv_base.specs.Kinds.{judged_count}
+use Rattle.net_model.specs.Judge.{start_bit, DiffersLate, IsBadPlain, IsBadFor, IsViolatedAt}
 use Rattle.net_model.proofs.Settling.{All-at}
 use Rattle.net_model.proofs.LateOnce.{late_capture_once}
 use Rattle.net_model.specs.declared.netlist.Design.{Design}
@@ -19,8 +20,8 @@ use Rattle.net_model.specs.declared.cycles.Cycle.{Cycle}
 use Rattle.net_model.specs.declared.claims.Claim.{Claim}
 use Rattle.net_model.specs.declared.claims.PinRef.{PinRef}
 use Rattle.net_model.specs.declared.claims.PinRef.TheVariants.{RegIn, OutPort}
-use Rattle.net_model.specs.declared.claims.Kind.{Kind}
-use Rattle.net_model.specs.declared.claims.Kind.TheVariants.{False, Multi}
+use Rattle.sdcv_base.specs.declared.kinds.Kind.{Kind}
+use Rattle.sdcv_base.specs.declared.kinds.Kind.TheVariants.{False, Multi}
 use Rattle.net_model.specs.declared.claims.End.{End}
 use Rattle.net_model.specs.declared.claims.End.TheVariants.{Reg as RegEnd, Output as OutputEnd}
 use Rattle.query_model.specs.Keys.{lit, lit_value, below}

@@ -4,7 +4,8 @@ use Rattle.std.specs.Prelude.{slice_get, if◌then◌else◌, nat_lt}
 use Rattle.std.proofs.lemmas.Bool.{cond-true, cond-false, lt-ltb, le-ltb}
 use Rattle.net_model.specs.Form.{xor}
 use Rattle.net_model.specs.Cycles.{capture, IsSettled, IsLinked}
-use Rattle.net_model.specs.Judge.{start_bit, judged_count}
+use Rattle.sdcv_base.specs.Kinds.{judged_count}
+use Rattle.net_model.specs.Judge.{start_bit}
 use Rattle.net_model.proofs.Settling.{All-at}
 use Rattle.net_model.specs.declared.netlist.Design.{Design}
 use Rattle.net_model.specs.declared.cycles.Cycle.{Cycle}

@@ -6,7 +6,7 @@ use Rattle.std.proofs.lemmas.Option.{slice_get_within}
 use Rattle.net_model.specs.Netlist.{IsSound}
 use Rattle.net_model.specs.Fits.{IsStartIn, IsEndIn}
 use Rattle.net_model.specs.Cycles.{IsLinked, HasResets}
-use Rattle.net_model.specs.Judge.{judged_count}
+use Rattle.sdcv_base.specs.Kinds.{judged_count}
 use Rattle.net_model.specs.declared.netlist.Design.{Design}
 use Rattle.net_model.specs.declared.cycles.Cycle.{Cycle}
 use Rattle.net_model.specs.declared.invariants.InvClause.{InvClause}

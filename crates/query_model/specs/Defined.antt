@@ -4,7 +4,7 @@ use Rattle.std.specs.List.{list_any}
 use Rattle.net_model.specs.Form.{value}
 use Rattle.net_model.specs.Mentions.{reg_mentions}
 use Rattle.net_model.specs.Cycles.{reg_capture}
-use Rattle.net_model.specs.Judge.{judged_count}
+use Rattle.sdcv_base.specs.Kinds.{judged_count}
 use Rattle.net_model.specs.Layers.{net_at, held_set}
 use Rattle.net_model.specs.Pins.{is_in}
 use Rattle.net_model.specs.declared.netlist.Design.{Design}

@@ -2,7 +2,8 @@
 use Rattle.std.specs.Prelude.{◌≡◌, ℕ, ◌+◌, ◌-◌, ◌<◌, Bool, true, false, not, List, length, Contains, Some, slice_get, nat_lt, if◌then◌else◌}
 use Rattle.std.specs.List.{list_any}
 use Rattle.net_model.specs.Cycles.{bit_at, IsLinked, HasResets}
-use Rattle.net_model.specs.Judge.{IsViolatedAt, judged_count}
+use Rattle.sdcv_base.specs.Kinds.{judged_count}
+use Rattle.net_model.specs.Judge.{IsViolatedAt}
 use Rattle.net_model.specs.declared.netlist.Design.{Design}
 use Rattle.net_model.specs.declared.cycles.Cycle.{Cycle}
 use Rattle.net_model.specs.declared.invariants.StateLit.{StateLit}

@@ -1,7 +1,7 @@
 -- Commands.
 use Rattle.std.specs.Prelude.{ℕ, List, [], Some, codes}
 use Rattle.texts.specs.Reads.{Read, ◌>>=◌}
-use Rattle.net_model.specs.declared.claims.Kind.TheVariants as kind
+use Rattle.sdcv_base.specs.declared.kinds.Kind.TheVariants as kind
 use Rattle.sdc_text.specs.declared.scripts.Class.TheVariants as class
 use Rattle.sdc_text.specs.declared.scripts.What.{What}
 use Rattle.sdc_text.specs.declared.scripts.What.TheVariants.{Clock, Claiming}

@@ -1,8 +1,8 @@
 -- The script that a text is, and what it asks.
 use Rattle.std.specs.Prelude.{ℕ, Bool, false, if◌then◌else◌, List, [], ◌∷◌, Option, Some, None}
 use Rattle.texts.specs.Reads.{◌>>=◌}
-use Rattle.net_model.specs.declared.claims.Kind.{Kind}
-use Rattle.net_model.specs.declared.claims.Kind.TheVariants as kind
+use Rattle.sdcv_base.specs.declared.kinds.Kind.{Kind}
+use Rattle.sdcv_base.specs.declared.kinds.Kind.TheVariants as kind
 use Rattle.sdc_text.specs.declared.asks.Asked.{Asked}
 use Rattle.sdc_text.specs.declared.scripts.Class.{Class}
 use Rattle.sdc_text.specs.declared.scripts.Class.TheVariants as class

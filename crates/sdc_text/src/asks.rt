@@ -4,8 +4,7 @@ ghost use Rattle.std.specs.Option.{option_map};
 ghost use Rattle.sdc_text.specs.Scripts.{asks, port_name, cell_name, clock_port, path_ends, names_of};
 
 use crate::scripts::{Class, Command, Exception, Object, Query, Script, What};
-use net_model::Kind;
-use sdcv_base::{Name, Seq};
+use sdcv_base::{Kind, Name, Seq};
 
 /// The clock's port, and the cells at the two ends of the false path.
 #[derive(Clone, Copy, Debug)]

@@ -8,8 +8,7 @@ use crate::faults::SdcFault;
 use crate::objects::object;
 use crate::scripts::{Class, Exception, What};
 use crate::words::{expect, expect_number, take_name};
-use net_model::Kind;
-use sdcv_base::{Cursor, Seq};
+use sdcv_base::{Cursor, Kind, Seq};
 use std::alloc::Global;
 
 /// `create_clock -name NAME -period NUMBER [get_ports NAME]`.

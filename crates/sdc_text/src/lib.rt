@@ -15,5 +15,5 @@ mod words;
 
 pub use asks::{Asked, first_form};
 pub use faults::SdcFault;
-pub use net_model::Kind;
 pub use scripts::{Class, Command, Exception, Object, Query, Script, What, read_sdc};
+pub use sdcv_base::Kind;

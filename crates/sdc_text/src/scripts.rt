@@ -6,8 +6,7 @@ ghost use Rattle.sdc_text.specs.Gives.{Gives};
 use crate::commands::{clock, false_path};
 use crate::faults::SdcFault;
 use crate::words::{expect, expect_end};
-use net_model::Kind;
-use sdcv_base::{Cursor, Name, Seq};
+use sdcv_base::{Cursor, Kind, Name, Seq};
 use std::alloc::Global;
 
 /// The objects that a pattern may match. `Any` is a pattern outside a `get_` command.

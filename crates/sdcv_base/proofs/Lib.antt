@@ -1,1 +1,2 @@
-mod DecimalTexts
+pub mod DecimalTexts
+pub mod Filling

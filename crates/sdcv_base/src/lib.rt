@@ -1,5 +1,5 @@
-//! What every other crate stands on: lists and names as contracts see them, a cursor over a text,
-//! numbers in decimal digits, and the host through which a run reads, prints and saves.
+//! What every other crate stands on: lists and names as contracts see them, a cursor over a text, numbers in decimal
+//! digits, the kinds of exceptions, and the host through which a run reads, prints and saves.
 //!
 //! Read `hosts.rt` first: what a run may do outside, and what is known of it afterwards.
 #![tactic(auto)]
@@ -7,6 +7,7 @@
 mod cursors;
 mod decimals;
 mod hosts;
+mod kinds;
 mod limits;
 mod mem_hosts;
 mod names;
@@ -17,6 +18,7 @@ mod tests;
 pub use cursors::Cursor;
 pub use decimals::{push_decimal, read_decimal};
 pub use hosts::{Host, HostFault, ReadFault};
+pub use kinds::Kind;
 pub use limits::LimitName;
 pub use mem_hosts::{Fail, FileRec, MemHost};
 pub use names::Name;

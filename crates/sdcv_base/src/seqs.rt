@@ -1,5 +1,5 @@
 //! A list of values that contracts see as its items alone.
-ghost use Rattle.std.specs.Prelude.{◌≡◌, ◌<◌, [], ◌∷◌, ◌++◌, ◌↔◌, IsTrue, length, IfOk, OnOk, OnErr, slice_get, slice_set, slice_index_or, Some};
+ghost use Rattle.std.specs.Prelude.{◌≡◌, ◌<◌, ℕ, [], ◌∷◌, ◌++◌, ◌↔◌, IsTrue, length, replicate, IfOk, OnOk, OnErr, slice_get, slice_set, slice_index_or, Some};
 
 use std::alloc::{AllocError, AllocFailed, Global};
 use std::marker::Model;
@@ -77,7 +77,40 @@ impl<T> Seq<T> {
     }
 }
 
+impl<T: Drop> Seq<T> {
+    /// The list of one item.
+    pub fn one(alloc: Global, item: T) -> Result<Seq<T>, AllocError>
+        ensures { IfOk result (λ s. s ≡ item ∷ []) }
+    {
+        let mut items = Seq::new(alloc);
+        items.push(item)?;
+        Ok(items)
+    }
+}
+
 impl<T: Copy> Seq<T> {
+    /// These items, copied.
+    pub fn of(alloc: Global, items: &[T]) -> Result<Seq<T>, AllocError>
+        ensures { IfOk result (λ s. s ≡ items.now) }
+    {
+        Ok(Seq {
+            items: Vec::from_slice(alloc, items)?,
+        })
+    }
+
+    /// One value at each of `count` places.
+    pub fn filled(alloc: Global, value: T, count: usize) -> Result<Seq<T>, AllocError>
+        ensures all { IfOk result (λ s. s ≡ replicate count value) }
+        ensures len { IfOk result (λ s. length s ≡ count) }
+        ensures each { IfOk result (λ s. (place : ℕ) → slice_index_or s place value ≡ value) }
+    {
+        let mut items = Vec::with_capacity(alloc, count)?;
+        for _ in 0..count {
+            items.push(value)?;
+        }
+        Ok(Seq { items })
+    }
+
     /// The item at a place, from 0.
     pub fn at(&self, place: usize) -> T
         requires { place < length self.now }

@@ -1,9 +1,23 @@
 use crate::{
-    Cursor, Fail, FileRec, Host, LimitName, MemHost, Name, ReadFault, Seq, push_decimal,
+    Cursor, Fail, FileRec, Host, Kind, LimitName, MemHost, Name, ReadFault, Seq, push_decimal,
     read_decimal,
 };
 use std::alloc::{AllocError, Global};
 use std::test;
+
+// Judged captures by multiplier, counted by hand.
+#[test]
+fn a_multiplier_judges_one_capture_less(rt: HostRuntime) -> Result<(), test::Fail> {
+    assert_eq!(rt; Kind::False.judged_count(), 1);
+    for (multiplier, want) in [(1, 0), (2, 1), (16, 15)] {
+        assert_eq!(rt;
+            Kind::Multi(multiplier).judged_count(),
+            want,
+            "multiplier {multiplier}"
+        );
+    }
+    Ok(())
+}
 
 // Texts and limits, read by hand: 1 to 20 digits, leading zeros allowed, nothing else.
 #[test]
@@ -71,6 +85,9 @@ fn names_lists_and_cursors_give_what_they_hold(rt: HostRuntime) -> Result<(), te
     let mut numbers = Seq::new(alloc);
     numbers.push(5_usize)?;
     assert_eq!(rt; numbers.copy(alloc)?.at(0), 5);
+    assert_eq!(rt; Seq::of(alloc, &[3_u8, 4])?.at(1), 4);
+    assert_eq!(rt; Seq::filled(alloc, 7_u8, 3)?.at(2), 7);
+    assert_eq!(rt; Seq::one(alloc, 9_u8)?.len(), 1);
     let mut cursor = Cursor::new(b"xy");
     cursor.bump();
     assert_eq!(rt; cursor.peek(), Some(b'y'));

@@ -2,7 +2,7 @@
 use Rattle.std.specs.Prelude.{ℕ, false, List, [], Option, None, Some}
 use Rattle.net_model.specs.declared.netlist.Design.{Design}
 use Rattle.net_model.specs.declared.claims.Claim.{Claim}
-use Rattle.net_model.specs.declared.claims.Kind.TheVariants.{False}
+use Rattle.sdcv_base.specs.declared.kinds.Kind.TheVariants.{False}
 use Rattle.net_model.specs.declared.claims.Start.TheVariants.{Reg as RegStart}
 use Rattle.net_model.specs.declared.claims.End.TheVariants.{Reg as RegEnd}
 use Rattle.net_model.specs.Judge.{Holds}

@@ -8,13 +8,14 @@ use Rattle.std.proofs.lemmas.Option.{slice_get_within, same_Some}
 use Rattle.net_model.specs.Netlist.{IsSound}
 use Rattle.net_model.specs.Cycles.{bit_at, capture, IsSettled, IsNext, IsStretch, HasFixed, HasResets}
 use Rattle.net_model.specs.Layers.{IsLateCapture}
-use Rattle.net_model.specs.Judge.{start_bit, judged_count, DiffersLate, IsBadPlain, IsBadFor, IsViolatedAt}
+use Rattle.sdcv_base.specs.Kinds.{judged_count}
+use Rattle.net_model.specs.Judge.{start_bit, DiffersLate, IsBadPlain, IsBadFor, IsViolatedAt}
 use Rattle.net_model.specs.Queries.{IsStepAnswer}
 use Rattle.net_model.proofs.Unique.{settled_same}
 use Rattle.net_model.specs.declared.netlist.Design.{Design}
 use Rattle.net_model.specs.declared.cycles.Cycle.{Cycle}
 use Rattle.net_model.specs.declared.claims.Claim.{Claim}
-use Rattle.net_model.specs.declared.claims.Kind.{Kind}
+use Rattle.sdcv_base.specs.declared.kinds.Kind.{Kind}
 use Rattle.stretch_scan.specs.Spots.{AreSameBut, IsReady, IsSimulated, KeepsChoice, HasNoAnswerBut, bit_of}
 use Rattle.stretch_scan.specs.Scans.{IsPlainFalse}
 use Rattle.stretch_scan.specs.declared.spots.Spot.{Spot}

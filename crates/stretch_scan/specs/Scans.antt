@@ -7,7 +7,7 @@ use Rattle.net_model.specs.declared.netlist.Design.{Design}
 use Rattle.net_model.specs.declared.netlist.Fixed.{Fixed}
 use Rattle.net_model.specs.declared.cycles.Cycle.{Cycle}
 use Rattle.net_model.specs.declared.claims.Claim.{Claim}
-use Rattle.net_model.specs.declared.claims.Kind.TheVariants.{False}
+use Rattle.sdcv_base.specs.declared.kinds.Kind.TheVariants.{False}
 use Rattle.stretch_scan.specs.declared.scans.Scan.{Scan}
 use Rattle.stretch_scan.specs.declared.scans.Scan.TheVariants.{Justified, Open}
 

@@ -4,6 +4,7 @@ ghost use Rattle.net_model.specs.Netlist.{IsSound};
 ghost use Rattle.net_model.specs.Fits.{Fits};
 ghost use Rattle.net_model.specs.Cycles.{IsSettled};
 ghost use Rattle.net_model.specs.Judge as judge;
+ghost use Rattle.sdcv_base.specs.Kinds as kinds;
 ghost use Rattle.net_model.specs.Stimuli.{IsLawful};
 ghost use Rattle.witness_replay.specs.Rooms.{AreRoomsFor};
 ghost use Rattle.witness_replay.specs.Replays.{IsFirstViolation, IsReplay, IsReplayCause};
@@ -19,7 +20,7 @@ use std::alloc::{AllocError, Global};
 
 /// How many captures from the toggle on a claim judges.
 fn judged_count(kind: Kind) -> usize
-    ensures { result ≡ judge.judged_count kind }
+    ensures { result ≡ kinds.judged_count kind }
 {
     match kind {
         Kind::False => 1,

@@ -1,5 +1,5 @@
 use Rattle.std.proofs.Common.{◌∙◌, ◌++◌, ◌∷◌, [], List, ℕ, true, false, ap, sym}
-use Rattle.net_model.specs.Marks.{is_marked}
+use Rattle.sdcv_base.specs.Seqs.{is_marked}
 use Rattle.cnf_encode.proofs.Layering.{marked_more, marked_skip, mark_is}
 use Rattle.cnf_encode.proofs.layers.start_nets.Goals as goal
 use Rattle.cnf_encode.proofs.layers.start_nets.Goals.{then-at+in_ok-push, else-at}

@@ -1,5 +1,5 @@
 use Rattle.std.proofs.Common.{List, [], ◌∷◌, ◌-◌, map}
-use Rattle.net_model.specs.Judge.{judged_count}
+use Rattle.sdcv_base.specs.Kinds.{judged_count}
 use Rattle.query_model.specs.Keys.{below}
 use Rattle.query_model.specs.Defined.{Definition, differ_definition}
 use Rattle.cnf_encode.specs.Points.{toggle_definition, change_definition, stale_definition}

@@ -1,5 +1,5 @@
 use Rattle.std.proofs.Common.{◌<◌, ◌-◌, ◌∙◌, ap, subst}
-use Rattle.net_model.specs.Judge.{judged_count}
+use Rattle.sdcv_base.specs.Kinds.{judged_count}
 use Rattle.cnf_encode.proofs.Listing.{Closed-map_below, Lists-map_below_more}
 use Rattle.cnf_encode.specs.Points.{stale_definition}
 use Rattle.cnf_encode.proofs.points.list_stales.Goals as goal

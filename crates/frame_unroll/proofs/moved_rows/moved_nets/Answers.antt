@@ -2,7 +2,7 @@ use Rattle.std.proofs.Common.{◌≡◌, ◌+◌, ◌∙◌, List, Bool, [], ◌
 use Rattle.std.specs.Prelude.{All, ◌&&◌}
 use Rattle.std.proofs.lemmas.Option.{get_or_from_slice_get}
 use Rattle.net_model.specs.Fits.{IsPinIn}
-use Rattle.net_model.specs.Marks.{is_marked}
+use Rattle.sdcv_base.specs.Seqs.{is_marked}
 use Rattle.net_model.specs.Pins.{is_in}
 use Rattle.net_model.specs.Layers.{row_at, net_at}
 use Rattle.net_model.proofs.Settling.{All-at}

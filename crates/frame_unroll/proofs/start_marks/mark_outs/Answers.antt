@@ -1,5 +1,5 @@
 use Rattle.std.proofs.Common.{◌∙◌, sym, refl, arith, length, true, length-set}
-use Rattle.net_model.specs.Marks.{is_marked}
+use Rattle.sdcv_base.specs.Seqs.{is_marked}
 use Rattle.net_model.proofs.Sources.{net_of}
 use Rattle.net_model.proofs.Marking.{mapped_below}
 use Rattle.frame_unroll.proofs.Marked.{or_false, outs_more}

@@ -1,5 +1,5 @@
 use Rattle.std.proofs.Common.{◌≡◌, ◌||◌, ℕ, length, take}
-use Rattle.net_model.specs.Marks.{is_marked}
+use Rattle.sdcv_base.specs.Seqs.{is_marked}
 use Rattle.frame_unroll.specs.Marked.{is_out}
 use Rattle.frame_unroll.proofs.start_marks.mark_outs.Given as goal
 

@@ -1,5 +1,5 @@
 use Rattle.std.proofs.Common.{◌≡◌, ◌<◌, ℕ, true}
-use Rattle.net_model.specs.Marks.{is_marked}
+use Rattle.sdcv_base.specs.Seqs.{is_marked}
 use Rattle.net_model.proofs.marks.first_unmarked.Given as goal
 
 abbrev pub invariant-loop-n : goal.invariant-loop-n

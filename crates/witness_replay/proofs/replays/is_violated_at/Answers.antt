@@ -1,5 +1,5 @@
 use Rattle.std.proofs.Common.{◌≡◌, ◌-◌, ◌∙◌, sym, min, length, arith, below_more}
-use Rattle.net_model.specs.Judge.{judged_count}
+use Rattle.sdcv_base.specs.Kinds.{judged_count}
 use Rattle.witness_replay.proofs.Deciding.{none_found, true_false}
 use Rattle.witness_replay.proofs.Violations.{IsBadAt, bad_gives, none_bad}
 use Rattle.witness_replay.proofs.replays.is_violated_at.Goals as goal
