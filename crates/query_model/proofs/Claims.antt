@@ -1,5 +1,5 @@
 -- The laws of queries, from those of each mode.
-use Rattle.std.proofs.Common.{◌≡◌, ℕ, zero, suc, ◌+◌, ◌<◌, ◌≤◌, Bool, true, false, not, List, [], ◌∷◌, map, length, Option, Some, None, refl, ap, sym, ◌∙◌, arith, inl, inr, ◌⊎◌, subst}
+use Rattle.std.proofs.Common.{◌≡◌, ℕ, ◌+◌, ◌<◌, ◌≤◌, Bool, true, false, not, List, [], ◌∷◌, map, length, Option, Some, None, refl, ap, sym, ◌∙◌, arith, inl, inr, subst}
 use Rattle.std.specs.Prelude.{slice_get, slice_index, nat_lt}
 use Rattle.std.proofs.lemmas.Bool.{cases_Bool}
 use Rattle.std.proofs.lemmas.Option.{slice_get_within}
@@ -17,7 +17,7 @@ use Rattle.net_model.specs.Completions.{tern_agrees}
 use Rattle.net_model.proofs.Settling.{All-at}
 use Rattle.net_model.proofs.LayersExist.{layers_exist}
 use Rattle.net_model.proofs.TernaryOnce.{unknown_layers}
-use Rattle.net_model.proofs.Members.{In, In-from_Contains, Contains-from_In}
+use Rattle.net_model.proofs.Members.{In, Contains-from_In}
 use Rattle.net_model.specs.declared.netlist.Design.{Design}
 use Rattle.net_model.specs.declared.cycles.Cycle.{Cycle}
 use Rattle.net_model.specs.declared.invariants.StateLit.{StateLit}
@@ -31,7 +31,7 @@ use Rattle.net_model.specs.declared.terns.Tern.{Tern}
 use Rattle.net_model.specs.declared.terns.Tern.TheVariants.{Zero, Unknown}
 use Rattle.query_model.specs.Keys.{key, lit, AllTrue}
 use Rattle.query_model.specs.Reads.{bit_key, read_base, AreMoved}
-use Rattle.query_model.specs.Queries.{Query, Question, live_of, only_in_step, claim_query, clause_query, IsAnswer}
+use Rattle.query_model.specs.Queries.{Query, live_of, only_in_step, claim_query, clause_query, IsAnswer}
 use Rattle.query_model.specs.Formula.{definitions, asked_clauses, IsNeeded, AreNeeded, IsFormulaOf}
 use Rattle.query_model.specs.Laws.{AreCyclesOf, HasFreeBits, AgreesWith, ModelsAnswer, AnswersHaveModels}
 use Rattle.query_model.specs.Laws.{NamesRegs as Names}

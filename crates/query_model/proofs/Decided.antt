@@ -1,35 +1,18 @@
 -- Violations by toggles and alternatives, in either mode.
-use Rattle.std.proofs.Common.{◌≡◌, ◌≢◌, ℕ, zero, suc, ◌+◌, ◌-◌, ◌<◌, ◌≤◌, Bool, true, false, not, cond, List, [], ◌∷◌, length, Option, Some, refl, ap, sym, ◌∙◌, arith, inl, inr, ◌⊎◌, subst, add-one}
-use Rattle.std.specs.Prelude.{slice_get, slice_index}
-use Rattle.std.proofs.lemmas.Bool.{cond_below, cond_above}
-use Rattle.net_model.specs.Form.{xor, value}
-use Rattle.net_model.specs.FormLaws.{value_agrees}
-use Rattle.net_model.specs.Netlist.{IsSound, IsRegInRange}
-use Rattle.net_model.specs.Fits.{IsStartIn, IsEndIn}
-use Rattle.net_model.specs.Cycles.{bit_at, gate_pins, reg_pins, shown, capture, reg_capture_in, IsSettled, IsLinked}
-use Rattle.net_model.specs.Pins.{start_nets, start_outs}
-use Rattle.net_model.specs.Layers.{net_at, pin_reads, AreLayers, IsLateCapture, capture_over, late_reg_capture, late_reg_pins}
+use Rattle.std.proofs.Common.{◌≡◌, ◌≢◌, ℕ, ◌+◌, ◌-◌, ◌<◌, ◌≤◌, Bool, true, false, not, List, length, Some, refl, sym, ◌∙◌, arith, inl, inr, ◌⊎◌, subst}
+use Rattle.std.specs.Prelude.{slice_get}
+use Rattle.net_model.specs.Form.{xor}
 use Rattle.sdcv_base.specs.Kinds.{judged_count}
-use Rattle.net_model.specs.Judge.{start_bit, DiffersLate, IsBadPlain, IsBadFor, IsViolatedAt}
-use Rattle.net_model.proofs.Settling.{All-at}
-use Rattle.net_model.proofs.LateOnce.{late_capture_once}
+use Rattle.net_model.specs.Judge.{start_bit, IsBadFor, IsViolatedAt}
 use Rattle.net_model.specs.declared.netlist.Design.{Design}
-use Rattle.net_model.specs.declared.netlist.Reg.{Reg}
-use Rattle.net_model.specs.declared.netlist.RegOut.{RegOut}
 use Rattle.net_model.specs.declared.cycles.Cycle.{Cycle}
 use Rattle.net_model.specs.declared.claims.Claim.{Claim}
-use Rattle.net_model.specs.declared.claims.PinRef.{PinRef}
-use Rattle.net_model.specs.declared.claims.PinRef.TheVariants.{RegIn, OutPort}
-use Rattle.sdcv_base.specs.declared.kinds.Kind.{Kind}
-use Rattle.sdcv_base.specs.declared.kinds.Kind.TheVariants.{False, Multi}
-use Rattle.net_model.specs.declared.claims.End.{End}
-use Rattle.net_model.specs.declared.claims.End.TheVariants.{Reg as RegEnd, Output as OutputEnd}
-use Rattle.query_model.specs.Keys.{lit, lit_value, below}
-use Rattle.query_model.specs.Defined.{toggle_key, change_key, differ_key, stale_key}
-use Rattle.query_model.specs.Formula.{stale_if_later, plain_alternatives, alternatives_at, alternatives}
-use Rattle.net_model.proofs.Members.{In, In-flat, from_flat, from_map, In-from_Contains}
+use Rattle.query_model.specs.Keys.{lit_value, below}
+use Rattle.query_model.specs.Defined.{toggle_key}
+use Rattle.query_model.specs.Formula.{alternatives_at, alternatives}
+use Rattle.net_model.proofs.Members.{In, In-flat, from_flat}
 use Rattle.query_model.proofs.Members.{In-below, below_less}
-use Rattle.query_model.proofs.Based.{placed, get_within}
+use Rattle.query_model.proofs.Based.{get_within}
 use Rattle.query_model.proofs.Extras.{ExtrasTold}
 use Rattle.query_model.specs.declared.keys.Key.{Key}
 use Rattle.query_model.specs.declared.keys.KeyLit.{KeyLit}

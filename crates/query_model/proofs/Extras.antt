@@ -1,5 +1,5 @@
 -- Toggles, changes and differences: what their keys tell.
-use Rattle.std.proofs.Common.{◌≡◌, ℕ, ◌+◌, ◌-◌, ◌<◌, Bool, true, false, not, cond, List, [], ◌∷◌, length, Some, refl, ap, sym, ◌∙◌, arith, inl, inr, subst}
+use Rattle.std.proofs.Common.{◌≡◌, ℕ, ◌+◌, ◌-◌, ◌<◌, Bool, true, false, not, List, [], ◌∷◌, length, Some, refl, ap, sym, ◌∙◌, arith, inl, inr, subst}
 use Rattle.std.specs.Prelude.{slice_get, slice_index, ◌||◌}
 use Rattle.std.proofs.lemmas.Option.{slice_get_within}
 use Rattle.net_model.specs.Form.{xor}
@@ -17,7 +17,7 @@ use Rattle.net_model.specs.declared.claims.Start.TheVariants.{Reg as RegStart, I
 use Rattle.net_model.specs.declared.claims.End.{End}
 use Rattle.net_model.specs.declared.claims.End.TheVariants.{Reg as RegEnd, Output as OutputEnd}
 use Rattle.query_model.specs.Keys.{lit, opposite, lit_value, AllTrue, below}
-use Rattle.query_model.specs.Defined.{Definition, exclusive, start_lit, capture_lit, late_lit, toggle_key, change_key, differ_key, stale_key, differ_definition, extra_definitions}
+use Rattle.query_model.specs.Defined.{Definition, exclusive, start_lit, capture_lit, toggle_key, change_key, differ_key, stale_key, differ_definition, extra_definitions}
 use Rattle.net_model.proofs.Members.{In, In-map, from_map}
 use Rattle.query_model.proofs.Members.{In-below, below_less}
 use Rattle.query_model.proofs.Tabled.{value_opposite}

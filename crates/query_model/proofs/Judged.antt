@@ -1,5 +1,5 @@
 -- Alternatives whose conditions are true, and violations.
-use Rattle.std.proofs.Common.{◌≡◌, ◌≢◌, ℕ, zero, suc, ◌+◌, ◌-◌, ◌<◌, ◌≤◌, Bool, true, false, not, cond, List, [], ◌∷◌, length, Option, Some, refl, ap, sym, ◌∙◌, arith, inl, inr, ◌⊎◌, subst, add-one}
+use Rattle.std.proofs.Common.{◌≡◌, ◌≢◌, ℕ, zero, suc, ◌+◌, ◌-◌, ◌<◌, ◌≤◌, Bool, true, false, not, cond, List, [], ◌∷◌, length, Option, Some, refl, ap, sym, ◌∙◌, arith, inl, inr, subst, add-one}
 use Rattle.std.specs.Prelude.{slice_get, slice_index}
 use Rattle.std.proofs.lemmas.Bool.{cond_below, cond_above}
 use Rattle.net_model.specs.Form.{xor, value}
@@ -10,7 +10,7 @@ use Rattle.net_model.specs.Cycles.{bit_at, gate_pins, reg_pins, shown, capture, 
 use Rattle.net_model.specs.Pins.{start_nets, start_outs}
 use Rattle.net_model.specs.Layers.{net_at, pin_reads, AreLayers, IsLateCapture, capture_over, late_reg_capture, late_reg_pins}
 use Rattle.sdcv_base.specs.Kinds.{judged_count}
-use Rattle.net_model.specs.Judge.{start_bit, DiffersLate, IsBadPlain, IsBadFor, IsViolatedAt}
+use Rattle.net_model.specs.Judge.{start_bit, DiffersLate, IsBadPlain, IsBadFor}
 use Rattle.net_model.proofs.Settling.{All-at}
 use Rattle.net_model.proofs.LateOnce.{late_capture_once}
 use Rattle.net_model.specs.declared.netlist.Design.{Design}
@@ -24,17 +24,16 @@ use Rattle.sdcv_base.specs.declared.kinds.Kind.{Kind}
 use Rattle.sdcv_base.specs.declared.kinds.Kind.TheVariants.{False, Multi}
 use Rattle.net_model.specs.declared.claims.End.{End}
 use Rattle.net_model.specs.declared.claims.End.TheVariants.{Reg as RegEnd, Output as OutputEnd}
-use Rattle.query_model.specs.Keys.{lit, lit_value, below}
-use Rattle.query_model.specs.Defined.{toggle_key, change_key, differ_key, stale_key}
-use Rattle.query_model.specs.Formula.{stale_if_later, plain_alternatives, alternatives_at, alternatives}
-use Rattle.net_model.proofs.Members.{In, In-flat, from_flat, from_map, In-from_Contains}
-use Rattle.query_model.proofs.Members.{In-below, below_less}
+use Rattle.query_model.specs.Keys.{lit, lit_value}
+use Rattle.query_model.specs.Defined.{change_key, differ_key, stale_key}
+use Rattle.query_model.specs.Formula.{stale_if_later, plain_alternatives, alternatives_at}
+use Rattle.net_model.proofs.Members.{In, from_map, In-from_Contains}
 use Rattle.query_model.proofs.Based.{placed, get_within}
 use Rattle.query_model.proofs.Celled.{capture_but_last}
 use Rattle.net_model.proofs.Still.{IsStill, stays, pin_still}
 use Rattle.query_model.proofs.Late.{start_shows}
 use Rattle.query_model.proofs.Extras.{ExtrasTold}
-use Rattle.query_model.proofs.Decided.{xor_ne, ne_xor, ne_not, same_or_not, AllHold, Moment, KindOfAll, IsDecided}
+use Rattle.query_model.proofs.Decided.{xor_ne, ne_xor, ne_not, AllHold, Moment, KindOfAll, IsDecided}
 use Rattle.query_model.specs.declared.keys.Key.{Key}
 use Rattle.query_model.specs.declared.keys.KeyLit.{KeyLit}
 

@@ -1,11 +1,11 @@
 -- Plain claims: the layers in which the start shows the other bit.
-use Rattle.std.proofs.Common.{◌≡◌, ℕ, suc, ◌+◌, ◌<◌, ◌≤◌, Bool, true, false, cond, not, List, [], ◌∷◌, ◌++◌, length, Option, Some, None, refl, ap, sym, ◌∙◌, arith, inl, inr, subst, add-one}
+use Rattle.std.proofs.Common.{◌≡◌, ℕ, ◌+◌, ◌<◌, ◌≤◌, Bool, true, false, cond, List, ◌++◌, length, Option, Some, None, refl, ap, sym, ◌∙◌, arith, inl, inr, subst, add-one}
 use Rattle.std.specs.Prelude.{slice_get, slice_index, flat_map, if◌then◌else◌, nat_lt}
 use Rattle.std.proofs.lemmas.Bool.{cond-true, cond-false, lt-ltb, le-ltb}
 use Rattle.std.proofs.lemmas.Option.{slice_get_within}
 use Rattle.net_model.specs.Form.{xor}
 use Rattle.net_model.specs.Fits.{IsEndIn}
-use Rattle.net_model.specs.Cycles.{bit_at, capture, IsLinked}
+use Rattle.net_model.specs.Cycles.{capture}
 use Rattle.net_model.specs.Layers.{net_at, capture_over, pin_reads}
 use Rattle.net_model.specs.declared.netlist.Design.{Design}
 use Rattle.net_model.specs.declared.cycles.Cycle.{Cycle}
@@ -16,7 +16,7 @@ use Rattle.net_model.specs.declared.claims.End.TheVariants.{Reg as RegEnd, Outpu
 use Rattle.query_model.specs.Keys.{key, AllTrue, below}
 use Rattle.query_model.specs.Reads.{read_pin}
 use Rattle.query_model.specs.Defined.{Definition, exclusive, layer_definitions, end_definition, extra_definitions, claim_definitions, differ_definition, differ_key, late_key, late_lit, capture_lit}
-use Rattle.net_model.proofs.Members.{In, In-left, In-right, In-flat}
+use Rattle.net_model.proofs.Members.{In-left, In-right, In-flat}
 use Rattle.query_model.proofs.Members.{In-below}
 use Rattle.query_model.proofs.Told.{LitTells}
 use Rattle.query_model.proofs.Runs.{now_bits, Told, CodingCovers, Forces, AnyKey}

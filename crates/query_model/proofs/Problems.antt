@@ -1,16 +1,15 @@
 -- The models of a query's formula over keys, and over numbered variables.
 use Rattle.std.proofs.Common.{◌≡◌, ℕ, ◌+◌, Bool, true, false, cond, List, [], ◌∷◌, ◌++◌, map, refl, ap, sym, ◌∙◌, inl, inr, subst}
-use Rattle.std.specs.Prelude.{Contains, flat_map, ◌||◌}
+use Rattle.std.specs.Prelude.{flat_map, ◌||◌}
 use Rattle.std.specs.List.{list_any}
-use Rattle.std.proofs.lemmas.Bool.{cases_Bool, or_cases}
+use Rattle.std.proofs.lemmas.Bool.{or_cases}
 use Rattle.net_model.proofs.Members.{In, In-cases, from_flat, In-from_Contains, Contains-from_In}
-use Rattle.net_model.specs.declared.cycles.Cycle.{Cycle}
 use Rattle.query_model.specs.Keys.{lit_value, is_true, AllTrue}
-use Rattle.query_model.specs.Queries.{Query, IsAnswer}
+use Rattle.query_model.specs.Queries.{Query}
 use Rattle.query_model.specs.Defined.{Definition}
-use Rattle.query_model.specs.Formula.{definitions, asked_clauses, same_key, has_key, listed, formula_over, IsNeeded, Asked, Used, AreNeeded, IsFormulaOf}
-use Rattle.query_model.specs.Variables.{code_of, code_true, IsProblemOf, AllCodesTrue, by_number}
-use Rattle.query_model.specs.Laws.{AreCyclesOf, HasFreeBits, AgreesWith, ModelsAnswer, AnswersHaveModels, NumberedModelsAnswer, AnswersHaveNumberedModels}
+use Rattle.query_model.specs.Formula.{definitions, asked_clauses, same_key, has_key, listed, formula_over, Asked, Used, AreNeeded}
+use Rattle.query_model.specs.Variables.{code_of, AllCodesTrue, by_number}
+use Rattle.query_model.specs.Laws.{ModelsAnswer, AnswersHaveModels, NumberedModelsAnswer, AnswersHaveNumberedModels}
 use Rattle.query_model.proofs.Needs.{mentioned}
 use Rattle.query_model.proofs.Numbered.{coded_same, normals_true, true_normals, model_by_number}
 use Rattle.query_model.proofs.Places.{same_key-true, by_key, by_key_number}

@@ -1,5 +1,4 @@
 use Rattle.std.proofs.lemmas.List.Elements.{All-contains}
-use Rattle.net_model.specs.declared.invariants.InvClause.{InvClause}
 use Rattle.query_model.specs.Laws.{NamesRegs}
 use Rattle.query_model.proofs.Claims.{clause_models, clause_answers}
 use Rattle.query_model.specs.Queries.{clause_query}
