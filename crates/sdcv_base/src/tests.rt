@@ -1,6 +1,6 @@
 use crate::{
-    Cursor, Fail, FileRec, Host, Kind, LimitName, MemHost, Name, ReadFault, Seq, push_decimal,
-    read_decimal,
+    Cursor, Fail, FileRec, Host, HostFault, Kind, LimitName, MemHost, Name, ReadFault, Seq,
+    push_decimal, read_decimal,
 };
 use std::alloc::{AllocError, Global};
 use std::test;
@@ -72,6 +72,26 @@ fn a_host_in_memory_does_as_planned(rt: HostRuntime) -> Result<(), test::Fail> {
     assert_eq!(rt; host.faults(), 4);
     assert_eq!(rt; host.asked().len(), 3);
     assert_eq!(rt; host.saved().len(), 1);
+    Ok(())
+}
+
+// As the types' own words say it.
+#[test]
+fn faults_have_their_words(rt: HostRuntime) -> Result<(), test::Fail> {
+    let alloc = rt.alloc();
+    let reads = [
+        (ReadFault::Failed, "the host could not read"),
+        (ReadFault::TooLong, "the file is too long"),
+        (ReadFault::Memory, "out of memory"),
+    ];
+    for (fault, want) in reads {
+        assert_eq!(rt; format!(in alloc; "{fault}")?.as_str(), want);
+    }
+    let write = HostFault::Failed;
+    assert_eq!(rt;
+        format!(in alloc; "{write}")?.as_str(),
+        "the host could not write"
+    );
     Ok(())
 }
 
