@@ -7,6 +7,7 @@ ghost use Rattle.proof_log.specs.Formulas.{IsFormula, value_in};
 ghost use Rattle.sat_solver.specs.Searches.{Search, IsQuiet, IsFalseAt, Propagates, lits_up_to, AllSet, IsUnset};
 ghost use Rattle.sat_solver.specs.Learning.{IsLearnt};
 
+use crate::activities::Activities;
 use crate::learning::{Learnt, analyze, last_step};
 use crate::propagation::settle;
 use crate::trails::Trail;
@@ -33,6 +34,7 @@ pub struct Engine {
     clauses: Vec<Clause>,
     trail: Trail,
     starts: Vec<usize>,
+    activities: Activities,
 }
 
 impl Model for Engine {
@@ -58,10 +60,12 @@ impl Engine {
         let clauses = copied(alloc, formula.clauses.as_slice())?;
         let trail = Trail::new(alloc, formula.vars)?;
         let starts = Vec::with_capacity(alloc, formula.vars as usize + 1)?;
+        let activities = Activities::new(alloc, formula.vars)?;
         Ok(Engine {
             clauses,
             trail,
             starts,
+            activities,
         })
     }
 
@@ -100,7 +104,7 @@ impl Engine {
             ≡ record self.old { lits = self.old.lits ++ l ∷ []; starts = self.old.starts ++ length self.old.lits ∷ [] }) }
         ensures few { IfSome result (λ l. length self.new.lits ≤ self.new.vars + 1) }
     {
-        let l = unset_literal(&self.trail)?;
+        let l = best_unset(&self.trail, &self.activities)?;
         let start = self.trail.len();
         self.trail.set(l, 0);
         self.starts.push_reserved(start);
@@ -116,6 +120,7 @@ impl Engine {
     {
         if level < self.starts.len() {
             let from = self.starts[level];
+            self.activities.keep_phases(&self.trail, from);
             self.trail.truncate(from);
             self.starts.truncate(level);
         }
@@ -139,7 +144,10 @@ impl Engine {
         let clause = learnt.step.clause.copy(alloc)?;
         self.clauses.reserve(1)?;
         let place = self.clauses.len();
+        self.activities
+            .raise_hints(&self.clauses, learnt.step.hints.as_slice());
         let from = self.starts[learnt.level];
+        self.activities.keep_phases(&self.trail, from);
         self.trail.truncate(from);
         self.starts.truncate(learnt.level);
         self.clauses.push_reserved(clause);
@@ -183,18 +191,19 @@ fn copied(alloc: Global, clauses: &[Clause]) -> Result<Vec<Clause>, AllocError>
     Ok(out)
 }
 
-/// The first unset variable, as its negative literal.
-fn unset_literal(trail: &Trail) -> Option<Lit>
+/// The unset variable of the greatest score, as the literal of its phase.
+fn best_unset(trail: &Trail, activities: &Activities) -> Option<Lit>
     ensures none { IfNone result (AllSet trail.now.vars trail.now.lits) }
     ensures some { IfSome result (λ l. IsUnset trail.now.vars trail.now.lits l) }
 {
+    let mut best = None;
     for var in 1..trail.vars() + 1 {
-        let l = Lit::new(var, false);
+        let l = activities.literal(var);
         if is_unset(trail, l) {
-            return Some(l);
+            best = Some(activities.better(best, l));
         }
     }
-    None
+    best
 }
 
 fn is_unset(trail: &Trail, l: Lit) -> bool

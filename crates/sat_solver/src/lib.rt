@@ -5,6 +5,7 @@
 //! checked by itself elsewhere, and nothing here is asked to be trusted for that.
 #![tactic(auto)]
 
+mod activities;
 mod cuts;
 mod engines;
 mod learning;
