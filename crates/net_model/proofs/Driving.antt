@@ -5,7 +5,7 @@ use Rattle.std.proofs.lemmas.List.{map_more}
 use Rattle.std.proofs.lemmas.Option.{slice_get_within, get_or_from_slice_get, slice_get-get_or}
 use Rattle.net_model.specs.Netlist.{AllBelow, source_nets, gate_nets, driver_count, driven_nets}
 use Rattle.sdcv_base.specs.Seqs.{is_marked}
-use Rattle.net_model.specs.Marks.{mark_of, IsMarkedTwice, AreMarked}
+use Rattle.net_model.specs.Markings.{mark_of, IsMarkedTwice, AreMarked}
 use Rattle.net_model.specs.Faults.{IsOutOfOrder}
 use Rattle.net_model.proofs.Order.{before, count_append, count_taken, counted}
 use Rattle.net_model.proofs.Marking.{marked_one, marked_contains, unmarked_not_contains, counted_marked, counted_unmarked}

@@ -8,7 +8,7 @@ use Rattle.std.proofs.lemmas.List.Elements.{Contains-append_right}
 use Rattle.std.proofs.lemmas.Option.{slice_get_within, get_or_from_slice_get, slice_get-map}
 use Rattle.net_model.specs.Netlist.{AllBelow}
 use Rattle.sdcv_base.specs.Seqs.{is_marked}
-use Rattle.net_model.specs.Marks.{mark_of, AddsMarks, IsMarkedTwice, AreMarked}
+use Rattle.net_model.specs.Markings.{mark_of, AddsMarks, IsMarkedTwice, AreMarked}
 use Rattle.net_model.specs.declared.netlist.Fixed.{Fixed}
 use Rattle.net_model.proofs.Order.{count_append, count_cons, count_contains, counted}
 use Rattle.net_model.proofs.Settling.{All-at}

@@ -1,7 +1,7 @@
 pub mod Form
 pub mod FormLaws
 pub mod Code
-pub mod Layer
+pub mod Unboxed
 pub mod Args
 pub mod Netlist
 pub mod Rows
@@ -16,5 +16,5 @@ pub mod Queries
 pub mod Stimuli
 pub mod Fits
 pub mod Mentions
-pub mod Marks
+pub mod Markings
 pub mod Faults

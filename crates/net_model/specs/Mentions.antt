@@ -1,6 +1,6 @@
 -- The places that functions mention: those that they read as they are written, also where the value does not depend on
 -- them.
-use Rattle.std.specs.Prelude.{ℕ, Bool, false, ◌||◌, ◌==◌, Option, Some, None}
+use Rattle.std.specs.Prelude.{ℕ, Bool, false, ◌||◌, ◌==◌, length, Option, Some, None}
 use Rattle.net_model.specs.Form.{Form, ZeroForm, OneForm, PinForm, NotForm, AndForm, OrForm, XorForm, IsOver}
 use Rattle.net_model.specs.Netlist.{IsOptionOver}
 use Rattle.net_model.specs.declared.netlist.Reg.{Reg}
@@ -24,6 +24,10 @@ mentions_if_any place (Some f) = mentions place f
 abbrev pub reg_mentions : ℕ → Reg → Bool
 reg_mentions place reg =
     mentions place reg.next || (mentions_if_any place reg.clear || mentions_if_any place reg.preset)
+
+-- whether a register mentions its own bit, whose place is the one after its last pin
+abbrev pub reads_own : Reg → Bool
+reads_own reg = reg_mentions (length reg.ins) reg
 
 -- the register's functions read places below n alone
 pub record IsRegOver (n : ℕ) (r : Reg) : Type 0 where

@@ -5,7 +5,7 @@ ghost use Rattle.net_model.specs.Netlist.{IsOptionOver};
 ghost use Rattle.net_model.specs.Cycles.{reg_capture, value_if_any};
 ghost use Rattle.net_model.specs.Mentions.{mentions, mentions_if_any, reg_mentions};
 
-use crate::functions::{Func, Node};
+use crate::functions::Func;
 use crate::netlist::Reg;
 use std::alloc::{AllocError, Global};
 
@@ -18,13 +18,8 @@ fn zero_where(alloc: Global, func: Func, control: &Option<Func>) -> Result<Func,
     let Some(control) = control else {
         return Ok(func);
     };
-    let control = Box::new(alloc, control.copy(alloc)?)?;
-    let off = Func {
-        node: Node::Not(control),
-    };
-    Ok(Func {
-        node: Node::And(Box::new(alloc, func)?, Box::new(alloc, off)?),
-    })
+    let off = Func::not(alloc, control.copy(alloc)?)?;
+    Func::and(alloc, func, off)
 }
 
 /// The function where the control is 0, and else 1. A control that isn't there is 0.
@@ -36,10 +31,7 @@ fn one_where(alloc: Global, func: Func, control: &Option<Func>) -> Result<Func, 
     let Some(control) = control else {
         return Ok(func);
     };
-    let control = control.copy(alloc)?;
-    Ok(Func {
-        node: Node::Or(Box::new(alloc, func)?, Box::new(alloc, control)?),
-    })
+    Func::or(alloc, func, control.copy(alloc)?)
 }
 
 /// One function of the places of `ins` and of the own bit, whose value is what the register captures.

@@ -2,20 +2,18 @@
 ghost use Rattle.std.specs.Prelude.{◌≡◌, ◌≢◌, ℕ, ◌<◌, ◌≤◌, length, All, Some, slice_get, MatchOption, OnOk, IfErr, count_by, ◌==◌};
 ghost use Rattle.net_model.specs.Netlist.{IsSound, IsGateInRange, IsRegInRange, AllBelow, held_inputs};
 ghost use Rattle.net_model.specs.Faults.{IsOutOfRange, ArePortsInRange, IsCause};
-ghost use Rattle.net_model.specs.Marks.{AddsMarks, IsMarkedTwice};
+ghost use Rattle.net_model.specs.Markings.{AddsMarks, IsMarkedTwice};
 ghost use Rattle.net_model.specs.declared.netlist.Gate.{Gate as GateRecord};
 ghost use Rattle.net_model.specs.declared.netlist.Reg.{Reg as RegRecord};
 
 use crate::drivers::check_drivers;
 use crate::faults::DesignFault;
-use crate::limits::{above, size_above};
-use crate::marks::{mark_settings, no_marks};
+use crate::limits::{MOST_PINS, above, size_above};
+use crate::marks::mark_settings;
 use crate::netlist::Design;
 use crate::ranges::{gate_beyond, input_beyond, number_beyond, reg_beyond};
 use sdcv_base::Seq;
 use std::alloc::Global;
-
-const MOST_PINS: usize = 6;
 
 /// Checks the pins and the function of one gate.
 fn check_gate(design: &Design, k: usize) -> Result<(), DesignFault>
@@ -96,7 +94,7 @@ fn check_held(alloc: Global, design: &Design) -> Result<(), DesignFault>
     ensures ok { OnOk result ((i : ℕ) → i < length design.now.inputs → count_by (λ m. m == i) (held_inputs design.now) ≤ 1) }
     ensures err { IfErr result (IsCause design.now) }
 {
-    let mut marks = no_marks(alloc, design.inputs.len())?;
+    let mut marks = Seq::filled(alloc, false, design.inputs.len())?;
     match mark_held(design, &mut marks) {
         None => Ok(()),
         Some(input) => Err(DesignFault::Twice(input)),

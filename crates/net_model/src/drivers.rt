@@ -1,11 +1,11 @@
 //! The drivers of nets, and the order of gates.
 ghost use Rattle.std.specs.Prelude.{◌≡◌, ℕ, ◌<◌, [], length, MatchOption, OnOk, IfErr, flat_map};
 ghost use Rattle.net_model.specs.Netlist.{IsInRange, IsInOrder, driver_count, driven_nets, source_nets, reg_nets};
-ghost use Rattle.net_model.specs.Marks.{AddsMarks, IsMarkedTwice, AreMarked};
+ghost use Rattle.net_model.specs.Markings.{AddsMarks, IsMarkedTwice, AreMarked};
 ghost use Rattle.net_model.specs.Faults.{IsCause};
 
 use crate::faults::DesignFault;
-use crate::marks::{first_unmarked, mark, mark_all, mark_outs, no_marks, unmarked_of};
+use crate::marks::{first_unmarked, mark, mark_all, mark_outs, unmarked_of};
 use crate::netlist::Design;
 use sdcv_base::Seq;
 use std::alloc::Global;
@@ -66,7 +66,7 @@ pub fn check_drivers(alloc: Global, design: &Design) -> Result<(), DesignFault>
     ensures order { OnOk result (IsInOrder design.now) }
     ensures err { IfErr result (IsCause design.now) }
 {
-    let mut marks = no_marks(alloc, design.nets)?;
+    let mut marks = Seq::filled(alloc, false, design.nets)?;
     if let Some(net) = mark_sources(design, &mut marks) {
         return Err(DesignFault::ManyDrivers(net));
     }

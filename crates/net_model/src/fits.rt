@@ -3,12 +3,9 @@ ghost use Rattle.std.specs.Prelude.{◌↔◌, IsTrue, All};
 ghost use Rattle.net_model.specs.Fits.{IsStartIn, IsEndIn, IsPinIn, IsKindFit, Fits};
 
 use crate::claims::{Claim, End, PinRef, Start};
+use crate::limits::{MOST_CYCLES, MOST_SETS};
 use crate::netlist::Design;
 use sdcv_base::{Kind, Seq};
-
-const MOST_CYCLES: u8 = 16;
-
-const MOST_SETS: usize = 4;
 
 fn is_kind_fit(kind: Kind) -> bool
     ensures { IsTrue result ↔ IsKindFit kind }

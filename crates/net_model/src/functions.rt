@@ -1,5 +1,6 @@
 //! Boolean functions of numbered places.
 ghost use Rattle.std.specs.Prelude.{◌≡◌, IfOk};
+ghost use Rattle.net_model.specs.Form.{ZeroForm, OneForm, PinForm, NotForm, AndForm, OrForm, XorForm};
 
 use std::alloc::{AllocError, Global};
 use std::marker::Model;
@@ -37,7 +38,7 @@ impl Model for Func {
 
     ghost coded = { coded_form };
 
-    ghost use Rattle.net_model.specs.Layer.{form_of};
+    ghost use Rattle.net_model.specs.Unboxed.{form_of};
 
     ghost view = { λ f. form_of f.node };
 
@@ -47,41 +48,79 @@ impl Model for Func {
 }
 
 impl Func {
+    /// The function that is 0 everywhere.
+    pub fn zero() -> Func
+        ensures { result ≡ ZeroForm }
+    {
+        Func { node: Node::Zero }
+    }
+
+    /// The function that is 1 everywhere.
+    pub fn one() -> Func
+        ensures { result ≡ OneForm }
+    {
+        Func { node: Node::One }
+    }
+
+    /// The value of a place.
+    pub fn pin(place: usize) -> Func
+        ensures { result ≡ PinForm place }
+    {
+        Func {
+            node: Node::Pin(place),
+        }
+    }
+
+    pub fn not(alloc: Global, f: Func) -> Result<Func, AllocError>
+        ensures { IfOk result (λ r. r ≡ NotForm f) }
+    {
+        let f = Box::new(alloc, f)?;
+        Ok(Func { node: Node::Not(f) })
+    }
+
+    pub fn and(alloc: Global, f: Func, g: Func) -> Result<Func, AllocError>
+        ensures { IfOk result (λ r. r ≡ AndForm f g) }
+    {
+        let f = Box::new(alloc, f)?;
+        let g = Box::new(alloc, g)?;
+        Ok(Func {
+            node: Node::And(f, g),
+        })
+    }
+
+    pub fn or(alloc: Global, f: Func, g: Func) -> Result<Func, AllocError>
+        ensures { IfOk result (λ r. r ≡ OrForm f g) }
+    {
+        let f = Box::new(alloc, f)?;
+        let g = Box::new(alloc, g)?;
+        Ok(Func {
+            node: Node::Or(f, g),
+        })
+    }
+
+    /// The exclusive or of two functions.
+    pub fn xor(alloc: Global, f: Func, g: Func) -> Result<Func, AllocError>
+        ensures { IfOk result (λ r. r ≡ XorForm f g) }
+    {
+        let f = Box::new(alloc, f)?;
+        let g = Box::new(alloc, g)?;
+        Ok(Func {
+            node: Node::Xor(f, g),
+        })
+    }
+
     /// An equal function in memory of its own.
     pub fn copy(&self, alloc: Global) -> Result<Func, AllocError>
         ensures { IfOk result (λ f. f ≡ self.now) }
     {
         match &self.node {
-            Node::Zero => Ok(Func { node: Node::Zero }),
-            Node::One => Ok(Func { node: Node::One }),
-            Node::Pin(place) => Ok(Func {
-                node: Node::Pin(*place),
-            }),
-            Node::Not(f) => {
-                let f = Box::new(alloc, f.copy(alloc)?)?;
-                Ok(Func { node: Node::Not(f) })
-            }
-            Node::And(f, g) => {
-                let f = Box::new(alloc, f.copy(alloc)?)?;
-                let g = Box::new(alloc, g.copy(alloc)?)?;
-                Ok(Func {
-                    node: Node::And(f, g),
-                })
-            }
-            Node::Or(f, g) => {
-                let f = Box::new(alloc, f.copy(alloc)?)?;
-                let g = Box::new(alloc, g.copy(alloc)?)?;
-                Ok(Func {
-                    node: Node::Or(f, g),
-                })
-            }
-            Node::Xor(f, g) => {
-                let f = Box::new(alloc, f.copy(alloc)?)?;
-                let g = Box::new(alloc, g.copy(alloc)?)?;
-                Ok(Func {
-                    node: Node::Xor(f, g),
-                })
-            }
+            Node::Zero => Ok(Func::zero()),
+            Node::One => Ok(Func::one()),
+            Node::Pin(place) => Ok(Func::pin(*place)),
+            Node::Not(f) => Func::not(alloc, f.copy(alloc)?),
+            Node::And(f, g) => Func::and(alloc, f.copy(alloc)?, g.copy(alloc)?),
+            Node::Or(f, g) => Func::or(alloc, f.copy(alloc)?, g.copy(alloc)?),
+            Node::Xor(f, g) => Func::xor(alloc, f.copy(alloc)?, g.copy(alloc)?),
         }
     }
 }

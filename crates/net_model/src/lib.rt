@@ -23,6 +23,7 @@ mod laws;
 mod layers;
 mod limits;
 mod marks;
+mod mentions;
 mod netlist;
 mod pins;
 mod queries;
@@ -44,7 +45,12 @@ pub use invariants::{InvClause, StateLit};
 pub use late_starts::make_layers;
 pub use laws::one_run;
 pub use layers::{late_reg_args, layer_pin};
+pub use limits::{
+    LAYERS, MOST_CYCLES, MOST_DEPTH, MOST_INPUTS, MOST_NETS, MOST_OUTPUTS, MOST_PINS,
+    MOST_REGISTERS, MOST_RESET_CYCLES, MOST_SETS,
+};
 pub use netlist::{Design, Fixed, Gate, Reg, RegOut};
+pub use pins::is_held;
 pub use queries::Phase;
 pub use rows::{pin_args, settle_gates};
 pub use sdcv_base::Kind;

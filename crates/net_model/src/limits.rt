@@ -5,15 +5,30 @@ ghost use Rattle.net_model.specs.Faults.{Passes, IsAboveLimit};
 
 use crate::netlist::Design;
 
-const MOST_NETS: usize = 200_000;
+pub const MOST_NETS: usize = 200_000;
 
-const MOST_REGISTERS: usize = 20_000;
+pub const MOST_REGISTERS: usize = 20_000;
 
-const MOST_INPUTS: usize = 2_000;
+pub const MOST_INPUTS: usize = 2_000;
 
-const MOST_OUTPUTS: usize = 20_000;
+pub const MOST_OUTPUTS: usize = 20_000;
 
-const MOST_RESET_CYCLES: usize = 64;
+/// The most input pins that one gate or one register may have.
+pub const MOST_PINS: usize = 6;
+
+pub const MOST_RESET_CYCLES: usize = 64;
+
+/// The largest multiplier of a multicycle path.
+pub const MOST_CYCLES: u8 = 16;
+
+/// The most through sets of a claim.
+pub const MOST_SETS: usize = 4;
+
+/// The layers of a cycle in which a start comes late: the first, and one for each through set.
+pub const LAYERS: usize = MOST_SETS + 1;
+
+/// The most cycles before the one that an induction asks about.
+pub const MOST_DEPTH: usize = 64;
 
 /// The limit plus 1, where the count is above the limit.
 pub fn above(limit: usize, count: usize) -> Option<usize>

@@ -1,20 +1,11 @@
 //! Marks of numbers, a bit for each.
-ghost use Rattle.std.specs.Prelude.{◌≡◌, ℕ, ◌<◌, List, false, true, length, map, All, Contains, MatchOption, IfOk, slice_set};
+ghost use Rattle.std.specs.Prelude.{◌≡◌, ℕ, ◌<◌, false, true, length, All, Contains, MatchOption, slice_set};
 ghost use Rattle.net_model.specs.Netlist.{AllBelow, reg_nets, setting_inputs};
 ghost use Rattle.sdcv_base.specs.Seqs.{is_marked};
-ghost use Rattle.net_model.specs.Marks.{AddsMarks, IsMarkedTwice};
+ghost use Rattle.net_model.specs.Markings.{AddsMarks, IsMarkedTwice};
 
 use crate::netlist::{Fixed, Reg};
 use sdcv_base::Seq;
-use std::alloc::{AllocError, Global};
-
-/// Marks for the numbers below `count`, none of which is marked.
-pub fn no_marks(alloc: Global, count: usize) -> Result<Seq<bool>, AllocError>
-    ensures len { IfOk result (λ marks. length marks ≡ count) }
-    ensures free { IfOk result (λ marks. (n : ℕ) → is_marked marks n ≡ false) }
-{
-    Ok(Seq::from_vec(vec![in alloc; false; count]?))
-}
 
 /// Marks a number, and tells whether it was marked before.
 pub fn mark(marks: &mut Seq<bool>, number: usize) -> bool

@@ -1,7 +1,7 @@
 use Rattle.std.proofs.Common.{take}
 use Rattle.std.specs.Prelude.{flat_map}
 use Rattle.net_model.specs.Netlist.{reg_nets}
-use Rattle.net_model.specs.Marks.{AddsMarks}
+use Rattle.net_model.specs.Markings.{AddsMarks}
 use Rattle.net_model.proofs.drivers.mark_regs.Given as goal
 
 abbrev pub invariant-loop-r : goal.invariant-loop-r

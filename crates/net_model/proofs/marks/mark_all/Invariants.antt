@@ -1,5 +1,5 @@
 use Rattle.std.proofs.Common.{take}
-use Rattle.net_model.specs.Marks.{AddsMarks}
+use Rattle.net_model.specs.Markings.{AddsMarks}
 use Rattle.net_model.proofs.marks.mark_all.Given as goal
 
 abbrev pub invariant-loop-i : goal.invariant-loop-i

@@ -1,5 +1,5 @@
 use Rattle.std.proofs.Common.{take, map}
-use Rattle.net_model.specs.Marks.{AddsMarks}
+use Rattle.net_model.specs.Markings.{AddsMarks}
 use Rattle.net_model.proofs.Sources.{net_of}
 use Rattle.net_model.proofs.marks.mark_outs.Given as goal
 
