@@ -21,3 +21,6 @@ pub mod LayersExist
 pub mod Members
 pub mod Still
 pub mod TernaryOnce
+pub mod Holding
+pub mod Stimulating
+pub mod Moving

@@ -37,7 +37,7 @@ first_and_rest bit n xs rest zero lt = refl
 first_and_rest bit n xs rest (suc i) lt = rest i (omega arith)
 
 -- a list of bits by a function
-bits_exist : (bit : ℕ → Bool) (n : ℕ) → (xs : List Bool) × (length xs ≡ n) × ((i : ℕ) → i < n → bit_at xs i ≡ bit i)
+pub bits_exist : (bit : ℕ → Bool) (n : ℕ) → (xs : List Bool) × (length xs ≡ n) × ((i : ℕ) → i < n → bit_at xs i ≡ bit i)
 bits_exist bit zero = ([], refl, λ i lt. absurd (omega arith))
 bits_exist bit (suc n) =
     let rest = bits_exist (λ i. bit (suc i)) n in (bit 0 ∷ rest.0, omega (arith, rest.1), first_and_rest bit n rest.0 rest.2)

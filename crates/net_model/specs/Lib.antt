@@ -14,6 +14,8 @@ pub mod Paths
 pub mod Judge
 pub mod Queries
 pub mod Stimuli
+pub mod Held
+pub mod Moved
 pub mod Fits
 pub mod Mentions
 pub mod Markings

@@ -28,3 +28,10 @@ pub record HasOneRun (d : Design) (s : Stimulus) : Type 0 where
   pub from_reset : IsRun d run
   pub stands : StandsFor s run
   pub only : (other : List Cycle) → IsRun d other → StandsFor s other → other ≡ run
+
+-- there is a lawful stimulus of this many cycles, with the one run that it stands for
+pub record HasStimulus (d : Design) (cycles : ℕ) : Type 0 where
+  pub stimulus : Stimulus
+  pub count : length stimulus.inputs ≡ cycles
+  pub lawful : IsLawful d stimulus
+  pub one_run : HasOneRun d stimulus
