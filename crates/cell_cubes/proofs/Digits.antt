@@ -8,7 +8,7 @@ use Rattle.query_model.specs.declared.keys.Cube.{Cube}
 use Rattle.query_model.specs.Tables.{row_bits, on_list, cube_terns, digit_tern, known_cube, constant_from}
 use Rattle.net_model.specs.Form.{Form, value, IsOver}
 use Rattle.net_model.specs.FormLaws.{value_agrees, IsOver-weaker}
-use Rattle.net_model.specs.Ternary.{cell_value, tern_value}
+use Rattle.net_model.specs.Splitting.{cell_value, tern_value}
 use Rattle.net_model.specs.Completions.{tern_agrees}
 use Rattle.net_model.specs.declared.terns.Tern.TheVariants.{Zero}
 

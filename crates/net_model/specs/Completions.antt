@@ -5,7 +5,8 @@ use Rattle.std.proofs.lemmas.Bool.{cases_lt}
 use Rattle.std.proofs.lemmas.Bool.Decides.{nat_tests}
 use Rattle.net_model.specs.Form.{Form, value, IsOver}
 use Rattle.net_model.specs.FormLaws.{value_agrees}
-use Rattle.net_model.specs.Ternary.{Completes, IsLessKnown, IsCommonValue, tern_of, join, with_bit, split, common, cell_value, tern_value}
+use Rattle.net_model.specs.Ternary.{Completes, IsLessKnown, IsCommonValue, GivesCommonValues, tern_of}
+use Rattle.net_model.specs.Splitting.{join, with_bit, split, common, cell_value, tern_value}
 use Rattle.net_model.specs.declared.terns.Tern.{Tern}
 use Rattle.net_model.specs.declared.terns.Tern.TheVariants.{Zero, One, Unknown}
 
@@ -173,7 +174,19 @@ cell_common f t over b = (
   λ all. common_complete 7 f t (λ _. false) b (λ bits fits _. all bits fits),
 )
 
--- a known value stays where the pins become known
-pub cell_stays : (f : (ℕ → Bool) → Bool) (less more : ℕ → Tern) (b : Bool) → ReadsOnly 7 f → ((i : ℕ) → i < 7 → IsLessKnown (less i) (more i)) → cell_value f less ≡ tern_of b → cell_value f more ≡ tern_of b
-cell_stays f less more b over known is =
-    (cell_common f more over b).1 (λ bits fits. (cell_common f less over b).0 is bits (λ i lt. known i lt (bits i) (fits i lt)))
+-- there is one common value
+pub common_once : (cell : (ℕ → Bool) → Bool) (args : ℕ → Tern) (x y : Tern) → IsCommonValue cell args x → IsCommonValue cell args y → x ≡ y
+common_once cell args Zero y p q = sym ((q false).1 ((p false).0 refl))
+common_once cell args One y p q = sym ((q true).1 ((p true).0 refl))
+common_once cell args Unknown Zero p q = (p false).1 ((q false).0 refl)
+common_once cell args Unknown One p q = (p true).1 ((q true).0 refl)
+common_once cell args Unknown Unknown p q = refl
+
+-- functions are given their common values
+pub tern_common : GivesCommonValues tern_value
+tern_common f args over = cell_common (value f) args (value_reads 7 f over)
+
+-- a known value stays where places become known
+pub known_stays : (cell : (ℕ → Bool) → Bool) (less more : ℕ → Tern) (x y : Tern) (b : Bool) → ((i : ℕ) → i < 7 → IsLessKnown (less i) (more i)) → IsCommonValue cell less x → IsCommonValue cell more y → x ≡ tern_of b → y ≡ tern_of b
+known_stays cell less more x y b known p q is =
+    (q b).1 (λ bits fits. (p b).0 is bits (λ i lt. known i lt (bits i) (fits i lt)))

@@ -9,6 +9,7 @@ pub mod Cycles
 pub mod Pins
 pub mod Layers
 pub mod Ternary
+pub mod Splitting
 pub mod Completions
 pub mod Paths
 pub mod Judge

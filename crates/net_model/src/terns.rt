@@ -2,7 +2,8 @@
 ghost use Rattle.std.specs.Prelude.{◌≡◌, ◌<◌, ◌≤◌, ◌↔◌, ℕ, Bool};
 ghost use Rattle.net_model.specs.Form.{Form, value, IsOver};
 ghost use Rattle.net_model.specs.Args.{arg_at};
-ghost use Rattle.net_model.specs.Ternary.{tern_of, join, common, tern_value, IsCommonValue, IsLessKnown};
+ghost use Rattle.net_model.specs.Ternary.{tern_of, IsCommonValue, IsLessKnown};
+ghost use Rattle.net_model.specs.Splitting.{join, common, tern_value};
 ghost use Rattle.net_model.specs.Completions.{tern_on_bits, tern_agrees};
 ghost use Rattle.net_model.specs.declared.terns.Tern.{Tern as TernValue};
 
@@ -50,7 +51,8 @@ impl Value for Tern {
         ensures value { result ≡ tern_value func.now (arg_at args.now) }
         ensures common { IsCommonValue (value func.now) (arg_at args.now) result }
         // A known value stays where arguments become known.
-        ensures stays { (more : ℕ → TernValue) → ((i : ℕ) → i < 7 → IsLessKnown (arg_at args.now i) (more i)) → (b : Bool) → result ≡ tern_of b → tern_value func.now more ≡ tern_of b }
+        ensures stays { (more : ℕ → TernValue) (other : TernValue) → ((i : ℕ) → i < 7 → IsLessKnown (arg_at args.now i) (more i)) → IsCommonValue (value func.now) more other →
+            (b : Bool) → result ≡ tern_of b → other ≡ tern_of b }
     {
         common_of(func, args, 7, Args::of(false))
     }

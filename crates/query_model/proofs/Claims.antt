@@ -12,7 +12,8 @@ use Rattle.sdcv_base.specs.Kinds.{judged_count}
 use Rattle.net_model.specs.Judge.{start_bit}
 use Rattle.net_model.specs.Layers.{AreLayers}
 use Rattle.net_model.specs.Pins.{late_value}
-use Rattle.net_model.specs.Ternary.{tern_of, tern_value}
+use Rattle.net_model.specs.Ternary.{tern_of}
+use Rattle.net_model.specs.Splitting.{tern_value}
 use Rattle.net_model.specs.Completions.{tern_agrees}
 use Rattle.net_model.proofs.Settling.{All-at}
 use Rattle.net_model.proofs.LayersExist.{layers_exist}

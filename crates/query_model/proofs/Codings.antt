@@ -6,7 +6,8 @@ use Rattle.std.proofs.lemmas.Bool.{cases_lt, cond-true, cond-false, eq-eqb, ne_e
 use Rattle.std.proofs.Math.Nat.{pow-succ', pow-zero}
 use Rattle.net_model.specs.Ternary.{Completes}
 use Rattle.net_model.specs.Completions.{ReadsOnly, common_sound}
-use Rattle.net_model.specs.Ternary.{tern_of, join, split, with_bit, common, cell_value}
+use Rattle.net_model.specs.Ternary.{tern_of}
+use Rattle.net_model.specs.Splitting.{join, split, with_bit, common, cell_value}
 use Rattle.net_model.specs.declared.terns.Tern.{Tern}
 use Rattle.net_model.specs.declared.terns.Tern.TheVariants.{Zero, One, Unknown}
 use Rattle.query_model.specs.Keys.{below}

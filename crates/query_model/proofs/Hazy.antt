@@ -8,7 +8,8 @@ use Rattle.net_model.specs.Rows.{AreGatesSettled, pins_of}
 use Rattle.net_model.specs.Cycles.{bit_at, gate_pins, IsSettled}
 use Rattle.net_model.specs.Pins.{is_in}
 use Rattle.net_model.specs.Layers.{net_at, held_set, pin_reads, AreLayers}
-use Rattle.net_model.specs.Ternary.{tern_of, tern_value}
+use Rattle.net_model.specs.Ternary.{tern_of}
+use Rattle.net_model.specs.Splitting.{tern_value}
 use Rattle.net_model.specs.Completions.{tern_agrees, tern_on_bits}
 use Rattle.net_model.proofs.Settling.{All-at}
 use Rattle.net_model.proofs.LayerRows.{map_base}

@@ -5,9 +5,10 @@ use Rattle.std.proofs.lemmas.Bool.{cond-true, cond-false, lt-ltb, le-ltb}
 use Rattle.std.proofs.lemmas.Option.{slice_get_within}
 use Rattle.net_model.specs.Cycles.{capture}
 use Rattle.net_model.specs.Layers.{net_at}
-use Rattle.net_model.specs.Ternary.{tern_capture_over, IsTernaryCapture}
+use Rattle.net_model.specs.Ternary.{IsTernaryCapture}
+use Rattle.net_model.proofs.TernaryOnce.{tern_capture_over}
 use Rattle.net_model.specs.Judge.{start_bit, Changes, MayGlitch, IsBadHazard, IsBadFor}
-use Rattle.net_model.proofs.TernaryOnce.{ternary_once}
+use Rattle.net_model.proofs.TernaryOnce.{ternary_once, ternary_capture}
 use Rattle.net_model.specs.declared.netlist.Design.{Design}
 use Rattle.net_model.specs.declared.cycles.Cycle.{Cycle}
 use Rattle.net_model.specs.declared.claims.Claim.{Claim}
@@ -161,9 +162,11 @@ pub are_hazy_judged : (d : Design) (claim : Claim) (moved : List (List Bool)) (r
 are_hazy_judged d claim moved run rows hazard is hazy =
     record {
       hazard = hazard;
-      glitches = λ t c at e. record { rows = rows t; layers = (hazy t c at).layers; capture = sym (tern_now d claim run rows t c at) ∙ is_unknown (tern_at d claim run rows t) e };
+      glitches = λ t c at e. ternary_capture d claim c Unknown is.sound
+          (record { rows = rows t; layers = (hazy t c at).layers; capture = sym (tern_now d claim run rows t c at) ∙ is_unknown (tern_at d claim run rows t) e });
       seen = λ t c at glitch.
-          let mine : IsTernaryCapture d claim c (tern_at d claim run rows t) = record { rows = rows t; layers = (hazy t c at).layers; capture = sym (tern_now d claim run rows t c at) } in
+          let mine : IsTernaryCapture d claim c (tern_at d claim run rows t) =
+          ternary_capture d claim c (tern_at d claim run rows t) is.sound (record { rows = rows t; layers = (hazy t c at).layers; capture = sym (tern_now d claim run rows t c at) }) in
           ap (λ (x : Tern). may_one x && may_zero x) (ternary_once d claim c (tern_at d claim run rows t) Unknown is.sound is.end_in mine glitch);
     }
 

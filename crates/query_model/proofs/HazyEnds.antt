@@ -9,7 +9,8 @@ use Rattle.net_model.specs.Fits.{IsEndIn}
 use Rattle.net_model.specs.Cycles.{bit_at, reg_capture}
 use Rattle.net_model.specs.Pins.{is_in}
 use Rattle.net_model.specs.Layers.{net_at, held_set, pin_reads}
-use Rattle.net_model.specs.Ternary.{tern_of, tern_reg_capture, tern_capture_over}
+use Rattle.net_model.specs.Ternary.{tern_of}
+use Rattle.net_model.proofs.TernaryOnce.{tern_reg_capture, tern_capture_over}
 use Rattle.net_model.proofs.Settling.{All-at}
 use Rattle.net_model.proofs.Members.{In, In-cases, from_flat}
 use Rattle.net_model.specs.declared.netlist.Design.{Design}

@@ -1,7 +1,8 @@
 -- The rails of an output and the ternary value of its function, both ways.
 use Rattle.std.proofs.Common.{◌≡◌, ℕ, ◌<◌, ◌≤◌, Bool, true, false, not, List, length, refl, sym, ◌∙◌, subst, arith, inl, inr}
 use Rattle.std.specs.Prelude.{slice_index_or}
-use Rattle.net_model.specs.Ternary.{Completes, tern_of, cell_value}
+use Rattle.net_model.specs.Ternary.{Completes, tern_of}
+use Rattle.net_model.specs.Splitting.{cell_value}
 use Rattle.net_model.specs.Completions.{ReadsOnly, cell_common}
 use Rattle.net_model.specs.declared.terns.Tern.{Tern}
 use Rattle.net_model.specs.declared.terns.Tern.TheVariants.{Zero, One, Unknown}

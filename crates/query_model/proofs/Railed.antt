@@ -9,7 +9,9 @@ use Rattle.net_model.specs.Fits.{Fits}
 use Rattle.net_model.specs.Cycles.{IsSettled}
 use Rattle.net_model.specs.Pins.{is_in, start_nets}
 use Rattle.net_model.specs.Layers.{net_at, row_at, held_set, AreLayers}
-use Rattle.net_model.specs.Ternary.{tern_of, tern_value, tern_capture_over}
+use Rattle.net_model.specs.Ternary.{tern_of}
+use Rattle.net_model.specs.Splitting.{tern_value}
+use Rattle.net_model.proofs.TernaryOnce.{tern_capture_over, computed_layers, computed_capture}
 use Rattle.net_model.proofs.Settling.{All-at}
 use Rattle.net_model.proofs.Members.{Contains-from_In}
 use Rattle.net_model.specs.declared.netlist.Design.{Design}
@@ -157,15 +159,15 @@ rows_told coding kind v d claim moved run t c rows is hazard asked are told forc
     }
 
 -- the needed keys of a model have the rails of each cycle's layers
-told_rails : (coding : Coding) (d : Design) (claim : Claim) (phase : Phase) (depth : ℕ) (inv : List InvClause) (moved : List (List Bool)) (keys : List Key) (v : Key → Bool) (run : List Cycle) → claim.hazard ≡ true → AreMoved d claim moved → AreNeeded (definitions coding (claim_query d claim phase depth inv) moved) (asked_clauses (claim_query d claim phase depth inv)) keys → ((t : ℕ) (c : Cycle) (rows : List (List Tern)) → slice_get run t ≡ Some c → AreLayers tern_value Zero d claim.start claim.through (λ _. Unknown) (map tern_of c.nets) rows → AreTold (IsNeeded (definitions coding (claim_query d claim phase depth inv) moved) (asked_clauses (claim_query d claim phase depth inv))) v d claim moved t c rows) → HasRails d claim keys v run
-told_rails coding d claim phase depth inv moved keys v run hazard are needed told =
+told_rails : (coding : Coding) (d : Design) (claim : Claim) (phase : Phase) (depth : ℕ) (inv : List InvClause) (moved : List (List Bool)) (keys : List Key) (v : Key → Bool) (run : List Cycle) → IsSound d → claim.hazard ≡ true → AreMoved d claim moved → AreNeeded (definitions coding (claim_query d claim phase depth inv) moved) (asked_clauses (claim_query d claim phase depth inv)) keys → ((t : ℕ) (c : Cycle) (rows : List (List Tern)) → slice_get run t ≡ Some c → AreLayers tern_value Zero d claim.start claim.through (λ _. Unknown) (map tern_of c.nets) rows → AreTold (IsNeeded (definitions coding (claim_query d claim phase depth inv) moved) (asked_clauses (claim_query d claim phase depth inv))) v d claim moved t c rows) → HasRails d claim keys v run
+told_rails coding d claim phase depth inv moved keys v run sound hazard are needed told =
     let kind : Key → Type 0 = IsNeeded (definitions coding (claim_query d claim phase depth inv) moved) (asked_clauses (claim_query d claim phase depth inv)) in
     record {
       nets = λ t l rail n c rows at layers le small low has.
           let is : kind (key t (suc l) rail n) = needed.needed (key t (suc l) rail n) (subst (λ i. Contains keys (key t i rail n)) (add-one l) has) in
           let own : has_own claim moved l n ≡ true = elim (needed_layer coding d claim phase depth inv moved (key t (suc l) rail n) are is l refl) [ inl own ↦ own | inr end ↦ absurd (omega (arith, end.2)) ] in
           subst (λ i. v (key t i rail n) ≡ rail_value rail (net_at Zero rows l n)) (sym (add-one l))
-          (net_rail kind v d claim moved t rows l rail n hazard ((told t c rows at layers).nets l le n low) own small is);
+          (net_rail kind v d claim moved t rows l rail n hazard ((told t c rows at (computed_layers d claim.start claim.through c.nets rows sound layers)).nets l le n low) own small is);
       capture = λ t rail c late at is small has.
           let needs = needed.needed (late_key d claim t rail) has in
           elim (needed_layer coding d claim phase depth inv moved (late_key d claim t rail) are needs (length claim.through) (add-one (length claim.through))) [
@@ -175,8 +177,9 @@ told_rails coding d claim phase depth inv moved keys v run hazard are needed tol
                 let low = moved_low d claim moved are (length claim.through) p parts.0 in
                 absurd (omega arith)
             | inr end ↦
-                end_rail kind v d claim moved t c is.rows end.0 rail claim.end end.1 (told t c is.rows at is.layers).end small needs
-                ∙ ap (rail_value rail) is.capture
+                let made = computed_capture d claim c late sound is in
+                end_rail kind v d claim moved t c made.rows end.0 rail claim.end end.1 (told t c made.rows at made.layers).end small needs
+                ∙ ap (rail_value rail) made.capture
           ];
     }
 
@@ -191,7 +194,7 @@ claim_rails coding d claim phase depth inv sound fits hazard keys clauses v run 
     let known = is_free coding q moved keys v run formula.are_needed are free in
     let told = model_told coding q moved keys v run (coded coding).covers sound are.linked are.resets are.count formula.are_needed true_all known in
     let forced = forces v defs (asked_clauses q) keys formula.are_needed true_all in
-    told_rails coding d claim phase depth inv moved keys v run hazard formula.are_moved formula.are_needed
+    told_rails coding d claim phase depth inv moved keys v run sound hazard formula.are_moved formula.are_needed
     (λ t c rows at layers.
     let within = slice_get_within run t c at in
     let small : t < q.cycles = omega (arith, are.count) in

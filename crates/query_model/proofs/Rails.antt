@@ -4,7 +4,8 @@ use Rattle.std.specs.Prelude.{slice_index_or}
 use Rattle.std.proofs.lemmas.Bool.{or_left, or_right, and_from, cases_Bool, cases_lt}
 use Rattle.net_model.specs.Ternary.{Completes}
 use Rattle.net_model.specs.Completions.{ReadsOnly}
-use Rattle.net_model.specs.Ternary.{tern_of, join, split, with_bit, common, cell_value}
+use Rattle.net_model.specs.Ternary.{tern_of}
+use Rattle.net_model.specs.Splitting.{join, split, with_bit, common, cell_value}
 use Rattle.net_model.specs.declared.terns.Tern.{Tern}
 use Rattle.net_model.specs.declared.terns.Tern.TheVariants.{Zero, One, Unknown}
 use Rattle.query_model.specs.Keys.{lit_value, opposite, is_true, AllTrue}

@@ -5,7 +5,8 @@ use Rattle.std.proofs.lemmas.Bool.{cases_Bool, cases_lt, or_left, or_right, and_
 use Rattle.net_model.specs.Form.{Form, value, IsOver}
 use Rattle.net_model.specs.Netlist.{IsRegInRange}
 use Rattle.net_model.specs.Cycles.{reg_capture}
-use Rattle.net_model.specs.Ternary.{Completes, tern_of, cell_value, tern_value}
+use Rattle.net_model.specs.Ternary.{Completes, tern_of}
+use Rattle.net_model.specs.Splitting.{cell_value, tern_value}
 use Rattle.net_model.specs.Completions.{ReadsOnly, cell_common, tern_agrees}
 use Rattle.net_model.specs.declared.netlist.Design.{Design}
 use Rattle.net_model.specs.declared.netlist.Reg.{Reg}

@@ -1,8 +1,8 @@
 -- What the models of a query's formula are: its answers, in both directions; and what rails the layers have in them.
-use Rattle.std.specs.Prelude.{◌≡◌, ℕ, zero, suc, ◌+◌, ◌<◌, ◌≤◌, Bool, true, false, List, map, length, All, Contains, None, Some, slice_get, slice_index, nat_lt}
+use Rattle.std.specs.Prelude.{◌≡◌, ℕ, zero, suc, ◌+◌, ◌<◌, ◌≤◌, Bool, true, false, List, length, All, Contains, None, Some, slice_get, slice_index, nat_lt}
 use Rattle.net_model.specs.Cycles.{bit_at, capture, IsLinked, HasResets}
-use Rattle.net_model.specs.Layers.{net_at, AreLayers}
-use Rattle.net_model.specs.Ternary.{tern_of, tern_value, IsTernaryCapture}
+use Rattle.net_model.specs.Layers.{net_at}
+use Rattle.net_model.specs.Ternary.{AreTernaryLayers, IsTernaryCapture}
 use Rattle.net_model.specs.declared.netlist.Design.{Design}
 use Rattle.net_model.specs.declared.cycles.Cycle.{Cycle}
 use Rattle.net_model.specs.declared.invariants.StateLit.{StateLit}
@@ -83,7 +83,7 @@ rail_value (suc rail) x = may_zero x
 -- wherever the model has a value for a rail of a net in a layer, or of the late capture, it is that rail of the ternary
 -- value, the start being unknown
 pub record HasRails (d : Design) (claim : Claim) (keys : List Key) (v : Key → Bool) (run : List Cycle) : Type 0 where
-  pub nets : (t l rail n : ℕ) (c : Cycle) (rows : List (List Tern)) → slice_get run t ≡ Some c → AreLayers tern_value Zero d claim.start claim.through (λ _. Unknown) (map tern_of c.nets) rows → l ≤ length claim.through → rail ≤ 1 → n < d.nets → Contains keys (key t (l + 1) rail n) → v (key t (l + 1) rail n) ≡ rail_value rail (net_at Zero rows l n)
+  pub nets : (t l rail n : ℕ) (c : Cycle) (rows : List (List Tern)) → slice_get run t ≡ Some c → AreTernaryLayers d claim.start claim.through c.nets rows → l ≤ length claim.through → rail ≤ 1 → n < d.nets → Contains keys (key t (l + 1) rail n) → v (key t (l + 1) rail n) ≡ rail_value rail (net_at Zero rows l n)
   pub capture : (t rail : ℕ) (c : Cycle) (late : Tern) → slice_get run t ≡ Some c → IsTernaryCapture d claim c late → rail ≤ 1 → Contains keys (late_key d claim t rail) → v (late_key d claim t rail) ≡ rail_value rail late
 
 -- each model of the claim's query has the rails of the ternary layers

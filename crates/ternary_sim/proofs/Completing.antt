@@ -13,7 +13,9 @@ use Rattle.net_model.specs.Fits.{IsEndIn}
 use Rattle.net_model.specs.Cycles.{bit_at, reg_capture}
 use Rattle.net_model.specs.Pins.{is_in, start_outs, start_nets}
 use Rattle.net_model.specs.Layers.{net_at, held_set, pin_reads, layer_pins, late_reg_pins, late_reg_capture, capture_over, AreLayersTo}
-use Rattle.net_model.specs.Ternary.{tern_of, Completes, IsCommonValue, cell_value, tern_value, tern_reg_capture, tern_capture_over}
+use Rattle.net_model.specs.Ternary.{tern_of, Completes, IsCommonValue}
+use Rattle.net_model.specs.Splitting.{cell_value, tern_value}
+use Rattle.net_model.proofs.TernaryOnce.{tern_reg_capture, tern_capture_over}
 use Rattle.net_model.specs.Completions.{ReadsOnly, cell_common}
 use Rattle.net_model.proofs.Settling.{All-at}
 use Rattle.net_model.proofs.Order.{before}

@@ -4,7 +4,8 @@ use Rattle.net_model.specs.Netlist.{IsSound}
 use Rattle.net_model.specs.Fits.{Fits}
 use Rattle.net_model.specs.Cycles.{shown, IsSettled, IsLinked}
 use Rattle.net_model.specs.Layers.{capture_over}
-use Rattle.net_model.specs.Ternary.{tern_of, Completes, tern_capture_over, IsTernaryCapture}
+use Rattle.net_model.specs.Ternary.{tern_of, Completes, IsTernaryCapture}
+use Rattle.net_model.proofs.TernaryOnce.{tern_capture_over, computed_capture}
 use Rattle.net_model.specs.Judge.{start_bit, DiffersLate, MayGlitch, IsBadPlain, IsBadHazard, IsViolatedAt, Holds}
 use Rattle.net_model.proofs.Settling.{All-at}
 use Rattle.ternary_sim.specs.Hazards.{plain_of, hazard_of, IsSteady}
@@ -24,9 +25,10 @@ use Rattle.net_model.specs.declared.terns.Tern.TheVariants.{Zero, One, Unknown}
 -- a known ternary capture is the capture over any layers of the start
 known_over : (d : Design) (claim : Claim) (c : Cycle) (late : RegOut → Bool) (rows : List (List Bool)) (b : Bool) → IsSound d → Fits d claim → IsTernaryCapture d claim c (tern_of b) → AreBitsTo d claim.start claim.through late c.nets rows (length claim.through) → capture_over d claim.through rows claim.end c ≡ b
 known_over d claim c late rows b sound fits known layers =
-    let all = layers_complete d claim.start claim.through late c.nets known.rows rows (length claim.through) sound known.layers layers (length claim.through + 1) (omega arith) in
-    let completes : Completes (tern_capture_over d claim.through known.rows claim.end c) (capture_over d claim.through rows claim.end c) = capture_completes d claim.through known.rows rows claim.end c sound fits.end_ all in
-    completes_known b (capture_over d claim.through rows claim.end c) (subst (λ (t : Tern). Completes t (capture_over d claim.through rows claim.end c)) known.capture completes)
+    let made = computed_capture d claim c (tern_of b) sound known in
+    let all = layers_complete d claim.start claim.through late c.nets made.rows rows (length claim.through) sound made.layers layers (length claim.through + 1) (omega arith) in
+    let completes : Completes (tern_capture_over d claim.through made.rows claim.end c) (capture_over d claim.through rows claim.end c) = capture_completes d claim.through made.rows rows claim.end c sound fits.end_ all in
+    completes_known b (capture_over d claim.through rows claim.end c) (subst (λ (t : Tern). Completes t (capture_over d claim.through rows claim.end c)) made.capture completes)
 
 -- where the ternary capture is a bit, so are the capture and each late capture
 pub steady : (d : Design) (claim : Claim) (c : Cycle) (b : Bool) → IsSound d → Fits d claim → IsSettled d c → IsTernaryCapture d claim c (tern_of b) → IsSteady d claim c b

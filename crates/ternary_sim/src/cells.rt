@@ -4,7 +4,8 @@ ghost use Rattle.net_model.specs.Args.{arg_at};
 ghost use Rattle.net_model.specs.Form.{IsOver};
 ghost use Rattle.net_model.specs.Netlist.{IsOptionOver};
 ghost use Rattle.net_model.specs.Cycles.{reg_capture};
-ghost use Rattle.net_model.specs.Ternary.{join, common, cell_value};
+ghost use Rattle.net_model.specs.Ternary.{IsCommonValue};
+ghost use Rattle.net_model.specs.Splitting.{join, common};
 
 use net_model::{Args, Reg, Tern, Value, capture_of};
 
@@ -52,7 +53,7 @@ pub fn cell_capture(reg: &Reg, args: &Args<Tern>) -> Tern
     requires next { IsOver 7 reg.now.next }
     requires clear { IsOptionOver 7 reg.now.clear }
     requires preset { IsOptionOver 7 reg.now.preset }
-    ensures { result ≡ cell_value (reg_capture reg.now) (arg_at args.now) }
+    ensures { IsCommonValue (reg_capture reg.now) (arg_at args.now) result }
 {
     common_capture(reg, args, 7, Args::of(false))
 }

@@ -4,7 +4,7 @@ ghost use Rattle.net_model.specs.Fits.{Fits, IsEndIn};
 ghost use Rattle.net_model.specs.Netlist.{IsSound};
 ghost use Rattle.net_model.specs.Cycles.{IsSettled};
 ghost use Rattle.net_model.specs.Layers.{row_at};
-ghost use Rattle.net_model.specs.Ternary.{tern_of, IsTernaryCapture, tern_capture_over};
+ghost use Rattle.net_model.specs.Ternary.{tern_of, IsTernaryCapture, IsTernaryCaptureOver};
 ghost use Rattle.net_model.specs.declared.terns.Tern.{Tern as TernValue};
 ghost use Rattle.ternary_sim.specs.TernaryLayers.{AreTernaryLayersFor};
 ghost use Rattle.ternary_sim.specs.Hazards.{IsSteady};
@@ -60,7 +60,7 @@ fn capture_last(design: &Design, claim: &Claim, cycle: &Cycle, rows: &Seq<Seq<Te
     requires bits { length cycle.now.bits ≡ length design.now.regs }
     requires rows { length claim.now.through < length rows.now }
     requires lens { (m : ℕ) → m ≤ length claim.now.through → length (row_at rows.now m) ≡ design.now.nets }
-    ensures { result ≡ tern_capture_over design.now claim.now.through rows.now claim.now.end cycle.now }
+    ensures { IsTernaryCaptureOver design.now claim.now.through rows.now claim.now.end cycle.now result }
 {
     let sets = &claim.through;
     match &claim.end {

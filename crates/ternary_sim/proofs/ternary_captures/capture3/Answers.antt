@@ -1,16 +1,18 @@
-use Rattle.std.proofs.Common.{sym, subst}
+use Rattle.std.proofs.Common.{subst}
 use Rattle.net_model.specs.Ternary.{IsTernaryCapture}
 use Rattle.net_model.specs.declared.terns.Tern.{Tern}
 use Rattle.ternary_sim.proofs.Steady.{steady}
-use Rattle.net_model.proofs.TernaryOnce.{unknown_layers, ternary_once}
+use Rattle.net_model.proofs.TernaryOnce.{unknown_layers, ternary_layers, ternary_once}
 use Rattle.ternary_sim.proofs.ternary_captures.capture3.Goals as goal
 use Rattle.std.proofs.Common.{length}
 
 is_ternary : goal.returns-clause-ternary
 is_ternary c = record {
   rows = c.make_layers.new.rows;
-  layers = unknown_layers c.args.design.now c.args.claim.now.start c.args.claim.now.through c.args.cycle.now.nets c.make_layers.new.rows (length c.args.claim.now.through) c.make_layers.ensures.layers;
-  capture = sym c.capture_last.ensures;
+  layers =
+      ternary_layers c.args.design.now c.args.claim.now.start c.args.claim.now.through c.args.cycle.now.nets c.make_layers.new.rows
+      (unknown_layers c.args.design.now c.args.claim.now.start c.args.claim.now.through c.args.cycle.now.nets c.make_layers.new.rows (length c.args.claim.now.through) c.make_layers.ensures.layers);
+  capture = c.capture_last.ensures;
 }
 
 pub returns-clause-ternary : goal.returns-clause-ternary

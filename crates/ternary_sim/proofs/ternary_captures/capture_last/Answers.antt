@@ -37,4 +37,4 @@ returns-in-Reg c =
 
 pub returns-in-Output : goal.returns-in-Output
 returns-in-Output c =
-    ternary_output c.args.design.now c.args.claim.now.through c.args.rows.now c.args.claim.now.end c.args.cycle.now c.in-Output.o c.at-net.result c.layer_pin.result c.in-Output.is c.at-net.ensures (rw (← c.len.ensures) c.layer_pin.ensures)
+    ternary_output c.args.design.now c.args.claim.now.through c.args.rows.now c.args.claim.now.end c.args.cycle.now c.in-Output.o c.at-net.result c.layer_pin.result c.requires.sound c.in-Output.is c.at-net.ensures (rw (← c.len.ensures) c.layer_pin.ensures)
