@@ -3,9 +3,10 @@ use Rattle.std.proofs.Common.{◌≡◌, ℕ, ◌+◌, ◌-◌, ◌<◌, ◌≤�
 use Rattle.std.specs.Prelude.{Contains, slice_get, nat_lt}
 use Rattle.std.proofs.lemmas.Bool.{le-ltb}
 use Rattle.std.proofs.lemmas.Option.{slice_get-get_or}
+use Rattle.sdcv_base.specs.Kinds.{judged_count}
 use Rattle.net_model.specs.Netlist.{setting_inputs, held_inputs}
 use Rattle.net_model.specs.Cycles.{bit_at, IsRun, HasFixed, HasResets}
-use Rattle.net_model.specs.Judge.{judged_count, start_bit, Toggles, IsViolatedAt, Holds}
+use Rattle.net_model.specs.Judge.{start_bit, Toggles, IsViolatedAt, Holds}
 use Rattle.net_model.specs.Held.{IsHeldStart}
 use Rattle.net_model.proofs.Settling.{All-at}
 use Rattle.net_model.proofs.Members.{In, In-from_Contains, Contains-from_In, In-cases, from_map}
@@ -24,7 +25,8 @@ setting_of settings i has =
     (there.0, found.0, slice_get-get_or settings there.0 found.0 there.1 ∙ ap Some there.2, found.2)
 
 -- a start that is fixed or reset has one bit in all live cycles
-pub held_same : (d : Design) (start : Start) (run : List Cycle) (t u : ℕ) (a b : Cycle) → IsHeldStart d start → IsRun d run → d.reset_len ≤ t → d.reset_len ≤ u → slice_get run t ≡ Some a → slice_get run u ≡ Some b → start_bit start a ≡ start_bit start b
+pub held_same : (d : Design) (start : Start) (run : List Cycle) (t u : ℕ) (a b : Cycle) → IsHeldStart d start → IsRun d run → d.reset_len ≤ t
+    → d.reset_len ≤ u → slice_get run t ≡ Some a → slice_get run u ≡ Some b → start_bit start a ≡ start_bit start b
 held_same d (RegStart r) run t u a b held is low less at then = absurd held
 held_same d (InputStart i) run t u a b held is low less at then =
     elim (In-cases i (setting_inputs d.fixed) (setting_inputs d.resets) (In-from_Contains (held_inputs d) i held)) [
@@ -43,9 +45,11 @@ held_same d (InputStart i) run t u a b held is low less at then =
     ]
 
 -- a start that is fixed or reset never toggles
-pub held_never_toggles : (d : Design) (start : Start) (run : List Cycle) (t : ℕ) (stale : Bool) → IsHeldStart d start → IsRun d run → ¬ Toggles d.reset_len start run t stale
+pub held_never_toggles : (d : Design) (start : Start) (run : List Cycle) (t : ℕ) (stale : Bool) → IsHeldStart d start → IsRun d run
+    → ¬ Toggles d.reset_len start run t stale
 held_never_toggles d start run t stale held is toggles =
-    let same = held_same d start run t (t - 1) toggles.now toggles.before held is (omega (arith, toggles.is_live)) (omega (arith, toggles.is_live)) toggles.now_at toggles.before_at in
+    let same = held_same d start run t (t - 1) toggles.now toggles.before held is (omega (arith, toggles.is_live))
+    (omega (arith, toggles.is_live)) toggles.now_at toggles.before_at in
     toggles.differs (same ∙ toggles.stale_is)
 
 -- so a claim with such a start holds
@@ -54,7 +58,8 @@ held_holds d claim held run t is violated =
     held_never_toggles d claim.start run t violated.stale held is violated.toggles
 
 -- a claim that judges no capture is nowhere violated
-pub unjudged_never_violated : (live : ℕ) (d : Design) (claim : Claim) (run : List Cycle) (t : ℕ) → judged_count claim.kind ≡ 0 → ¬ IsViolatedAt live d claim run t
+pub unjudged_never_violated : (live : ℕ) (d : Design) (claim : Claim) (run : List Cycle) (t : ℕ) → judged_count claim.kind ≡ 0
+    → ¬ IsViolatedAt live d claim run t
 unjudged_never_violated live d claim run t none violated = absurd (omega (arith, violated.judged, none))
 
 -- so it holds

@@ -1,5 +1,6 @@
 -- Each sound design has a lawful stimulus of each length.
-use Rattle.std.proofs.Common.{◌≡◌, ◌≢◌, ℕ, zero, suc, ◌+◌, ◌<◌, ◌≤◌, Bool, true, false, not, cond, List, [], ◌∷◌, length, get_or, replicate, Some, refl, ap, subst, sym, ◌∙◌, arith, inl, inr}
+use Rattle.std.proofs.Common.{◌≡◌, ◌≢◌, ℕ, zero, suc, ◌+◌, ◌<◌, ◌≤◌, Bool, true, false, not, cond, List}
+use Rattle.std.proofs.Common.{[], ◌∷◌, length, get_or, replicate, Some, refl, ap, subst, sym, ◌∙◌, arith, inl, inr}
 use Rattle.std.specs.Prelude.{count_by, slice_get, nat_lt, if◌then◌else◌, ◌==◌}
 use Rattle.std.proofs.lemmas.Bool.{cases_eq}
 use Rattle.std.proofs.lemmas.Bool.Decides.{nat_tests}
@@ -48,15 +49,24 @@ given_none bit (x ∷ fs) i rest none =
     ]
 
 -- an input with one setting has its bit
-given_one : (bit : Fixed → Bool) (fs : List Fixed) (k : ℕ) (f : Fixed) (rest : Bool) → slice_get fs k ≡ Some f → settings_of fs f.input ≤ 1 → given bit fs f.input rest ≡ bit f
+given_one : (bit : Fixed → Bool) (fs : List Fixed) (k : ℕ) (f : Fixed) (rest : Bool) → slice_get fs k ≡ Some f → settings_of fs f.input ≤ 1
+    → given bit fs f.input rest ≡ bit f
 given_one bit [] k f rest at once = cc
 given_one bit (x ∷ fs) zero f rest at once =
     let same : x ≡ f = cc in
     given_here bit x fs f.input rest (ap (λ (y : Fixed). y.input) same) ∙ ap bit same
 given_one bit (x ∷ fs) (suc k) f rest at once =
     elim (cases_eq x.input f.input) [
-      | inl same ↦ absurd (omega (arith, count_cons (λ m. m == f.input) x.input (setting_inputs fs), counted f.input x.input same, counted_setting fs k f at, once))
-      | inr apart ↦ given_other bit x fs f.input rest apart ∙ given_one bit fs k f rest at (omega (arith, count_cons (λ m. m == f.input) x.input (setting_inputs fs), once))
+      | inl same ↦ absurd (omega (
+        arith,
+        count_cons (λ m. m == f.input) x.input
+            (setting_inputs fs),
+        counted f.input x.input same,
+        counted_setting fs k f at,
+        once,
+      ))
+      | inr apart ↦ given_other bit x fs f.input rest apart ∙ given_one bit fs k f rest at
+          (omega (arith, count_cons (λ m. m == f.input) x.input (setting_inputs fs), once))
     ]
 
 abbrev fixed_bit : Fixed → Bool
@@ -70,7 +80,8 @@ abbrev lawful_bit : Design → Bool → ℕ → Bool
 lawful_bit d active i = given fixed_bit d.fixed i (given (reset_bit active) d.resets i false)
 
 -- fixed and reset inputs are inputs, each with one setting
-held_once : (d : Design) (i : ℕ) → IsSound d → 1 ≤ settings_of d.fixed i + settings_of d.resets i → (i < length d.inputs) × (settings_of d.fixed i + settings_of d.resets i ≤ 1)
+held_once : (d : Design) (i : ℕ) → IsSound d → 1 ≤ settings_of d.fixed i + settings_of d.resets i
+    → (i < length d.inputs) × (settings_of d.fixed i + settings_of d.resets i ≤ 1)
 held_once d i sound some =
     let whole = count_append (λ m. m == i) (setting_inputs d.fixed) (setting_inputs d.resets) in
     let there = Rattle.net_model.proofs.Unique.counted_contains i (held_inputs d) (omega (arith, whole, some)) in
@@ -100,7 +111,8 @@ inputs_exist d active sound =
     )
 
 -- a list whose items are made one by one
-list_exists : {X : Type 0} (P : ℕ → X → Type 0) (make : (t : ℕ) → (x : X) × P t x) (n : ℕ) → (xs : List X) × (length xs ≡ n) × ((t : ℕ) (x : X) → slice_get xs t ≡ Some x → P t x)
+list_exists : {X : Type 0} (P : ℕ → X → Type 0) (make : (t : ℕ) → (x : X) × P t x) (n : ℕ)
+    → (xs : List X) × (length xs ≡ n) × ((t : ℕ) (x : X) → slice_get xs t ≡ Some x → P t x)
 list_exists {X} P make zero = ([], refl, λ t x at. cc)
 list_exists {X} P make (suc n) =
     let first = make 0 in

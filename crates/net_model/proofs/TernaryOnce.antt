@@ -54,19 +54,25 @@ by_test : (b : Bool) (p q own : Tern) → (b ≡ true → p ≡ q) → (if b the
 by_test true p q own same = same refl
 by_test false p q own same = refl
 
-of_reg : (d : Design) (sets : List (List PinRef)) (a b : List (List Tern)) (r : ℕ) (own : Bool) → IsSound d → AgreeBelow Zero d a b (length sets + 1) → (found : Option Reg) → slice_get d.regs r ≡ found → tern_reg_capture sets a r found own ≡ tern_reg_capture sets b r found own
+of_reg : (d : Design) (sets : List (List PinRef)) (a b : List (List Tern)) (r : ℕ) (own : Bool) → IsSound d → AgreeBelow Zero d a b (length sets + 1)
+    → (found : Option Reg) → slice_get d.regs r ≡ found → tern_reg_capture sets a r found own ≡ tern_reg_capture sets b r found own
 of_reg d sets a b r own sound agree None e = refl
 of_reg d sets a b r own sound agree (Some reg) e =
     let in_range = All-at (IsRegInRange d) d.regs r reg e sound.in_range.regs in
-    cell_agrees (reg_capture reg) (length reg.ins + 1) (late_reg_pins Zero sets a r reg (tern_of own)) (late_reg_pins Zero sets b r reg (tern_of own)) (reads_capture d r reg sound e)
+    cell_agrees (reg_capture reg) (length reg.ins + 1) (late_reg_pins Zero sets a r reg (tern_of own)) (late_reg_pins Zero sets b r reg (tern_of own))
+    (reads_capture d r reg sound e)
     (λ i lt.
-    by_test (nat_lt i (length reg.ins)) (pin_reads Zero sets a (length sets) (RegIn r i) (slice_index reg.ins i)) (pin_reads Zero sets b (length sets) (RegIn r i) (slice_index reg.ins i)) (tern_of own)
-    (λ is. pin_kept Zero sets a b (length sets) (RegIn r i) (slice_index reg.ins i) (λ m le. agree m (omega arith) (slice_index reg.ins i) (in_range.ins i 0 (ltb-true i (length reg.ins) is)))))
+    by_test (nat_lt i (length reg.ins)) (pin_reads Zero sets a (length sets) (RegIn r i) (slice_index reg.ins i))
+    (pin_reads Zero sets b (length sets) (RegIn r i) (slice_index reg.ins i)) (tern_of own)
+    (λ is. pin_kept Zero sets a b (length sets) (RegIn r i) (slice_index reg.ins i)
+    (λ m le. agree m (omega arith) (slice_index reg.ins i) (in_range.ins i 0 (ltb-true i (length reg.ins) is)))))
 
-capture_same : (d : Design) (sets : List (List PinRef)) (a b : List (List Tern)) (e : End) (c : Cycle) → IsSound d → IsEndIn d e → AgreeBelow Zero d a b (length sets + 1) → tern_capture_over d sets a e c ≡ tern_capture_over d sets b e c
+capture_same : (d : Design) (sets : List (List PinRef)) (a b : List (List Tern)) (e : End) (c : Cycle) → IsSound d → IsEndIn d e
+    → AgreeBelow Zero d a b (length sets + 1) → tern_capture_over d sets a e c ≡ tern_capture_over d sets b e c
 capture_same d sets a b (RegEnd r) c sound is agree = of_reg d sets a b r (bit_at c.bits r) sound agree (slice_get d.regs r) refl
 capture_same d sets a b (OutputEnd o) c sound is agree =
-    pin_kept Zero sets a b (length sets) (OutPort o) (slice_index d.outputs o) (λ m le. agree m (omega arith) (slice_index d.outputs o) (sound.in_range.outputs o 0 is))
+    pin_kept Zero sets a b (length sets) (OutPort o) (slice_index d.outputs o)
+    (λ m le. agree m (omega arith) (slice_index d.outputs o) (sound.in_range.outputs o 0 is))
 
 -- the ternary capture as it is computed
 pub record IsComputedCapture (d : Design) (claim : Claim) (c : Cycle) (late : Tern) : Type 0 where
@@ -75,7 +81,8 @@ pub record IsComputedCapture (d : Design) (claim : Claim) (c : Cycle) (late : Te
   pub capture : tern_capture_over d claim.through rows claim.end c ≡ late
 
 -- layers whose gates have the common values are those that are computed
-pub computed_layers : (d : Design) (start : Start) (sets : List (List PinRef)) (base : List Bool) (rows : List (List Tern)) → IsSound d → AreTernaryLayers d start sets base rows → AreLayers tern_value Zero d start sets (λ _. Unknown) (map tern_of base) rows
+pub computed_layers : (d : Design) (start : Start) (sets : List (List PinRef)) (base : List Bool) (rows : List (List Tern)) → IsSound d
+    → AreTernaryLayers d start sets base rows → AreLayers tern_value Zero d start sets (λ _. Unknown) (map tern_of base) rows
 computed_layers d start sets base rows sound are =
     let layers = are.layers in
     record {
@@ -89,11 +96,13 @@ computed_layers d start sets base rows sound are =
           let in_range = All-at (IsGateInRange d) d.gates k g at sound.in_range.gates in
           let pins = layer_pins Zero sets rows l k g.ins in
           let over = IsOver-weaker (length g.ins) 7 g.func (omega (arith, in_range.few)) in_range.func in
-          layers.gates l le k g at free ∙ common_once (value g.func) pins (are.applied g.func pins) (tern_value g.func pins) (are.common g.func pins over) (tern_common g.func pins over);
+          layers.gates l le k g at free ∙ common_once (value g.func) pins (are.applied g.func pins) (tern_value g.func pins) (are.common g.func pins over)
+          (tern_common g.func pins over);
     }
 
 -- and those that are computed have the common values
-pub ternary_layers : (d : Design) (start : Start) (sets : List (List PinRef)) (base : List Bool) (rows : List (List Tern)) → AreLayers tern_value Zero d start sets (λ _. Unknown) (map tern_of base) rows → AreTernaryLayers d start sets base rows
+pub ternary_layers : (d : Design) (start : Start) (sets : List (List PinRef)) (base : List Bool) (rows : List (List Tern))
+    → AreLayers tern_value Zero d start sets (λ _. Unknown) (map tern_of base) rows → AreTernaryLayers d start sets base rows
 ternary_layers d start sets base rows layers =
     record { applied = tern_value; common = tern_common; layers = layers }
 
@@ -103,25 +112,29 @@ reads_seven d r reg sound at a b same =
     let in_range = All-at (IsRegInRange d) d.regs r reg at sound.in_range.regs in
     reads_capture d r reg sound at a b (λ i lt. same i (omega (arith, in_range.few)))
 
-of_reg_computed : (d : Design) (sets : List (List PinRef)) (rows : List (List Tern)) (r : ℕ) (own : Bool) (late : Tern) → IsSound d → (found : Option Reg) → slice_get d.regs r ≡ found → IsTernaryRegCapture sets rows r found own late → tern_reg_capture sets rows r found own ≡ late
+of_reg_computed : (d : Design) (sets : List (List PinRef)) (rows : List (List Tern)) (r : ℕ) (own : Bool) (late : Tern) → IsSound d → (found : Option Reg)
+    → slice_get d.regs r ≡ found → IsTernaryRegCapture sets rows r found own late → tern_reg_capture sets rows r found own ≡ late
 of_reg_computed d sets rows r own late sound None e is = is
 of_reg_computed d sets rows r own late sound (Some reg) e is =
     let pins = late_reg_pins Zero sets rows r reg (tern_of own) in
     common_once (reg_capture reg) pins (cell_value (reg_capture reg) pins) late (cell_common (reg_capture reg) pins (reads_seven d r reg sound e)) is
 
 -- a capture that has the common value is the one that is computed
-pub computed_over : (d : Design) (sets : List (List PinRef)) (rows : List (List Tern)) (e : End) (c : Cycle) (late : Tern) → IsSound d → IsTernaryCaptureOver d sets rows e c late → tern_capture_over d sets rows e c ≡ late
+pub computed_over : (d : Design) (sets : List (List PinRef)) (rows : List (List Tern)) (e : End) (c : Cycle) (late : Tern) → IsSound d
+    → IsTernaryCaptureOver d sets rows e c late → tern_capture_over d sets rows e c ≡ late
 computed_over d sets rows (RegEnd r) c late sound is = of_reg_computed d sets rows r (bit_at c.bits r) late sound (slice_get d.regs r) refl is
 computed_over d sets rows (OutputEnd o) c late sound is = is
 
-of_reg_ternary : (d : Design) (sets : List (List PinRef)) (rows : List (List Tern)) (r : ℕ) (own : Bool) (late : Tern) → IsSound d → (found : Option Reg) → slice_get d.regs r ≡ found → tern_reg_capture sets rows r found own ≡ late → IsTernaryRegCapture sets rows r found own late
+of_reg_ternary : (d : Design) (sets : List (List PinRef)) (rows : List (List Tern)) (r : ℕ) (own : Bool) (late : Tern) → IsSound d → (found : Option Reg)
+    → slice_get d.regs r ≡ found → tern_reg_capture sets rows r found own ≡ late → IsTernaryRegCapture sets rows r found own late
 of_reg_ternary d sets rows r own late sound None e is = is
 of_reg_ternary d sets rows r own late sound (Some reg) e is =
     let pins = late_reg_pins Zero sets rows r reg (tern_of own) in
     subst (IsCommonValue (reg_capture reg) pins) is (cell_common (reg_capture reg) pins (reads_seven d r reg sound e))
 
 -- and the one that is computed has the common value
-pub ternary_over : (d : Design) (sets : List (List PinRef)) (rows : List (List Tern)) (e : End) (c : Cycle) (late : Tern) → IsSound d → tern_capture_over d sets rows e c ≡ late → IsTernaryCaptureOver d sets rows e c late
+pub ternary_over : (d : Design) (sets : List (List PinRef)) (rows : List (List Tern)) (e : End) (c : Cycle) (late : Tern) → IsSound d
+    → tern_capture_over d sets rows e c ≡ late → IsTernaryCaptureOver d sets rows e c late
 ternary_over d sets rows (RegEnd r) c late sound is = of_reg_ternary d sets rows r (bit_at c.bits r) late sound (slice_get d.regs r) refl is
 ternary_over d sets rows (OutputEnd o) c late sound is = is
 
@@ -142,11 +155,13 @@ ternary_capture d claim c late sound is =
     }
 
 -- there is one ternary capture
-pub ternary_once : (d : Design) (claim : Claim) (c : Cycle) (x y : Tern) → IsSound d → IsEndIn d claim.end → IsTernaryCapture d claim c x → IsTernaryCapture d claim c y → x ≡ y
+pub ternary_once : (d : Design) (claim : Claim) (c : Cycle) (x y : Tern) → IsSound d → IsEndIn d claim.end → IsTernaryCapture d claim c x
+    → IsTernaryCapture d claim c y → x ≡ y
 ternary_once d claim c x y sound is s t =
     let p = computed_capture d claim c x sound s in
     let q = computed_capture d claim c y sound t in
-    let agree = layers_once tern_value tern_agrees Zero d claim.start claim.through (λ _. Unknown) (map tern_of c.nets) p.rows q.rows (length claim.through) sound p.layers q.layers (length claim.through + 1) (omega arith) in
+    let agree = layers_once tern_value tern_agrees Zero d claim.start claim.through (λ _. Unknown) (map tern_of c.nets) p.rows q.rows
+    (length claim.through) sound p.layers q.layers (length claim.through + 1) (omega arith) in
     sym p.capture ∙ (capture_same d claim.through p.rows q.rows claim.end c sound is agree ∙ q.capture)
 
 both_unknown : (o : RegOut) → late_value Unknown Unknown o ≡ Unknown
@@ -157,7 +172,9 @@ both_unknown o = flat o.inverted
     flat false = refl
 
 -- layers whose start shows unknown, inverted or not
-pub unknown_layers : (d : Design) (start : Start) (sets : List (List PinRef)) (base : List Bool) (rows : List (List Tern)) (last : ℕ) → AreLayersTo tern_value Zero d start sets (late_value Unknown Unknown) (map tern_of base) rows last → AreLayersTo tern_value Zero d start sets (λ _. Unknown) (map tern_of base) rows last
+pub unknown_layers : (d : Design) (start : Start) (sets : List (List PinRef)) (base : List Bool) (rows : List (List Tern)) (last : ℕ)
+    → AreLayersTo tern_value Zero d start sets (late_value Unknown Unknown) (map tern_of base) rows last
+    → AreLayersTo tern_value Zero d start sets (λ _. Unknown) (map tern_of base) rows last
 unknown_layers d start sets base rows last layers =
     record {
       count = layers.count;

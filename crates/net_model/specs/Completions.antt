@@ -14,34 +14,43 @@ use Rattle.net_model.specs.declared.terns.Tern.TheVariants.{Zero, One, Unknown}
 abbrev pub ReadsOnly : ℕ → ((ℕ → Bool) → Bool) → Type 0
 ReadsOnly n cell = (a b : ℕ → Bool) → ((i : ℕ) → i < n → a i ≡ b i) → cell a ≡ cell b
 
+-- a function does so where its places are below n
 pub value_reads : (n : ℕ) (f : Form) → IsOver n f → ReadsOnly n (value f)
 value_reads n f over a b same = value_agrees f n a b over same
 
+-- a value joined with itself
 join_same : (x : Tern) → join x x ≡ x
 join_same Zero = refl
 join_same One = refl
 join_same Unknown = refl
 
+-- where both bits give one value, this is the common one
 split_flat : (x : Tern) (go : Bool → Tern) (v : Tern) → go false ≡ v → go true ≡ v → split x go ≡ v
 split_flat Zero go v l r = l
 split_flat One go v l r = r
 split_flat Unknown go v l r = rw (l, r) (join_same v)
 
+-- equal values that give the same are split the same
 split_agrees : (x y : Tern) (go ho : Bool → Tern) → x ≡ y → ((b : Bool) → go b ≡ ho b) → split x go ≡ split y ho
 split_agrees Zero y go ho e same = rw (← e) (same false)
 split_agrees One y go ho e same = rw (← e) (same true)
 split_agrees Unknown y go ho e same = let l = same false in let r = same true in rw (← e, l, r) refl
 
+-- the place that was set
 with_same : (bits : ℕ → Bool) (k : ℕ) (b : Bool) → with_bit bits k b k ≡ b
 with_same bits k b = grind (arith, nat_tests)
 
+-- another place
 with_other : (bits : ℕ → Bool) (k : ℕ) (b : Bool) (i : ℕ) → i ≢ k → with_bit bits k b i ≡ bits i
 with_other bits k b i h = grind (arith, nat_tests)
 
+-- bits that agree still do where one place is set in both
 both_with : (n : ℕ) (a b : ℕ → Bool) (k : ℕ) (bit : Bool) → ((i : ℕ) → i < n → a i ≡ b i) → (i : ℕ) → i < n → with_bit a k bit i ≡ with_bit b k bit i
 both_with n a b k bit same i lt = let here = same i lt in ap (λ (x : Bool). if nat_eq i k then bit else x) here
 
-pub common_agrees : (k n : ℕ) (f : (ℕ → Bool) → Bool) (t s : ℕ → Tern) (a b : ℕ → Bool) → ReadsOnly n f → ((i : ℕ) → i < n → t i ≡ s i) → ((i : ℕ) → i < n → a i ≡ b i) → common k f t a ≡ common k f s b
+-- the common value depends on the places that the cell reads alone
+pub common_agrees : (k n : ℕ) (f : (ℕ → Bool) → Bool) (t s : ℕ → Tern) (a b : ℕ → Bool) → ReadsOnly n f → ((i : ℕ) → i < n → t i ≡ s i)
+    → ((i : ℕ) → i < n → a i ≡ b i) → common k f t a ≡ common k f s b
 common_agrees zero n f t s a b over terns bits = ap tern_of (over a b bits)
 common_agrees (suc k) n f t s a b over terns bits =
     elim (cases_lt k n) [
@@ -49,20 +58,25 @@ common_agrees (suc k) n f t s a b over terns bits =
           split_agrees (t k) (s k) (λ bit. common k f t (with_bit a k bit)) (λ bit. common k f s (with_bit b k bit)) (terns k lt)
           (λ bit. common_agrees k n f t s (with_bit a k bit) (with_bit b k bit) over terns (both_with n a b k bit bits))
       | inr le ↦
-          let left : (bit : Bool) → (i : ℕ) → i < n → with_bit a k bit i ≡ b i = λ bit i lt. let ne : i ≢ k = omega arith in with_other a k bit i ne ∙ bits i lt in
-          let right : (bit : Bool) → (i : ℕ) → i < n → with_bit b k bit i ≡ b i = λ bit i lt. let ne : i ≢ k = omega arith in with_other b k bit i ne in
+          let left : (bit : Bool) → (i : ℕ) → i < n → with_bit a k bit i ≡ b i =
+          λ bit i lt. let ne : i ≢ k = omega arith in with_other a k bit i ne ∙ bits i lt in
+          let right : (bit : Bool) → (i : ℕ) → i < n → with_bit b k bit i ≡ b i =
+          λ bit i lt. let ne : i ≢ k = omega arith in with_other b k bit i ne in
           split_flat (t k) (λ bit. common k f t (with_bit a k bit)) (common k f s b)
           (common_agrees k n f t s (with_bit a k false) b over terns (left false)) (common_agrees k n f t s (with_bit a k true) b over terns (left true))
           ∙ sym (split_flat (s k) (λ bit. common k f s (with_bit b k bit)) (common k f s b)
-          (common_agrees k n f s s (with_bit b k false) b over (λ i lt. refl) (right false)) (common_agrees k n f s s (with_bit b k true) b over (λ i lt. refl) (right true)))
+          (common_agrees k n f s s (with_bit b k false) b over (λ i lt. refl) (right false))
+          (common_agrees k n f s s (with_bit b k true) b over (λ i lt. refl) (right true)))
     ]
 
+-- a known bit is the bit of its value
 tern_of_inj : (a b : Bool) → tern_of a ≡ tern_of b → a ≡ b
 tern_of_inj false false e = refl
 tern_of_inj true true e = refl
 tern_of_inj false true e = cc
 tern_of_inj true false e = cc
 
+-- a known join is the value of both
 join_sound : (x y : Tern) (b : Bool) → join x y ≡ tern_of b → (x ≡ tern_of b) × (y ≡ tern_of b)
 join_sound Zero Zero b e = (e, e)
 join_sound One One b e = (e, e)
@@ -84,11 +98,14 @@ split_sound One bit go b fits e = rw fits e
 split_sound Unknown false go b fits e = (join_sound (go false) (go true) b e).0
 split_sound Unknown true go b fits e = (join_sound (go false) (go true) b e).1
 
+-- a known bit is split to itself
 split_known : (b : Bool) (go : Bool → Tern) → split (tern_of b) go ≡ go b
 split_known false go = refl
 split_known true go = refl
 
-pub common_known : (k : ℕ) (f : (ℕ → Bool) → Bool) (bits a : ℕ → Bool) → k ≤ 7 → ReadsOnly 7 f → ((i : ℕ) → k ≤ i → i < 7 → a i ≡ bits i) → common k f (λ i. tern_of (bits i)) a ≡ tern_of (f bits)
+-- where all places are known, the common value is the value of their bits
+pub common_known : (k : ℕ) (f : (ℕ → Bool) → Bool) (bits a : ℕ → Bool) → k ≤ 7 → ReadsOnly 7 f
+    → ((i : ℕ) → k ≤ i → i < 7 → a i ≡ bits i) → common k f (λ i. tern_of (bits i)) a ≡ tern_of (f bits)
 common_known zero f bits a le over same = ap tern_of (over a bits (λ i lt. same i (omega arith) lt))
 common_known (suc k) f bits a le over same =
     split_known (bits k) (λ bit. common k f (λ i. tern_of (bits i)) (with_bit a k bit))
@@ -103,12 +120,14 @@ pub tern_on_bits : (f : Form) (bits : ℕ → Bool) → IsOver 7 f → tern_valu
 unfolding cell_value
 tern_on_bits f bits over = common_known 7 (value f) bits (λ _. false) (omega arith) (value_reads 7 f over) (λ i low high. absurd (omega arith))
 
+-- the value of a function depends on the places that it reads alone
 pub tern_agrees : (f : Form) (n : ℕ) (t s : ℕ → Tern) → IsOver n f → ((i : ℕ) → i < n → t i ≡ s i) → tern_value f t ≡ tern_value f s
 unfolding cell_value
 tern_agrees f n t s over terns = common_agrees 7 n (value f) t s (λ _. false) (λ _. false) (value_reads n f over) terns (λ i lt. refl)
 
 -- a known common value is the value on each completion
-pub common_sound : (k : ℕ) (f : (ℕ → Bool) → Bool) (t : ℕ → Tern) (a bits : ℕ → Bool) (b : Bool) → k ≤ 7 → ReadsOnly 7 f → ((i : ℕ) → i < k → Completes (t i) (bits i)) → ((i : ℕ) → k ≤ i → i < 7 → a i ≡ bits i) → common k f t a ≡ tern_of b → f bits ≡ b
+pub common_sound : (k : ℕ) (f : (ℕ → Bool) → Bool) (t : ℕ → Tern) (a bits : ℕ → Bool) (b : Bool) → k ≤ 7 → ReadsOnly 7 f
+    → ((i : ℕ) → i < k → Completes (t i) (bits i)) → ((i : ℕ) → k ≤ i → i < 7 → a i ≡ bits i) → common k f t a ≡ tern_of b → f bits ≡ b
 common_sound zero f t a bits b le over fits same is =
     tern_of_inj (f bits) b (ap tern_of (sym (over a bits (λ i lt. same i (omega arith) lt))) ∙ is)
 common_sound (suc k) f t a bits b le over fits same is =
@@ -119,39 +138,52 @@ common_sound (suc k) f t a bits b le over fits same is =
     ])
     (split_sound (t k) (bits k) (λ bit. common k f t (with_bit a k bit)) b (fits k (omega arith)) is)
 
-pub tern_sound : (f : Form) (t : ℕ → Tern) (bits : ℕ → Bool) (b : Bool) → IsOver 7 f → ((i : ℕ) → i < 7 → Completes (t i) (bits i)) → tern_value f t ≡ tern_of b → value f bits ≡ b
+-- a known value of a function is its value on each completion
+pub tern_sound : (f : Form) (t : ℕ → Tern) (bits : ℕ → Bool) (b : Bool) → IsOver 7 f
+    → ((i : ℕ) → i < 7 → Completes (t i) (bits i)) → tern_value f t ≡ tern_of b → value f bits ≡ b
 unfolding cell_value
-tern_sound f t bits b over fits is = common_sound 7 (value f) t (λ _. false) bits b (omega arith) (value_reads 7 f over) fits (λ i low high. absurd (omega arith)) is
+tern_sound f t bits b over fits is =
+    common_sound 7 (value f) t (λ _. false) bits b (omega arith) (value_reads 7 f over) fits (λ i low high. absurd (omega arith)) is
 
--- one more place, by its value
-pub common_zero : (count place : ℕ) (f : (ℕ → Bool) → Bool) (t : ℕ → Tern) (bits low : ℕ → Bool) (r : Tern) → count ≡ place + 1 → ReadsOnly 7 f → t place ≡ Zero → ((i : ℕ) → i < 7 → low i ≡ with_bit bits place false i) → r ≡ common place f t low → r ≡ common count f t bits
+-- one more place: where it is 0, the common value is that of the other places with a 0 there
+pub common_zero : (count place : ℕ) (f : (ℕ → Bool) → Bool) (t : ℕ → Tern) (bits low : ℕ → Bool) (r : Tern) → count ≡ place + 1 → ReadsOnly 7 f
+    → t place ≡ Zero → ((i : ℕ) → i < 7 → low i ≡ with_bit bits place false i) → r ≡ common place f t low → r ≡ common count f t bits
 common_zero count place f t bits low r next over here same is =
     let e : count ≡ suc place = omega arith in
     rw (e, here) (is ∙ common_agrees place 7 f t t low (with_bit bits place false) over (λ i lt. refl) same)
 
-pub common_one : (count place : ℕ) (f : (ℕ → Bool) → Bool) (t : ℕ → Tern) (bits high : ℕ → Bool) (r : Tern) → count ≡ place + 1 → ReadsOnly 7 f → t place ≡ One → ((i : ℕ) → i < 7 → high i ≡ with_bit bits place true i) → r ≡ common place f t high → r ≡ common count f t bits
+-- so where it is 1
+pub common_one : (count place : ℕ) (f : (ℕ → Bool) → Bool) (t : ℕ → Tern) (bits high : ℕ → Bool) (r : Tern) → count ≡ place + 1 → ReadsOnly 7 f
+    → t place ≡ One → ((i : ℕ) → i < 7 → high i ≡ with_bit bits place true i) → r ≡ common place f t high → r ≡ common count f t bits
 common_one count place f t bits high r next over here same is =
     let e : count ≡ suc place = omega arith in
     rw (e, here) (is ∙ common_agrees place 7 f t t high (with_bit bits place true) over (λ i lt. refl) same)
 
-pub common_unknown : (count place : ℕ) (f : (ℕ → Bool) → Bool) (t : ℕ → Tern) (bits low high : ℕ → Bool) (l h r : Tern) → count ≡ place + 1 → ReadsOnly 7 f → t place ≡ Unknown → ((i : ℕ) → i < 7 → low i ≡ with_bit bits place false i) → ((i : ℕ) → i < 7 → high i ≡ with_bit bits place true i) → l ≡ common place f t low → h ≡ common place f t high → r ≡ join l h → r ≡ common count f t bits
+-- and where it is unknown
+pub common_unknown : (count place : ℕ) (f : (ℕ → Bool) → Bool) (t : ℕ → Tern) (bits low high : ℕ → Bool) (l h r : Tern) → count ≡ place + 1
+    → ReadsOnly 7 f → t place ≡ Unknown → ((i : ℕ) → i < 7 → low i ≡ with_bit bits place false i)
+    → ((i : ℕ) → i < 7 → high i ≡ with_bit bits place true i) → l ≡ common place f t low → h ≡ common place f t high → r ≡ join l h → r ≡ common count f t bits
 common_unknown count place f t bits low high l h r next over here same_low same_high is_low is_high is =
     let e : count ≡ suc place = omega arith in
     let a = is_low ∙ common_agrees place 7 f t t low (with_bit bits place false) over (λ i lt. refl) same_low in
     let b = is_high ∙ common_agrees place 7 f t t high (with_bit bits place true) over (λ i lt. refl) same_high in
     rw (e, here, ← a, ← b) is
 
-pub cell_is : (f : Form) (t : ℕ → Tern) (bits : ℕ → Bool) (r : Tern) → IsOver 7 f → ((i : ℕ) → bits i ≡ false) → r ≡ common 7 (value f) t bits → r ≡ tern_value f t
+-- the common value of a function, from no place set
+pub cell_is : (f : Form) (t : ℕ → Tern) (bits : ℕ → Bool) (r : Tern) → IsOver 7 f → ((i : ℕ) → bits i ≡ false)
+    → r ≡ common 7 (value f) t bits → r ≡ tern_value f t
 unfolding cell_value
 cell_is f t bits r over none is = is ∙ common_agrees 7 7 (value f) t t bits (λ _. false) (value_reads 7 f over) (λ i lt. refl) (λ i lt. none i)
 
+-- where each bit that the value may be gives one value, this is the common one
 split_fit : (x : Tern) (go : Bool → Tern) (v : Tern) → ((bit : Bool) → Completes x bit → go bit ≡ v) → split x go ≡ v
 split_fit Zero go v all = all false refl
 split_fit One go v all = all true refl
 split_fit Unknown go v all = rw (all false tt, all true tt) (join_same v)
 
 -- where each completion gives one bit, this is the common value
-pub common_complete : (k : ℕ) (f : (ℕ → Bool) → Bool) (t : ℕ → Tern) (a : ℕ → Bool) (b : Bool) → ((bits : ℕ → Bool) → ((i : ℕ) → i < k → Completes (t i) (bits i)) → ((i : ℕ) → k ≤ i → bits i ≡ a i) → f bits ≡ b) → common k f t a ≡ tern_of b
+pub common_complete : (k : ℕ) (f : (ℕ → Bool) → Bool) (t : ℕ → Tern) (a : ℕ → Bool) (b : Bool)
+    → ((bits : ℕ → Bool) → ((i : ℕ) → i < k → Completes (t i) (bits i)) → ((i : ℕ) → k ≤ i → bits i ≡ a i) → f bits ≡ b) → common k f t a ≡ tern_of b
 common_complete zero f t a b all = ap tern_of (all a (λ i lt. absurd (omega arith)) (λ i le. refl))
 common_complete (suc k) f t a b all =
     split_fit (t k) (λ bit. common k f t (with_bit a k bit)) (tern_of b)
@@ -187,6 +219,7 @@ pub tern_common : GivesCommonValues tern_value
 tern_common f args over = cell_common (value f) args (value_reads 7 f over)
 
 -- a known value stays where places become known
-pub known_stays : (cell : (ℕ → Bool) → Bool) (less more : ℕ → Tern) (x y : Tern) (b : Bool) → ((i : ℕ) → i < 7 → IsLessKnown (less i) (more i)) → IsCommonValue cell less x → IsCommonValue cell more y → x ≡ tern_of b → y ≡ tern_of b
+pub known_stays : (cell : (ℕ → Bool) → Bool) (less more : ℕ → Tern) (x y : Tern) (b : Bool) → ((i : ℕ) → i < 7 → IsLessKnown (less i) (more i))
+    → IsCommonValue cell less x → IsCommonValue cell more y → x ≡ tern_of b → y ≡ tern_of b
 known_stays cell less more x y b known p q is =
     (q b).1 (λ bits fits. (p b).0 is bits (λ i lt. known i lt (bits i) (fits i lt)))

@@ -1,5 +1,6 @@
 -- Settled cycles, captures, runs from reset and stretches.
-use Rattle.std.specs.Prelude.{◌≡◌, ℕ, ◌<◌, ◌+◌, Bool, true, false, not, ◌&&◌, if◌then◌else◌, List, length, All, Option, Some, None, slice_get, slice_index, slice_index_or, nat_lt}
+use Rattle.std.specs.Prelude.{◌≡◌, ℕ, ◌<◌, ◌+◌, Bool, true, false, not, ◌&&◌, if◌then◌else◌, List, length, All}
+use Rattle.std.specs.Prelude.{Option, Some, None, slice_get, slice_index, slice_index_or, nat_lt}
 use Rattle.net_model.specs.Form.{Form, value}
 use Rattle.net_model.specs.declared.netlist.Design.{Design}
 use Rattle.net_model.specs.declared.netlist.Gate.{Gate}
@@ -75,9 +76,11 @@ AreFixedKept d ins = All (λ (f : Fixed). bit_at ins f.input ≡ f.value) d.fixe
 abbrev pub AreResets : Design → Bool → List Bool → Type 0
 AreResets d active ins = All (λ (f : Fixed). bit_at ins f.input ≡ (if active then f.value else not f.value)) d.resets
 
+-- a cycle in which fixed inputs have their values
 abbrev pub HasFixed : Design → Cycle → Type 0
 HasFixed d c = AreFixedKept d c.ins
 
+-- a cycle in which reset inputs are active, or else inactive
 abbrev pub HasResets : Design → Bool → Cycle → Type 0
 HasResets d active c = AreResets d active c.ins
 

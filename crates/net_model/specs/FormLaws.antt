@@ -13,6 +13,7 @@ value_agrees (AndForm f g) n a b over same = let l = value_agrees f n a b over.0
 value_agrees (OrForm f g) n a b over same = let l = value_agrees f n a b over.0 same in let r = value_agrees g n a b over.1 same in cc
 value_agrees (XorForm f g) n a b over same = let l = value_agrees f n a b over.0 same in let r = value_agrees g n a b over.1 same in cc
 
+-- places below n are below what is above n
 pub IsOver-weaker : (n m : ℕ) (f : Form) → n ≤ m → IsOver n f → IsOver m f
 IsOver-weaker n m ZeroForm le over = tt
 IsOver-weaker n m OneForm le over = tt

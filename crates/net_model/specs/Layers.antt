@@ -3,7 +3,8 @@
 -- A row of net values for each layer, of bits or of any other kind of value. In the first one the start shows a late
 -- value. Layer l + 1 takes the pins of through set l + 1 from layer l, so that what is late in the last layer came
 -- through a pin of each set in order.
-use Rattle.std.specs.Prelude.{◌≡◌, ℕ, zero, suc, ◌<◌, ◌≤◌, ◌+◌, ◌-◌, Bool, true, false, if◌then◌else◌, List, [], length, All, Contains, Option, Some, None, slice_get, slice_index, slice_index_or, nat_lt}
+use Rattle.std.specs.Prelude.{◌≡◌, ℕ, zero, suc, ◌<◌, ◌≤◌, ◌+◌, ◌-◌, Bool, true, false, if◌then◌else◌, List, [], length, All, Contains}
+use Rattle.std.specs.Prelude.{Option, Some, None, slice_get, slice_index, slice_index_or, nat_lt}
 use Rattle.net_model.specs.Form.{value}
 use Rattle.net_model.specs.Netlist.{source_nets}
 use Rattle.net_model.specs.Rows.{Applied}
@@ -45,7 +46,7 @@ first_value blank bit_value sets rows l base n =
 abbrev pub pin_reads : {V : Type 0} → V → List (List PinRef) → List (List V) → ℕ → PinRef → ℕ → V
 pin_reads blank sets rows zero pin net = net_at blank rows 0 net
 pin_reads blank sets rows (suc l) pin net =
-    if is_in pin (slice_index_or sets l []) then pin_reads blank sets rows l pin net else net_at blank rows (suc l) net
+    if is_in pin (held_set sets (suc l)) then pin_reads blank sets rows l pin net else net_at blank rows (suc l) net
 
 -- what the pins of gate k read in a layer
 abbrev pub layer_pins : {V : Type 0} → V → List (List PinRef) → List (List V) → ℕ → ℕ → List ℕ → ℕ → V
@@ -54,19 +55,27 @@ layer_pins blank sets rows l k ins place = pin_reads blank sets rows l (GateIn k
 -- in a layer each gate output that isn't in its set is the gate's function of what its pins read
 abbrev pub AreLayerGates : {V : Type 0} → Applied V → V → Design → List (List PinRef) → List (List V) → ℕ → Type 0
 AreLayerGates applied blank d sets rows l =
-    (k : ℕ) (g : Gate) → slice_get d.gates k ≡ Some g → is_in (Net g.out) (held_set sets l) ≡ false → net_at blank rows l g.out ≡ applied g.func (layer_pins blank sets rows l k g.ins)
+    (k : ℕ) (g : Gate) → slice_get d.gates k ≡ Some g → is_in (Net g.out) (held_set sets l) ≡ false
+    → net_at blank rows l g.out ≡ applied g.func (layer_pins blank sets rows l k g.ins)
 
--- the layers up to a last one, over the net values of a cycle: in the first the start's nets show a late value, and
--- other inputs and register outputs are as in the cycle; in layer l + 1 a net whose driver pin is in the set has its
--- value in layer l, and other inputs and register outputs, those of the start too, are as in the cycle; in each layer
--- every other gate is settled
-pub record AreLayersTo {V : Type 0} (applied : Applied V) (blank : V) (d : Design) (start : Start) (sets : List (List PinRef)) (late : RegOut → V) (base : List V) (rows : List (List V)) (last : ℕ) : Type 0 where
+-- the layers up to a last one, over the net values of a cycle
+pub record AreLayersTo {V : Type 0} (applied : Applied V) (blank : V) (d : Design) (start : Start) (sets : List (List PinRef))
+    (late : RegOut → V) (base : List V) (rows : List (List V)) (last : ℕ) : Type 0 where
+  -- there is a row for each of these layers
   pub count : last < length rows
+  -- it has a value for each net
   pub lens : (l : ℕ) → l ≤ last → length (row_at rows l) ≡ d.nets
+  -- in the first layer the start's nets show a late value
   pub late_nets : All (λ (o : RegOut). net_at blank rows 0 o.net ≡ late o) (start_outs d start)
+  -- and other inputs and register outputs are as in the cycle
   pub others : (n : ℕ) → Contains (source_nets d) n → ¬ Contains (start_nets d start) n → net_at blank rows 0 n ≡ slice_index_or base n blank
-  pub held : (l : ℕ) → l < last → (n : ℕ) → n < d.nets → is_in (Net n) (slice_index_or sets l []) ≡ true → net_at blank rows (l + 1) n ≡ net_at blank rows l n
-  pub sources : (l : ℕ) → l < last → (n : ℕ) → Contains (source_nets d) n → is_in (Net n) (slice_index_or sets l []) ≡ false → net_at blank rows (l + 1) n ≡ slice_index_or base n blank
+  -- in each layer after it a net whose driver pin is in the layer's set has its value in the layer before
+  pub held : (l : ℕ) → l < last → (n : ℕ) → n < d.nets → is_in (Net n) (held_set sets (suc l)) ≡ true
+      → net_at blank rows (l + 1) n ≡ net_at blank rows l n
+  -- and other inputs and register outputs, those of the start too, are as in the cycle
+  pub sources : (l : ℕ) → l < last → (n : ℕ) → Contains (source_nets d) n → is_in (Net n) (held_set sets (suc l)) ≡ false
+      → net_at blank rows (l + 1) n ≡ slice_index_or base n blank
+  -- in each layer every other gate is settled
   pub gates : (l : ℕ) → l ≤ last → AreLayerGates applied blank d sets rows l
 
 -- the first layer, and one for each set

@@ -37,6 +37,12 @@ abbrev pub IsCommonValue : ((ℕ → Bool) → Bool) → (ℕ → Tern) → Tern
 IsCommonValue cell args result =
     (b : Bool) → (result ≡ tern_of b) ↔ ((bits : ℕ → Bool) → ((i : ℕ) → i < 7 → Completes (args i) (bits i)) → cell bits ≡ b)
 
+-- a known value stays where places become known
+abbrev pub StaysKnown : ((ℕ → Bool) → Bool) → (ℕ → Tern) → Tern → Type 0
+StaysKnown cell args result =
+    (more : ℕ → Tern) (other : Tern) → ((i : ℕ) → i < 7 → IsLessKnown (args i) (more i)) → IsCommonValue cell more other
+    → (b : Bool) → result ≡ tern_of b → other ≡ tern_of b
+
 -- each function of at most seven places is given its common value
 abbrev pub GivesCommonValues : Applied Tern → Type 0
 GivesCommonValues applied =

@@ -1,13 +1,13 @@
 //! Laws of the model. Each is the contract of a call that does nothing, for callers that cite it.
-ghost use Rattle.std.specs.Prelude.{◌≡◌, ◌≤◌, ◌↔◌, ℕ, Bool, List};
+ghost use Rattle.std.specs.Prelude.{◌≡◌, ◌≤◌, ℕ, Bool, List};
+ghost use Rattle.sdcv_base.specs.Kinds.{judged_count};
 ghost use Rattle.net_model.specs.Netlist.{IsSound};
 ghost use Rattle.net_model.specs.Fits.{Fits};
 ghost use Rattle.net_model.specs.Cycles.{IsRun};
 ghost use Rattle.net_model.specs.Stimuli.{IsLawful, HasOneRun, HasStimulus};
-ghost use Rattle.net_model.specs.Judge.{judged_count, Toggles, IsViolatedAt, Holds};
+ghost use Rattle.net_model.specs.Judge.{Toggles, IsViolatedAt, Holds};
 ghost use Rattle.net_model.specs.Held.{IsHeldStart};
-ghost use Rattle.net_model.specs.Paths.{HasPath};
-ghost use Rattle.net_model.specs.Moved.{AreMoved, IsEndMoved};
+ghost use Rattle.net_model.specs.Moved.{IsMovedByPaths};
 ghost use Rattle.net_model.specs.declared.cycles.Cycle.{Cycle as CycleRecord};
 
 use crate::claims::Claim;
@@ -51,5 +51,5 @@ pub fn unjudged(design: &Design, claim: &Claim)
 pub fn moved_where_path(design: &Design, claim: &Claim)
     requires sound { IsSound design.now }
     requires fits { Fits design.now claim.now }
-    ensures { (rows : List (List Bool)) → AreMoved design.now claim.now rows → (IsEndMoved design.now claim.now.through rows claim.now.end ↔ HasPath design.now claim.now.start claim.now.end claim.now.through) }
+    ensures { IsMovedByPaths design.now claim.now }
 {}

@@ -2,10 +2,9 @@
 ghost use Rattle.std.specs.Prelude.{◌≡◌, ◌<◌, ◌≤◌, ◌↔◌, ℕ, Bool};
 ghost use Rattle.net_model.specs.Form.{Form, value, IsOver};
 ghost use Rattle.net_model.specs.Args.{arg_at};
-ghost use Rattle.net_model.specs.Ternary.{tern_of, IsCommonValue, IsLessKnown};
+ghost use Rattle.net_model.specs.Ternary.{tern_of, IsCommonValue, StaysKnown};
 ghost use Rattle.net_model.specs.Splitting.{join, common, tern_value};
 ghost use Rattle.net_model.specs.Completions.{tern_on_bits, tern_agrees};
-ghost use Rattle.net_model.specs.declared.terns.Tern.{Tern as TernValue};
 
 use crate::arguments::Args;
 use crate::functions::Func;
@@ -51,8 +50,7 @@ impl Value for Tern {
         ensures value { result ≡ tern_value func.now (arg_at args.now) }
         ensures common { IsCommonValue (value func.now) (arg_at args.now) result }
         // A known value stays where arguments become known.
-        ensures stays { (more : ℕ → TernValue) (other : TernValue) → ((i : ℕ) → i < 7 → IsLessKnown (arg_at args.now i) (more i)) → IsCommonValue (value func.now) more other →
-            (b : Bool) → result ≡ tern_of b → other ≡ tern_of b }
+        ensures stays { StaysKnown (value func.now) (arg_at args.now) result }
     {
         common_of(func, args, 7, Args::of(false))
     }
