@@ -1,6 +1,6 @@
 -- Claims that hold whatever the design's logic does.
-use Rattle.std.proofs.Common.{◌≡◌, ℕ, ◌+◌, ◌-◌, ◌<◌, ◌≤◌, Bool, false, not, List, Some, ap, subst, sym, ◌∙◌, arith, inl, inr}
-use Rattle.std.specs.Prelude.{Contains, slice_get, nat_lt}
+use Rattle.std.proofs.Common.{◌≡◌, ℕ, ◌-◌, ◌≤◌, Bool, false, not, List, Some, ap, subst, sym, ◌∙◌, arith, inl, inr}
+use Rattle.std.specs.Prelude.{slice_get}
 use Rattle.std.proofs.lemmas.Bool.{le-ltb}
 use Rattle.std.proofs.lemmas.Option.{slice_get-get_or}
 use Rattle.sdcv_base.specs.Kinds.{judged_count}

@@ -24,3 +24,4 @@ pub mod TernaryOnce
 pub mod Holding
 pub mod Stimulating
 pub mod Moving
+pub mod LaneWords

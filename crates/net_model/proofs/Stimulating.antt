@@ -1,16 +1,14 @@
 -- Each sound design has a lawful stimulus of each length.
-use Rattle.std.proofs.Common.{◌≡◌, ◌≢◌, ℕ, zero, suc, ◌+◌, ◌<◌, ◌≤◌, Bool, true, false, not, cond, List}
-use Rattle.std.proofs.Common.{[], ◌∷◌, length, get_or, replicate, Some, refl, ap, subst, sym, ◌∙◌, arith, inl, inr}
+use Rattle.std.proofs.Common.{◌≡◌, ◌≢◌, ℕ, zero, suc, ◌+◌, ◌<◌, ◌≤◌, Bool, false, not, List}
+use Rattle.std.proofs.Common.{[], ◌∷◌, length, get_or, replicate, Some, refl, ap, subst, ◌∙◌, arith, inl, inr}
 use Rattle.std.specs.Prelude.{count_by, slice_get, nat_lt, if◌then◌else◌, ◌==◌}
 use Rattle.std.proofs.lemmas.Bool.{cases_eq}
 use Rattle.std.proofs.lemmas.Bool.Decides.{nat_tests}
 use Rattle.std.proofs.lemmas.List.{length-replicate}
-use Rattle.std.proofs.lemmas.Option.{slice_get_within, slice_get-get_or}
+use Rattle.std.proofs.lemmas.Option.{slice_get-get_or}
 use Rattle.net_model.specs.Netlist.{IsSound, setting_inputs, held_inputs}
-use Rattle.net_model.specs.Cycles.{bit_at}
 use Rattle.net_model.specs.Stimuli.{AreInputs, IsLawful, HasStimulus}
-use Rattle.net_model.proofs.Order.{count_append, count_cons, count_contains, counted}
-use Rattle.net_model.proofs.Sources.{count_plain}
+use Rattle.net_model.proofs.Order.{count_append, count_cons, counted}
 use Rattle.net_model.proofs.OneRun.{bits_exist, has_one_run}
 use Rattle.net_model.specs.declared.netlist.Design.{Design}
 use Rattle.net_model.specs.declared.netlist.Fixed.{Fixed}

@@ -16,6 +16,8 @@ pub mod Judge
 pub mod Queries
 pub mod Stimuli
 pub mod Held
+pub mod LaneBits
+pub mod LaneLaws
 pub mod Moved
 pub mod Fits
 pub mod Mentions

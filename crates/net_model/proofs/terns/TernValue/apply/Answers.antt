@@ -1,5 +1,5 @@
 use Rattle.std.specs.Prelude.{◌≡◌}
-use Rattle.std.proofs.Common.{sym, ◌∙◌, subst}
+use Rattle.std.proofs.Common.{sym, subst}
 use Rattle.net_model.specs.Form.{value}
 use Rattle.net_model.specs.Args.{arg_at}
 use Rattle.net_model.specs.Ternary.{IsCommonValue}
