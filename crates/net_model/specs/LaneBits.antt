@@ -1,8 +1,9 @@
 -- Sixty-four bits at once: the lanes of a word.
-use Rattle.std.specs.Prelude.{◌≡◌, ◌<◌, ◌+◌, ◌*◌, ◌^◌, ◌==◌, ℕ, zero, suc, Bool, if◌then◌else◌}
+use Rattle.std.specs.Prelude.{◌≡◌, ◌<◌, ◌+◌, ◌*◌, ◌^◌, ◌==◌, ℕ, zero, suc, Bool, if◌then◌else◌, List, map}
 use Rattle.std.specs.Int.{bit_at as digit}
 use Rattle.net_model.specs.Form.{Form, value}
 use Rattle.net_model.specs.declared.lane_words.Lanes.{Lanes}
+use Rattle.net_model.specs.declared.cycles.Cycle.{Cycle}
 
 -- the bit of a lane: lane i is bit i of the number
 abbrev pub lane : Lanes → ℕ → Bool
@@ -11,6 +12,14 @@ lane w i = digit w.0 i == 1
 -- each lane of a result is the cell's value on that lane of its places
 abbrev pub IsInEachLane : ((ℕ → Bool) → Bool) → (ℕ → Lanes) → Lanes → Type 0
 IsInEachLane cell args result = (i : ℕ) → i < 64 → lane result i ≡ cell (λ place. lane (args place) i)
+
+-- lane i of a row of words
+abbrev pub lane_row : ℕ → List Lanes → List Bool
+lane_row i words = map (λ (w : Lanes). lane w i) words
+
+-- lane i of the words of a cycle
+abbrev pub lane_cycle : ℕ → List Lanes → List Lanes → List Lanes → Cycle
+lane_cycle i bits ins nets = record { bits = lane_row i bits; ins = lane_row i ins; nets = lane_row i nets }
 
 -- the number whose lowest n bits are these, and which has no other bits
 unfoldable pub number_of : ℕ → (ℕ → Bool) → ℕ
