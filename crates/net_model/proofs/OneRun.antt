@@ -51,7 +51,9 @@ record IsChainFor (d : Design) (bits : List Bool) (rows : List (List Bool)) (run
   first : BeginsWith bits run
   inputs : map ins_of run ≡ rows
 
-linked : (d : Design) (c : Cycle) (next : List Bool) (inputs : List (List Bool)) (run : List Cycle) → ((r : ℕ) → r < length d.regs → bit_at next r ≡ capture d (RegEnd r) c) → IsChainFor d next inputs run → (t : ℕ) (before after : Cycle) → slice_get (c ∷ run) t ≡ Some before → slice_get (c ∷ run) (t + 1) ≡ Some after → IsNext d before after
+linked : (d : Design) (c : Cycle) (next : List Bool) (inputs : List (List Bool)) (run : List Cycle)
+    → ((r : ℕ) → r < length d.regs → bit_at next r ≡ capture d (RegEnd r) c) → IsChainFor d next inputs run → (t : ℕ) (before after : Cycle)
+    → slice_get (c ∷ run) t ≡ Some before → slice_get (c ∷ run) (t + 1) ≡ Some after → IsNext d before after
 linked d c next inputs run captured more zero before after at then =
     let same : c ≡ before = cc in
     subst (λ (x : Cycle). IsNext d x after) same (λ r low. ap (λ (xs : List Bool). bit_at xs r) (more.first after then) ∙ captured r low)
@@ -59,7 +61,8 @@ linked d c next inputs run captured more (suc t) before after at then =
     let e : suc t + 1 ≡ suc (t + 1) = omega arith in
     more.chain.next t before after at (subst (λ (i : ℕ). slice_get (c ∷ run) i ≡ Some after) e then)
 
-add_first : (d : Design) (c : Cycle) (next : List Bool) (inputs : List (List Bool)) (run : List Cycle) → IsSettled d c → ((r : ℕ) → r < length d.regs → bit_at next r ≡ capture d (RegEnd r) c) → IsChainFor d next inputs run → IsChainFor d c.bits (c.ins ∷ inputs) (c ∷ run)
+add_first : (d : Design) (c : Cycle) (next : List Bool) (inputs : List (List Bool)) (run : List Cycle) → IsSettled d c
+    → ((r : ℕ) → r < length d.regs → bit_at next r ≡ capture d (RegEnd r) c) → IsChainFor d next inputs run → IsChainFor d c.bits (c.ins ∷ inputs) (c ∷ run)
 add_first d c next inputs run settled captured more =
     record {
       chain =
@@ -71,7 +74,8 @@ add_first d c next inputs run settled captured more =
       inputs = ap (λ (rows : List (List Bool)). c.ins ∷ rows) more.inputs;
     }
 
-chain_exists : (d : Design) (bits : List Bool) (inputs : List (List Bool)) → IsSound d → length bits ≡ length d.regs → All (λ ins. length ins ≡ length d.inputs) inputs → (run : List Cycle) × IsChainFor d bits inputs run
+chain_exists : (d : Design) (bits : List Bool) (inputs : List (List Bool)) → IsSound d → length bits ≡ length d.regs
+    → All (λ ins. length ins ≡ length d.inputs) inputs → (run : List Cycle) × IsChainFor d bits inputs run
 chain_exists d bits [] sound some all = (
   [],
   record {
@@ -97,7 +101,8 @@ bits_same d before a b s t p q =
     get_or_default a.bits r o false within ∙ (p r low ∙ (sym (q r low) ∙ get_or_default b.bits r false o (omega arith))))
 
 -- chains with the same inputs and the same first register bits are the same
-chain_once : (d : Design) (a b : List Cycle) → IsSound d → IsChain d a → IsChain d b → map ins_of a ≡ map ins_of b → ((p q : Cycle) → slice_get a 0 ≡ Some p → slice_get b 0 ≡ Some q → p.bits ≡ q.bits) → a ≡ b
+chain_once : (d : Design) (a b : List Cycle) → IsSound d → IsChain d a → IsChain d b → map ins_of a ≡ map ins_of b
+    → ((p q : Cycle) → slice_get a 0 ≡ Some p → slice_get b 0 ≡ Some q → p.bits ≡ q.bits) → a ≡ b
 chain_once d [] [] sound s t inputs first = refl
 chain_once d [] (y ∷ b) sound s t inputs first = cc
 chain_once d (x ∷ a) [] sound s t inputs first = cc
@@ -117,7 +122,8 @@ chain_once d (x ∷ a) (y ∷ b) sound s t inputs first =
     cc
 
 -- a cycle of a run has the inputs that the stimulus has at its number
-ins_at : (run : List Cycle) (inputs : List (List Bool)) (t : ℕ) (c : Cycle) → map ins_of run ≡ inputs → slice_get run t ≡ Some c → slice_get inputs t ≡ Some c.ins
+ins_at : (run : List Cycle) (inputs : List (List Bool)) (t : ℕ) (c : Cycle) → map ins_of run ≡ inputs → slice_get run t ≡ Some c
+    → slice_get inputs t ≡ Some c.ins
 ins_at run inputs t c same at =
     ap (λ (rows : List (List Bool)). slice_get rows t) (sym same) ∙ (slice_get-map ins_of run t ∙ ap (option_map ins_of) at)
 

@@ -58,11 +58,13 @@ pub record RegLanesDone (d : Design) (r : ℕ) (outs : List RegOut) (bits : Lane
   pub len : length nets ≡ d.nets
   pub lanes : (i : ℕ) → i < 64 → RegDone d r outs (lane bits i) (lane_row i start) (lane_row i nets) o
 
-pub reg_lanes_none : (d : Design) (r : ℕ) (outs : List RegOut) (bits : Lanes) (nets : List Lanes) → length nets ≡ d.nets → RegLanesDone d r outs bits nets nets 0
+pub reg_lanes_none : (d : Design) (r : ℕ) (outs : List RegOut) (bits : Lanes) (nets : List Lanes) → length nets ≡ d.nets
+    → RegLanesDone d r outs bits nets nets 0
 reg_lanes_none d r outs bits nets len =
     record { len = len; lanes = λ i lt. record { len = length-lane_row i nets ∙ len; kept = λ n has. refl; shown = λ p low. absurd (omega arith) } }
 
-pub reg_lanes_more : (d : Design) (r : ℕ) (reg : Reg) (bits : Lanes) (start nets : List Lanes) (o : ℕ) (out : RegOut) (w : Lanes) → IsSound d → slice_get d.regs r ≡ Some reg
+pub reg_lanes_more : (d : Design) (r : ℕ) (reg : Reg) (bits : Lanes) (start nets : List Lanes) (o : ℕ) (out : RegOut) (w : Lanes) → IsSound d
+    → slice_get d.regs r ≡ Some reg
     → slice_get reg.outs o ≡ Some out → ((i : ℕ) → i < 64 → lane w i ≡ shown out (lane bits i)) → RegLanesDone d r reg.outs bits start nets o
     → RegLanesDone d r reg.outs bits start (set nets out.net w) (o + 1)
 reg_lanes_more d r reg bits start nets o out w sound at there shows done =
@@ -74,12 +76,14 @@ reg_lanes_more d r reg bits start nets o out w sound at there shows done =
     }
 
 -- a net whose word is kept keeps each lane
-pub kept_lane : (i : ℕ) (old new : List Lanes) (n : ℕ) → i < 64 → get_or new n (in_each_lane false) ≡ get_or old n (in_each_lane false) → bit_at (lane_row i new) n ≡ bit_at (lane_row i old) n
+pub kept_lane : (i : ℕ) (old new : List Lanes) (n : ℕ) → i < 64 → get_or new n (in_each_lane false) ≡ get_or old n (in_each_lane false)
+    → bit_at (lane_row i new) n ≡ bit_at (lane_row i old) n
 kept_lane i old new n lt same =
     row_bit i new n lt ∙ (ap (lane_at i) same ∙ sym (row_bit i old n lt))
 
 -- gates that are settled as words are settled in each lane
-pub gates_lane : (d : Design) (i : ℕ) (nets : List Lanes) → IsSound d → i < 64 → AreGatesSettled lanes_value (in_each_lane false) d.gates nets → AreGatesSettled value false d.gates (lane_row i nets)
+pub gates_lane : (d : Design) (i : ℕ) (nets : List Lanes) → IsSound d → i < 64 → AreGatesSettled lanes_value (in_each_lane false) d.gates nets
+    → AreGatesSettled value false d.gates (lane_row i nets)
 gates_lane d i nets sound lt settled k g at =
     let in_range = All-at (IsGateInRange d) d.gates k g at sound.in_range.gates in
     let pins : ℕ → Lanes = pins_of (in_each_lane false) g.ins nets in

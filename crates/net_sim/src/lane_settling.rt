@@ -2,11 +2,10 @@
 ghost use Rattle.std.specs.Prelude.{◌≡◌, ◌<◌, ℕ, length, All, Contains, slice_get, slice_index, Some};
 ghost use Rattle.net_model.specs.Netlist.{before_reg, IsSound};
 ghost use Rattle.net_model.specs.Cycles.{bit_at, shown, IsSettled};
-ghost use Rattle.net_model.specs.LaneBits.{lane, lane_row, lane_cycle};
+ghost use Rattle.net_model.specs.LaneBits.{lane, lane_cycle};
 ghost use Rattle.net_model.specs.declared.netlist.RegOut.{RegOut as RegOutRecord};
 ghost use Rattle.net_model.specs.declared.netlist.Reg.{Reg as RegRecord};
-ghost use Rattle.net_model.specs.declared.cycles.Cycle.{Cycle as CycleRecord};
-ghost use Rattle.net_sim.specs.LaneRows.{AreInputsShown, IsBitShown, AreBitsShown, AreKept};
+ghost use Rattle.net_sim.specs.LaneRows.{IsOnlyRow, AreInputsShown, IsBitShown, AreBitsShown, AreKept};
 
 use net_model::{Design, Lanes, RegOut, settle_gates};
 use sdcv_base::Seq;
@@ -78,8 +77,9 @@ pub fn settle64(design: &Design, bits: &Seq<Lanes>, ins: &Seq<Lanes>, nets: &mut
     requires bits { length bits.now ≡ length design.now.regs }
     requires ins { length ins.now ≡ length design.now.inputs }
     requires nets { length nets.old ≡ design.now.nets }
+    ensures len { length nets.new ≡ design.now.nets }
     ensures settled { (i : ℕ) → i < 64 → IsSettled design.now (lane_cycle i bits.now ins.now nets.new) }
-    ensures only { (i : ℕ) → i < 64 → (c : CycleRecord) → IsSettled design.now c → c.bits ≡ lane_row i bits.now → c.ins ≡ lane_row i ins.now → c.nets ≡ lane_row i nets.new }
+    ensures only { (i : ℕ) → i < 64 → IsOnlyRow design.now i bits.now ins.now nets.new }
 {
     put_inputs(design, ins, nets);
     put_regs(design, bits, nets);

@@ -8,6 +8,8 @@
 
 mod captures;
 mod lane_settling;
+#[cfg(test)]
+mod lane_tests;
 mod late_captures;
 mod settling;
 #[cfg(test)]

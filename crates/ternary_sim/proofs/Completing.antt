@@ -1,5 +1,6 @@
 -- The layers of a late start complete the ternary layers: a net that is a bit in these has that bit in those.
-use Rattle.std.proofs.Common.{◌≡◌, ℕ, zero, suc, ◌+◌, ◌<◌, ◌≤◌, Bool, true, false, if◌then◌else◌, List, [], ◌∷◌, map, length, take, get_or, Option, Some, None, refl, sym, ◌∙◌, subst, arith, ◌⊎◌, inl, inr, below_more, add-one}
+use Rattle.std.proofs.Common.{◌≡◌, ℕ, zero, suc, ◌+◌, ◌<◌, ◌≤◌, Bool, true, false, if◌then◌else◌, List, [], ◌∷◌, map}
+use Rattle.std.proofs.Common.{length, take, get_or, Option, Some, None, refl, sym, ◌∙◌, subst, arith, ◌⊎◌, inl, inr, below_more, add-one}
 use Rattle.std.specs.Prelude.{Contains, slice_get, slice_index, nat_lt}
 use Rattle.std.proofs.lemmas.Bool.{cases_lt, cases_eq}
 use Rattle.std.proofs.lemmas.Bool.Decides.{nat_tests}
@@ -62,7 +63,8 @@ filled_low n terns bits i lt = grind (arith, nat_tests)
 filled_high : (n : ℕ) (terns : ℕ → Tern) (bits : ℕ → Bool) (i : ℕ) → n ≤ i → filled n terns bits i ≡ some_bit (terns i)
 filled_high n terns bits i le = grind (arith, nat_tests)
 
-filled_fits : (n : ℕ) (terns : ℕ → Tern) (bits : ℕ → Bool) → ((i : ℕ) → i < n → Completes (terns i) (bits i)) → (i : ℕ) → Completes (terns i) (filled n terns bits i)
+filled_fits : (n : ℕ) (terns : ℕ → Tern) (bits : ℕ → Bool) → ((i : ℕ) → i < n → Completes (terns i) (bits i)) → (i : ℕ)
+    → Completes (terns i) (filled n terns bits i)
 filled_fits n terns bits fits i =
     elim (cases_lt i n) [
       | inl lt ↦ subst (Completes (terns i)) (sym (filled_low n terns bits i lt)) (fits i lt)
@@ -80,7 +82,8 @@ completes_known true x fits = fits
 completes_known false x fits = fits
 
 -- the bit of a cell completes its value, where the bits of its places complete theirs
-pub cell_completes : (cell : (ℕ → Bool) → Bool) (n : ℕ) (terns : ℕ → Tern) (bits : ℕ → Bool) → n ≤ 7 → ReadsOnly n cell → ((i : ℕ) → i < n → Completes (terns i) (bits i)) → Completes (cell_value cell terns) (cell bits)
+pub cell_completes : (cell : (ℕ → Bool) → Bool) (n : ℕ) (terns : ℕ → Tern) (bits : ℕ → Bool) → n ≤ 7 → ReadsOnly n cell
+    → ((i : ℕ) → i < n → Completes (terns i) (bits i)) → Completes (cell_value cell terns) (cell bits)
 cell_completes cell n terns bits le over fits =
     let all = filled n terns bits in
     let same : cell all ≡ cell bits = over all bits (filled_low n terns bits) in
@@ -104,7 +107,8 @@ by_test true x y p q inside outside = inside refl
 by_test false x y p q inside outside = outside refl
 
 -- so does what a pin reads
-pub pin_completes : (sets : List (List PinRef)) (a : List (List Tern)) (b : List (List Bool)) (l : ℕ) (pin : PinRef) (n : ℕ) → ((m : ℕ) → m ≤ l → CompleteAt a b m n) → Completes (pin_reads Zero sets a l pin n) (pin_reads false sets b l pin n)
+pub pin_completes : (sets : List (List PinRef)) (a : List (List Tern)) (b : List (List Bool)) (l : ℕ) (pin : PinRef) (n : ℕ)
+    → ((m : ℕ) → m ≤ l → CompleteAt a b m n) → Completes (pin_reads Zero sets a l pin n) (pin_reads false sets b l pin n)
 pin_completes sets a b zero pin n fits = fits 0 (omega arith)
 pin_completes sets a b (suc l) pin n fits =
     by_test (is_in pin (get_or sets l [])) (pin_reads Zero sets a l pin n) (net_at Zero a (suc l) n) (pin_reads false sets b l pin n) (net_at false b (suc l) n)
@@ -147,16 +151,22 @@ AreBitsTo d start sets late base rows last = AreLayersTo value false d start set
 base_completes : (base : List Bool) (n : ℕ) → Completes (get_or (map tern_of base) n Zero) (bit_at base n)
 base_completes base n = subst (λ (t : Tern). Completes t (bit_at base n)) (sym (map_base tern_of base n)) (own_completes (bit_at base n))
 
-held_completes : (d : Design) (start : Start) (sets : List (List PinRef)) (late : RegOut → Bool) (base : List Bool) (a : List (List Tern)) (b : List (List Bool)) (last : ℕ) → AreUnknownTo d start sets base a last → AreBitsTo d start sets late base b last → (l : ℕ) → l ≤ last → CompleteBelow d a b l → (n : ℕ) → n < d.nets → is_in (Net n) (held_set sets l) ≡ true → CompleteAt a b l n
+held_completes : (d : Design) (start : Start) (sets : List (List PinRef)) (late : RegOut
+    → Bool) (base : List Bool) (a : List (List Tern)) (b : List (List Bool)) (last : ℕ) → AreUnknownTo d start sets base a last
+    → AreBitsTo d start sets late base b last → (l : ℕ) → l ≤ last → CompleteBelow d a b l → (n : ℕ) → n < d.nets → is_in (Net n) (held_set sets l) ≡ true
+    → CompleteAt a b l n
 held_completes d start sets late base a b last s t zero le lower n low is = absurd (false_true is)
 held_completes d start sets late base a b last s t (suc l) le lower n low is =
     subst (λ (m : ℕ). CompleteAt a b m n) (add-one l)
-    (moved (net_at Zero a (l + 1) n) (net_at Zero a l n) (net_at false b (l + 1) n) (net_at false b l n) (s.held l (omega arith) n low is) (t.held l (omega arith) n low is) (lower l (omega arith) n low))
+    (moved (net_at Zero a (l + 1) n) (net_at Zero a l n) (net_at false b (l + 1) n) (net_at false b l n) (s.held l (omega arith) n low is)
+    (t.held l (omega arith) n low is) (lower l (omega arith) n low))
 
 unknown_completes : (t : Tern) (b : Bool) → t ≡ Unknown → Completes t b
 unknown_completes t b is = subst (λ (x : Tern). Completes x b) (sym is) tt
 
-source_completes : (d : Design) (start : Start) (sets : List (List PinRef)) (late : RegOut → Bool) (base : List Bool) (a : List (List Tern)) (b : List (List Bool)) (last : ℕ) → IsSound d → AreUnknownTo d start sets base a last → AreBitsTo d start sets late base b last → (l : ℕ) → l ≤ last → CompleteBelow d a b l → (n : ℕ) → Contains (source_nets d) n → CompleteAt a b l n
+source_completes : (d : Design) (start : Start) (sets : List (List PinRef)) (late : RegOut
+    → Bool) (base : List Bool) (a : List (List Tern)) (b : List (List Bool)) (last : ℕ) → IsSound d → AreUnknownTo d start sets base a last
+    → AreBitsTo d start sets late base b last → (l : ℕ) → l ≤ last → CompleteBelow d a b l → (n : ℕ) → Contains (source_nets d) n → CompleteAt a b l n
 source_completes d start sets late base a b last sound s t zero le lower n has =
     elim (contains_or (start_nets d start) n) [
       | inl here ↦
@@ -166,18 +176,25 @@ source_completes d start sets late base a b last sound s t zero le lower n has =
           let is : net_at Zero a 0 (get_or (start_outs d start) out.0 out.1).net ≡ Unknown = s.late_nets out.0 out.1 within in
           subst (λ (m : ℕ). CompleteAt a b 0 m) out.3
           (subst (λ (o : RegOut). CompleteAt a b 0 o.net) at
-          (unknown_completes (net_at Zero a 0 (get_or (start_outs d start) out.0 out.1).net) (net_at false b 0 (get_or (start_outs d start) out.0 out.1).net) is))
-      | inr out ↦ moved (net_at Zero a 0 n) (get_or (map tern_of base) n Zero) (net_at false b 0 n) (bit_at base n) (s.others n has out) (t.others n has out) (base_completes base n)
+          (unknown_completes (net_at Zero a 0 (get_or (start_outs d start) out.0 out.1).net)
+          (net_at false b 0 (get_or (start_outs d start) out.0 out.1).net) is))
+      | inr out ↦ moved (net_at Zero a 0 n) (get_or (map tern_of base) n Zero) (net_at false b 0 n) (bit_at base n) (s.others n has out)
+          (t.others n has out) (base_completes base n)
     ]
 source_completes d start sets late base a b last sound s t (suc l) le lower n has =
     elim (true_or (is_in (Net n) (get_or sets l []))) [
       | inl is ↦ held_completes d start sets late base a b last s t (suc l) le lower n (source_low d n sound has) is
       | inr free ↦
           subst (λ (m : ℕ). CompleteAt a b m n) (add-one l)
-          (moved (net_at Zero a (l + 1) n) (get_or (map tern_of base) n Zero) (net_at false b (l + 1) n) (bit_at base n) (s.sources l (omega arith) n has free) (t.sources l (omega arith) n has free) (base_completes base n))
+          (moved (net_at Zero a (l + 1) n) (get_or (map tern_of base) n Zero) (net_at false b (l + 1) n) (bit_at base n)
+          (s.sources l (omega arith) n has free) (t.sources l (omega arith) n has free) (base_completes base n))
     ]
 
-gate_completes : (d : Design) (start : Start) (sets : List (List PinRef)) (late : RegOut → Bool) (base : List Bool) (a : List (List Tern)) (b : List (List Bool)) (last : ℕ) → IsSound d → AreUnknownTo d start sets base a last → AreBitsTo d start sets late base b last → (l : ℕ) → l ≤ last → CompleteBelow d a b l → (k : ℕ) → ((j : ℕ) → j < k → (g : Gate) → slice_get d.gates j ≡ Some g → CompleteAt a b l g.out) → (h : Gate) → slice_get d.gates k ≡ Some h → CompleteAt a b l h.out
+gate_completes : (d : Design) (start : Start) (sets : List (List PinRef)) (late : RegOut
+    → Bool) (base : List Bool) (a : List (List Tern)) (b : List (List Bool)) (last : ℕ) → IsSound d → AreUnknownTo d start sets base a last
+    → AreBitsTo d start sets late base b last → (l : ℕ) → l ≤ last → CompleteBelow d a b l → (k : ℕ)
+    → ((j : ℕ) → j < k → (g : Gate) → slice_get d.gates j ≡ Some g → CompleteAt a b l g.out) → (h : Gate) → slice_get d.gates k ≡ Some h
+    → CompleteAt a b l h.out
 gate_completes d start sets late base a b last sound s t l le lower k below h here =
     let in_range = All-at (IsGateInRange d) d.gates k h here sound.in_range.gates in
     let known : (n : ℕ) → n < d.nets → Contains (before d k) n → (m : ℕ) → m ≤ l → CompleteAt a b m n =
@@ -196,22 +213,30 @@ gate_completes d start sets late base a b last sound s t l le lower k below h he
     elim (true_or (is_in (Net h.out) (held_set sets l))) [
       | inl is ↦ held_completes d start sets late base a b last s t l le lower h.out in_range.out is
       | inr free ↦
-          moved (net_at Zero a l h.out) (tern_value h.func (layer_pins Zero sets a l k h.ins)) (net_at false b l h.out) (value h.func (layer_pins false sets b l k h.ins)) (s.gates l le k h here free) (t.gates l le k h here free)
+          moved (net_at Zero a l h.out) (tern_value h.func (layer_pins Zero sets a l k h.ins)) (net_at false b l h.out)
+          (value h.func (layer_pins false sets b l k h.ins)) (s.gates l le k h here free) (t.gates l le k h here free)
           (cell_completes (value h.func) (length h.ins) (layer_pins Zero sets a l k h.ins) (layer_pins false sets b l k h.ins) (omega (arith, in_range.few))
           (λ x y same. value_agrees h.func (length h.ins) x y in_range.func same)
-          (λ i within. pin_completes sets a b l (GateIn k i) (slice_index h.ins i) (known (slice_index h.ins i) (in_range.ins i 0 within) (sound.in_order k h here i 0 within))))
+          (λ i within. pin_completes sets a b l (GateIn k i) (slice_index h.ins i)
+          (known (slice_index h.ins i) (in_range.ins i 0 within) (sound.in_order k h here i 0 within))))
     ]
 
-gates_complete : (d : Design) (start : Start) (sets : List (List PinRef)) (late : RegOut → Bool) (base : List Bool) (a : List (List Tern)) (b : List (List Bool)) (last : ℕ) → IsSound d → AreUnknownTo d start sets base a last → AreBitsTo d start sets late base b last → (l : ℕ) → l ≤ last → CompleteBelow d a b l → (k : ℕ) → (j : ℕ) → j < k → (g : Gate) → slice_get d.gates j ≡ Some g → CompleteAt a b l g.out
+gates_complete : (d : Design) (start : Start) (sets : List (List PinRef)) (late : RegOut
+    → Bool) (base : List Bool) (a : List (List Tern)) (b : List (List Bool)) (last : ℕ) → IsSound d → AreUnknownTo d start sets base a last
+    → AreBitsTo d start sets late base b last → (l : ℕ) → l ≤ last → CompleteBelow d a b l → (k : ℕ) → (j : ℕ) → j < k → (g : Gate)
+    → slice_get d.gates j ≡ Some g → CompleteAt a b l g.out
 gates_complete d start sets late base a b last sound s t l le lower zero j lt g at = absurd (omega arith)
 gates_complete d start sets late base a b last sound s t l le lower (suc k) j lt g at =
     below_more (λ i. (h : Gate) → slice_get d.gates i ≡ Some h → CompleteAt a b l h.out) k
     (gates_complete d start sets late base a b last sound s t l le lower k)
-    (λ h here. gate_completes d start sets late base a b last sound s t l le lower k (gates_complete d start sets late base a b last sound s t l le lower k) h here)
+    (λ h here. gate_completes d start sets late base a b last sound s t l le lower k
+    (gates_complete d start sets late base a b last sound s t l le lower k) h here)
     j (omega arith) g at
 
 -- the bits of each net in each layer complete its ternary value
-pub layers_complete : (d : Design) (start : Start) (sets : List (List PinRef)) (late : RegOut → Bool) (base : List Bool) (a : List (List Tern)) (b : List (List Bool)) (last : ℕ) → IsSound d → AreUnknownTo d start sets base a last → AreBitsTo d start sets late base b last → (k : ℕ) → k ≤ last + 1 → CompleteBelow d a b k
+pub layers_complete : (d : Design) (start : Start) (sets : List (List PinRef)) (late : RegOut
+    → Bool) (base : List Bool) (a : List (List Tern)) (b : List (List Bool)) (last : ℕ) → IsSound d → AreUnknownTo d start sets base a last
+    → AreBitsTo d start sets late base b last → (k : ℕ) → k ≤ last + 1 → CompleteBelow d a b k
 layers_complete d start sets late base a b last sound s t zero le m lt n low = absurd (omega arith)
 layers_complete d start sets late base a b last sound s t (suc k) le m lt n low =
     let lower = layers_complete d start sets late base a b last sound s t k (omega arith) in
@@ -221,23 +246,31 @@ layers_complete d start sets late base a b last sound s t (suc k) le m lt n low 
       | inl here ↦ source_completes d start sets late base a b last sound s t k (omega arith) lower i here
       | inr later ↦
           let gate = from_whole (λ (g : Gate). g.out) d.gates i later in
-          subst (λ (x : ℕ). CompleteAt a b k x) gate.3 (gates_complete d start sets late base a b last sound s t k (omega arith) lower (length d.gates) gate.0 (slice_get_within d.gates gate.0 gate.1 gate.2) gate.1 gate.2)
+          subst (λ (x : ℕ). CompleteAt a b k x) gate.3 (gates_complete d start sets late base a b last sound s t k (omega arith) lower
+          (length d.gates) gate.0 (slice_get_within d.gates gate.0 gate.1 gate.2) gate.1 gate.2)
     ])
     m (omega arith) n low
 
-reg_completes : (d : Design) (sets : List (List PinRef)) (a : List (List Tern)) (b : List (List Bool)) (r : ℕ) (own : Bool) → IsSound d → CompleteBelow d a b (length sets + 1) → (found : Option Reg) → slice_get d.regs r ≡ found → Completes (tern_reg_capture sets a r found own) (late_reg_capture sets b r found own)
+reg_completes : (d : Design) (sets : List (List PinRef)) (a : List (List Tern)) (b : List (List Bool)) (r : ℕ) (own : Bool) → IsSound d
+    → CompleteBelow d a b (length sets + 1) → (found : Option Reg) → slice_get d.regs r ≡ found
+    → Completes (tern_reg_capture sets a r found own) (late_reg_capture sets b r found own)
 reg_completes d sets a b r own sound all None e = refl
 reg_completes d sets a b r own sound all (Some reg) e =
     let in_range = All-at (IsRegInRange d) d.regs r reg e sound.in_range.regs in
-    cell_completes (reg_capture reg) (length reg.ins + 1) (late_reg_pins Zero sets a r reg (tern_of own)) (late_reg_pins false sets b r reg own) (omega (arith, in_range.few))
+    cell_completes (reg_capture reg) (length reg.ins + 1) (late_reg_pins Zero sets a r reg (tern_of own)) (late_reg_pins false sets b r reg own)
+    (omega (arith, in_range.few))
     (λ x y same. capture_agrees reg (length reg.ins + 1) x y in_range.next in_range.clear in_range.preset same)
     (λ i lt.
-    by_test (nat_lt i (length reg.ins)) (pin_reads Zero sets a (length sets) (RegIn r i) (slice_index reg.ins i)) (tern_of own) (pin_reads false sets b (length sets) (RegIn r i) (slice_index reg.ins i)) own
-    (λ is. pin_completes sets a b (length sets) (RegIn r i) (slice_index reg.ins i) (λ m le. all m (omega arith) (slice_index reg.ins i) (in_range.ins i 0 (ltb-true i (length reg.ins) is))))
+    by_test (nat_lt i (length reg.ins)) (pin_reads Zero sets a (length sets) (RegIn r i) (slice_index reg.ins i)) (tern_of own)
+    (pin_reads false sets b (length sets) (RegIn r i) (slice_index reg.ins i)) own
+    (λ is. pin_completes sets a b (length sets) (RegIn r i) (slice_index reg.ins i)
+    (λ m le. all m (omega arith) (slice_index reg.ins i) (in_range.ins i 0 (ltb-true i (length reg.ins) is))))
     (λ is. own_completes own))
 
 -- the capture over the layers completes the ternary capture
-pub capture_completes : (d : Design) (sets : List (List PinRef)) (a : List (List Tern)) (b : List (List Bool)) (e : End) (c : Cycle) → IsSound d → IsEndIn d e → CompleteBelow d a b (length sets + 1) → Completes (tern_capture_over d sets a e c) (capture_over d sets b e c)
+pub capture_completes : (d : Design) (sets : List (List PinRef)) (a : List (List Tern)) (b : List (List Bool)) (e : End) (c : Cycle) → IsSound d
+    → IsEndIn d e → CompleteBelow d a b (length sets + 1) → Completes (tern_capture_over d sets a e c) (capture_over d sets b e c)
 capture_completes d sets a b (RegEnd r) c sound is all = reg_completes d sets a b r (bit_at c.bits r) sound all (slice_get d.regs r) refl
 capture_completes d sets a b (OutputEnd o) c sound is all =
-    pin_completes sets a b (length sets) (OutPort o) (slice_index d.outputs o) (λ m le. all m (omega arith) (slice_index d.outputs o) (sound.in_range.outputs o 0 is))
+    pin_completes sets a b (length sets) (OutPort o) (slice_index d.outputs o)
+    (λ m le. all m (omega arith) (slice_index d.outputs o) (sound.in_range.outputs o 0 is))

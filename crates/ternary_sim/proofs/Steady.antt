@@ -23,33 +23,42 @@ use Rattle.net_model.specs.declared.terns.Tern.{Tern}
 use Rattle.net_model.specs.declared.terns.Tern.TheVariants.{Zero, One, Unknown}
 
 -- a known ternary capture is the capture over any layers of the start
-known_over : (d : Design) (claim : Claim) (c : Cycle) (late : RegOut → Bool) (rows : List (List Bool)) (b : Bool) → IsSound d → Fits d claim → IsTernaryCapture d claim c (tern_of b) → AreBitsTo d claim.start claim.through late c.nets rows (length claim.through) → capture_over d claim.through rows claim.end c ≡ b
+known_over : (d : Design) (claim : Claim) (c : Cycle) (late : RegOut → Bool) (rows : List (List Bool)) (b : Bool) → IsSound d → Fits d claim
+    → IsTernaryCapture d claim c (tern_of b) → AreBitsTo d claim.start claim.through late c.nets rows (length claim.through)
+    → capture_over d claim.through rows claim.end c ≡ b
 known_over d claim c late rows b sound fits known layers =
     let made = computed_capture d claim c (tern_of b) sound known in
-    let all = layers_complete d claim.start claim.through late c.nets made.rows rows (length claim.through) sound made.layers layers (length claim.through + 1) (omega arith) in
-    let completes : Completes (tern_capture_over d claim.through made.rows claim.end c) (capture_over d claim.through rows claim.end c) = capture_completes d claim.through made.rows rows claim.end c sound fits.end_ all in
-    completes_known b (capture_over d claim.through rows claim.end c) (subst (λ (t : Tern). Completes t (capture_over d claim.through rows claim.end c)) made.capture completes)
+    let all = layers_complete d claim.start claim.through late c.nets made.rows rows (length claim.through) sound made.layers layers
+    (length claim.through + 1) (omega arith) in
+    let completes : Completes (tern_capture_over d claim.through made.rows claim.end c)
+    (capture_over d claim.through rows claim.end c) = capture_completes d claim.through made.rows rows claim.end c sound fits.end_ all in
+    completes_known b (capture_over d claim.through rows claim.end c)
+    (subst (λ (t : Tern). Completes t (capture_over d claim.through rows claim.end c)) made.capture completes)
 
 -- where the ternary capture is a bit, so are the capture and each late capture
-pub steady : (d : Design) (claim : Claim) (c : Cycle) (b : Bool) → IsSound d → Fits d claim → IsSettled d c → IsTernaryCapture d claim c (tern_of b) → IsSteady d claim c b
+pub steady : (d : Design) (claim : Claim) (c : Cycle) (b : Bool) → IsSound d → Fits d claim → IsSettled d c → IsTernaryCapture d claim c (tern_of b)
+    → IsSteady d claim c b
 steady d claim c b sound fits settled known =
     record {
       plain =
           sym (own_capture d claim.through claim.end c sound)
-          ∙ known_over d claim c (λ o. shown o (start_bit claim.start c)) (own_rows c.nets (length claim.through)) b sound fits known (own_layers d claim.start claim.through c sound settled fits.start);
+          ∙ known_over d claim c (λ o. shown o (start_bit claim.start c)) (own_rows c.nets (length claim.through)) b sound fits known
+          (own_layers d claim.start claim.through c sound settled fits.start);
       late = λ stale late is. sym is.capture ∙ known_over d claim c (λ o. shown o stale) is.rows b sound fits known is.layers;
     }
 
 apart_from : (d : Design) (claim : Claim) (c : Cycle) (stale b : Bool) → IsSteady d claim c b → ¬ DiffersLate d claim c stale
 apart_from d claim c stale b is differs = differs.2 (is.late stale differs.0 differs.1 ∙ sym is.plain)
 
-glitch_at : (d : Design) (claim : Claim) (c : Cycle) (stale : Bool) (t : Tern) → IsSound d → Fits d claim → IsSettled d c → DiffersLate d claim c stale → IsTernaryCapture d claim c t → MayGlitch d claim c
+glitch_at : (d : Design) (claim : Claim) (c : Cycle) (stale : Bool) (t : Tern) → IsSound d → Fits d claim → IsSettled d c → DiffersLate d claim c stale
+    → IsTernaryCapture d claim c t → MayGlitch d claim c
 glitch_at d claim c stale Zero sound fits settled differs is = absurd (apart_from d claim c stale false (steady d claim c false sound fits settled is) differs)
 glitch_at d claim c stale One sound fits settled differs is = absurd (apart_from d claim c stale true (steady d claim c true sound fits settled is) differs)
 glitch_at d claim c stale Unknown sound fits settled differs is = is
 
 -- where the late capture differs, the end may glitch
-glitches : (d : Design) (claim : Claim) (c : Cycle) (stale : Bool) → IsSound d → Fits d claim → IsSettled d c → DiffersLate d claim c stale → MayGlitch d claim c
+glitches : (d : Design) (claim : Claim) (c : Cycle) (stale : Bool) → IsSound d → Fits d claim → IsSettled d c → DiffersLate d claim c stale
+    → MayGlitch d claim c
 glitches d claim c stale sound fits settled differs =
     let made = ternary_exists d claim c sound fits.start settled in
     glitch_at d claim c stale made.0 sound fits settled differs made.1
@@ -61,13 +70,16 @@ plain_late d claim c stale differs =
 hazard_glitch : (d : Design) (claim : Claim) (c : Cycle) → MayGlitch d claim c → MayGlitch d (hazard_of claim) c
 hazard_glitch d claim c is = record { rows = is.rows; layers = is.layers; capture = is.capture }
 
-bad_with_hazards : (kind : Kind) (sets : List (List PinRef)) (d : Design) (claim : Claim) (stale : Bool) (before c : Cycle) → (DiffersLate d (plain_of claim) c stale → MayGlitch d (hazard_of claim) c) → IsBadPlain kind sets d (plain_of claim) stale before c → IsBadHazard kind sets d (hazard_of claim) before c
+bad_with_hazards : (kind : Kind) (sets : List (List PinRef)) (d : Design) (claim : Claim) (stale : Bool) (before c : Cycle)
+    → (DiffersLate d (plain_of claim) c stale → MayGlitch d (hazard_of claim) c) → IsBadPlain kind sets d (plain_of claim) stale before c
+    → IsBadHazard kind sets d (hazard_of claim) before c
 bad_with_hazards False sets d claim stale before c glitch bad = glitch bad
 bad_with_hazards (Multi k) [] d claim stale before c glitch bad = inr bad
 bad_with_hazards (Multi k) (set ∷ sets) d claim stale before c glitch bad = glitch bad.0
 
 -- what violates the claim without hazards violates it with them
-pub violated_too : (d : Design) (claim : Claim) (live : ℕ) (run : List Cycle) (t : ℕ) → IsSound d → Fits d claim → IsLinked d run → IsViolatedAt live d (plain_of claim) run t → IsViolatedAt live d (hazard_of claim) run t
+pub violated_too : (d : Design) (claim : Claim) (live : ℕ) (run : List Cycle) (t : ℕ) → IsSound d → Fits d claim → IsLinked d run
+    → IsViolatedAt live d (plain_of claim) run t → IsViolatedAt live d (hazard_of claim) run t
 violated_too d claim live run t sound fits linked v =
     let settled = All-at (IsSettled d) run (t + v.r) v.c v.c_at linked.settled in
     record {
@@ -79,7 +91,8 @@ violated_too d claim live run t sound fits linked v =
       c = v.c;
       before_at = v.before_at;
       c_at = v.c_at;
-      bad = bad_with_hazards claim.kind claim.through d claim v.stale v.before v.c (λ differs. hazard_glitch d claim v.c (glitches d claim v.c v.stale sound fits settled (plain_late d claim v.c v.stale differs))) v.bad;
+      bad = bad_with_hazards claim.kind claim.through d claim v.stale v.before v.c
+          (λ differs. hazard_glitch d claim v.c (glitches d claim v.c v.stale sound fits settled (plain_late d claim v.c v.stale differs))) v.bad;
     }
 
 pub holds_too : (d : Design) (claim : Claim) → IsSound d → Fits d claim → Holds d (hazard_of claim) → Holds d (plain_of claim)

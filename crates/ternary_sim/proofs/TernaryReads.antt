@@ -20,8 +20,10 @@ use Rattle.net_model.specs.declared.claims.End.{End}
 use Rattle.net_model.specs.declared.claims.End.TheVariants.{Reg as RegEnd, Output as OutputEnd}
 
 -- what an end register captures of these places
-pub ternary_read : (d : Design) (sets : List (List PinRef)) (rows : List (List Tern)) (e : End) (c : Cycle) (r : ℕ) (reg : Reg) (own : Bool) (args : ℕ → Tern) (result : Tern) → IsSound d → e ≡ RegEnd r → slice_get d.regs r ≡ Some reg → slice_get c.bits r ≡ Some own
-    → ((i : ℕ) → i < length reg.ins + 1 → args i ≡ late_reg_pins Zero sets rows r reg (tern_of own) i) → IsCommonValue (reg_capture reg) args result → IsTernaryCaptureOver d sets rows e c result
+pub ternary_read : (d : Design) (sets : List (List PinRef)) (rows : List (List Tern)) (e : End) (c : Cycle) (r : ℕ) (reg : Reg) (own : Bool) (args : ℕ
+    → Tern) (result : Tern) → IsSound d → e ≡ RegEnd r → slice_get d.regs r ≡ Some reg → slice_get c.bits r ≡ Some own
+    → ((i : ℕ) → i < length reg.ins + 1 → args i ≡ late_reg_pins Zero sets rows r reg (tern_of own) i) → IsCommonValue
+    (reg_capture reg) args result → IsTernaryCaptureOver d sets rows e c result
 ternary_read d sets rows e c r reg own args result sound end_is at bit same is =
     let here : bit_at c.bits r ≡ own = get_or_from_slice_get c.bits r own false bit in
     let pins = late_reg_pins Zero sets rows r reg (tern_of own) in
@@ -33,7 +35,9 @@ ternary_read d sets rows e c r reg own args result sound end_is at bit same is =
     ternary_over d sets rows e c result sound computed
 
 -- what an end output reads
-pub ternary_output : (d : Design) (sets : List (List PinRef)) (rows : List (List Tern)) (e : End) (c : Cycle) (o net : ℕ) (result : Tern) → IsSound d → e ≡ OutputEnd o → slice_get d.outputs o ≡ Some net → result ≡ pin_reads Zero sets rows (length sets) (OutPort o) net → IsTernaryCaptureOver d sets rows e c result
+pub ternary_output : (d : Design) (sets : List (List PinRef)) (rows : List (List Tern)) (e : End) (c : Cycle) (o net : ℕ) (result : Tern) → IsSound d
+    → e ≡ OutputEnd o → slice_get d.outputs o ≡ Some net → result ≡ pin_reads Zero sets rows (length sets) (OutPort o) net
+    → IsTernaryCaptureOver d sets rows e c result
 ternary_output d sets rows e c o net result sound end_is at is =
     let here : slice_index d.outputs o ≡ net = get_or_from_slice_get d.outputs o net 0 at in
     let computed : tern_capture_over d sets rows e c ≡ result = rw (end_is, here) (sym is) in

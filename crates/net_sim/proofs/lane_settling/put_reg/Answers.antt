@@ -8,13 +8,15 @@ use Rattle.net_sim.proofs.lane_settling.put_reg.Goals as goal
 
 pub put-requires : goal.put-requires
 put-requires c =
-    let low = reg_out_in_range c.args.design.now c.args.r c.item-reg.result.now c.loop-o.o c.at-out.result c.requires.sound c.item-reg.ensures c.at-out.ensures in
+    let low = reg_out_in_range c.args.design.now c.args.r c.item-reg.result.now c.loop-o.o c.at-out.result c.requires.sound c.item-reg.ensures
+    c.at-out.ensures in
     let len = c.loop-o.invariant.len in
     omega arith
 
 pub loop-o-preserved : goal.loop-o-preserved
 loop-o-preserved c =
-    rw c.put.ensures (reg_lanes_more c.args.design.now c.args.r c.item-reg.result.now c.args.bits c.args.nets.now c.loop-o.nets c.loop-o.o c.at-out.result _ c.requires.sound c.item-reg.ensures c.at-out.ensures c.shown_on-shown.ensures c.loop-o.invariant)
+    rw c.put.ensures (reg_lanes_more c.args.design.now c.args.r c.item-reg.result.now c.args.bits c.args.nets.now c.loop-o.nets c.loop-o.o
+    c.at-out.result _ c.requires.sound c.item-reg.ensures c.at-out.ensures c.shown_on-shown.ensures c.loop-o.invariant)
 
 pub returns-clause-shown : goal.returns-clause-shown
 returns-clause-shown c =

@@ -13,6 +13,7 @@ returns c =
     let reg = c.args.reg.now in
     let is : c.common_capture.result ≡ cell_value (reg_capture reg) (arg_at c.args.args.now) =
     c.common_capture.ensures
-    ∙ common_agrees 7 7 (reg_capture reg) (arg_at c.args.args.now) (arg_at c.args.args.now) (arg_at c.of.result) (λ _. false) (λ a b same. capture_agrees reg 7 a b c.requires.next c.requires.clear c.requires.preset same) (λ i lt. refl) (λ i lt. c.of.ensures i) in
+    ∙ common_agrees 7 7 (reg_capture reg) (arg_at c.args.args.now) (arg_at c.args.args.now) (arg_at c.of.result) (λ _. false)
+    (λ a b same. capture_agrees reg 7 a b c.requires.next c.requires.clear c.requires.preset same) (λ i lt. refl) (λ i lt. c.of.ensures i) in
     subst (IsCommonValue (reg_capture reg) (arg_at c.args.args.now)) (sym is)
     (cell_common (reg_capture reg) (arg_at c.args.args.now) (λ a b same. capture_agrees reg 7 a b c.requires.next c.requires.clear c.requires.preset same))

@@ -11,7 +11,8 @@ is_ternary c = record {
   rows = c.make_layers.new.rows;
   layers =
       ternary_layers c.args.design.now c.args.claim.now.start c.args.claim.now.through c.args.cycle.now.nets c.make_layers.new.rows
-      (unknown_layers c.args.design.now c.args.claim.now.start c.args.claim.now.through c.args.cycle.now.nets c.make_layers.new.rows (length c.args.claim.now.through) c.make_layers.ensures.layers);
+      (unknown_layers c.args.design.now c.args.claim.now.start c.args.claim.now.through c.args.cycle.now.nets c.make_layers.new.rows
+      (length c.args.claim.now.through) c.make_layers.ensures.layers);
   capture = c.capture_last.ensures;
 }
 
@@ -20,7 +21,8 @@ returns-clause-ternary c = is_ternary c
 
 pub returns-clause-only : goal.returns-clause-only
 returns-clause-only c =
-    λ other is. ternary_once c.args.design.now c.args.claim.now c.args.cycle.now other c.capture_last.result c.requires.sound c.requires.fits.end_ is (is_ternary c)
+    λ other is. ternary_once c.args.design.now c.args.claim.now c.args.cycle.now other c.capture_last.result c.requires.sound c.requires.fits.end_ is
+    (is_ternary c)
 
 pub returns-clause-steady : goal.returns-clause-steady
 returns-clause-steady c =

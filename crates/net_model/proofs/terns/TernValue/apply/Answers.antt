@@ -16,5 +16,6 @@ returns c =
     record {
       value = is;
       common = has;
-      stays = λ more other known its b known_is. known_stays (value c.args.func.now) (arg_at c.args.args.now) more c.common_of.result other b known has its known_is;
+      stays = λ more other known its b known_is. known_stays (value c.args.func.now)
+          (arg_at c.args.args.now) more c.common_of.result other b known has its known_is;
     }
