@@ -1,7 +1,7 @@
 //! Small designs and queries as lists of parts, for tests.
 use net_model::{
-    Claim, Design, End, Fixed, Func, Gate, InvClause, Kind, Node, PinRef, Reg, RegOut, Start,
-    StateLit,
+    Claim, Design, End, Fixed, Func, Gate, InvClause, Kind, Node, PinRef, PinSet, Reg, RegOut,
+    Start, StateLit,
 };
 use sdcv_base::Seq;
 use std::alloc::{AllocError, Global};
@@ -232,8 +232,8 @@ fn add_ask(alloc: Global, case: &mut Case, ask: &Ask) -> Result<(), AllocError> 
         Ask::Out(output) => claim.end = End::Output(output),
         Ask::Multi(multiplier) => claim.kind = Kind::Multi(multiplier),
         Ask::Hazard => claim.hazard = true,
-        Ask::Via(pin) => claim.through.push(seq(alloc, &[pin])?)?,
-        Ask::Either(first, second) => claim.through.push(seq(alloc, &[first, second])?)?,
+        Ask::Via(pin) => claim.through.push(PinSet::of(alloc, &[pin])?)?,
+        Ask::Either(first, second) => claim.through.push(PinSet::of(alloc, &[first, second])?)?,
         Ask::Keeps(lits) => case.clauses.push(clause(alloc, lits)?)?,
         Ask::Fails(lits) => {
             case.clauses.push(clause(alloc, lits)?)?;

@@ -9,21 +9,22 @@ ghost use Rattle.net_model.specs.declared.claims.PinRef.TheVariants.{Net};
 ghost use Rattle.query_model.specs.Reads.{AreMoved};
 ghost use Rattle.frame_unroll.specs.Marked.{HasNetsBelow, AreGatesMoved};
 
-use crate::pins::{is_held, reads_marked};
+use crate::pins::reads_marked;
 use crate::start_marks::{no_marks, start_marks};
-use net_model::{Claim, Design, PinRef};
+use net_model::{Claim, Design, PinRef, PinSet, is_held};
 use sdcv_base::Seq;
 use std::alloc::{AllocError, Global};
 
 /// The nets of a set that are marked in a row.
-fn held_row(alloc: Global, set: &Seq<PinRef>, row: &Seq<bool>) -> Result<Seq<bool>, AllocError>
+fn held_row(alloc: Global, set: &PinSet, row: &Seq<bool>) -> Result<Seq<bool>, AllocError>
     requires { HasNetsBelow (length row.now) set.now }
     ensures len { IfOk result (λ held. length held ≡ length row.now) }
     ensures held { IfOk result (λ held. (n : ℕ) → is_marked held n ≡ (is_in (Net n) set.now && is_marked row.now n)) }
 {
     let mut held = no_marks(alloc, row.len())?;
-    for i in 0..set.len() {
-        if let PinRef::Net(net) = set.at(i) {
+    let pins = set.pins();
+    for i in 0..pins.len() {
+        if let PinRef::Net(net) = pins.at(i) {
             held.put(net, row.at(net));
         }
     }
@@ -32,7 +33,7 @@ fn held_row(alloc: Global, set: &Seq<PinRef>, row: &Seq<bool>) -> Result<Seq<boo
 
 /// Marks each gate output of a layer that is not in its set where a pin of the gate reads a marked net, in the order of
 /// the gates.
-fn settle_moved(design: &Design, sets: &Seq<Seq<PinRef>>, layer: usize, rows: &mut Seq<Seq<bool>>)
+fn settle_moved(design: &Design, sets: &Seq<PinSet>, layer: usize, rows: &mut Seq<Seq<bool>>)
     requires sound { IsSound design.now }
     requires sets { layer ≤ length sets.now }
     requires rows { layer < length rows.old }

@@ -7,10 +7,9 @@ ghost use Rattle.frame_unroll.specs.Reading.{AreTables};
 ghost use Rattle.frame_unroll.specs.Found.{AreNetGates};
 ghost use Rattle.frame_unroll.specs.Origins as origins;
 
-use crate::pins::is_held;
 use crate::read_tables::Tables;
 use crate::spans::judged_count;
-use net_model::{Claim, Design, End, PinRef};
+use net_model::{Claim, Design, End, PinRef, is_held};
 use query_model::Key;
 use sdcv_base::Seq;
 

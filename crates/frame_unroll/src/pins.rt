@@ -1,31 +1,15 @@
-//! Pins in sets, and what the pins of a gate read.
-ghost use Rattle.std.specs.Prelude.{◌≡◌, ◌<◌, ◌≤◌, ◌↔◌, ℕ, false, IsTrue, Contains, length};
+//! What the pins of a gate read.
+ghost use Rattle.std.specs.Prelude.{◌≡◌, ◌<◌, ◌≤◌, ℕ, false, length};
 ghost use Rattle.net_model.specs.Netlist.{AllBelow};
-ghost use Rattle.net_model.specs.Pins.{is_in};
-ghost use Rattle.net_model.specs.Layers.{row_at, held_set, layer_pins};
+ghost use Rattle.net_model.specs.Layers.{row_at, layer_pins};
 ghost use Rattle.query_model.specs.Reads.{any_below};
 
-use net_model::{PinRef, layer_pin};
+use net_model::{PinRef, PinSet, layer_pin};
 use sdcv_base::Seq;
-
-/// Whether a set has the pin.
-fn has_pin(set: &Seq<PinRef>, pin: PinRef) -> bool
-    ensures { IsTrue result ↔ Contains set.now pin }
-{
-    set.as_slice().iter().any(|other| *other == pin)
-}
-
-/// Whether a pin is in the set of a layer. The first layer, number 0, has none.
-pub fn is_held(sets: &Seq<Seq<PinRef>>, layer: usize, pin: PinRef) -> bool
-    requires { layer ≤ length sets.now }
-    ensures { result ≡ is_in pin (held_set sets.now layer) }
-{
-    layer > 0 && has_pin(sets.item(layer - 1), pin)
-}
 
 /// Whether some pin of a gate reads a marked net in a layer.
 pub fn reads_marked(
-    sets: &Seq<Seq<PinRef>>,
+    sets: &Seq<PinSet>,
     rows: &Seq<Seq<bool>>,
     layer: usize,
     gate: usize,

@@ -6,9 +6,8 @@ ghost use Rattle.query_model.specs.Reads.{read, read_base, read_late, read_pin};
 ghost use Rattle.frame_unroll.specs.Reading.{AreTables};
 
 use crate::drivers::base_lit;
-use crate::pins::is_held;
 use crate::read_tables::Tables;
-use net_model::{Claim, Design, PinRef};
+use net_model::{Claim, Design, PinRef, is_held};
 use query_model::{Key, KeyLit};
 
 fn flip_if(lit: KeyLit, flip: bool) -> KeyLit

@@ -7,8 +7,8 @@ use crate::{Frames, Tables, base_lit, moved_nets, net_drivers, net_lit, pin_lit}
 use net_model::PinRef::{GateIn, Net, RegIn};
 use net_model::Start::Input;
 use net_model::{
-    Claim, Design, End, Func, Gate, InvClause, Kind, Node, Phase, PinRef, Reg, RegOut, Start,
-    StateLit,
+    Claim, Design, End, Func, Gate, InvClause, Kind, Node, Phase, PinRef, PinSet, Reg, RegOut,
+    Start, StateLit,
 };
 use query_model::{Key, KeyLit};
 use sdcv_base::Seq;
@@ -94,7 +94,7 @@ fn design(rt: &impl Abort, alloc: Global) -> Result<Design, AllocError>
     Ok(design)
 }
 
-fn claim(hazard: bool, start: Start, through: Seq<Seq<PinRef>>) -> Claim {
+fn claim(hazard: bool, start: Start, through: Seq<PinSet>) -> Claim {
     Claim {
         kind: Kind::False,
         hazard,
@@ -112,7 +112,7 @@ fn claim_through(
 ) -> Result<Claim, AllocError> {
     let mut through = Seq::new(alloc);
     for set in sets {
-        through.push(seq(alloc, set)?)?;
+        through.push(PinSet::of(alloc, set)?)?;
     }
     Ok(claim(hazard, start, through))
 }

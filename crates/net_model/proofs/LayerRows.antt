@@ -13,6 +13,7 @@ use Rattle.net_model.proofs.Settling.{All-at, ReadsPlaces}
 use Rattle.net_model.proofs.Sources.{flat_has, out_contains}
 use Rattle.net_model.proofs.Layered.{pin_kept}
 use Rattle.net_model.specs.Layers.{first_value}
+use Rattle.net_model.specs.RowChanges.{ChangesRow}
 use Rattle.net_model.specs.declared.netlist.Design.{Design}
 use Rattle.net_model.specs.declared.netlist.Reg.{Reg}
 use Rattle.net_model.specs.declared.netlist.RegOut.{RegOut}
@@ -139,4 +140,12 @@ len_kept {V} rows next l size m below len before =
     elim (cases_eq m l) [
       | inl here ↦ rw here len
       | inr apart ↦ ap length (below m apart) ∙ before
+    ]
+
+-- each row is as long as before the change of one
+pub length-ChangesRow : {V : Type 0} (layer : ℕ) (before now : List (List V)) → ChangesRow layer before now → (m : ℕ) → length (row_at now m) ≡ length (row_at before m)
+length-ChangesRow layer before now kept m =
+    elim (cases_eq m layer) [
+      | inl here ↦ rw here kept.len
+      | inr apart ↦ ap length (kept.others m apart)
     ]

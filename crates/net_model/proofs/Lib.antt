@@ -12,6 +12,7 @@ pub mod Existence
 pub mod OneRun
 pub mod Stretches
 pub mod PinTests
+mod PinSearch
 pub mod Marking
 pub mod Driving
 pub mod Ranging

@@ -19,7 +19,7 @@ two_true : (g h i j : ℕ) → ((g == h) && (i == j)) ≡ true → (g ≡ h) × 
 two_true g h i j e =
     let both = both_true (g == h) (i == j) e in (eqb-true g h both.0, eqb-true i j both.1)
 
-one_pin : (p q : PinRef) → same_pin p q ≡ true → p ≡ q
+pub one_pin : (p q : PinRef) → same_pin p q ≡ true → p ≡ q
 one_pin (Net n) (Net m) e = ap Net (eqb-true n m e)
 one_pin (GateIn g i) (GateIn h j) e =
     let two = two_true g h i j e in ap (λ (k : ℕ). GateIn k i) two.0 ∙ ap (λ (k : ℕ). GateIn h k) two.1

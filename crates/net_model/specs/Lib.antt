@@ -7,7 +7,9 @@ pub mod Netlist
 pub mod Rows
 pub mod Cycles
 pub mod Pins
+pub mod PinSets
 pub mod Layers
+pub mod RowChanges
 pub mod Ternary
 pub mod Splitting
 pub mod Completions

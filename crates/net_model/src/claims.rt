@@ -1,4 +1,5 @@
 //! What a timing exception claims of one pair of a start and an end.
+use crate::pins::PinSet;
 use sdcv_base::{Kind, Seq};
 
 /// Where a path starts: at a register or an input, by its place in the design's list.
@@ -17,7 +18,7 @@ pub enum End {
 
 /// A pin on a path: the driver pin of a net, an input pin of a gate or a register, by its number and the place in
 /// `ins`, or an output port.
-#[derive(Debug, Clone, Copy, PartialEq, Eq)]
+#[derive(Debug, Clone, Copy, PartialEq, Eq, PartialOrd, Ord)]
 pub enum PinRef {
     Net(usize),
     GateIn(usize, usize),
@@ -34,5 +35,5 @@ pub struct Claim {
     pub hazard: bool,
     pub start: Start,
     pub end: End,
-    pub through: Seq<Seq<PinRef>>,
+    pub through: Seq<PinSet>,
 }

@@ -5,7 +5,8 @@ ghost use Rattle.net_model.specs.Fits.{IsStartIn, IsEndIn, IsPinIn, IsKindFit, F
 use crate::claims::{Claim, End, PinRef, Start};
 use crate::limits::{MOST_CYCLES, MOST_SETS};
 use crate::netlist::Design;
-use sdcv_base::{Kind, Seq};
+use crate::pins::PinSet;
+use sdcv_base::Kind;
 
 fn is_kind_fit(kind: Kind) -> bool
     ensures { IsTrue result ↔ IsKindFit kind }
@@ -49,10 +50,13 @@ fn is_pin_in(design: &Design, pin: PinRef) -> bool
     }
 }
 
-fn are_pins_in(design: &Design, set: &Seq<PinRef>) -> bool
+fn are_pins_in(design: &Design, set: &PinSet) -> bool
     ensures { IsTrue result ↔ All (IsPinIn design.now) set.now }
 {
-    set.as_slice().iter().all(|pin| is_pin_in(design, *pin))
+    set.pins()
+        .as_slice()
+        .iter()
+        .all(|pin| is_pin_in(design, *pin))
 }
 
 impl Claim {

@@ -4,19 +4,20 @@ ghost use Rattle.net_model.specs.Netlist.{IsSound};
 ghost use Rattle.net_model.specs.Fits.{IsStartIn};
 ghost use Rattle.net_model.specs.Pins.{start_outs, start_nets, late_value};
 ghost use Rattle.net_model.specs.Layers.{row_at, net_at, first_value, AreLayers};
+ghost use Rattle.net_model.specs.RowChanges.{ChangesRow};
 ghost use Rattle.net_model.specs.declared.netlist.RegOut.{RegOut as OutRecord};
 
 use crate::claims::{Claim, PinRef, Start};
 use crate::layers::settle_layer;
 use crate::netlist::Design;
-use crate::pins::is_held;
+use crate::pins::{PinSet, is_held};
 use crate::values::Value;
 use sdcv_base::Seq;
 
 /// The value that a net has in a layer before gates are settled: in the set of the layer that of the layer before, else
 /// that of the cycle.
 fn base_value<V: Value>(
-    sets: &Seq<Seq<PinRef>>,
+    sets: &Seq<PinSet>,
     layer: usize,
     base: &Seq<bool>,
     rows: &Seq<Seq<V>>,
@@ -37,7 +38,7 @@ fn base_value<V: Value>(
 
 /// Writes these values.
 fn put_base_row<V: Value>(
-    sets: &Seq<Seq<PinRef>>,
+    sets: &Seq<PinSet>,
     layer: usize,
     base: &Seq<bool>,
     rows: &mut Seq<Seq<V>>,
@@ -45,9 +46,7 @@ fn put_base_row<V: Value>(
     requires sets { layer ≤ length sets.now }
     requires rows { layer < length rows.old }
     requires lens { (m : ℕ) → m ≤ layer → length (row_at rows.old m) ≡ length base.now }
-    ensures count { length rows.new ≡ length rows.old }
-    ensures below { (m : ℕ) → m ≢ layer → row_at rows.new m ≡ row_at rows.old m }
-    ensures len { length (row_at rows.new layer) ≡ length base.now }
+    ensures kept { ChangesRow layer rows.old rows.new }
     ensures row { (n : ℕ) → n < length base.now → net_at (V.bit_value false) rows.new layer n ≡ first_value (V.bit_value false) V.bit_value sets.now rows.old layer base.now n }
 {
     for n in 0..base.len() {
@@ -62,9 +61,7 @@ fn put_late_reg<V: Value>(design: &Design, r: usize, value: V, inverted: V, rows
     requires in_range { r < length design.now.regs }
     requires rows { 0 < length rows.old }
     requires len { length (row_at rows.old 0) ≡ design.now.nets }
-    ensures count { length rows.new ≡ length rows.old }
-    ensures below { (m : ℕ) → m ≢ 0 → row_at rows.new m ≡ row_at rows.old m }
-    ensures len { length (row_at rows.new 0) ≡ design.now.nets }
+    ensures kept { ChangesRow 0 rows.old rows.new }
     ensures late { All (λ (o : OutRecord). net_at (V.bit_value false) rows.new 0 o.net ≡ late_value value inverted o) (start_outs design.now (Start.Reg r)) }
     ensures others { (n : ℕ) → ¬ Contains (start_nets design.now (Start.Reg r)) n → net_at (V.bit_value false) rows.new 0 n ≡ net_at (V.bit_value false) rows.old 0 n }
 {
@@ -83,9 +80,7 @@ fn put_late<V: Value>(design: &Design, start: &Start, value: V, inverted: V, row
     requires in_range { IsStartIn design.now start.now }
     requires rows { 0 < length rows.old }
     requires len { length (row_at rows.old 0) ≡ design.now.nets }
-    ensures count { length rows.new ≡ length rows.old }
-    ensures below { (m : ℕ) → m ≢ 0 → row_at rows.new m ≡ row_at rows.old m }
-    ensures len { length (row_at rows.new 0) ≡ design.now.nets }
+    ensures kept { ChangesRow 0 rows.old rows.new }
     ensures late { All (λ (o : OutRecord). net_at (V.bit_value false) rows.new 0 o.net ≡ late_value value inverted o) (start_outs design.now start.now) }
     ensures others { (n : ℕ) → ¬ Contains (start_nets design.now start.now) n → net_at (V.bit_value false) rows.new 0 n ≡ net_at (V.bit_value false) rows.old 0 n }
 {
@@ -101,9 +96,7 @@ fn put_late_input<V: Value>(design: &Design, i: usize, value: V, rows: &mut Seq<
     requires in_range { i < length design.now.inputs }
     requires rows { 0 < length rows.old }
     requires len { length (row_at rows.old 0) ≡ design.now.nets }
-    ensures count { length rows.new ≡ length rows.old }
-    ensures below { (m : ℕ) → m ≢ 0 → row_at rows.new m ≡ row_at rows.old m }
-    ensures len { length (row_at rows.new 0) ≡ design.now.nets }
+    ensures kept { ChangesRow 0 rows.old rows.new }
     ensures late { net_at (V.bit_value false) rows.new 0 (slice_index design.now.inputs i) ≡ value }
     ensures others { (n : ℕ) → n ≢ slice_index design.now.inputs i → net_at (V.bit_value false) rows.new 0 n ≡ net_at (V.bit_value false) rows.old 0 n }
 {

@@ -5,18 +5,19 @@ ghost use Rattle.net_model.specs.Form.{IsOver};
 ghost use Rattle.net_model.specs.Netlist.{IsSound, AllBelow, source_nets};
 ghost use Rattle.net_model.specs.Pins.{is_in};
 ghost use Rattle.net_model.specs.Layers.{row_at, net_at, held_set, pin_reads, layer_pins, late_reg_pins, AreLayerGates};
+ghost use Rattle.net_model.specs.RowChanges.{ChangesRow};
 ghost use Rattle.net_model.specs.declared.claims.PinRef.TheVariants.{Net};
 
 use crate::arguments::Args;
 use crate::claims::PinRef;
 use crate::netlist::{Design, Gate, Reg};
-use crate::pins::is_held;
+use crate::pins::{PinSet, is_held};
 use crate::values::Value;
 use sdcv_base::Seq;
 
 /// What an input pin of a net reads in a layer: where it is in the set of the layer, what it reads in the one before.
 pub fn layer_pin<V: Value>(
-    sets: &Seq<Seq<PinRef>>,
+    sets: &Seq<PinSet>,
     rows: &Seq<Seq<V>>,
     layer: usize,
     pin: PinRef,
@@ -36,7 +37,7 @@ pub fn layer_pin<V: Value>(
 
 /// What the pins of a gate read in a layer.
 fn layer_args<V: Value>(
-    sets: &Seq<Seq<PinRef>>,
+    sets: &Seq<PinSet>,
     rows: &Seq<Seq<V>>,
     layer: usize,
     gate: usize,
@@ -59,7 +60,7 @@ fn layer_args<V: Value>(
 
 /// The value of a gate's function in a layer.
 fn layer_value<V: Value>(
-    sets: &Seq<Seq<PinRef>>,
+    sets: &Seq<PinSet>,
     rows: &Seq<Seq<V>>,
     layer: usize,
     place: usize,
@@ -79,7 +80,7 @@ fn layer_value<V: Value>(
 /// Gives each gate output of a layer that is not in its set the value of its function, in the order of the gates.
 pub fn settle_layer<V: Value>(
     design: &Design,
-    sets: &Seq<Seq<PinRef>>,
+    sets: &Seq<PinSet>,
     layer: usize,
     rows: &mut Seq<Seq<V>>,
 )
@@ -87,9 +88,7 @@ pub fn settle_layer<V: Value>(
     requires sets { layer ≤ length sets.now }
     requires rows { layer < length rows.old }
     requires lens { (m : ℕ) → m ≤ layer → length (row_at rows.old m) ≡ design.now.nets }
-    ensures count { length rows.new ≡ length rows.old }
-    ensures below { (m : ℕ) → m ≢ layer → row_at rows.new m ≡ row_at rows.old m }
-    ensures len { length (row_at rows.new layer) ≡ design.now.nets }
+    ensures kept { ChangesRow layer rows.old rows.new }
     ensures sources { (n : ℕ) → Contains (source_nets design.now) n → net_at (V.bit_value false) rows.new layer n ≡ net_at (V.bit_value false) rows.old layer n }
     ensures held { (n : ℕ) → is_in (Net n) (held_set sets.now layer) ≡ true → net_at (V.bit_value false) rows.new layer n ≡ net_at (V.bit_value false) rows.old layer n }
     ensures gates { AreLayerGates V.applied (V.bit_value false) design.now sets.now rows.new layer }
@@ -105,7 +104,7 @@ pub fn settle_layer<V: Value>(
 
 /// What the pins of an end register read in the last layer, and at the place after them its own bit.
 pub fn late_reg_args<V: Value>(
-    sets: &Seq<Seq<PinRef>>,
+    sets: &Seq<PinSet>,
     rows: &Seq<Seq<V>>,
     r: usize,
     reg: &Reg,

@@ -52,7 +52,7 @@ pub use limits::{
     MOST_REGISTERS, MOST_RESET_CYCLES, MOST_SETS,
 };
 pub use netlist::{Design, Fixed, Gate, Reg, RegOut};
-pub use pins::is_held;
+pub use pins::{PinSet, is_held};
 pub use queries::Phase;
 pub use rows::{pin_args, settle_gates};
 pub use sdcv_base::Kind;

@@ -20,7 +20,7 @@ pub enum Tern {
 
 impl Tern {
     /// The value of both, or unknown where they differ.
-    fn join(self, other: Tern) -> Tern
+    pub fn join(self, other: Tern) -> Tern
         ensures { result ≡ join self other }
     {
         match (self, other) {

@@ -7,7 +7,7 @@ ghost use Rattle.net_paths.specs.Levels.{MeetsAtEnd, MeetsAllAt, MeetsAtReg};
 
 use crate::levels::levels_of;
 use crate::sets::advance;
-use net_model::{Design, End, PinRef, Start};
+use net_model::{Design, End, PinRef, PinSet, Start};
 use sdcv_base::Seq;
 use std::alloc::{AllocError, Global};
 
@@ -18,7 +18,7 @@ pub fn has_path(
     design: &Design,
     start: &Start,
     end: &End,
-    through: &Seq<Seq<PinRef>>,
+    through: &Seq<PinSet>,
 ) -> Result<bool, AllocError>
     requires sound { IsSound design.now }
     requires start { IsStartIn design.now start.now }
@@ -29,12 +29,7 @@ pub fn has_path(
     Ok(meets_at_end(design, through, &levels, end))
 }
 
-fn meets_at_end(
-    design: &Design,
-    sets: &Seq<Seq<PinRef>>,
-    levels: &Seq<Option<usize>>,
-    end: &End,
-) -> bool
+fn meets_at_end(design: &Design, sets: &Seq<PinSet>, levels: &Seq<Option<usize>>, end: &End) -> bool
     requires sound { IsSound design.now }
     requires end { IsEndIn design.now end.now }
     requires len { length levels.now ≡ design.now.nets }
@@ -49,12 +44,7 @@ fn meets_at_end(
     }
 }
 
-fn meets_at_pins(
-    sets: &Seq<Seq<PinRef>>,
-    levels: &Seq<Option<usize>>,
-    reg: usize,
-    ins: &[usize],
-) -> bool
+fn meets_at_pins(sets: &Seq<PinSet>, levels: &Seq<Option<usize>>, reg: usize, ins: &[usize]) -> bool
     requires { AllBelow (length levels.now) ins.now }
     ensures { IsTrue result ↔ MeetsAtReg sets.now levels.now reg ins.now (length ins.now) }
 {
@@ -66,7 +56,7 @@ fn meets_at_pins(
     false
 }
 
-fn meets_all(sets: &Seq<Seq<PinRef>>, levels: &Seq<Option<usize>>, pin: PinRef, net: usize) -> bool
+fn meets_all(sets: &Seq<PinSet>, levels: &Seq<Option<usize>>, pin: PinRef, net: usize) -> bool
     requires { net < length levels.now }
     ensures { IsTrue result ↔ MeetsAllAt sets.now levels.now pin net }
 {

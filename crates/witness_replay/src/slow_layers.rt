@@ -90,7 +90,7 @@ impl SlowLayers<'_> {
             return false;
         }
         match self.claim.through.as_slice().get(layer - 1) {
-            Some(set) => set.as_slice().contains(&pin),
+            Some(set) => set.pins().as_slice().contains(&pin),
             None => false,
         }
     }

@@ -2,7 +2,9 @@
 ghost use Rattle.std.specs.Prelude.{IfOk};
 ghost use Rattle.net_model.specs.Netlist.{IsSound};
 
-use net_model::{Claim, Design, End, Fixed, Func, Gate, Kind, Node, PinRef, Reg, RegOut, Start};
+use net_model::{
+    Claim, Design, End, Fixed, Func, Gate, Kind, Node, PinRef, PinSet, Reg, RegOut, Start,
+};
 use sdcv_base::Seq;
 use std::alloc::{AllocError, Global};
 use std::process::Abort;
@@ -213,7 +215,7 @@ pub fn false_path(
 ) -> Result<Claim, AllocError> {
     let mut through = Seq::new(alloc);
     for pin in pins {
-        through.push(seq(alloc, &[*pin])?)?;
+        through.push(PinSet::of(alloc, &[*pin])?)?;
     }
     Ok(Claim {
         kind: Kind::False,
