@@ -1,1 +1,3 @@
 pub mod LaneSettling
+pub mod SettingsPut
+pub mod Running

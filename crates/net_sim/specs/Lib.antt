@@ -1,2 +1,4 @@
 pub mod Layers
 pub mod LaneRows
+pub mod Settings
+pub mod Runs

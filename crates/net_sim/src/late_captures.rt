@@ -7,14 +7,11 @@ ghost use Rattle.net_model.specs.Layers.{row_at, IsLateCapture, capture_over};
 ghost use Rattle.net_sim.specs.Layers.{AreLayersFor};
 
 use net_model::{
-    Claim, Cycle, Design, End, PinRef, capture_of, late_reg_args, layer_pin, make_layers,
+    Claim, Cycle, Design, End, LAYERS, PinRef, capture_of, late_reg_args, layer_pin, make_layers,
 };
 use sdcv_base::Seq;
 use std::alloc::{AllocError, Global};
 use std::marker::Model;
-
-/// The first layer, and one for each of at most four through sets.
-const LAYERS: usize = 5;
 
 /// Room for the net values of five layers of a design: the first, and one for each of at most four through sets.
 ///
@@ -40,8 +37,7 @@ impl Layers {
     {
         let mut rows = Seq::new(alloc);
         for _ in 0..LAYERS {
-            let row = vec![in alloc; false; design.nets]?;
-            rows.push(Seq::from_vec(row))?;
+            rows.push(Seq::filled(alloc, false, design.nets)?)?;
         }
         Ok(Layers { rows })
     }

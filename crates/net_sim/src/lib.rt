@@ -1,9 +1,9 @@
-//! Two-valued simulation of a cycle: its settled net values, its captures, and what its end captures where a start
-//! comes late.
+//! Two-valued simulation: the settled net values of a cycle, its captures, what its end captures where a start comes
+//! late, and the linked cycles that a stimulus stands for.
 //!
-//! The meaning of each call is a definition of `net_model`: `IsSettled`, `capture`, `IsNext` and `IsLateCapture`. Read
-//! `settle` first; `settle64` does for sixty-four cycles what it does for one. The order of a run's cycles, and which
-//! captures are judged, are left to the crates above.
+//! The meaning of each call is a definition of `net_model`: `IsSettled`, `capture`, `IsNext`, `IsLateCapture` and
+//! `IsLinked`. Read `settle` first; `settle64` does for sixty-four cycles what it does for one. Which inputs a run has,
+//! and which captures are judged, are left to the crates above.
 #![tactic(auto)]
 
 mod captures;
@@ -11,6 +11,8 @@ mod lane_settling;
 #[cfg(test)]
 mod lane_tests;
 mod late_captures;
+mod runs;
+mod settings;
 mod settling;
 #[cfg(test)]
 mod tests;
@@ -18,4 +20,6 @@ mod tests;
 pub use captures::{capture, step};
 pub use lane_settling::settle64;
 pub use late_captures::{Layers, layer_capture};
+pub use runs::linked_run;
+pub use settings::{are_set, put_settings};
 pub use settling::settle;

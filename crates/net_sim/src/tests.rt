@@ -11,7 +11,7 @@ fn layers_find_room(rt: HostRuntime) -> Result<(), test::Fail> {
         nets: 3,
         gates: Seq::new(alloc),
         regs: Seq::new(alloc),
-        inputs: Seq::from_vec(vec![in alloc; 0, 1, 2]?),
+        inputs: Seq::of(alloc, &[0, 1, 2])?,
         outputs: Seq::new(alloc),
         fixed: Seq::new(alloc),
         resets: Seq::new(alloc),

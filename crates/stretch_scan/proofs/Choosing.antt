@@ -6,7 +6,7 @@ use Rattle.std.proofs.lemmas.List.Elements.{Contains-append_right}
 use Rattle.std.proofs.lemmas.Option.{slice_get-get_or}
 use Rattle.net_model.specs.Cycles.{bit_at}
 use Rattle.net_model.specs.Stimuli.{AreInputs}
-use Rattle.stretch_scan.proofs.SettingsPut.{input_of}
+use Rattle.net_sim.proofs.SettingsPut.{input_of}
 use Rattle.net_model.specs.declared.netlist.Design.{Design}
 use Rattle.net_model.specs.declared.netlist.Fixed.{Fixed}
 use Rattle.net_model.specs.declared.claims.Claim.{Claim}

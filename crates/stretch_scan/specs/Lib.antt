@@ -1,3 +1,2 @@
 pub mod Scans
-pub mod Settings
 pub mod Spots

@@ -1,9 +1,7 @@
 //! Each stretch of two cycles, one after another.
 ghost use Rattle.std.specs.Prelude.{◌≡◌, [], true, false, All};
 ghost use Rattle.net_model.specs.Netlist.{IsSound};
-ghost use Rattle.net_model.specs.Fits.{Fits, IsStartIn};
-ghost use Rattle.net_model.specs.Cycles.{HasShape};
-ghost use Rattle.net_model.specs.Judge as judge;
+ghost use Rattle.net_model.specs.Fits.{Fits};
 ghost use Rattle.net_model.specs.Queries.{IsStepAnswer};
 ghost use Rattle.net_model.specs.declared.cycles.Cycle.{Cycle as CycleRecord};
 ghost use Rattle.net_sim.specs.Layers.{AreLayersFor};
@@ -14,20 +12,8 @@ ghost use Rattle.stretch_scan.specs.declared.stretches.Stretch.{Stretch as Stret
 
 use crate::spots::Spot;
 use crate::stretches::{Stretch, write};
-use net_model::{Claim, Cycle, Design, Start};
+use net_model::{Claim, Design};
 use net_sim::{Layers, capture, layer_capture, settle, step};
-
-/// The bit of a start in a cycle.
-fn start_bit(design: &Design, start: &Start, cycle: &Cycle) -> bool
-    requires in_range { IsStartIn design.now start.now }
-    requires shape { HasShape design.now cycle.now }
-    ensures { result ≡ judge.start_bit start.now cycle.now }
-{
-    match start {
-        Start::Reg(reg) => cycle.bits.at(*reg),
-        Start::Input(input) => cycle.ins.at(*input),
-    }
-}
 
 /// Makes the cycles of a stretch settled, and the second the one after the first. The chosen bits stay.
 fn run_stretch(design: &Design, stretch: &mut Stretch)
@@ -56,8 +42,8 @@ fn is_violated(design: &Design, claim: &Claim, stretch: &mut Stretch, layers: &m
     ensures no { result ≡ false → HasNoAnswerBut design.now claim.now [] stretch.old }
 {
     run_stretch(design, stretch);
-    let stale = start_bit(design, &claim.start, &stretch.first);
-    if start_bit(design, &claim.start, &stretch.second) == stale {
+    let stale = stretch.first.start_bit(design, &claim.start);
+    if stretch.second.start_bit(design, &claim.start) == stale {
         return false;
     }
     let late = layer_capture(design, claim, &stretch.second, stale, layers);

@@ -1,15 +1,13 @@
 //! Two cycles under trial, and their free bits.
-ghost use Rattle.std.specs.Prelude.{◌≡◌, ◌<◌, ℕ, IfOk, false, length, All, Contains, Bool};
-ghost use Rattle.net_model.specs.Netlist.{IsSound, setting_inputs, AllBelow};
-ghost use Rattle.net_model.specs.Cycles.{bit_at, HasShape};
+ghost use Rattle.std.specs.Prelude.{◌≡◌, IfOk, false};
+ghost use Rattle.net_model.specs.Netlist.{IsSound};
+ghost use Rattle.net_model.specs.Cycles.{HasShape};
 ghost use Rattle.net_model.specs.Stimuli.{AreInputs};
-ghost use Rattle.net_model.specs.declared.netlist.Fixed.{Fixed as Setting};
-ghost use Rattle.stretch_scan.specs.Settings.{set_bit, AreApart};
 ghost use Rattle.stretch_scan.specs.Spots.{written, IsFreeSpot, IsReady};
 
 use crate::spots::Spot;
-use net_model::{Cycle, Design, Fixed};
-use sdcv_base::Seq;
+use net_model::{Cycle, Design};
+use net_sim::put_settings;
 use std::alloc::{AllocError, Global};
 
 /// A cycle and the one after it.
@@ -33,46 +31,16 @@ pub fn write(design: &Design, stretch: &mut Stretch, spot: Spot, bit: bool)
     }
 }
 
-/// Writes the values of settings, or where `inactive` their complements, to their inputs.
-fn put_settings(settings: &Seq<Fixed>, inactive: bool, ins: &mut Seq<bool>)
-    requires in_range { AllBelow (length ins.old) (setting_inputs settings.now) }
-    requires apart { AreApart settings.now }
-    ensures len { length ins.new ≡ length ins.old }
-    ensures put { All (λ (s : Setting). bit_at ins.new s.input ≡ set_bit inactive s) settings.now }
-    ensures others { (i : ℕ) → ¬ Contains (setting_inputs settings.now) i → bit_at ins.new i ≡ bit_at ins.old i }
-{
-    for k in 0..settings.len() {
-        let setting = settings.at(k);
-        let bit = if inactive {
-            !setting.value
-        } else {
-            setting.value
-        };
-        ins.put(setting.input, bit);
-    }
-}
-
-/// Input bits with fixed inputs kept, resets inactive and free inputs 0.
-fn base_inputs(alloc: Global, design: &Design) -> Result<Seq<bool>, AllocError>
-    requires { IsSound design.now }
-    ensures { IfOk result (AreInputs design.now false) }
-{
-    let mut ins = Seq::from_vec(vec![in alloc; false; design.inputs.len()]?);
-    put_settings(&design.fixed, false, &mut ins);
-    put_settings(&design.resets, true, &mut ins);
-    Ok(ins)
-}
-
-/// A cycle with such inputs, and all other bits 0.
+/// A cycle with fixed inputs kept and resets inactive, in which all other bits are 0.
 fn base_cycle(alloc: Global, design: &Design) -> Result<Cycle, AllocError>
     requires { IsSound design.now }
     ensures shape { IfOk result (HasShape design.now) }
     ensures ins { IfOk result (λ cycle. AreInputs design.now false cycle.ins) }
 {
-    let bits = Seq::from_vec(vec![in alloc; false; design.regs.len()]?);
-    let ins = base_inputs(alloc, design)?;
-    let nets = Seq::from_vec(vec![in alloc; false; design.nets]?);
-    Ok(Cycle { bits, ins, nets })
+    let mut cycle = Cycle::blank(alloc, design)?;
+    put_settings(&design.fixed, true, &mut cycle.ins);
+    put_settings(&design.resets, false, &mut cycle.ins);
+    Ok(cycle)
 }
 
 /// Two such cycles.

@@ -4,7 +4,7 @@ ghost use Rattle.net_model.specs.Netlist.{IsSound};
 ghost use Rattle.stretch_scan.specs.Scans.{free_bit_count};
 
 use crate::{Scan, decide, free_bits};
-use net_model::{Claim, Design, End, Func, Kind, Node, Reg, RegOut, Start};
+use net_model::{Claim, Design, End, Func, Kind, Reg, RegOut, Start};
 use sdcv_base::Seq;
 use std::alloc::{AllocError, Global};
 use std::test;
@@ -25,13 +25,13 @@ fn looped(alloc: Global, next: Func) -> Result<Design, AllocError>
         clear: None,
         preset: None,
         both: false,
-        ins: Seq::from_vec(vec![in alloc; 0]?),
-        outs: Seq::from_vec(vec![in alloc; out]?),
+        ins: Seq::one(alloc, 0)?,
+        outs: Seq::one(alloc, out)?,
     };
     Ok(Design {
         nets: 1,
         gates: Seq::new(alloc),
-        regs: Seq::from_vec(vec![in alloc; reg]?),
+        regs: Seq::one(alloc, reg)?,
         inputs: Seq::new(alloc),
         outputs: Seq::new(alloc),
         fixed: Seq::new(alloc),
@@ -42,7 +42,7 @@ fn looped(alloc: Global, next: Func) -> Result<Design, AllocError>
 
 // A bit that is kept never toggles. One that toggles in each cycle, and comes late, is captured as it was.
 #[test]
-fn a_register_that_reads_itself(rt: HostRuntime) -> Result<(), test::Fail> {
+fn a_bit_that_is_kept_never_comes_late(rt: HostRuntime) -> Result<(), test::Fail> {
     let alloc = rt.alloc();
     let claim = Claim {
         kind: Kind::False,
@@ -51,15 +51,10 @@ fn a_register_that_reads_itself(rt: HostRuntime) -> Result<(), test::Fail> {
         end: End::Reg(0),
         through: Seq::new(alloc),
     };
-    let kept = Func { node: Node::Pin(0) };
-    let design = looped(alloc, kept)?;
+    let design = looped(alloc, Func::pin(0))?;
     assert_eq!(rt; free_bits(&design), 1);
     assert_eq!(rt; decide(alloc, &design, &claim)?, Scan::Justified);
-    let kept = Box::new(alloc, Func { node: Node::Pin(0) })?;
-    let toggled = Func {
-        node: Node::Not(kept),
-    };
-    let design = looped(alloc, toggled)?;
+    let design = looped(alloc, Func::not(alloc, Func::pin(0))?)?;
     assert_eq!(rt; decide(alloc, &design, &claim)?, Scan::Open);
     Ok(())
 }

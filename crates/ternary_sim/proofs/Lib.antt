@@ -3,4 +3,3 @@ pub mod OwnLayers
 pub mod TernaryExists
 pub mod TernaryReads
 pub mod Steady
-pub mod Examples

@@ -1,3 +1,2 @@
 pub mod TernaryLayers
 pub mod Hazards
-pub mod Examples

@@ -5,20 +5,9 @@ ghost use Rattle.net_model.specs.Form.{IsOver};
 ghost use Rattle.net_model.specs.Netlist.{IsOptionOver};
 ghost use Rattle.net_model.specs.Cycles.{reg_capture};
 ghost use Rattle.net_model.specs.Ternary.{IsCommonValue};
-ghost use Rattle.net_model.specs.Splitting.{join, common};
+ghost use Rattle.net_model.specs.Splitting.{common};
 
 use net_model::{Args, Reg, Tern, Value, capture_of};
-
-/// The value of both, or unknown where they differ.
-fn common_value(low: Tern, high: Tern) -> Tern
-    ensures { result ≡ join low high }
-{
-    match (low, high) {
-        (Tern::Zero, Tern::Zero) => Tern::Zero,
-        (Tern::One, Tern::One) => Tern::One,
-        _ => Tern::Unknown,
-    }
-}
 
 /// The common capture over all completions of the first places.
 fn common_capture(reg: &Reg, args: &Args<Tern>, count: usize, bits: Args<bool>) -> Tern
@@ -42,7 +31,7 @@ fn common_capture(reg: &Reg, args: &Args<Tern>, count: usize, bits: Args<bool>) 
         Tern::Unknown => {
             let low = common_capture(reg, args, place, low);
             let high = common_capture(reg, args, place, high);
-            common_value(low, high)
+            low.join(high)
         }
     }
 }

@@ -11,14 +11,11 @@ ghost use Rattle.ternary_sim.specs.Hazards.{IsSteady};
 
 use crate::cells::cell_capture;
 use net_model::{
-    Claim, Cycle, Design, End, PinRef, Tern, Value, late_reg_args, layer_pin, make_layers,
+    Claim, Cycle, Design, End, LAYERS, PinRef, Tern, Value, late_reg_args, layer_pin, make_layers,
 };
 use sdcv_base::Seq;
 use std::alloc::{AllocError, Global};
 use std::marker::Model;
-
-/// The first layer, and one for each of at most four through sets.
-const LAYERS: usize = 5;
 
 /// Room for the net values of five ternary layers of a design: the first, and one for each of at most four through
 /// sets.
@@ -46,8 +43,7 @@ impl Layers3 {
     {
         let mut rows = Seq::new(alloc);
         for _ in 0..LAYERS {
-            let row = vec![in alloc; Tern::Zero; design.nets]?;
-            rows.push(Seq::from_vec(row))?;
+            rows.push(Seq::filled(alloc, Tern::Zero, design.nets)?)?;
         }
         Ok(Layers3 { rows })
     }

@@ -1,6 +1,5 @@
 pub mod Deciding
 pub mod Kept
-pub mod Running
 pub mod Violations
 mod LineLemmas
 mod DigitLemmas

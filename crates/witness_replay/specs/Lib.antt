@@ -2,5 +2,4 @@ pub mod Replays
 pub mod StimulusTexts
 pub mod Blocks
 pub mod BlockParts
-pub mod Runs
 pub mod Rooms

@@ -1,13 +1,13 @@
 //! Whether a cycle is bad for a claim.
 ghost use Rattle.std.specs.Prelude.{◌≡◌, ◌↔◌, IsTrue, IfOk};
 ghost use Rattle.net_model.specs.Netlist.{IsSound};
-ghost use Rattle.net_model.specs.Fits.{Fits, IsStartIn};
-ghost use Rattle.net_model.specs.Cycles.{HasShape, IsSettled};
+ghost use Rattle.net_model.specs.Fits.{Fits};
+ghost use Rattle.net_model.specs.Cycles.{IsSettled};
 ghost use Rattle.net_model.specs.Judge as judge;
 ghost use Rattle.net_model.specs.declared.terns.Tern.TheVariants.{Unknown};
 ghost use Rattle.witness_replay.specs.Rooms.{AreRoomsFor};
 
-use net_model::{Claim, Cycle, Design, Kind, Start, Tern};
+use net_model::{Claim, Cycle, Design, Kind, Tern};
 use net_sim::{Layers, capture, layer_capture};
 use std::alloc::{AllocError, Global};
 use ternary_sim::{Layers3, capture3};
@@ -26,18 +26,6 @@ impl Rooms {
         let bits = Layers::new(alloc, design)?;
         let terns = Layers3::new(alloc, design)?;
         Ok(Rooms { bits, terns })
-    }
-}
-
-/// The bit of a start in a cycle.
-pub fn start_bit(design: &Design, start: &Start, cycle: &Cycle) -> bool
-    requires in_range { IsStartIn design.now start.now }
-    requires shape { HasShape design.now cycle.now }
-    ensures { result ≡ judge.start_bit start.now cycle.now }
-{
-    match start {
-        Start::Reg(reg) => cycle.bits.at(*reg),
-        Start::Input(input) => cycle.ins.at(*input),
     }
 }
 

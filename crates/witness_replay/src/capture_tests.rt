@@ -5,24 +5,15 @@ ghost use Rattle.net_model.specs.Fits.{Fits};
 ghost use Rattle.net_model.specs.Cycles.{IsSettled};
 
 use crate::slow_layers::SlowLayers;
-use crate::test_designs::{GLITCHING_PAIR, false_path, seq, sound_design};
+use crate::test_designs::{GLITCHING_PAIR, false_path, sound_design};
 use net_model::PinRef::{GateIn, Net, OutPort, RegIn};
 use net_model::{Claim, Cycle, Design, End, PinRef, Start, Tern, Value};
 use net_sim::{Layers, capture, layer_capture, settle};
-use sdcv_base::Seq;
 use std::alloc::{AllocError, Global};
 use std::process::Abort;
 use ternary_sim::{Layers3, capture3};
 
-// The cycle in which register 0 and input 1 have these bits, and all else is 0.
-fn unsettled(alloc: Global, nets: usize, a: bool, e: bool) -> Result<Cycle, AllocError> {
-    let bits = seq(alloc, &[a, false, false, false])?;
-    let ins = seq(alloc, &[false, e])?;
-    let nets = Seq::from_vec(vec![in alloc; false; nets]?);
-    Ok(Cycle { bits, ins, nets })
-}
-
-// The settled cycle of these two bits.
+// The settled cycle in which register 0 and input 1 have these bits, and other registers and inputs are 0.
 fn cycle(
     rt: &impl Abort,
     alloc: Global,
@@ -33,9 +24,10 @@ fn cycle(
     requires sound { IsSound design.now }
     ensures { IfOk result (IsSettled design.now) }
 {
-    let mut cycle = unsettled(alloc, design.nets, a, e)?;
-    let shape = (cycle.bits.len(), cycle.ins.len(), cycle.nets.len());
-    assert!(rt; shape == (design.regs.len(), design.inputs.len(), design.nets));
+    let mut cycle = Cycle::blank(alloc, design)?;
+    assert!(rt; cycle.bits.len() > 0 && cycle.ins.len() > 1);
+    cycle.bits.put(0, a);
+    cycle.ins.put(1, e);
     settle(design, &mut cycle);
     Ok(cycle)
 }

@@ -15,7 +15,6 @@ mod outcomes;
 mod replay_tests;
 mod replays;
 mod rows;
-mod runs;
 mod shapes;
 #[cfg(test)]
 mod slow_layers;

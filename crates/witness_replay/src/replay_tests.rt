@@ -114,7 +114,7 @@ const FLOPS: &[Row] = &[
 
 // Register 0 takes d in cycle 1, the first live one, and toggles in cycle 2, where register 1 captures it late.
 #[test]
-fn a_flop_that_reads_a_flop(rt: HostRuntime) -> Result<(), AllocError> {
+fn a_late_toggle_is_captured_by_the_next_flop(rt: HostRuntime) -> Result<(), AllocError> {
     check_rows(&rt, rt.alloc(), TWO_FLOPS, FLOPS)
 }
 
@@ -147,6 +147,6 @@ const GATES: &[Row] = &[
 // Where e stays 1 register 1 captures 1 in both cycles: with a late start too, unless it is late on net 2 alone. Register
 // 2 reads the same net, and is set by e.
 #[test]
-fn a_register_behind_gates(rt: HostRuntime) -> Result<(), AllocError> {
+fn a_register_behind_gates_captures_what_is_late(rt: HostRuntime) -> Result<(), AllocError> {
     check_rows(&rt, rt.alloc(), GLITCHING_PAIR, GATES)
 }

@@ -4,29 +4,18 @@ ghost use Rattle.net_model.specs.Netlist.{IsSound};
 ghost use Rattle.net_model.specs.Fits.{Fits};
 ghost use Rattle.net_model.specs.Cycles.{IsSettled};
 ghost use Rattle.net_model.specs.Judge as judge;
-ghost use Rattle.sdcv_base.specs.Kinds as kinds;
 ghost use Rattle.net_model.specs.Stimuli.{IsLawful};
 ghost use Rattle.witness_replay.specs.Rooms.{AreRoomsFor};
 ghost use Rattle.witness_replay.specs.Replays.{IsFirstViolation, IsReplay, IsReplayCause};
 
-use crate::bads::{Rooms, is_bad, start_bit};
+use crate::bads::{Rooms, is_bad};
 use crate::faults::ReplayFault;
 use crate::outcomes::Replay;
-use crate::runs::run_of;
 use crate::shapes::{first_unlawful, has_shape};
-use net_model::{Claim, Cycle, Design, Kind, Stimulus};
+use net_model::{Claim, Cycle, Design, Stimulus};
+use net_sim::linked_run;
 use sdcv_base::Seq;
 use std::alloc::{AllocError, Global};
-
-/// How many captures from the toggle on a claim judges.
-fn judged_count(kind: Kind) -> usize
-    ensures { result ≡ kinds.judged_count kind }
-{
-    match kind {
-        Kind::False => 1,
-        Kind::Multi(k) => usize::from(k.saturating_sub(1)),
-    }
-}
 
 /// Whether the run violates the claim at t.
 fn is_violated_at(
@@ -47,11 +36,11 @@ fn is_violated_at(
     if t <= design.reset_len {
         return false;
     }
-    let stale = start_bit(design, &claim.start, run.item(t - 1));
-    if start_bit(design, &claim.start, run.item(t)) == stale {
+    let stale = run.item(t - 1).start_bit(design, &claim.start);
+    if run.item(t).start_bit(design, &claim.start) == stale {
         return false;
     }
-    let judged = judged_count(claim.kind).min(run.len() - t);
+    let judged = claim.kind.judged_count().min(run.len() - t);
     for r in 0..judged {
         let before = run.item(t + r - 1);
         let cycle = run.item(t + r);
@@ -90,7 +79,7 @@ fn replay_lawful(
     requires lawful { IsLawful design.now stimulus.now }
     ensures { IfOk result (IsReplay design.now claim.now stimulus.now) }
 {
-    let run = run_of(alloc, design, stimulus)?;
+    let run = linked_run(alloc, design, stimulus)?;
     let mut rooms = Rooms::new(alloc, design)?;
     Ok(first_violation(design, claim, &run, &mut rooms))
 }

@@ -1,12 +1,11 @@
 //! Whether a stimulus stands for a run of a design.
-ghost use Rattle.std.specs.Prelude.{◌≡◌, ◌↔◌, IsTrue, IfSome, IfNone, All, length, not, if◌then◌else◌};
-ghost use Rattle.net_model.specs.Netlist.{IsSound, AllBelow, setting_inputs};
-ghost use Rattle.net_model.specs.Cycles.{bit_at};
+ghost use Rattle.std.specs.Prelude.{◌≡◌, ◌↔◌, IsTrue, IfSome, IfNone, All, length};
+ghost use Rattle.net_model.specs.Netlist.{IsSound};
 ghost use Rattle.net_model.specs.Stimuli.{IsLawful};
-ghost use Rattle.net_model.specs.declared.netlist.Fixed.{Fixed as Setting};
 ghost use Rattle.witness_replay.specs.Replays.{HasStimulusShape, AreSettingsKept, IsNotReset};
 
-use net_model::{Design, Fixed, Stimulus};
+use net_model::{Design, Stimulus};
+use net_sim::are_set;
 use sdcv_base::Seq;
 
 /// Whether each row has as many bits.
@@ -25,28 +24,13 @@ pub fn has_shape(design: &Design, stimulus: &Stimulus) -> bool
         && have_len(&stimulus.inputs, design.inputs.len())
 }
 
-/// Whether these inputs have the values given for them, or where not `active` the complements.
-fn have_values(settings: &Seq<Fixed>, active: bool, ins: &Seq<bool>) -> bool
-    requires { AllBelow (length ins.now) (setting_inputs settings.now) }
-    ensures { IsTrue result ↔ All (λ (f : Setting). bit_at ins.now f.input ≡ (if active then f.value else not f.value)) settings.now }
-{
-    for k in 0..settings.len() {
-        let setting = settings.at(k);
-        let bit = ins.at(setting.input);
-        if (bit == setting.value) != active {
-            return false;
-        }
-    }
-    true
-}
-
 /// Whether fixed inputs are kept, and reset inputs active or else inactive.
 fn are_settings_kept(design: &Design, active: bool, ins: &Seq<bool>) -> bool
     requires sound { IsSound design.now }
     requires len { length ins.now ≡ length design.now.inputs }
     ensures { IsTrue result ↔ AreSettingsKept design.now active ins.now }
 {
-    have_values(&design.fixed, true, ins) && have_values(&design.resets, active, ins)
+    are_set(&design.fixed, true, ins) && are_set(&design.resets, active, ins)
 }
 
 /// The first cycle in which a reset or fixed input has another value than the design gives it.

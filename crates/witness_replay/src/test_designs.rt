@@ -2,9 +2,7 @@
 ghost use Rattle.std.specs.Prelude.{IfOk};
 ghost use Rattle.net_model.specs.Netlist.{IsSound};
 
-use net_model::{
-    Claim, Design, End, Fixed, Func, Gate, Kind, Node, PinRef, PinSet, Reg, RegOut, Start,
-};
+use net_model::{Claim, Design, End, Fixed, Func, Gate, Kind, PinRef, PinSet, Reg, RegOut, Start};
 use sdcv_base::Seq;
 use std::alloc::{AllocError, Global};
 use std::process::Abort;
@@ -66,57 +64,33 @@ pub const TWO_FLOPS: &[Part] = &[
     Part::Holds(Controls::Cleared, &[2, 0], &[(3, false)]),
 ];
 
-fn at(place: usize) -> Func {
-    Func {
-        node: Node::Pin(place),
-    }
-}
-
-fn boxed(alloc: Global, node: Node) -> Result<Box<Func>, AllocError> {
-    Ok(Box::new(alloc, Func { node })?)
-}
-
-fn pin(alloc: Global, place: usize) -> Result<Box<Func>, AllocError> {
-    boxed(alloc, Node::Pin(place))
-}
-
-fn both(alloc: Global) -> Result<Node, AllocError> {
-    Ok(Node::And(pin(alloc, 0)?, pin(alloc, 1)?))
-}
-
-fn and_or_not(alloc: Global) -> Result<Node, AllocError> {
-    let both = boxed(alloc, both(alloc)?)?;
-    let not = Node::Not(pin(alloc, 0)?);
-    Ok(Node::Or(both, boxed(alloc, not)?))
+fn and_or_not(alloc: Global) -> Result<Func, AllocError> {
+    let both = Func::and(alloc, Func::pin(0), Func::pin(1))?;
+    let not = Func::not(alloc, Func::pin(0))?;
+    Func::or(alloc, both, not)
 }
 
 fn func(alloc: Global, form: Form) -> Result<Func, AllocError> {
-    let node = match form {
-        Form::And => both(alloc)?,
-        Form::Or => Node::Or(pin(alloc, 0)?, pin(alloc, 1)?),
-        Form::AndOrNot => and_or_not(alloc)?,
-    };
-    Ok(Func { node })
-}
-
-/// A list of these items.
-pub fn seq<T: Copy>(alloc: Global, items: &[T]) -> Result<Seq<T>, AllocError> {
-    Ok(Seq::from_vec(Vec::from_slice(alloc, items)?))
+    match form {
+        Form::And => Func::and(alloc, Func::pin(0), Func::pin(1)),
+        Form::Or => Func::or(alloc, Func::pin(0), Func::pin(1)),
+        Form::AndOrNot => and_or_not(alloc),
+    }
 }
 
 fn gate(alloc: Global, form: Form, ins: &[usize], out: usize) -> Result<Gate, AllocError> {
     let func = func(alloc, form)?;
-    let ins = seq(alloc, ins)?;
+    let ins = Seq::of(alloc, ins)?;
     Ok(Gate { func, ins, out })
 }
 
 fn set_controls(reg: &mut Reg, controls: Controls) {
     match controls {
         Controls::Free => {}
-        Controls::Cleared => reg.clear = Some(at(1)),
+        Controls::Cleared => reg.clear = Some(Func::pin(1)),
         Controls::Both(stated) => {
-            reg.clear = Some(at(1));
-            reg.preset = Some(at(1));
+            reg.clear = Some(Func::pin(1));
+            reg.preset = Some(Func::pin(1));
             reg.both = stated;
         }
     }
@@ -137,10 +111,10 @@ fn reg(
     ins: &[usize],
     outs: &[(usize, bool)],
 ) -> Result<Reg, AllocError> {
-    let ins = seq(alloc, ins)?;
+    let ins = Seq::of(alloc, ins)?;
     let outs = reg_outs(alloc, outs)?;
     let mut reg = Reg {
-        next: at(0),
+        next: Func::pin(0),
         clear: None,
         preset: None,
         both: false,
@@ -158,7 +132,7 @@ fn set_nets(
     inputs: &[usize],
 ) -> Result<(), AllocError> {
     design.nets = count;
-    design.inputs = seq(alloc, inputs)?;
+    design.inputs = Seq::of(alloc, inputs)?;
     Ok(())
 }
 
@@ -172,7 +146,7 @@ fn add_reset(design: &mut Design, input: usize) -> Result<(), AllocError> {
 fn add_part(alloc: Global, design: &mut Design, part: &Part) -> Result<(), AllocError> {
     match *part {
         Part::Nets(count, inputs) => set_nets(alloc, design, count, inputs)?,
-        Part::Outputs(nets) => design.outputs = seq(alloc, nets)?,
+        Part::Outputs(nets) => design.outputs = Seq::of(alloc, nets)?,
         Part::Reset(input) => add_reset(design, input)?,
         Part::Drives(form, ins, out) => design.gates.push(gate(alloc, form, ins, out)?)?,
         Part::Holds(controls, ins, outs) => design.regs.push(reg(alloc, controls, ins, outs)?)?,

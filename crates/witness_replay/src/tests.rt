@@ -1,6 +1,5 @@
 //! Texts of stimuli.
-use crate::test_designs::seq;
-use crate::{StimFault, read_stim, write_stim};
+use crate::{ReplayFault, StimFault, read_stim, write_stim};
 use net_model::Stimulus;
 use sdcv_base::Seq;
 use std::alloc::{AllocError, Global};
@@ -17,9 +16,9 @@ struct Row(
 fn stimulus_of(alloc: Global, row: &Row) -> Result<Stimulus, AllocError> {
     let mut inputs = Seq::new(alloc);
     for ins in row.3 {
-        inputs.push(seq(alloc, ins)?)?;
+        inputs.push(Seq::of(alloc, ins)?)?;
     }
-    let state = seq(alloc, row.2)?;
+    let state = Seq::of(alloc, row.2)?;
     Ok(Stimulus { state, inputs })
 }
 
@@ -40,7 +39,7 @@ const WRITTEN: &[Row] = &[
 ];
 
 #[test]
-fn the_block_of_a_stimulus(rt: HostRuntime) -> Result<(), AllocError> {
+fn a_stimulus_is_written_as_a_block(rt: HostRuntime) -> Result<(), AllocError> {
     for row in WRITTEN {
         let text = written(rt.alloc(), row)?;
         assert_eq!(rt; text.as_slice(), row.1.as_bytes());
@@ -117,7 +116,7 @@ const NO_BLOCK: &[&str] = &[
 
 // Reports of which no line is `stimulus 1` or begins with `stimulus 1 `.
 #[test]
-fn a_report_without_the_block(rt: HostRuntime) {
+fn a_report_without_the_block_has_no_stimulus(rt: HostRuntime) {
     for report in NO_BLOCK {
         assert_eq!(rt;
             refused(rt.alloc(), report),
@@ -157,7 +156,7 @@ const BROKEN: &[(&str, u64)] = &[
 
 // Each report with the line, from 1, that breaks the block of number 1, or that is missing.
 #[test]
-fn a_block_that_breaks_its_form(rt: HostRuntime) {
+fn a_broken_block_is_refused_at_its_line(rt: HostRuntime) {
     for (report, line) in BROKEN {
         assert_eq!(rt;
             refused(rt.alloc(), report),
@@ -165,4 +164,34 @@ fn a_block_that_breaks_its_form(rt: HostRuntime) {
             "{report}"
         );
     }
+}
+
+// As the faults' own words say it.
+const REPLAY_WORDS: &[(ReplayFault, &str)] = &[
+    (
+        ReplayFault::Shape,
+        "the numbers of bits are not those of the design",
+    ),
+    (
+        ReplayFault::NotReset(3),
+        "cycle 3: a reset or fixed input has another value",
+    ),
+    (ReplayFault::Memory, "out of memory"),
+];
+
+const STIM_WORDS: &[(StimFault, &str)] = &[
+    (StimFault::NoBlock, "no stimulus of that number"),
+    (StimFault::Form(4), "line 4: not as a stimulus goes on"),
+    (StimFault::Memory, "out of memory"),
+];
+
+#[test]
+fn each_fault_has_its_words(rt: HostRuntime) -> Result<(), AllocError> {
+    for (fault, want) in REPLAY_WORDS {
+        assert_eq!(rt; format!(in rt.alloc(); "{fault}")?.as_str(), *want);
+    }
+    for (fault, want) in STIM_WORDS {
+        assert_eq!(rt; format!(in rt.alloc(); "{fault}")?.as_str(), *want);
+    }
+    Ok(())
 }

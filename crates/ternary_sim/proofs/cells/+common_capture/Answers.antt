@@ -25,6 +25,6 @@ pub returns-in-Unknown : goal.returns-in-Unknown
 returns-in-Unknown t c =
     let reg = c.args.reg.now in
     common_unknown c.args.count (c.args.count - 1) (reg_capture reg) (arg_at c.args.args.now) (arg_at c.args.bits) (arg_at c.set.new.self)
-    (arg_at c.set-2.new.self) c.common_capture-low.result c.common_capture-high.result c.common_value.result (omega arith)
+    (arg_at c.set-2.new.self) c.common_capture-low.result c.common_capture-high.result c.join.result (omega arith)
     (λ a b same. capture_agrees reg 7 a b c.requires.next c.requires.clear c.requires.preset same)
-    (sym c.at.ensures ∙ c.in-Unknown.is) c.set.ensures c.set-2.ensures c.common_capture-low.ensures c.common_capture-high.ensures c.common_value.ensures
+    (sym c.at.ensures ∙ c.in-Unknown.is) c.set.ensures c.set-2.ensures c.common_capture-low.ensures c.common_capture-high.ensures c.join.ensures

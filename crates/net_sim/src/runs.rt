@@ -1,13 +1,13 @@
-//! The run that a stimulus stands for.
-ghost use Rattle.std.specs.Prelude.{◌≡◌, ◌<◌, ℕ, IfOk, length};
+//! Linked cycles, made of their free bits.
+ghost use Rattle.std.specs.Prelude.{◌≡◌, IfOk, length};
 ghost use Rattle.net_model.specs.Netlist.{IsSound};
-ghost use Rattle.net_model.specs.Cycles.{bit_at, IsSettled, IsRun};
-ghost use Rattle.net_model.specs.Cycles as cycles;
-ghost use Rattle.net_model.specs.Stimuli.{IsLawful, StandsFor};
-ghost use Rattle.witness_replay.specs.Runs.{AreCaptures};
+ghost use Rattle.net_model.specs.Cycles.{IsSettled, IsLinked};
+ghost use Rattle.net_model.specs.Stimuli.{StandsFor};
+ghost use Rattle.net_sim.specs.Runs.{AreCaptures, IsLinkable};
 
+use crate::captures::capture;
+use crate::settling::settle;
 use net_model::{Cycle, Design, End, Stimulus};
-use net_sim::{capture, settle};
 use sdcv_base::Seq;
 use std::alloc::{AllocError, Global};
 
@@ -26,7 +26,7 @@ fn settled(
     ensures settled { IfOk result (IsSettled design.now) }
 {
     let ins = ins.copy(alloc)?;
-    let nets = Seq::from_vec(vec![in alloc; false; design.nets]?);
+    let nets = Seq::filled(alloc, false, design.nets)?;
     let mut cycle = Cycle { bits, ins, nets };
     settle(design, &mut cycle);
     Ok(cycle)
@@ -45,18 +45,22 @@ fn next_bits(alloc: Global, design: &Design, cycle: &Cycle) -> Result<Seq<bool>,
     Ok(bits)
 }
 
-/// The cycles of the run, in order.
-pub fn run_of(alloc: Global, design: &Design, stimulus: &Stimulus) -> Result<Seq<Cycle>, AllocError>
+/// The linked cycles that a stimulus stands for: its register bits in the first cycle, its input bits in each, and after
+/// each cycle the captures of the cycle before. Resets are as the stimulus has them.
+pub fn linked_run(
+    alloc: Global,
+    design: &Design,
+    stimulus: &Stimulus,
+) -> Result<Seq<Cycle>, AllocError>
     requires sound { IsSound design.now }
-    requires lawful { IsLawful design.now stimulus.now }
-    ensures from_reset { IfOk result (IsRun design.now) }
+    requires linkable { IsLinkable design.now stimulus.now }
+    ensures linked { IfOk result (IsLinked design.now) }
     ensures stands { IfOk result (StandsFor stimulus.now) }
 {
     let mut run = Seq::new(alloc);
     let mut bits = stimulus.state.copy(alloc)?;
     for t in 0..stimulus.inputs.len() {
-        let ins = stimulus.inputs.item(t);
-        let cycle = settled(alloc, design, bits, ins)?;
+        let cycle = settled(alloc, design, bits, stimulus.inputs.item(t))?;
         bits = next_bits(alloc, design, &cycle)?;
         run.push(cycle)?;
     }

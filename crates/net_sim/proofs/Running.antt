@@ -5,13 +5,14 @@ use Rattle.std.proofs.Math.Seq.{take-length}
 use Rattle.std.proofs.lemmas.List.{take_more, map-append}
 use Rattle.std.proofs.lemmas.List.Elements.{All-nil, All-cons, All-append}
 use Rattle.std.proofs.lemmas.Option.{slice_get_within, slice_get-map, slice_get-get_or, get_or_from_slice_get, same_Some}
-use Rattle.net_model.specs.Cycles.{bit_at, capture, IsSettled, IsNext, IsRun}
+use Rattle.net_model.specs.Cycles.{bit_at, capture, IsSettled, IsNext, IsLinked, IsRun}
 use Rattle.net_model.specs.Stimuli.{IsLawful, StandsFor}
+use Rattle.net_model.proofs.Settling.{All-at}
 use Rattle.net_model.specs.declared.netlist.Design.{Design}
 use Rattle.net_model.specs.declared.cycles.Cycle.{Cycle}
 use Rattle.net_model.specs.declared.cycles.Stimulus.{Stimulus}
 use Rattle.net_model.specs.declared.claims.End.TheVariants.{Reg as RegEnd}
-use Rattle.witness_replay.specs.Runs.{AreCaptures}
+use Rattle.net_sim.specs.Runs.{AreCaptures, KeepFixed, IsLinkable}
 
 abbrev pub ins_of : Cycle → List Bool
 ins_of c = c.ins
@@ -27,8 +28,8 @@ pub record RunSoFar (d : Design) (s : Stimulus) (run : List Cycle) (bits : List 
   pub bits_len : length bits ≡ length d.regs
   pub inputs : map ins_of run ≡ take t s.inputs
 
-pub run_none : (d : Design) (s : Stimulus) (bits : List Bool) → IsLawful d s → bits ≡ s.state → RunSoFar d s [] bits 0
-run_none d s bits lawful same =
+pub run_none : (d : Design) (s : Stimulus) (bits : List Bool) → IsLinkable d s → bits ≡ s.state → RunSoFar d s [] bits 0
+run_none d s bits linkable same =
     record {
       count = refl;
       settled = All-nil (IsSettled d);
@@ -36,7 +37,7 @@ run_none d s bits lawful same =
       first = λ c at. absurd (omega (arith, slice_get_within [] 0 c at));
       begins = λ e. same;
       follows = λ k c at. absurd (omega (arith, slice_get_within [] k c at));
-      bits_len = ap length same ∙ lawful.state;
+      bits_len = ap length same ∙ linkable.state;
       inputs = refl;
     }
 
@@ -103,20 +104,30 @@ ins_at run inputs t c same at =
 inputs_done : (d : Design) (s : Stimulus) (run : List Cycle) (bits : List Bool) → RunSoFar d s run bits (length s.inputs) → map ins_of run ≡ s.inputs
 inputs_done d s run bits done = done.inputs ∙ take-length s.inputs
 
--- all cycles are a run from reset
-pub run_done : (d : Design) (s : Stimulus) (run : List Cycle) (bits : List Bool) → IsLawful d s → RunSoFar d s run bits (length s.inputs) → IsRun d run
-run_done d s run bits lawful done =
+-- all cycles are linked
+pub run_linked : (d : Design) (s : Stimulus) (run : List Cycle) (bits : List Bool) → IsLinkable d s → RunSoFar d s run bits (length s.inputs) → IsLinked d run
+run_linked d s run bits linkable done =
     let same = inputs_done d s run bits done in
     record {
-      linked =
-          record {
-            some = omega (arith, lawful.some, done.count);
-            settled = done.settled;
-            next = done.next;
-            fixed = λ t c within. (lawful.inputs t (get_or run t c).ins (ins_at run s.inputs t (get_or run t c) same (slice_get-get_or run t c within))).fixed;
-          };
-      resets = λ t c at. (lawful.inputs t c.ins (ins_at run s.inputs t c same at)).resets;
+      some = omega (arith, linkable.some, done.count);
+      settled = done.settled;
+      next = done.next;
+      fixed = λ t c within. (All-at (KeepFixed d) s.inputs t (get_or run t c).ins (ins_at run s.inputs t (get_or run t c) same (slice_get-get_or run t c within)) linkable.inputs).fixed;
     }
+
+-- a lawful stimulus is one for linked cycles
+pub lawful_linkable : (d : Design) (s : Stimulus) → IsLawful d s → IsLinkable d s
+lawful_linkable d s lawful =
+    record {
+      state = lawful.state;
+      some = lawful.some;
+      inputs = λ t ins within. let row = lawful.inputs t (get_or s.inputs t ins) (slice_get-get_or s.inputs t ins within) in record { count = row.count; fixed = row.fixed };
+    }
+
+-- linked cycles that a lawful stimulus stands for are a run from reset
+pub lawful_run : (d : Design) (s : Stimulus) (run : List Cycle) → IsLawful d s → IsLinked d run → StandsFor s run → IsRun d run
+lawful_run d s run lawful linked stands =
+    record { linked = linked; resets = λ t c at. (lawful.inputs t c.ins (ins_at run s.inputs t c stands.inputs at)).resets }
 
 pub run_stands : (d : Design) (s : Stimulus) (run : List Cycle) (bits : List Bool) → RunSoFar d s run bits (length s.inputs) → StandsFor s run
 run_stands d s run bits done = record { state = done.first; inputs = inputs_done d s run bits done }

@@ -1,7 +1,7 @@
 use Rattle.std.proofs.Common.{◌≡◌, ℕ, ◌<◌, length}
 use Rattle.net_model.specs.Cycles.{bit_at, capture}
 use Rattle.net_model.specs.declared.claims.End.TheVariants.{Reg}
-use Rattle.witness_replay.proofs.runs.next_bits.Given as goal
+use Rattle.net_sim.proofs.runs.next_bits.Given as goal
 
 abbrev pub invariant-loop-r : goal.invariant-loop-r
 invariant-loop-r l = record {

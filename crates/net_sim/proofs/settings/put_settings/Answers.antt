@@ -1,7 +1,7 @@
 use Rattle.std.proofs.Common.{arith, rules, length}
 use Rattle.std.proofs.lemmas.Option.{slice_get-get_or}
-use Rattle.stretch_scan.proofs.SettingsPut.{settings_more, input_below}
-use Rattle.stretch_scan.proofs.stretches.put_settings.Goals as goal
+use Rattle.net_sim.proofs.SettingsPut.{settings_more, input_below}
+use Rattle.net_sim.proofs.settings.put_settings.Goals as goal
 
 pub put-requires : goal.put-requires
 put-requires c =
@@ -10,7 +10,7 @@ put-requires c =
 
 pub loop-k-preserved : goal.loop-k-preserved
 loop-k-preserved c =
-    rw c.put.ensures (settings_more c.args.settings.now c.args.inactive c.args.ins.now c.loop-k.ins c.loop-k.k c.at-setting.result _ c.requires.in_range c.requires.apart c.at-setting.ensures (search rules) c.loop-k.invariant)
+    rw c.put.ensures (settings_more c.args.settings.now c.args.active c.args.ins.now c.loop-k.ins c.loop-k.k c.at-setting.result _ c.requires.in_range c.requires.apart c.at-setting.ensures (search rules) c.loop-k.invariant)
 
 pub returns-clause-put : goal.returns-clause-put
 returns-clause-put c =
