@@ -1,6 +1,6 @@
 -- The test of a set of pins finds a pin exactly where the set has it.
-use Rattle.std.proofs.Common.{◌≡◌, ℕ, suc, ◌+◌, Bool, true, false, List, [], Some, refl, ap, sym, ◌∙◌, arith}
-use Rattle.std.specs.Prelude.{Contains, IsTrue, slice_get, ◌==◌, ◌&&◌, ◌↔◌}
+use Rattle.std.proofs.Common.{◌≡◌, ℕ, suc, ◌+◌, Bool, true, false, List, [], Some, refl, ap, ◌∙◌, arith}
+use Rattle.std.specs.Prelude.{Contains, slice_get, ◌==◌, ◌&&◌}
 use Rattle.std.proofs.lemmas.Bool.{eqb-true, eq-eqb}
 use Rattle.std.proofs.lemmas.List.Folds.{list_any_at}
 use Rattle.std.proofs.lemmas.Map.Views.{Contains-from_any}
@@ -53,16 +53,6 @@ is_in-Contains pin set has = list_any_at (same_pin pin) set has.0 pin has.1 (ap 
 
 pub Contains-is_in : (pin : PinRef) (set : List PinRef) → is_in pin set ≡ true → Contains set pin
 Contains-is_in pin set is = Contains-from_any {eq = same_pin} one_pin pin set is
-
-by_bits : (a b : Bool) → (a ≡ true → b ≡ true) → (b ≡ true → a ≡ true) → a ≡ b
-by_bits true b to from = sym (to refl)
-by_bits false false to from = refl
-by_bits false true to from = from refl
-
--- a test that says whether a set has the pin
-pub is_in-decided : (pin : PinRef) (set : List PinRef) (test : Bool) → (IsTrue test ↔ Contains set pin) → test ≡ is_in pin set
-is_in-decided pin set test tells =
-    by_bits test (is_in pin set) (λ yes. is_in-Contains pin set (tells.0 yes)) (λ is. tells.1 (Contains-is_in pin set is))
 
 -- the set of a layer after the first
 pub held_set-after : (sets : List (List PinRef)) (layer place : ℕ) (set : List PinRef) → layer ≡ place + 1 → slice_get sets place ≡ Some set → held_set sets layer ≡ set
