@@ -1,11 +1,8 @@
 //! Laws of hazards. Each is the contract of a call that does nothing, for callers that cite it.
-ghost use Rattle.std.specs.Prelude.{ℕ, List};
 ghost use Rattle.net_model.specs.Netlist.{IsSound};
 ghost use Rattle.net_model.specs.Fits.{Fits};
-ghost use Rattle.net_model.specs.Cycles.{IsLinked};
-ghost use Rattle.net_model.specs.Judge.{IsViolatedAt, Holds};
-ghost use Rattle.net_model.specs.declared.cycles.Cycle.{Cycle as CycleRecord};
-ghost use Rattle.ternary_sim.specs.Hazards.{plain_of, hazard_of};
+ghost use Rattle.net_model.specs.Judge.{Holds};
+ghost use Rattle.ternary_sim.specs.Hazards.{plain_of, hazard_of, StaysViolated};
 
 use net_model::{Claim, Design};
 
@@ -15,6 +12,6 @@ use net_model::{Claim, Design};
 pub fn plain_violation_is_hazard(design: &Design, claim: &Claim)
     requires sound { IsSound design.now }
     requires fits { Fits design.now claim.now }
-    ensures violated { (live : ℕ) (run : List CycleRecord) (t : ℕ) → IsLinked design.now run → IsViolatedAt live design.now (plain_of claim.now) run t → IsViolatedAt live design.now (hazard_of claim.now) run t }
+    ensures violated { StaysViolated design.now claim.now }
     ensures holds { Holds design.now (hazard_of claim.now) → Holds design.now (plain_of claim.now) }
 {}
