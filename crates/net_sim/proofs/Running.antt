@@ -49,12 +49,14 @@ pushed (z ∷ xs) x zero y at = inl at
 pushed (z ∷ xs) x (suc k) y at =
     elim (pushed xs x k y at) [ inl here ↦ inl here | inr last ↦ inr (omega (arith, last.0), last.1) ]
 
-next_more : (d : Design) (s : Stimulus) (run : List Cycle) (bits : List Bool) (t : ℕ) (c : Cycle) → c.bits ≡ bits → RunSoFar d s run bits t → (k : ℕ) (before after : Cycle) → slice_get (run ++ c ∷ []) k ≡ Some before → slice_get (run ++ c ∷ []) (k + 1) ≡ Some after → IsNext d before after
+next_more : (d : Design) (s : Stimulus) (run : List Cycle) (bits : List Bool) (t : ℕ) (c : Cycle) → c.bits ≡ bits → RunSoFar d s run bits t
+    → (k : ℕ) (before after : Cycle) → slice_get (run ++ c ∷ []) k ≡ Some before → slice_get (run ++ c ∷ []) (k + 1) ≡ Some after → IsNext d before after
 next_more d s run bits t c same done k before after at then =
     elim (pushed run c k before at) [
       | inl first ↦ elim (pushed run c (k + 1) after then) [
         | inl second ↦ done.next k before after first second
-        | inr last ↦ λ r low. ap (λ (x : Cycle). bit_at x.bits r) (sym last.1) ∙ (ap (λ (row : List Bool). bit_at row r) same ∙ done.follows k before first (last.0 ∙ done.count) r low)
+        | inr last ↦ λ r low. ap (λ (x : Cycle). bit_at x.bits r) (sym last.1) ∙
+            (ap (λ (row : List Bool). bit_at row r) same ∙ done.follows k before first (last.0 ∙ done.count) r low)
       ]
       | inr end_ ↦ elim (pushed run c (k + 1) after then) [
         | inl second ↦ absurd (omega (arith, end_.0, slice_get_within run (k + 1) after second))
@@ -62,21 +64,24 @@ next_more d s run bits t c same done k before after at then =
       ]
     ]
 
-first_more : (d : Design) (s : Stimulus) (run : List Cycle) (bits : List Bool) (t : ℕ) (c : Cycle) → c.bits ≡ bits → RunSoFar d s run bits t → (x : Cycle) → slice_get (run ++ c ∷ []) 0 ≡ Some x → x.bits ≡ s.state
+first_more : (d : Design) (s : Stimulus) (run : List Cycle) (bits : List Bool) (t : ℕ) (c : Cycle) → c.bits ≡ bits → RunSoFar d s run bits t → (x : Cycle)
+    → slice_get (run ++ c ∷ []) 0 ≡ Some x → x.bits ≡ s.state
 first_more d s run bits t c same done x at =
     elim (pushed run c 0 x at) [
       | inl here ↦ done.first x here
       | inr last ↦ ap (λ (y : Cycle). y.bits) (sym last.1) ∙ (same ∙ done.begins (sym done.count ∙ sym last.0))
     ]
 
-follows_more : (d : Design) (run : List Cycle) (t : ℕ) (c : Cycle) (next : List Bool) → length run ≡ t → AreCaptures d c next → (k : ℕ) (x : Cycle) → slice_get (run ++ c ∷ []) k ≡ Some x → k + 1 ≡ t + 1 → (r : ℕ) → r < length d.regs → bit_at next r ≡ capture d (RegEnd r) x
+follows_more : (d : Design) (run : List Cycle) (t : ℕ) (c : Cycle) (next : List Bool) → length run ≡ t → AreCaptures d c next → (k : ℕ) (x : Cycle)
+    → slice_get (run ++ c ∷ []) k ≡ Some x → k + 1 ≡ t + 1 → (r : ℕ) → r < length d.regs → bit_at next r ≡ capture d (RegEnd r) x
 follows_more d run t c next count captures k x at is r low =
     elim (pushed run c k x at) [
       | inl here ↦ absurd (omega (arith, slice_get_within run k x here))
       | inr last ↦ captures.each r low ∙ ap (capture d (RegEnd r)) last.1
     ]
 
-pub run_more : (d : Design) (s : Stimulus) (run : List Cycle) (bits next ins : List Bool) (t : ℕ) (c : Cycle) → slice_get s.inputs t ≡ Some ins → c.bits ≡ bits → c.ins ≡ ins → IsSettled d c → AreCaptures d c next → RunSoFar d s run bits t → RunSoFar d s (run ++ c ∷ []) next (t + 1)
+pub run_more : (d : Design) (s : Stimulus) (run : List Cycle) (bits next ins : List Bool) (t : ℕ) (c : Cycle) → slice_get s.inputs t ≡ Some ins
+    → c.bits ≡ bits → c.ins ≡ ins → IsSettled d c → AreCaptures d c next → RunSoFar d s run bits t → RunSoFar d s (run ++ c ∷ []) next (t + 1)
 run_more d s run bits next ins t c row same same_ins settled captures done =
     record {
       count = omega (arith, length_pushed run c, done.count);
@@ -97,7 +102,8 @@ run_more d s run bits next ins t c row same same_ins settled captures done =
     length_pushed [] x = refl
     length_pushed (y ∷ xs) x = omega (arith, length_pushed xs x)
 
-ins_at : (run : List Cycle) (inputs : List (List Bool)) (t : ℕ) (c : Cycle) → map ins_of run ≡ inputs → slice_get run t ≡ Some c → slice_get inputs t ≡ Some c.ins
+ins_at : (run : List Cycle) (inputs : List (List Bool)) (t : ℕ) (c : Cycle) → map ins_of run ≡ inputs → slice_get run t ≡ Some c
+    → slice_get inputs t ≡ Some c.ins
 ins_at run inputs t c same at =
     ap (λ (rows : List (List Bool)). slice_get rows t) (sym same) ∙ (slice_get-map ins_of run t ∙ ap (option_map ins_of) at)
 
@@ -112,7 +118,8 @@ run_linked d s run bits linkable done =
       some = omega (arith, linkable.some, done.count);
       settled = done.settled;
       next = done.next;
-      fixed = λ t c within. (All-at (KeepFixed d) s.inputs t (get_or run t c).ins (ins_at run s.inputs t (get_or run t c) same (slice_get-get_or run t c within)) linkable.inputs).fixed;
+      fixed = λ t c within. (All-at (KeepFixed d) s.inputs t (get_or run t c).ins
+          (ins_at run s.inputs t (get_or run t c) same (slice_get-get_or run t c within)) linkable.inputs).fixed;
     }
 
 -- a lawful stimulus is one for linked cycles
@@ -121,7 +128,8 @@ lawful_linkable d s lawful =
     record {
       state = lawful.state;
       some = lawful.some;
-      inputs = λ t ins within. let row = lawful.inputs t (get_or s.inputs t ins) (slice_get-get_or s.inputs t ins within) in record { count = row.count; fixed = row.fixed };
+      inputs = λ t ins within. let row = lawful.inputs t (get_or s.inputs t ins)
+          (slice_get-get_or s.inputs t ins within) in record { count = row.count; fixed = row.fixed };
     }
 
 -- linked cycles that a lawful stimulus stands for are a run from reset

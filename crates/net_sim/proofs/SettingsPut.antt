@@ -1,5 +1,6 @@
 -- The settings that are written so far, and one more; and what soundness says of settings.
-use Rattle.std.proofs.Common.{◌≡◌, ◌≢◌, ℕ, ◌+◌, ◌<◌, ◌≤◌, Bool, true, false, not, List, map, length, take, set, get_or, Some, refl, ap, subst, sym, ◌∙◌, arith, below_more, get_or-set_other, get_or-set_same, length-set}
+use Rattle.std.proofs.Common.{◌≡◌, ◌≢◌, ℕ, ◌+◌, ◌<◌, ◌≤◌, Bool, true, false, not, List, map, length}
+use Rattle.std.proofs.Common.{take, set, get_or, Some, refl, ap, subst, sym, ◌∙◌, arith, below_more, get_or-set_other, get_or-set_same, length-set}
 use Rattle.std.proofs.Math.Bool.{beq}
 use Rattle.std.specs.Prelude.{Contains, slice_get, option_map, count_by, ◌==◌}
 use Rattle.std.proofs.lemmas.Option.{slice_get_within, slice_get-get_or, slice_get-map, get_or_from_slice_get}
@@ -17,7 +18,8 @@ use Rattle.net_sim.specs.Settings.{set_bit, AreApart, AreSet}
 abbrev pub input_of : Fixed → ℕ
 input_of s = s.input
 
-pub input_below : (limit : ℕ) (settings : List Fixed) (k : ℕ) (s : Fixed) → AllBelow limit (setting_inputs settings) → slice_get settings k ≡ Some s → s.input < limit
+pub input_below : (limit : ℕ) (settings : List Fixed) (k : ℕ) (s : Fixed) → AllBelow limit (setting_inputs settings) → slice_get settings k ≡ Some s
+    → s.input < limit
 input_below limit settings k s below at =
     All-at (λ n. n < limit) (setting_inputs settings) k s.input (slice_get-map input_of settings k ∙ ap (option_map input_of) at) below
 
@@ -32,7 +34,9 @@ pub record SettingsDone (settings : List Fixed) (active : Bool) (start ins : Lis
   pub put : (j : ℕ) → j < k → (s : Fixed) → slice_get settings j ≡ Some s → bit_at ins s.input ≡ set_bit active s
   pub others : (i : ℕ) → ¬ Contains (setting_inputs settings) i → bit_at ins i ≡ bit_at start i
 
-pub settings_more : (settings : List Fixed) (active : Bool) (start ins : List Bool) (k : ℕ) (t : Fixed) (v : Bool) → AllBelow (length start) (setting_inputs settings) → AreApart settings → slice_get settings k ≡ Some t → v ≡ set_bit active t → SettingsDone settings active start ins k → SettingsDone settings active start (set ins t.input v) (k + 1)
+pub settings_more : (settings : List Fixed) (active : Bool) (start ins : List Bool) (k : ℕ) (t : Fixed) (v : Bool)
+    → AllBelow (length start) (setting_inputs settings) → AreApart settings → slice_get settings k ≡ Some t → v ≡ set_bit active t
+    → SettingsDone settings active start ins k → SettingsDone settings active start (set ins t.input v) (k + 1)
 settings_more settings active start ins k t v below apart at value done =
     let low : t.input < length start = input_below (length start) settings k t below at in
     record {
@@ -42,11 +46,14 @@ settings_more settings active start ins k t v below apart at value done =
           (λ j lt s there. get_or-set_other ins t.input s.input v false (apart j k s t lt there at) ∙ done.put j lt s there)
           (λ s there.
           let same : t ≡ s = cc in
-          subst (λ (u : Fixed). bit_at (set ins t.input v) u.input ≡ set_bit active u) same (get_or-set_same ins t.input v false (omega (arith, done.len)) ∙ value));
-      others = λ i out. get_or-set_other ins t.input i v false (λ same. out (subst (Contains (setting_inputs settings)) (sym same) (input_listed settings k t at))) ∙ done.others i out;
+          subst (λ (u : Fixed). bit_at (set ins t.input v) u.input ≡ set_bit active u) same
+          (get_or-set_same ins t.input v false (omega (arith, done.len)) ∙ value));
+      others = λ i out. get_or-set_other ins t.input i v false
+          (λ same. out (subst (Contains (setting_inputs settings)) (sym same) (input_listed settings k t at))) ∙ done.others i out;
     }
 
-twice : (settings : List Fixed) (j k : ℕ) (s t : Fixed) → j < k → slice_get settings j ≡ Some s → slice_get settings k ≡ Some t → s.input ≡ t.input → 2 ≤ count_by (λ m. m == s.input) (setting_inputs settings)
+twice : (settings : List Fixed) (j k : ℕ) (s t : Fixed) → j < k → slice_get settings j ≡ Some s → slice_get settings k ≡ Some t → s.input ≡ t.input
+    → 2 ≤ count_by (λ m. m == s.input) (setting_inputs settings)
 twice settings j k s t lt at there same =
     let before : 1 ≤ count_by (λ m. m == s.input) (map input_of (take k settings)) =
     count_contains s.input (map input_of (take k settings)) (taken_contains input_of settings j k s lt at) in
@@ -79,20 +86,24 @@ fixed_not_reset d i sound one other =
 
 pub fixed_below : (d : Design) → IsSound d → AllBelow (length d.inputs) (setting_inputs d.fixed)
 fixed_below d sound =
-    λ k o within. held_below d _ sound (Contains-append_left (setting_inputs d.fixed) (setting_inputs d.resets) _ (Contains-get_or (setting_inputs d.fixed) k o within))
+    λ k o within. held_below d _ sound (Contains-append_left (setting_inputs d.fixed) (setting_inputs d.resets) _
+    (Contains-get_or (setting_inputs d.fixed) k o within))
 
 pub resets_below : (d : Design) → IsSound d → AllBelow (length d.inputs) (setting_inputs d.resets)
 resets_below d sound =
-    λ k o within. held_below d _ sound (Contains-append_right (setting_inputs d.fixed) (setting_inputs d.resets) _ (Contains-get_or (setting_inputs d.resets) k o within))
+    λ k o within. held_below d _ sound (Contains-append_right (setting_inputs d.fixed) (setting_inputs d.resets) _
+    (Contains-get_or (setting_inputs d.resets) k o within))
 
 -- where resets are written after fixed inputs, both have their values
-pub inputs_made : (d : Design) (active : Bool) (first second : List Bool) → IsSound d → length second ≡ length d.inputs → AreSet true d.fixed first → AreSet active d.resets second →
+pub inputs_made : (d : Design) (active : Bool) (first second : List Bool) → IsSound d → length second ≡ length d.inputs → AreSet true d.fixed first
+    → AreSet active d.resets second →
     ((i : ℕ) → ¬ Contains (setting_inputs d.resets) i → bit_at second i ≡ bit_at first i) → AreInputs d active second
 inputs_made d active first second sound count fixed resets others =
     record {
       count = count;
       fixed = λ k o within.
-          others (get_or d.fixed k o).input (fixed_not_reset d (get_or d.fixed k o).input sound (input_listed d.fixed k (get_or d.fixed k o) (slice_get-get_or d.fixed k o within)))
+          others (get_or d.fixed k o).input (fixed_not_reset d (get_or d.fixed k o).input sound
+          (input_listed d.fixed k (get_or d.fixed k o) (slice_get-get_or d.fixed k o within)))
           ∙ fixed k o within;
       resets = resets;
     }
@@ -101,7 +112,8 @@ inputs_made d active first second sound count fixed resets others =
 abbrev pub SetBelow : List Fixed → Bool → List Bool → ℕ → Type 0
 SetBelow settings active ins k = (j : ℕ) → j < k → (s : Fixed) → slice_get settings j ≡ Some s → bit_at ins s.input ≡ set_bit active s
 
-pub set_more : (settings : List Fixed) (active : Bool) (ins : List Bool) (k : ℕ) (s : Fixed) → slice_get settings k ≡ Some s → bit_at ins s.input ≡ set_bit active s → SetBelow settings active ins k → SetBelow settings active ins (k + 1)
+pub set_more : (settings : List Fixed) (active : Bool) (ins : List Bool) (k : ℕ) (s : Fixed) → slice_get settings k ≡ Some s
+    → bit_at ins s.input ≡ set_bit active s → SetBelow settings active ins k → SetBelow settings active ins (k + 1)
 set_more settings active ins k s at is found =
     below_more (λ j. (t : Fixed) → slice_get settings j ≡ Some t → bit_at ins t.input ≡ set_bit active t) k found
     (λ t there. let same : s ≡ t = cc in subst (λ (u : Fixed). bit_at ins u.input ≡ set_bit active u) same is)
@@ -123,5 +135,6 @@ other_bit true false e same = cc
 other_bit false true e same = cc
 
 -- an input that hasn't the bit of its setting
-pub not_set : (settings : List Fixed) (active : Bool) (ins : List Bool) (k : ℕ) (s : Fixed) → slice_get settings k ≡ Some s → bit_at ins s.input ≢ set_bit active s → ¬ AreSet active settings ins
+pub not_set : (settings : List Fixed) (active : Bool) (ins : List Bool) (k : ℕ) (s : Fixed) → slice_get settings k ≡ Some s
+    → bit_at ins s.input ≢ set_bit active s → ¬ AreSet active settings ins
 not_set settings active ins k s at differs found = differs (All-at (λ (t : Fixed). bit_at ins t.input ≡ set_bit active t) settings k s at found)

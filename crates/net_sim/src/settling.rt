@@ -49,7 +49,8 @@ fn put_regs(design: &Design, bits: &Seq<bool>, nets: &mut Seq<bool>)
     requires len { length nets.old ≡ design.now.nets }
     ensures len { length nets.new ≡ design.now.nets }
     ensures kept { (n : ℕ) → Contains design.now.inputs n → bit_at nets.new n ≡ bit_at nets.old n }
-    ensures shown { (r : ℕ) (reg : RegRecord) → slice_get design.now.regs r ≡ Some reg → All (λ (o : RegOut). bit_at nets.new o.net ≡ shown o (bit_at bits.now r)) reg.outs }
+    ensures shown { (r : ℕ) (reg : RegRecord) → slice_get design.now.regs r ≡ Some reg
+        → All (λ (o : RegOut). bit_at nets.new o.net ≡ shown o (bit_at bits.now r)) reg.outs }
 {
     for r in 0..design.regs.len() {
         put_reg(design, r, bits.at(r), nets);

@@ -1,5 +1,6 @@
 -- Choosing one free bit after another reaches each stretch that differs at free bits alone.
-use Rattle.std.proofs.Common.{◌≡◌, ◌≢◌, ℕ, zero, suc, ◌<◌, Bool, true, false, List, [], ◌∷◌, length, set, get_or, Some, refl, ap, subst, sym, ◌∙◌, arith, inl, inr, get_or-set_other, get_or-set_same, length-set}
+use Rattle.std.proofs.Common.{◌≡◌, ◌≢◌, ℕ, zero, suc, ◌<◌, Bool, true, false, List, [], ◌∷◌, length}
+use Rattle.std.proofs.Common.{set, get_or, Some, refl, ap, subst, sym, ◌∙◌, arith, inl, inr, get_or-set_other, get_or-set_same, length-set}
 use Rattle.std.specs.Prelude.{Contains, ◌⊎◌, slice_get, ◌==◌, ◌&&◌, ◌||◌, not}
 use Rattle.std.proofs.lemmas.Bool.{cases_eq, eq-eqb, eqb-true}
 use Rattle.std.proofs.lemmas.List.Elements.{Contains-append_right}
@@ -57,7 +58,8 @@ is_first : (spot : Spot) (rest : List Spot) (other : Spot) → other ≡ spot �
 is_first spot rest other same = (0, omega arith, sym same)
 
 -- with one more spot written as in t, the stretch differs from t at the rest alone
-pub narrowed : (d : Design) (spot : Spot) (rest : List Spot) (s t : Stretch) (bit : Bool) → IsReady d s → IsSpotIn d spot → bit_of t spot ≡ bit → AreSameBut d (spot ∷ rest) s t → AreSameBut d rest (written s spot bit) t
+pub narrowed : (d : Design) (spot : Spot) (rest : List Spot) (s t : Stretch) (bit : Bool) → IsReady d s → IsSpotIn d spot → bit_of t spot ≡ bit
+    → AreSameBut d (spot ∷ rest) s t → AreSameBut d rest (written s spot bit) t
 narrowed d spot rest s t bit ready low is same other within =
     let at_spot : other ≡ spot → bit_of (written s spot bit) other ≡ bit_of t other =
     λ here. subst (λ (x : Spot). bit_of (written s spot bit) x ≡ bit_of t x) (sym here) (bit_of-written_same d s spot bit ready low ∙ sym is) in
@@ -75,7 +77,8 @@ narrowed d spot rest s t bit ready low is same other within =
     ]
 
 -- what differs at the rest alone after a write differs at the spot and the rest alone before it
-pub widened : (d : Design) (spot : Spot) (rest : List Spot) (s t : Stretch) (bit : Bool) → AreSameBut d rest (written s spot bit) t → AreSameBut d (spot ∷ rest) s t
+pub widened : (d : Design) (spot : Spot) (rest : List Spot) (s t : Stretch) (bit : Bool) → AreSameBut d rest (written s spot bit) t
+    → AreSameBut d (spot ∷ rest) s t
 widened d spot rest s t bit same other within =
     elim (same other within) [
       | inl has ↦ inl (in_rest spot rest other has)
@@ -109,10 +112,13 @@ bit_cases true = inl refl
 bit_cases false = inr refl
 
 -- where neither value of a spot leads to an answer, there is none
-pub none_either : (d : Design) (claim : Claim) (spot : Spot) (rest : List Spot) (s t : Stretch) → IsReady d s → IsReady d t → IsSpotIn d spot → AreSameBut d rest (written s spot false) t → HasNoAnswerBut d claim rest (written s spot false) → HasNoAnswerBut d claim rest (written t spot true) → HasNoAnswerBut d claim (spot ∷ rest) s
+pub none_either : (d : Design) (claim : Claim) (spot : Spot) (rest : List Spot) (s t : Stretch) → IsReady d s → IsReady d t → IsSpotIn d spot
+    → AreSameBut d rest (written s spot false) t → HasNoAnswerBut d claim rest (written s spot false) → HasNoAnswerBut d claim rest (written t spot true)
+    → HasNoAnswerBut d claim (spot ∷ rest) s
 none_either d claim spot rest s t ready_s ready_t low moved none_false none_true u same =
     elim (bit_cases (bit_of u spot)) [
-      | inl is ↦ none_true u (narrowed d spot rest t u true ready_t low is (same_chain d (spot ∷ rest) t s u (same_back d (spot ∷ rest) s t (widened d spot rest s t false moved)) same))
+      | inl is ↦ none_true u (narrowed d spot rest t u true ready_t low is
+          (same_chain d (spot ∷ rest) t s u (same_back d (spot ∷ rest) s t (widened d spot rest s t false moved)) same))
       | inr is ↦ none_false u (narrowed d spot rest s u false ready_s low is same)
     ]
 
@@ -139,23 +145,29 @@ unset_apart (x ∷ rest) input zero f none at same =
 unset_apart (x ∷ rest) input (suc k) f none at same =
     let parts = or_false (x.input == input) (is_set rest input) none in unset_apart rest input k f parts.1 at same
 
-setting_first : (x : Fixed) (rest : List Fixed) (input : ℕ) → is_set (x ∷ rest) input ≡ true → (x.input == input) ≡ true ⊎ ((x.input == input) ≡ false) → (is_set rest input ≡ true → (k : ℕ) × (f : Fixed) × (slice_get rest k ≡ Some f) × (f.input ≡ input)) → (k : ℕ) × (f : Fixed) × (slice_get (x ∷ rest) k ≡ Some f) × (f.input ≡ input)
+setting_first : (x : Fixed) (rest : List Fixed) (input : ℕ) → is_set (x ∷ rest) input ≡ true → (x.input == input) ≡ true ⊎ ((x.input == input) ≡ false)
+    → (is_set rest input ≡ true → (k : ℕ) × (f : Fixed) × (slice_get rest k ≡ Some f) × (f.input ≡ input))
+    → (k : ℕ) × (f : Fixed) × (slice_get (x ∷ rest) k ≡ Some f) × (f.input ≡ input)
 setting_first x rest input is (inl here) later = (0, x, refl, eqb-true x.input input here)
 setting_first x rest input is (inr apart) later =
     let more = later (sym (ap (λ (b : Bool). b || is_set rest input) apart) ∙ is) in (suc more.0, more.1, more.2, more.3)
 
 -- an input with a setting is that of one
-pub setting_of : (settings : List Fixed) (input : ℕ) → is_set settings input ≡ true → (k : ℕ) × (f : Fixed) × (slice_get settings k ≡ Some f) × (f.input ≡ input)
+pub setting_of : (settings : List Fixed) (input : ℕ) → is_set settings input ≡ true
+    → (k : ℕ) × (f : Fixed) × (slice_get settings k ≡ Some f) × (f.input ≡ input)
 setting_of [] input is = cc
 setting_of (x ∷ rest) input is = setting_first x rest input is (bit_cases (x.input == input)) (setting_of rest input)
 
 -- lawful inputs stay so where a free one is written
-pub AreInputs-written : (d : Design) (ins : List Bool) (input : ℕ) (bit : Bool) → is_free d input ≡ true → AreInputs d false ins → AreInputs d false (set ins input bit)
+pub AreInputs-written : (d : Design) (ins : List Bool) (input : ℕ) (bit : Bool) → is_free d input ≡ true → AreInputs d false ins
+    → AreInputs d false (set ins input bit)
 AreInputs-written d ins input bit free lawful =
     let parts = and_true (not (is_set d.fixed input)) (not (is_set d.resets input)) free in
-    let keeps : (settings : List Fixed) → is_set settings input ≡ false → (k : ℕ) (o : Fixed) → k < length settings → bit_at (set ins input bit) (get_or settings k o).input ≡ bit_at ins (get_or settings k o).input =
+    let keeps : (settings : List Fixed) → is_set settings input ≡ false → (k : ℕ) (o : Fixed) → k < length settings → bit_at (set ins input bit)
+    (get_or settings k o).input ≡ bit_at ins (get_or settings k o).input =
     λ settings none k o within.
-    get_or-set_other ins input (get_or settings k o).input bit false (unset_apart settings input k (get_or settings k o) none (slice_get-get_or settings k o within)) in
+    get_or-set_other ins input (get_or settings k o).input bit false
+    (unset_apart settings input k (get_or settings k o) none (slice_get-get_or settings k o within)) in
     record {
       count = length-set ins input bit ∙ lawful.count;
       fixed = λ k o within. keeps d.fixed (not_true (is_set d.fixed input) parts.0) k o within ∙ lawful.fixed k o within;

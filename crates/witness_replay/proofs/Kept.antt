@@ -14,7 +14,8 @@ use Rattle.net_model.proofs.Settling.{All-at}
 abbrev pub RowsKept : Design → Stimulus → ℕ → Type 0
 RowsKept d s t = (q : ℕ) → q < t → (ins : List Bool) → slice_get s.inputs q ≡ Some ins → AreSettingsKept d (nat_lt q d.reset_len) ins
 
-pub rows_more : (d : Design) (s : Stimulus) (t : ℕ) (ins : List Bool) → slice_get s.inputs t ≡ Some ins → AreSettingsKept d (nat_lt t d.reset_len) ins → RowsKept d s t → RowsKept d s (t + 1)
+pub rows_more : (d : Design) (s : Stimulus) (t : ℕ) (ins : List Bool) → slice_get s.inputs t ≡ Some ins → AreSettingsKept d (nat_lt t d.reset_len) ins
+    → RowsKept d s t → RowsKept d s (t + 1)
 rows_more d s t ins at here kept =
     below_more (λ q. (row : List Bool) → slice_get s.inputs q ≡ Some row → AreSettingsKept d (nat_lt q d.reset_len) row) t kept
     (λ row there. let same : ins ≡ row = cc in subst (λ (x : List Bool). AreSettingsKept d (nat_lt t d.reset_len) x) same here)
@@ -32,6 +33,7 @@ lawful_from d s shape kept =
 -- reset inputs are inputs
 pub resets_below : (d : Design) (len : ℕ) → IsSound d → len ≡ length d.inputs → AllBelow len (setting_inputs d.resets)
 resets_below d len sound same k o lt =
-    let has = Contains-append_right (setting_inputs d.fixed) (setting_inputs d.resets) (get_or (setting_inputs d.resets) k o) (Contains-get_or (setting_inputs d.resets) k o lt) in
+    let has = Contains-append_right (setting_inputs d.fixed) (setting_inputs d.resets) (get_or (setting_inputs d.resets) k o)
+    (Contains-get_or (setting_inputs d.resets) k o lt) in
     let low = All-contains (λ n. n < length d.inputs) (held_inputs d) (get_or (setting_inputs d.resets) k o) sound.in_range.held has in
     omega arith

@@ -26,4 +26,6 @@ capture_of-requires-clause-preset c =
 
 pub returns : goal.returns
 returns c =
-    capture_read c.args.design.now c.args.cycle.now c.args.r c.item-reg.result.now c.at-own.result (arg_at c.reg_args-args.result) c.capture_of.result c.requires.sound c.item-reg.ensures c.at-own.ensures c.reg_args-args.ensures c.capture_of.ensures
+    capture_read c.args.design.now c.args.cycle.now c.args.r c.item-reg.result.now c.at-own.result
+    (arg_at c.reg_args-args.result) c.capture_of.result c.requires.sound c.item-reg.ensures c.at-own.ensures c.reg_args-args.ensures
+    c.capture_of.ensures

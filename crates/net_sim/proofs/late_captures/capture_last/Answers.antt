@@ -28,13 +28,17 @@ capture_of-requires-clause-preset c =
 pub layer_pin-requires-clause-nets : goal.layer_pin-requires-clause-nets
 layer_pin-requires-clause-nets c =
     λ m le.
-    let low = All-at (λ n. n < c.args.design.now.nets) c.args.design.now.outputs c.in-Output.o c.at-net.result c.at-net.ensures c.requires.sound.in_range.outputs in
+    let low = All-at (λ n. n < c.args.design.now.nets) c.args.design.now.outputs c.in-Output.o c.at-net.result c.at-net.ensures
+    c.requires.sound.in_range.outputs in
     omega (arith, c.requires.lens m (omega arith))
 
 pub returns-in-Reg : goal.returns-in-Reg
 returns-in-Reg c =
-    late_read c.args.design.now c.args.claim.now.through c.args.rows.now c.args.claim.now.end c.args.cycle.now c.in-Reg.r c.item-reg.result.now c.at-own.result (arg_at c.late_reg_args-args.result) c.capture_of.result c.requires.sound c.in-Reg.is c.item-reg.ensures c.at-own.ensures c.late_reg_args-args.ensures c.capture_of.ensures
+    late_read c.args.design.now c.args.claim.now.through c.args.rows.now c.args.claim.now.end c.args.cycle.now c.in-Reg.r c.item-reg.result.now
+    c.at-own.result (arg_at c.late_reg_args-args.result) c.capture_of.result c.requires.sound c.in-Reg.is c.item-reg.ensures c.at-own.ensures
+    c.late_reg_args-args.ensures c.capture_of.ensures
 
 pub returns-in-Output : goal.returns-in-Output
 returns-in-Output c =
-    late_output c.args.design.now c.args.claim.now.through c.args.rows.now c.args.claim.now.end c.args.cycle.now c.in-Output.o c.at-net.result c.layer_pin.result c.in-Output.is c.at-net.ensures (rw (← c.len.ensures) c.layer_pin.ensures)
+    late_output c.args.design.now c.args.claim.now.through c.args.rows.now c.args.claim.now.end c.args.cycle.now c.in-Output.o c.at-net.result
+    c.layer_pin.result c.in-Output.is c.at-net.ensures (rw (← c.len.ensures) c.layer_pin.ensures)

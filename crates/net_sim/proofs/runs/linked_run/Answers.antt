@@ -8,7 +8,8 @@ loop-t-preserved c =
     let d = c.args.design.now in
     let s = c.args.stimulus.now in
     subst (λ (run : List Cycle). RunSoFar d s run c.in_ok-bits-2.bits (c.loop-t.t + 1)) (sym c.in_ok-push.ensures.ok)
-    (run_more d s c.loop-t.run c.loop-t.bits c.in_ok-bits-2.bits c.item.result.now c.loop-t.t c.in_ok-cycle.cycle c.item.ensures c.in_ok-cycle.ensures.bits c.in_ok-cycle.ensures.ins c.in_ok-cycle.ensures.settled c.in_ok-bits-2.ensures c.loop-t.invariant)
+    (run_more d s c.loop-t.run c.loop-t.bits c.in_ok-bits-2.bits c.item.result.now c.loop-t.t c.in_ok-cycle.cycle c.item.ensures c.in_ok-cycle.ensures.bits
+    c.in_ok-cycle.ensures.ins c.in_ok-cycle.ensures.settled c.in_ok-bits-2.ensures c.loop-t.invariant)
 
 pub returns-clause-linked : goal.returns-clause-linked
 returns-clause-linked c =

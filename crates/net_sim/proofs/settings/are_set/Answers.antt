@@ -8,10 +8,12 @@ at-requires c = input_below (length c.args.ins.now) c.args.settings.now c.loop-k
 
 pub returns-then-at-set_bit : goal.returns-then-at-set_bit
 returns-then-at-set_bit c =
-    let bit = get_or_from_slice_get c.args.ins.now c.at-setting.result.input c.at.result false c.at.ensures in
-    (λ no_test. cc, λ found.
-    absurd (not_set c.args.settings.now c.args.active c.args.ins.now c.loop-k.k c.at-setting.result c.at-setting.ensures
-    (λ is. other_bit c.at.result c.set_bit.result c.if-at-set_bit.true (sym bit ∙ is ∙ sym c.set_bit.ensures)) found))
+    let bit = get_or_from_slice_get c.args.ins.now c.at-setting.result.input c.at.result false c.at.ensures in (
+      λ no_test. cc,
+      λ found.
+          absurd (not_set c.args.settings.now c.args.active c.args.ins.now c.loop-k.k c.at-setting.result c.at-setting.ensures
+          (λ is. other_bit c.at.result c.set_bit.result c.if-at-set_bit.true (sym bit ∙ is ∙ sym c.set_bit.ensures)) found),
+    )
 
 pub loop-k-preserved : goal.loop-k-preserved
 loop-k-preserved c =
@@ -21,5 +23,8 @@ loop-k-preserved c =
 
 pub returns : goal.returns
 returns c =
-    let all : c.loop-k.k ≡ length c.args.settings.now = omega arith in
-    (λ yes. all_set c.args.settings.now c.args.active c.args.ins.now (subst (SetBelow c.args.settings.now c.args.active c.args.ins.now) all c.loop-k.invariant), λ found. refl)
+    let all : c.loop-k.k ≡ length c.args.settings.now = omega arith in (
+      λ yes. all_set c.args.settings.now c.args.active c.args.ins.now
+          (subst (SetBelow c.args.settings.now c.args.active c.args.ins.now) all c.loop-k.invariant),
+      λ found. refl,
+    )

@@ -10,7 +10,8 @@ put-requires c =
 
 pub loop-k-preserved : goal.loop-k-preserved
 loop-k-preserved c =
-    rw c.put.ensures (settings_more c.args.settings.now c.args.active c.args.ins.now c.loop-k.ins c.loop-k.k c.at-setting.result _ c.requires.in_range c.requires.apart c.at-setting.ensures (search rules) c.loop-k.invariant)
+    rw c.put.ensures (settings_more c.args.settings.now c.args.active c.args.ins.now c.loop-k.ins c.loop-k.k c.at-setting.result _ c.requires.in_range
+    c.requires.apart c.at-setting.ensures (search rules) c.loop-k.invariant)
 
 pub returns-clause-put : goal.returns-clause-put
 returns-clause-put c =

@@ -5,12 +5,14 @@ use Rattle.net_sim.proofs.settling.put_reg.Goals as goal
 
 pub put-requires : goal.put-requires
 put-requires c =
-    let low = reg_out_in_range c.args.design.now c.args.r c.item-reg.result.now c.loop-o.o c.at-out.result c.requires.sound c.item-reg.ensures c.at-out.ensures in
+    let low = reg_out_in_range c.args.design.now c.args.r c.item-reg.result.now c.loop-o.o c.at-out.result c.requires.sound c.item-reg.ensures
+    c.at-out.ensures in
     omega arith
 
 pub loop-o-preserved : goal.loop-o-preserved
 loop-o-preserved c =
-    rw c.put.ensures (reg_more c.args.design.now c.args.r c.item-reg.result.now c.args.bit c.args.nets.now c.loop-o.nets c.loop-o.o c.at-out.result _ c.requires.sound c.item-reg.ensures c.at-out.ensures (search rules) c.loop-o.invariant)
+    rw c.put.ensures (reg_more c.args.design.now c.args.r c.item-reg.result.now c.args.bit c.args.nets.now c.loop-o.nets c.loop-o.o c.at-out.result _
+    c.requires.sound c.item-reg.ensures c.at-out.ensures (search rules) c.loop-o.invariant)
 
 pub returns-clause-shown : goal.returns-clause-shown
 returns-clause-shown c =

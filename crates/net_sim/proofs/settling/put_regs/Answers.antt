@@ -12,8 +12,10 @@ loop-r-preserved c =
     let bit : bit_at c.args.bits.now c.loop-r.r ≡ c.at.result = get_or_from_slice_get c.args.bits.now c.loop-r.r c.at.result false c.at.ensures in
     record {
       len = c.put_reg.ensures.len;
-      kept = λ n has. c.put_reg.ensures.kept n (Contains-append_left c.args.design.now.inputs (flat_map reg_nets (take c.loop-r.r c.args.design.now.regs)) n has) ∙ c.loop-r.invariant.kept n has;
-      shown = regs_more c.args.design.now c.args.bits.now c.loop-r.nets c.put_reg.new.nets c.loop-r.r c.put_reg.ensures.kept (λ reg at. subst (λ b. ShowsBit c.put_reg.new.nets b reg) (sym bit) (c.put_reg.ensures.shown reg at)) c.loop-r.invariant.shown;
+      kept = λ n has. c.put_reg.ensures.kept n (Contains-append_left c.args.design.now.inputs
+          (flat_map reg_nets (take c.loop-r.r c.args.design.now.regs)) n has) ∙ c.loop-r.invariant.kept n has;
+      shown = regs_more c.args.design.now c.args.bits.now c.loop-r.nets c.put_reg.new.nets c.loop-r.r c.put_reg.ensures.kept
+          (λ reg at. subst (λ b. ShowsBit c.put_reg.new.nets b reg) (sym bit) (c.put_reg.ensures.shown reg at)) c.loop-r.invariant.shown;
     }
 
 pub returns-clause-shown : goal.returns-clause-shown

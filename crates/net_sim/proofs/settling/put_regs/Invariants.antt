@@ -9,5 +9,6 @@ abbrev pub invariant-loop-r : goal.invariant-loop-r
 invariant-loop-r l = record {
   len : length l.nets ≡ l.design.nets;
   kept : (n : ℕ) → Contains l.design.inputs n → bit_at l.nets n ≡ bit_at l.initial.nets n;
-  shown : (q : ℕ) → q < l.r → (reg : Reg) → slice_get l.design.regs q ≡ Some reg → All (λ (o : RegOut). bit_at l.nets o.net ≡ shown o (bit_at l.bits q)) reg.outs;
+  shown : (q : ℕ) → q < l.r → (reg : Reg) → slice_get l.design.regs q ≡ Some reg → All
+      (λ (o : RegOut). bit_at l.nets o.net ≡ shown o (bit_at l.bits q)) reg.outs;
 }

@@ -17,5 +17,6 @@ returns c =
     record {
       lawful = c.requires.lawful;
       one = one;
-      first = subst (λ (run : List Cycle). IsFirstViolation d c.args.claim.now run c.first_violation.result) (one.only c.in_ok-run.run' from_reset c.in_ok-run.ensures.stands) c.first_violation.ensures;
+      first = subst (λ (run : List Cycle). IsFirstViolation d c.args.claim.now run c.first_violation.result)
+          (one.only c.in_ok-run.run' from_reset c.in_ok-run.ensures.stands) c.first_violation.ensures;
     }

@@ -4,7 +4,8 @@ use Rattle.witness_replay.proofs.shapes.first_unlawful.Goals as goal
 
 pub loop-t-preserved : goal.loop-t-preserved
 loop-t-preserved c =
-    rows_more c.args.design.now c.args.stimulus.now c.loop-t.t c.item-ins.result.now c.item-ins.ensures (c.are_settings_kept.ensures.0 c.if-not-are_settings_kept.false) c.loop-t.invariant
+    rows_more c.args.design.now c.args.stimulus.now c.loop-t.t c.item-ins.result.now c.item-ins.ensures
+    (c.are_settings_kept.ensures.0 c.if-not-are_settings_kept.false) c.loop-t.invariant
 
 pub returns-clause-none : goal.returns-clause-none
 returns-clause-none c =
