@@ -22,5 +22,5 @@ fn main(rt: HostRuntime) -> ExitCode {
         return ExitCode::from(NO_WORDS);
     };
     let mut host = RealHost::new(rt, rt.stdout());
-    ExitCode::from(run(alloc, &words, &mut host).code())
+    ExitCode::from(run(alloc, &words, &mut host).status.code())
 }

@@ -1,2 +1,4 @@
-pub mod Stages
+pub mod BuiltinLibrary
+pub mod Delivered
+pub mod Staging
 pub mod Steps

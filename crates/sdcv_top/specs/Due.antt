@@ -1,6 +1,5 @@
--- What a run is due to do, for its words and what its reads answered: one definition a stage, each by
--- cases on what the stage before it gave. The first stage stands last.
-use Rattle.std.specs.Prelude.{◌≡◌, ℕ, Bool, true, false, nat_lt, List, [], ◌∷◌, position, Option, None, Some}
+-- What a run is due to do, for its words and what its reads answered: its stages, the first one first.
+use Rattle.std.specs.Prelude.{◌≡◌, ◌⊎◌, ◌≤◌, ◌<◌, ℕ, List, [], position, Option, None, Some, IsSome, Result, Ok, Err}
 use Rattle.std.specs.Str.{bytes_eq}
 use Rattle.verilog_net.specs.declared.sources.Source.{Source}
 use Rattle.verilog_net.specs.Sources.{source_of}
@@ -13,84 +12,99 @@ use Rattle.flat_link.specs.Flats.{flat_of}
 use Rattle.net_model.specs.declared.netlist.Design.{Design}
 use Rattle.net_model.specs.declared.claims.Claim.{Claim}
 use Rattle.stretch_scan.specs.Scans.{free_bit_count}
+use Rattle.sdcv_top.specs.declared.pairs.Register.{Register}
+use Rattle.sdcv_top.specs.declared.pairs.Pair.{Pair}
 use Rattle.sdcv_top.specs.declared.verdicts.Verdict.{Verdict}
+use Rattle.sdcv_top.specs.declared.refusals.Early.{Early}
 use Rattle.sdcv_top.specs.declared.refusals.Early.TheVariants as early
 use Rattle.sdcv_top.specs.Words.{Command, command}
-use Rattle.sdcv_top.specs.Lines.{long_netlist_line, netlist_form_line, long_constraints_line, constraints_form_line, early_line}
+use Rattle.sdcv_top.specs.Lines.{long_verilog_line, verilog_line, long_sdc_line, sdc_line, early_line}
 use Rattle.sdcv_top.specs.Verdicts.{false_path, IsVerdict}
-use Rattle.sdcv_top.specs.Reports.{report, ending_of}
-use Rattle.sdcv_top.specs.Outcomes.{Outcome, Got, Text, Longer, refused, usage}
+use Rattle.sdcv_top.specs.Reports.{reported}
+use Rattle.sdcv_top.specs.Outcomes.{usage}
+use Rattle.sdcv_top.specs.Reads.{Got, Text, Longer}
+use Rattle.sdcv_top.specs.Stages.{Found, Staged, Due, After, AfterText, ◌>>=◌}
 
--- the place of the register of that name
-abbrev pub register_of : List (List ℕ) → List ℕ → Option ℕ
-register_of regs name = position (λ reg. bytes_eq reg name) regs
+-- a reader gives the value that the text stands for, and refuses it only where it stands for none
+abbrev pub Gives : {A E : Type 0} → Option A → Result A E → Type 0
+Gives expected (Ok value) = expected ≡ Some value
+Gives expected (Err fault) = expected ≡ None
 
--- the pair of the claim has this verdict, and the report says so
-abbrev pub Reported : Names → Design → Claim → Outcome → Type 0
-Reported asked d claim due =
-    (found : Option Verdict) × IsVerdict d claim found
-    × (due ≡ record { ending = ending_of found; saved = []; printed = report asked.start asked.end found })
+-- the netlist: its text is read, or is refused, also where it is too long
+abbrev pub Netlist : Got → Found Source → Type 0
+Netlist (Text text) found = Staged (Gives (source_of text)) verilog_line found
+Netlist Longer found = found ≡ Err long_verilog_line
 
--- too many free bits are refused, with their number; else the claim is judged
-abbrev pub AfterWidth : Names → Design → Claim → Bool → Outcome → Type 0
-AfterWidth asked d claim true due = due ≡ refused (early_line (early.TooWide (free_bit_count d)))
-AfterWidth asked d claim false due = Reported asked d claim due
+-- the constraints: their text is read, or is refused, also where it is too long
+abbrev pub Constraints : Got → Found Script → Type 0
+Constraints (Text text) found = Staged (Gives (script_of text)) sdc_line found
+Constraints Longer found = found ≡ Err long_sdc_line
 
--- both registers are known: the claim is that the paths between them are false, and 16 free bits are the most
-abbrev pub AfterRegisters : Names → Design → ℕ → ℕ → Outcome → Type 0
-AfterRegisters asked d start end_ due = AfterWidth asked d (false_path start end_) (nat_lt 16 (free_bit_count d)) due
-
--- the start is known: the second name is that of a register, or is refused
-abbrev pub AfterStart : Names → Flat → ℕ → Option ℕ → Outcome → Type 0
-AfterStart asked flat start None due = due ≡ refused (early_line (early.NoRegister asked.end))
-AfterStart asked flat start (Some end_) due = AfterRegisters asked flat.design start end_ due
-
--- the design is known: the first name is that of a register, or is refused
-abbrev pub AfterDesign : Names → Flat → Option ℕ → Outcome → Type 0
-AfterDesign asked flat None due = due ≡ refused (early_line (early.NoRegister asked.start))
-AfterDesign asked flat (Some start) due = AfterStart asked flat start (register_of flat.regs asked.end) due
-
--- the netlist has a flat design, or is refused
-abbrev pub AfterLink : Names → Option Flat → Outcome → Type 0
-AfterLink asked None due = due ≡ refused (early_line early.NotFlat)
-AfterLink asked (Some flat) due = AfterDesign asked flat (register_of flat.regs asked.start) due
+-- the names that a script asks about are such
+abbrev pub Asking : Script → (Names → Type 0) → Type 0
+Asking script P = (asked : Names) × (asks script ≡ Some asked) × P asked
 
 -- the cells that are known without a file
 unfoldable pub builtin_library : Library
 builtin_library = record { cells = builtin_cells }
 
--- what the script asks is known: the netlist is linked over the built-in cells, with the port of the clock
-abbrev pub AfterAsked : Source → Option Names → Outcome → Type 0
-AfterAsked source None due = ⊥
-AfterAsked source (Some asked) due = AfterLink asked (flat_of source builtin_library asked.clock) due
+-- the netlist is linked over the built-in cells to its flat design, and refused only where it has none
+abbrev pub Links : Source → List ℕ → Result Flat Early → Type 0
+Links source clock (Ok flat) = flat_of source builtin_library clock ≡ Some flat
+Links source clock (Err fault) = (flat_of source builtin_library clock ≡ None) × (fault ≡ early.NotFlat)
 
--- the constraints stand for a script, or are refused
-abbrev pub AfterScript : Command → Source → Option Script → Outcome → Type 0
-AfterScript c source None due = due ≡ refused constraints_form_line
-AfterScript c source (Some script) due = AfterAsked source (asks script) due
+-- the flat design of the netlist, with the clock port that the script names
+abbrev pub Linked : Source → Script → Found Flat → Type 0
+Linked source script found = Asking script (λ asked. Staged (Links source asked.clock) early_line found)
 
--- the netlist is known: the constraints are read, and refused where they are too long
-abbrev pub AfterNetlist : Command → Source → List Got → Outcome → Type 0
-AfterNetlist c source [] due = ⊥
-AfterNetlist c source (Longer ∷ rest) due = (rest ≡ []) × (due ≡ refused long_constraints_line)
-AfterNetlist c source (Text text ∷ rest) due = (rest ≡ []) × AfterScript c source (script_of text) due
+-- the place of the register of that name
+abbrev pub register_of : List (List ℕ) → List ℕ → Option ℕ
+register_of regs name = position (λ reg. bytes_eq reg name) regs
 
--- the netlist stands for a source, or is refused
-abbrev pub AfterSource : Command → Option Source → List Got → Outcome → Type 0
-AfterSource c None rest due = (rest ≡ []) × (due ≡ refused netlist_form_line)
-AfterSource c (Some source) rest due = AfterNetlist c source rest due
+-- the register of that name is found with its place, and the name is refused only where it is no register's
+abbrev pub Registers : List (List ℕ) → List ℕ → Result Register Early → Type 0
+Registers regs name (Ok register) = (register_of regs name ≡ Some register.place) × (register.name ≡ name)
+Registers regs name (Err fault) = (register_of regs name ≡ None) × (fault ≡ early.NoRegister name)
 
--- the command is known: its netlist is read, and refused where it is too long
-abbrev pub AfterWords : Command → List Got → Outcome → Type 0
-AfterWords c [] due = ⊥
-AfterWords c (Longer ∷ rest) due = (rest ≡ []) × (due ≡ refused long_netlist_line)
-AfterWords c (Text text ∷ rest) due = AfterSource c (source_of text) rest due
+-- the registers of the two names, of which the first is looked for first
+abbrev pub Selects : List (List ℕ) → Names → Result Pair Early → Type 0
+Selects regs asked (Ok pair) = Registers regs asked.start (Ok pair.start) × Registers regs asked.end (Ok pair.end)
+Selects regs asked (Err fault) =
+    Registers regs asked.start (Err fault)
+    ⊎ (IsSome (register_of regs asked.start) × Registers regs asked.end (Err fault))
 
--- the words name a command, or the usage line is printed and nothing is read
-abbrev pub AfterCommand : Option Command → List Got → Outcome → Type 0
-AfterCommand None reads due = (reads ≡ []) × (due ≡ usage)
-AfterCommand (Some c) reads due = AfterWords c reads due
+-- the pair of registers between which the script calls the paths false
+abbrev pub Selected : Flat → Script → Found Pair → Type 0
+Selected flat script found = Asking script (λ asked. Staged (Selects flat.regs asked) early_line found)
+
+-- a claim is judged, and refused only where the design has more than 16 free bits, with their number
+abbrev pub Judges : Design → Claim → Result (Option Verdict) Early → Type 0
+Judges d claim (Ok found) = (free_bit_count d ≤ 16) × IsVerdict d claim found
+Judges d claim (Err fault) = (16 < free_bit_count d) × (fault ≡ early.TooWide (free_bit_count d))
+
+-- the verdict on the claim that all paths of the pair are false
+abbrev pub HasVerdict : Design → Pair → Found (Option Verdict) → Type 0
+HasVerdict d pair found = Staged (Judges d (false_path pair.start.place pair.end.place)) early_line found
+
+-- the report of the pair and its verdict, when nothing more was read
+abbrev pub Reported : Pair → Option Verdict → Due
+Reported pair found reads due = (reads ≡ []) × (due ≡ reported pair.start.name pair.end.name found)
+
+-- what `verify` is due to do: its stages, of which the first two read the netlist and the constraints
+unfoldable pub Verified : Due
+Verified = do
+  source ← AfterText Netlist
+  script ← AfterText Constraints
+  flat ← After (Linked source script)
+  pair ← After (Selected flat script)
+  verdict ← After (HasVerdict flat.design pair)
+  Reported pair verdict
+
+-- what is due for a command, and where the words name none: the usage line is printed, and nothing is read
+abbrev pub IsDueFor : Option Command → Due
+IsDueFor None reads due = (reads ≡ []) × (due ≡ usage)
+IsDueFor (Some c) reads due = Verified reads due
 
 -- what is due for these words, where the reads answered so
-abbrev pub IsDue : List (List ℕ) → List Got → Outcome → Type 0
-IsDue words reads due = AfterCommand (command words) reads due
+abbrev pub IsDue : List (List ℕ) → Due
+IsDue words reads due = IsDueFor (command words) reads due

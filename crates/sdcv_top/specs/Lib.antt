@@ -2,8 +2,10 @@ pub mod Due
 pub mod Lines
 pub mod Outcomes
 pub mod Plans
+pub mod Reads
 pub mod Reports
 pub mod Runs
+pub mod Stages
 pub mod Statuses
 pub mod Verdicts
 pub mod Words

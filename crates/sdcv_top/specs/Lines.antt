@@ -1,7 +1,11 @@
--- The lines that a run prints, other than those of the report.
-use Rattle.std.specs.Prelude.{ℕ, List, [], ◌∷◌, ◌++◌, codes}
+-- The lines that a run prints, other than those of the report. Each begins with the origin of the refusal and its number.
+use Rattle.std.specs.Prelude.{ℕ, List, [], ◌∷◌, ◌++◌, codes, Option, Some, None}
 use Rattle.std.specs.Fmt.{decimal}
 use Rattle.sdcv_base.specs.Shown.{shown}
+use Rattle.verilog_net.specs.declared.faults.VerFault.{VerFault}
+use Rattle.verilog_net.specs.declared.faults.VerFault.TheVariants as verilog
+use Rattle.sdc_text.specs.declared.faults.SdcFault.{SdcFault}
+use Rattle.sdc_text.specs.declared.faults.SdcFault.TheVariants as sdc
 use Rattle.sdcv_top.specs.declared.refusals.Early.{Early}
 use Rattle.sdcv_top.specs.declared.refusals.Early.TheVariants as early
 
@@ -9,22 +13,30 @@ use Rattle.sdcv_top.specs.declared.refusals.Early.TheVariants as early
 abbrev pub line : List ℕ → List ℕ
 line text = text ++ 10 ∷ []
 
+-- the words name no command
 abbrev pub usage_line : List ℕ
 usage_line = line (codes "usage: sdcv verify V L S --out CERT | check V L S CERT | replay V L S REPORT PAIR | demo SEED SIZE")
 
-abbrev pub long_netlist_line : List ℕ
-long_netlist_line = line (codes "refused verilog 0 TooLong")
+-- the netlist has more bytes than its limit
+abbrev pub long_verilog_line : List ℕ
+long_verilog_line = line (codes "refused verilog 0 TooLong")
 
-abbrev pub netlist_form_line : List ℕ
-netlist_form_line = line (codes "refused verilog 90 NotYet")
+-- the netlist is refused by its reader
+abbrev pub verilog_line : VerFault → Option (List ℕ)
+verilog_line verilog.NotYet = Some (line (codes "refused verilog 90 NotYet"))
+verilog_line verilog.Memory = None
 
-abbrev pub long_constraints_line : List ℕ
-long_constraints_line = line (codes "refused sdc 0 TooLong")
+-- the constraints have more bytes than their limit
+abbrev pub long_sdc_line : List ℕ
+long_sdc_line = line (codes "refused sdc 0 TooLong")
 
-abbrev pub constraints_form_line : List ℕ
-constraints_form_line = line (codes "refused sdc 90 NotYet")
+-- the constraints are refused by their reader
+abbrev pub sdc_line : SdcFault → Option (List ℕ)
+sdc_line sdc.NotYet = Some (line (codes "refused sdc 90 NotYet"))
+sdc_line sdc.Memory = None
 
-abbrev pub early_line : Early → List ℕ
-early_line early.NotFlat = line (codes "refused link 90 NotFlat")
-early_line (early.NoRegister name) = line (codes "refused expand 90 NoRegister " ++ shown name)
-early_line (early.TooWide bits) = line (codes "refused expand 91 TooWide " ++ decimal bits)
+-- what both texts say together is refused
+abbrev pub early_line : Early → Option (List ℕ)
+early_line early.NotFlat = Some (line (codes "refused link 90 NotFlat"))
+early_line (early.NoRegister name) = Some (line (codes "refused expand 90 NoRegister " ++ shown name))
+early_line (early.TooWide bits) = Some (line (codes "refused expand 91 TooWide " ++ decimal bits))

@@ -1,15 +1,18 @@
 -- The report of the one command and its pair.
-use Rattle.std.specs.Prelude.{ℕ, List, ◌++◌, codes, Option, None, Some}
+use Rattle.std.specs.Prelude.{ℕ, List, [], ◌++◌, codes, Option, None, Some}
 use Rattle.sdcv_base.specs.Shown.{shown}
 use Rattle.sdcv_top.specs.declared.statuses.Ending.{Ending}
 use Rattle.sdcv_top.specs.declared.statuses.Ending.TheVariants as ending
 use Rattle.sdcv_top.specs.declared.verdicts.Verdict.{Verdict}
 use Rattle.sdcv_top.specs.declared.verdicts.Verdict.TheVariants as verdict
 use Rattle.sdcv_top.specs.Lines.{line}
+use Rattle.sdcv_top.specs.Outcomes.{Outcome}
 
+-- the options of the run: today none can be chosen
 abbrev pub header_line : List ℕ
 header_line = line (codes "sdcv 1 mode plain reset 0 depth 0 budget 0 inv 0")
 
+-- a verdict in words
 abbrev pub verdict_text : Verdict → List ℕ
 verdict_text verdict.Justified = codes "justified depth 0"
 verdict_text verdict.Open = codes "open"
@@ -33,3 +36,7 @@ abbrev pub ending_of : Option Verdict → Ending
 ending_of None = ending.Done
 ending_of (Some verdict.Justified) = ending.Done
 ending_of (Some verdict.Open) = ending.Undecided
+
+-- the run prints the report of the pair of two registers, and saves nothing. It hands no verdict out.
+abbrev pub reported : List ℕ → List ℕ → Option Verdict → Outcome
+reported from to found = record { ending = ending_of found; saved = []; printed = report from to found; judged = None }

@@ -1,5 +1,5 @@
 -- How a run ends.
-use Rattle.std.specs.Prelude.{ℕ}
+use Rattle.std.specs.Prelude.{ℕ, Result, Ok, Err}
 use Rattle.sdcv_top.specs.declared.statuses.Status.{Status}
 use Rattle.sdcv_top.specs.declared.statuses.Status.TheVariants as status
 use Rattle.sdcv_top.specs.declared.statuses.Ending.{Ending}
@@ -23,3 +23,8 @@ status_of ending.Done = status.Done
 status_of ending.Undecided = status.Undecided
 status_of ending.Refused = status.Refused
 status_of ending.Words = status.Words
+
+-- the status of a run whose last print answered so
+abbrev pub status_after : {T E : Type 0} → Result T E → Ending → Status
+status_after (Ok _) how = status_of how
+status_after (Err _) how = status.HostFault

@@ -2,12 +2,14 @@
 use Rattle.std.specs.Prelude.{ℕ, Bool, false, not, ◌==◌, ◌&&◌, if◌then◌else◌, nat_eq, List, [], ◌∷◌, codes, Option, None, Some}
 use Rattle.std.specs.Cmp.Lexicographic.{pointwise}
 use Rattle.sdcv_top.specs.declared.words.Command.{Command as TheCommand}
+use Rattle.sdcv_top.specs.Reads.{ReadOf, text_of}
 
 -- `verify` with the names of its files
 pub record Command : Type 0 where
   pub netlist : List ℕ
   pub constraints : List ℕ
 
+-- a word is that text
 abbrev pub is_word : List ℕ → List ℕ → Bool
 is_word word text = pointwise nat_eq word text
 
@@ -24,10 +26,10 @@ command (verify ∷ netlist ∷ cells ∷ constraints ∷ []) =
     else None
 command words = None
 
--- the names of the files that a command reads, in order
-abbrev pub names_of : Option Command → List (List ℕ)
-names_of None = []
-names_of (Some c) = c.netlist ∷ c.constraints ∷ []
+-- the files that a command reads, in order
+abbrev pub reads_of : Option Command → List ReadOf
+reads_of None = []
+reads_of (Some c) = text_of c.netlist ∷ text_of c.constraints ∷ []
 
 -- a command of the program without its references
 abbrev pub seen : TheCommand → Command

@@ -1,15 +1,13 @@
 //! Reads of the texts.
-ghost use Rattle.std.specs.Prelude.{◌≡◌, [], ◌∷◌, IfOk, OnOk, OnErr};
-ghost use Rattle.sdcv_base.specs.Hosts.{grown};
-ghost use Rattle.sdcv_top.specs.Runs.{IsTold, AskedSome};
-ghost use Rattle.sdcv_top.specs.Plans.{got, StopCounts};
+ghost use Rattle.std.specs.Prelude.{◌≡◌};
+ghost use Rattle.sdcv_top.specs.Plans.{StopCounts, AnswersRead};
 
 use crate::plans::Stop;
 use sdcv_base::{Host, ReadFault};
 use std::alloc::Global;
 
-// The most bytes that a text has.
-const LONGEST: usize = 67_108_864;
+/// The most bytes that a netlist or constraints may have.
+pub const LONGEST: usize = 67_108_864;
 
 /// What a read answered.
 #[derive(Drop)]
@@ -18,17 +16,15 @@ pub enum Answer {
     Longer,
 }
 
-/// Reads one of the texts.
-pub fn read<H: Host>(alloc: Global, host: &mut H, name: &str) -> Result<Answer, Stop>
-    ensures told { IfOk result (λ answer. IsTold (H.files host.old) name.now (got answer)) }
-    ensures asked { OnOk result (H.asked host.new ≡ grown (H.asked host.old) (name.now ∷ [])) }
-    ensures asked_some { OnErr result (AskedSome (name.now ∷ []) (H.asked host.old) (H.asked host.new)) }
+/// Reads a file of at most `limit` bytes.
+pub fn read<H: Host>(alloc: Global, host: &mut H, name: &str, limit: usize) -> Result<Answer, Stop>
+    ensures read { AnswersRead (record { name = name.now; limit = limit }) (H.files host.old) (H.asked host.old) (H.asked host.new) result }
     ensures count { StopCounts (H.faults host.old) (H.faults host.new) result }
     ensures files { H.files host.new ≡ H.files host.old }
     ensures printed { H.printed host.new ≡ H.printed host.old }
     ensures saved { H.saved host.new ≡ H.saved host.old }
 {
-    match host.read_file(alloc, name, LONGEST) {
+    match host.read_file(alloc, name, limit) {
         Ok(text) => Ok(Answer::Text(text)),
         Err(ReadFault::TooLong) => Ok(Answer::Longer),
         Err(ReadFault::Failed) => Err(Stop::HostFault),

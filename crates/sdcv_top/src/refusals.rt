@@ -1,10 +1,12 @@
-//! Why a design of the first form is refused, and the line that says so.
-ghost use Rattle.std.specs.Prelude.{◌≡◌, IfOk, string_bytes};
-ghost use Rattle.sdcv_top.specs.Lines.{early_line};
+//! The line of each refusal: one function an origin, one row a cause.
+ghost use Rattle.std.specs.Prelude.{◌≡◌, Some, IfOk};
+ghost use Rattle.sdcv_top.specs.Lines.{long_verilog_line, verilog_line, long_sdc_line, sdc_line, early_line};
 
+use sdc_text::SdcFault;
 use sdcv_base::Name;
 use std::alloc::{AllocError, Global};
 use thiserror::Error;
+use verilog_net::VerFault;
 
 /// Why a netlist and a script that were read are not judged.
 #[derive(Debug, Drop, Error)]
@@ -20,13 +22,48 @@ pub enum Early {
     TooWide(u64),
 }
 
-/// The fault line.
-pub fn line_of(alloc: Global, fault: &Early) -> Result<String, AllocError>
-    ensures { IfOk result (λ s. string_bytes s ≡ early_line fault.now) }
+/// The line of a netlist that is longer than its limit.
+pub fn long_verilog_line(alloc: Global) -> Result<Vec<u8>, AllocError>
+    ensures { IfOk result (λ line. line.items ≡ long_verilog_line) }
+{
+    Vec::from_slice(alloc, b"refused verilog 0 TooLong\n")
+}
+
+/// The line of a netlist that its reader refuses.
+pub fn verilog_line(alloc: Global, fault: &VerFault) -> Result<Vec<u8>, AllocError>
+    ensures { IfOk result (λ line. verilog_line fault.now ≡ Some line.items) }
 {
     match fault {
-        Early::NotFlat => String::from_str(alloc, "refused link 90 NotFlat\n"),
-        Early::NoRegister(name) => format!(in alloc; "refused expand 90 NoRegister {name}\n"),
-        Early::TooWide(bits) => format!(in alloc; "refused expand 91 TooWide {bits}\n"),
+        VerFault::NotYet => Vec::from_slice(alloc, b"refused verilog 90 NotYet\n"),
+        VerFault::Memory => Err(AllocError),
     }
+}
+
+/// The line of constraints that are longer than their limit.
+pub fn long_sdc_line(alloc: Global) -> Result<Vec<u8>, AllocError>
+    ensures { IfOk result (λ line. line.items ≡ long_sdc_line) }
+{
+    Vec::from_slice(alloc, b"refused sdc 0 TooLong\n")
+}
+
+/// The line of constraints that their reader refuses.
+pub fn sdc_line(alloc: Global, fault: &SdcFault) -> Result<Vec<u8>, AllocError>
+    ensures { IfOk result (λ line. sdc_line fault.now ≡ Some line.items) }
+{
+    match fault {
+        SdcFault::NotYet => Vec::from_slice(alloc, b"refused sdc 90 NotYet\n"),
+        SdcFault::Memory => Err(AllocError),
+    }
+}
+
+/// The line of what both texts say together, and is refused.
+pub fn early_line(alloc: Global, fault: &Early) -> Result<Vec<u8>, AllocError>
+    ensures { IfOk result (λ line. early_line fault.now ≡ Some line.items) }
+{
+    let line = match fault {
+        Early::NotFlat => String::from_str(alloc, "refused link 90 NotFlat\n")?,
+        Early::NoRegister(name) => format!(in alloc; "refused expand 90 NoRegister {name}\n")?,
+        Early::TooWide(bits) => format!(in alloc; "refused expand 91 TooWide {bits}\n")?,
+    };
+    Ok(line.into_bytes())
 }

@@ -28,7 +28,8 @@ endmodule
 
 // BLOCKED with thirteen more inputs: two registers and fifteen data inputs in two cycles.
 const WIDE: &[u8] =
-    b"module top (input clk, input rst, input d, input x1, input x2, input x3, input x4, input x5, input x6, input x7, input x8, input x9, input x10, input x11, input x12, input x13, output y);
+    b"module top (input clk, input rst, input d, input x1, input x2, input x3, input x4, input x5, input x6,
+  input x7, input x8, input x9, input x10, input x11, input x12, input x13, output y);
   wire qa, z, n1;
   TIE0 t0 (.Y(z));
   DFFC a (.D(d), .C(rst), .CK(clk), .Q(qa));
@@ -60,6 +61,8 @@ set_false_path -from [get_cells g1] -to [get_cells c]
 const FROM_A_TO_C: &[u8] = b"create_clock -name ck -period 10 [get_ports clk]
 set_false_path -from [get_cells a] -to [get_cells c]
 ";
+
+const VERIFY: [&str; 4] = ["verify", "v", "builtin", "s"];
 
 fn file(alloc: Global, name: &[u8], bytes: &[u8]) -> Result<FileRec, AllocError> {
     Ok(FileRec {
@@ -94,91 +97,94 @@ fn words_of(alloc: Global, texts: &[&str]) -> Result<Vec<String>, AllocError> {
 }
 
 #[derive(Clone, Copy)]
-struct Row<'a> {
-    netlist: &'a [u8],
-    constraints: &'a [u8],
+struct Row {
+    netlist: &'static [u8],
+    constraints: &'static [u8],
     status: Status,
-    printed: &'a [u8],
+    printed: &'static [u8],
 }
 
 // The reports and refusals of small designs, worked by hand.
-#[test]
-fn each_text_has_its_output(rt: HostRuntime) -> Result<(), test::Fail> {
-    let alloc = rt.alloc();
-    let words = words_of(alloc, &["verify", "v", "builtin", "s"])?;
-    let rows = [
-        Row {
-            netlist: BLOCKED,
-            constraints: FROM_A_TO_B,
-            status: Status::Done,
-            printed: b"sdcv 1 mode plain reset 0 depth 0 budget 0 inv 0
+const ROWS: [Row; 9] = [
+    Row {
+        netlist: BLOCKED,
+        constraints: FROM_A_TO_B,
+        status: Status::Done,
+        printed: b"sdcv 1 mode plain reset 0 depth 0 budget 0 inv 0
 command 1 line 2 false pairs 1
 pair 1 command 1 false a -> b justified depth 0
 total 1 justified 1 refuted 0 undecided 0
 ",
-        },
-        Row {
-            netlist: DIRECT,
-            constraints: FROM_A_TO_B,
-            status: Status::Undecided,
-            printed: b"sdcv 1 mode plain reset 0 depth 0 budget 0 inv 0
+    },
+    Row {
+        netlist: DIRECT,
+        constraints: FROM_A_TO_B,
+        status: Status::Undecided,
+        printed: b"sdcv 1 mode plain reset 0 depth 0 budget 0 inv 0
 command 1 line 2 false pairs 1
 pair 1 command 1 false a -> b open
 total 1 justified 0 refuted 0 undecided 1
 ",
-        },
-        Row {
-            netlist: BLOCKED,
-            constraints: FROM_B_TO_A,
-            status: Status::Done,
-            printed: b"sdcv 1 mode plain reset 0 depth 0 budget 0 inv 0
+    },
+    Row {
+        netlist: BLOCKED,
+        constraints: FROM_B_TO_A,
+        status: Status::Done,
+        printed: b"sdcv 1 mode plain reset 0 depth 0 budget 0 inv 0
 command 1 line 2 false pairs 0
 total 0 justified 0 refuted 0 undecided 0
 ",
-        },
-        Row {
-            netlist: WIDE,
-            constraints: FROM_A_TO_B,
-            status: Status::Refused,
-            printed: b"refused expand 91 TooWide 32\n",
-        },
-        Row {
-            netlist: b"// a comment
+    },
+    Row {
+        netlist: WIDE,
+        constraints: FROM_A_TO_B,
+        status: Status::Refused,
+        printed: b"refused expand 91 TooWide 32\n",
+    },
+    Row {
+        netlist: b"// a comment
 module top (input clk, output y);
 endmodule
 ",
-            constraints: FROM_A_TO_B,
-            status: Status::Refused,
-            printed: b"refused verilog 90 NotYet\n",
-        },
-        Row {
-            netlist: BLOCKED,
-            constraints: b"foo_bar 1",
-            status: Status::Refused,
-            printed: b"refused sdc 90 NotYet\n",
-        },
-        Row {
-            netlist: OTHER_CLOCK,
-            constraints: FROM_A_TO_B,
-            status: Status::Refused,
-            printed: b"refused link 90 NotFlat\n",
-        },
-        Row {
-            netlist: BLOCKED,
-            constraints: FROM_G1_TO_C,
-            status: Status::Refused,
-            printed: b"refused expand 90 NoRegister g1\n",
-        },
-        Row {
-            netlist: BLOCKED,
-            constraints: FROM_A_TO_C,
-            status: Status::Refused,
-            printed: b"refused expand 90 NoRegister c\n",
-        },
-    ];
-    for (k, row) in rows.iter().enumerate() {
+        constraints: FROM_A_TO_B,
+        status: Status::Refused,
+        printed: b"refused verilog 90 NotYet\n",
+    },
+    Row {
+        netlist: BLOCKED,
+        constraints: b"foo_bar 1",
+        status: Status::Refused,
+        printed: b"refused sdc 90 NotYet\n",
+    },
+    Row {
+        netlist: OTHER_CLOCK,
+        constraints: FROM_A_TO_B,
+        status: Status::Refused,
+        printed: b"refused link 90 NotFlat\n",
+    },
+    Row {
+        netlist: BLOCKED,
+        constraints: FROM_G1_TO_C,
+        status: Status::Refused,
+        printed: b"refused expand 90 NoRegister g1\n",
+    },
+    Row {
+        netlist: BLOCKED,
+        constraints: FROM_A_TO_C,
+        status: Status::Refused,
+        printed: b"refused expand 90 NoRegister c\n",
+    },
+];
+
+#[test]
+fn each_text_has_its_output(rt: HostRuntime) -> Result<(), test::Fail> {
+    let alloc = rt.alloc();
+    let words = words_of(alloc, &VERIFY)?;
+    for (k, row) in ROWS.iter().enumerate() {
         let mut host = host_of(alloc, row.netlist, row.constraints, None)?;
-        assert_eq!(rt; run(alloc, &words, &mut host), row.status, "row {k}");
+        let ran = run(alloc, &words, &mut host);
+        assert_eq!(rt; ran.status, row.status, "row {k}");
+        assert!(rt; ran.judged.is_none());
         assert_eq!(rt; host.printed(), row.printed, "row {k}");
         assert_eq!(rt; host.faults(), 0);
         assert!(rt; host.saved().is_empty());
@@ -186,45 +192,46 @@ endmodule
     Ok(())
 }
 
+const NO_COMMANDS: [&[&str]; 8] = [
+    &[],
+    &["verify", "v", "s"],
+    &["verify", "v", "l", "s"],
+    &["check", "v", "builtin", "s"],
+    &["verify", "", "builtin", "s"],
+    &["verify", "v", "builtin", "-s"],
+    &["verify", "v", "builtin", "s", "--out", "c"],
+    &["--help"],
+];
+
 #[test]
 fn other_words_name_no_command(rt: HostRuntime) -> Result<(), test::Fail> {
     let alloc = rt.alloc();
-    let lists: [&[&str]; 8] = [
-        &[],
-        &["verify", "v", "s"],
-        &["verify", "v", "l", "s"],
-        &["check", "v", "builtin", "s"],
-        &["verify", "", "builtin", "s"],
-        &["verify", "v", "builtin", "-s"],
-        &["verify", "v", "builtin", "s", "--out", "c"],
-        &["--help"],
-    ];
-    for (k, list) in lists.iter().enumerate() {
+    for (k, list) in NO_COMMANDS.iter().enumerate() {
         let mut host = host_of(alloc, BLOCKED, FROM_A_TO_B, None)?;
         let words = words_of(alloc, list)?;
-        assert_eq!(rt; run(alloc, &words, &mut host).code(), 4, "words {k}");
+        assert_eq!(rt; run(alloc, &words, &mut host).status.code(), 4, "words {k}");
         assert_eq!(rt; host.printed(), USAGE, "words {k}");
         assert!(rt; host.asked().is_empty());
     }
     Ok(())
 }
 
-// The calls are two reads and four prints.
+// The calls are two reads and four prints: the one that fails, and the front that is printed.
+const CUTS: [(u64, &[u8]); 4] = [
+    (1, b""),
+    (2, b""),
+    (3, b"sdc"),
+    (4, b"sdcv 1 mode plain reset 0 depth 0 budget 0 inv 0\ncom"),
+];
+
 #[test]
 fn a_call_that_fails_leaves_a_front_of_the_report(rt: HostRuntime) -> Result<(), test::Fail> {
     let alloc = rt.alloc();
-    let words = words_of(alloc, &["verify", "v", "builtin", "s"])?;
-    let header = b"sdcv 1 mode plain reset 0 depth 0 budget 0 inv 0\n";
-    let cases: [(u64, &[u8]); 4] = [
-        (1, b""),
-        (2, b""),
-        (3, b"sdc"),
-        (4, b"sdcv 1 mode plain reset 0 depth 0 budget 0 inv 0\ncom"),
-    ];
-    for (call, printed) in cases {
+    let words = words_of(alloc, &VERIFY)?;
+    for (call, printed) in CUTS {
         let mut host = host_of(alloc, BLOCKED, FROM_A_TO_B, Some(Fail { call, taken: 3 }))?;
         assert_eq!(rt;
-            run(alloc, &words, &mut host),
+            run(alloc, &words, &mut host).status,
             Status::HostFault,
             "call {call}"
         );
@@ -234,19 +241,18 @@ fn a_call_that_fails_leaves_a_front_of_the_report(rt: HostRuntime) -> Result<(),
     Ok(())
 }
 
+const MISSING: [[&str; 4]; 2] = [
+    ["verify", "w", "builtin", "s"],
+    ["verify", "v", "builtin", "w"],
+];
+
 #[test]
 fn a_missing_file_prints_nothing(rt: HostRuntime) -> Result<(), test::Fail> {
     let alloc = rt.alloc();
-    for (k, list) in [
-        ["verify", "w", "builtin", "s"],
-        ["verify", "v", "builtin", "w"],
-    ]
-    .iter()
-    .enumerate()
-    {
+    for (k, list) in MISSING.iter().enumerate() {
         let mut host = host_of(alloc, BLOCKED, FROM_A_TO_B, None)?;
         let words = words_of(alloc, list)?;
-        assert_eq!(rt; run(alloc, &words, &mut host), Status::HostFault);
+        assert_eq!(rt; run(alloc, &words, &mut host).status, Status::HostFault);
         assert_eq!(rt; host.asked().len(), k + 1);
         assert!(rt; host.printed().is_empty());
     }
@@ -257,7 +263,7 @@ fn a_missing_file_prints_nothing(rt: HostRuntime) -> Result<(), test::Fail> {
 #[test]
 fn a_long_text_is_refused_where_it_is_read(rt: HostRuntime) -> Result<(), test::Fail> {
     let alloc = rt.alloc();
-    let words = words_of(alloc, &["verify", "v", "builtin", "s"])?;
+    let words = words_of(alloc, &VERIFY)?;
     let long = vec![in alloc; b' '; 67_108_865]?;
     let rows: [(&[u8], &[u8], &[u8]); 3] = [
         (&long, &long, b"refused verilog 0 TooLong\n"),
@@ -266,7 +272,7 @@ fn a_long_text_is_refused_where_it_is_read(rt: HostRuntime) -> Result<(), test::
     ];
     for (netlist, constraints, printed) in rows {
         let mut host = host_of(alloc, netlist, constraints, None)?;
-        assert_eq!(rt; run(alloc, &words, &mut host), Status::Refused);
+        assert_eq!(rt; run(alloc, &words, &mut host).status, Status::Refused);
         assert_eq!(rt; host.printed(), printed);
     }
     Ok(())
@@ -275,11 +281,16 @@ fn a_long_text_is_refused_where_it_is_read(rt: HostRuntime) -> Result<(), test::
 #[test]
 fn faults_are_shown(rt: HostRuntime) -> Result<(), test::Fail> {
     let alloc = rt.alloc();
-    let text = Early::NoRegister(Name::new(alloc, b"a\x01")?).to_string(alloc)?;
-    assert_eq!(rt; text.as_str(), "a? is no register");
-    let text = Early::TooWide(32).to_string(alloc)?;
-    assert_eq!(rt; text.as_str(), "32 free bits are too many");
-    let text = Early::NotFlat.to_string(alloc)?;
-    assert_eq!(rt; text.as_str(), "the design is not flat");
+    let shown = [
+        (Early::NotFlat, "the design is not flat"),
+        (
+            Early::NoRegister(Name::new(alloc, b"a\x01")?),
+            "a? is no register",
+        ),
+        (Early::TooWide(32), "32 free bits are too many"),
+    ];
+    for (fault, text) in &shown {
+        assert_eq!(rt; fault.to_string(alloc)?.as_str(), *text);
+    }
     Ok(())
 }
