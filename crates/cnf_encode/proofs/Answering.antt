@@ -7,9 +7,9 @@ use Rattle.net_model.specs.Netlist.{IsSound}
 use Rattle.net_model.specs.Cycles.{IsLinked, HasResets}
 use Rattle.net_model.specs.declared.netlist.Design.{Design}
 use Rattle.net_model.specs.declared.cycles.Cycle.{Cycle}
-use Rattle.query_model.specs.Queries.{Query, IsAnswer, claim_query, clause_query}
+use Rattle.net_model.specs.Queries.{Query, AreCyclesOf, IsAnswer, claim_query, clause_query}
 use Rattle.query_model.specs.Variables.{AllCodesTrue, code_true, by_number}
-use Rattle.query_model.specs.Laws.{NamesRegs, AreCyclesOf, HasFreeBits, AgreesWith, NumberedModelsAnswer, HasRails, NumberedModelsHaveRails}
+use Rattle.query_model.specs.Laws.{NamesRegs, HasFreeBits, AgreesWith, NumberedModelsAnswer, HasRails, NumberedHaveRails}
 use Rattle.query_model.proofs.Railed.{claim_rails, numbered_rails}
 use Rattle.query_model.proofs.Claims.{claim_models, clause_models}
 use Rattle.query_model.proofs.Problems.{numbered_models}
@@ -18,9 +18,9 @@ use Rattle.proof_log.specs.Literals.{lit_true}
 use Rattle.proof_log.specs.Clauses.{clause_true}
 use Rattle.proof_log.specs.Formulas.{IsModel, value_in}
 use Rattle.proof_log.specs.declared.models.Model.{Model}
-use Rattle.cnf_encode.specs.Problems.{IsClaimQuery, IsClauseQuery, IsProblemFor}
+use Rattle.cnf_encode.specs.Problems.{IsClaimQuery, IsClauseQuery, IsProblemFor, IsMadeFor}
 use Rattle.cnf_encode.specs.declared.problems.Problem.{Problem}
-use Rattle.cnf_encode.proofs.Running.{RunSoFar, run_linked, run_resets, run_free}
+use Rattle.cnf_encode.proofs.Running.{IsReadBack, run_resets, run_free}
 
 -- a literal's value is said in the same way of formulas and of queries
 lit_same : (v : ℕ → Bool) (l : ℕ) → lit_true v l ≡ code_true v l
@@ -66,35 +66,39 @@ answered d q sound (inr asks) =
     })
 
 -- the cycles that are read back are those of the query
-cycles_of : (d : Design) (q : Query) (problem : Problem) (values : List Bool) (run : List Cycle) (bits : List Bool) → IsAnswered d q → IsProblemFor q problem → RunSoFar d problem.frames values problem.live run bits problem.cycles → AreCyclesOf q run
-cycles_of d q problem values run bits asked is done =
+cycles_of : (d : Design) (q : Query) (problem : Problem) (values : List Bool) (run : List Cycle) → IsAnswered d q → IsProblemFor q problem → IsReadBack d problem.frames values problem.live problem.cycles run → AreCyclesOf q run
+cycles_of d q problem values run asked is done =
     record {
-      linked = subst (λ (e : Design). IsLinked e run) (sym asked.design) (run_linked d problem.frames values problem.live run bits problem.cycles (omega (arith, asked.some, is.cycles)) done);
+      linked = subst (λ (e : Design). IsLinked e run) (sym asked.design) done.linked;
       resets = λ t c at.
           subst (λ (e : Design). HasResets e (nat_lt t q.live) c) (sym asked.design)
-          (subst (λ (n : ℕ). HasResets d (nat_lt t n) c) is.live (run_resets d problem.frames values problem.live run bits problem.cycles done t c at));
+          (subst (λ (n : ℕ). HasResets d (nat_lt t n) c) is.live (run_resets d problem.frames values problem.live problem.cycles run done t c at));
       count = done.count ∙ is.cycles;
     }
 
 -- they answer it, and agree with the model
-pub run_answers : (d : Design) (q : Query) (problem : Problem) (model : Model) (run : List Cycle) (bits : List Bool) → IsSound d → IsClaimQuery d q ⊎ IsClauseQuery d q → IsProblemFor q problem → IsModel problem.formula model → RunSoFar d problem.frames model.values problem.live run bits problem.cycles → IsAnswer q run × AgreesWith d problem.frames (by_number problem.frames (value_in model.values)) run
-run_answers d q problem model run bits sound asks is holds done =
+pub run_answers : (d : Design) (q : Query) (problem : Problem) (model : Model) (run : List Cycle) → IsSound d → IsClaimQuery d q ⊎ IsClauseQuery d q → IsProblemFor q problem → IsModel problem.formula model → IsReadBack d problem.frames model.values problem.live problem.cycles run → IsAnswer q run × AgreesWith d problem.frames (by_number problem.frames (value_in model.values)) run
+run_answers d q problem model run sound asks is holds done =
     let asked = answered d q sound asks in
     let v = value_in model.values in
     let free : HasFreeBits q.design problem.frames (by_number problem.frames (value_in model.values)) run =
-    subst (λ (e : Design). HasFreeBits e problem.frames (by_number problem.frames (value_in model.values)) run) (sym asked.design) (run_free d problem.frames model.values problem.live run bits problem.cycles done) in
-    let found = asked.law problem.frames problem.formula.vars problem.formula.clauses v run is.clauses (codes_true v problem.formula.clauses holds.1) (cycles_of d q problem model.values run bits asked is done) free in
+    subst (λ (e : Design). HasFreeBits e problem.frames (by_number problem.frames (value_in model.values)) run) (sym asked.design) (run_free d problem.frames model.values problem.live problem.cycles run done) in
+    let found = asked.law problem.frames problem.formula.vars problem.formula.clauses v run is.clauses (codes_true v problem.formula.clauses holds.1) (cycles_of d q problem model.values run asked is done) free in
     (found.0, subst (λ (e : Design). AgreesWith e problem.frames (by_number problem.frames (value_in model.values)) run) asked.design found.1)
 
 -- where hazards count, and the layers of its cycles have the rails of the model
-pub run_rails : (d : Design) (q : Query) (problem : Problem) (model : Model) (run : List Cycle) (bits : List Bool) → IsSound d → (asks : IsClaimQuery d q) → asks.claim.hazard ≡ true → IsProblemFor q problem → IsModel problem.formula model → RunSoFar d problem.frames model.values problem.live run bits problem.cycles → HasRails d asks.claim problem.frames (by_number problem.frames (value_in model.values)) run
-run_rails d q problem model run bits sound asks hazard is holds done =
+pub run_rails : (d : Design) (q : Query) (problem : Problem) (model : Model) (run : List Cycle) → IsSound d → (asks : IsClaimQuery d q) → asks.claim.hazard ≡ true → IsProblemFor q problem → IsModel problem.formula model → IsReadBack d problem.frames model.values problem.live problem.cycles run → HasRails d asks.claim problem.frames (by_number problem.frames (value_in model.values)) run
+run_rails d q problem model run sound asks hazard is holds done =
     let asked = answered d q sound (inl asks) in
     let v = value_in model.values in
-    let law : NumberedModelsHaveRails Rows asks.claim q =
-    subst (NumberedModelsHaveRails Rows asks.claim) (sym asks.is) (numbered_rails Rows asks.claim (claim_query d asks.claim asks.phase asks.depth asks.inv)
+    let law : NumberedHaveRails Rows asks.claim q =
+    subst (NumberedHaveRails Rows asks.claim) (sym asks.is) (numbered_rails Rows asks.claim (claim_query d asks.claim asks.phase asks.depth asks.inv)
     (claim_rails Rows d asks.claim asks.phase asks.depth asks.inv sound asks.fits hazard)) in
     let free : HasFreeBits q.design problem.frames (by_number problem.frames (value_in model.values)) run =
-    subst (λ (e : Design). HasFreeBits e problem.frames (by_number problem.frames (value_in model.values)) run) (sym asked.design) (run_free d problem.frames model.values problem.live run bits problem.cycles done) in
+    subst (λ (e : Design). HasFreeBits e problem.frames (by_number problem.frames (value_in model.values)) run) (sym asked.design) (run_free d problem.frames model.values problem.live problem.cycles run done) in
     subst (λ (e : Design). HasRails e asks.claim problem.frames (by_number problem.frames (value_in model.values)) run) asked.design
-    (law problem.frames problem.formula.vars problem.formula.clauses v run is.clauses (codes_true v problem.formula.clauses holds.1) (cycles_of d q problem model.values run bits asked is done) free)
+    (law problem.frames problem.formula.vars problem.formula.clauses v run is.clauses (codes_true v problem.formula.clauses holds.1) (cycles_of d q problem model.values run asked is done) free)
+
+-- a problem that was made has a cycle
+pub made_some : (d : Design) (problem : Problem) → IsSound d → IsMadeFor d problem → 0 < problem.cycles
+made_some d problem sound made = let asked = answered d made.query sound made.asks in omega (arith, asked.some, made.is.cycles)

@@ -12,9 +12,10 @@ use Rattle.query_model.specs.Keys.{lit}
 use Rattle.query_model.specs.Reads.{bit_key, read_base, read_pin}
 use Rattle.net_model.specs.declared.claims.Claim.{Claim}
 use Rattle.net_model.specs.declared.claims.PinRef.TheVariants.{RegIn}
-use Rattle.query_model.specs.Defined.{plain, rails, with_own, reads_own, numbered, late_key, bit_definition}
+use Rattle.net_model.specs.Mentions.{reads_own}
+use Rattle.query_model.specs.Defined.{plain, rails, with_own, numbered, late_key, bit_definition}
 use Rattle.query_model.proofs.Lists.{length-numbered}
-use Rattle.cnf_encode.specs.Late.{reg_reads, plain_reg, rails_reg}
+use Rattle.query_model.specs.Defined.{reg_reads, plain_reg, rails_reg}
 use Rattle.query_model.specs.declared.keys.Key.{Key}
 use Rattle.query_model.specs.declared.keys.KeyLit.{KeyLit}
 use Rattle.query_model.specs.declared.keys.Coding.TheVariants.{Rows}
@@ -104,10 +105,10 @@ late_long d claim moved c r reg hs ls highs lows =
     ∙ sym (ap length highs)
 
 -- the definition of the late capture, by the function of the capture
-pub plain_reg_is : (d : Design) (claim : Claim) (moved : List (List Bool)) (c r : ℕ) (reg : Reg) (f : Form) (reads : List KeyLit) (out : Key) → ((bits : ℕ → Bool) → value f bits ≡ reg_capture reg bits) → reads ≡ reg_reads d claim moved c 0 true r reg → out ≡ late_key d claim c 0 → plain Rows (value f) reads out ≡ plain_reg d claim moved c r reg
+pub plain_reg_is : (d : Design) (claim : Claim) (moved : List (List Bool)) (c r : ℕ) (reg : Reg) (f : Form) (reads : List KeyLit) (out : Key) → ((bits : ℕ → Bool) → value f bits ≡ reg_capture reg bits) → reads ≡ reg_reads d claim moved c 0 true r reg → out ≡ late_key d claim c 0 → plain Rows (value f) reads out ≡ plain_reg Rows d claim moved c r reg
 plain_reg_is d claim moved c r reg f reads out value_is reads_are out_is =
     plain_equal (value f) (reg_capture reg) reads (reg_reads d claim moved c 0 true r reg) out (late_key d claim c 0) value_is reads_are out_is
 
-pub rails_reg_is : (d : Design) (claim : Claim) (moved : List (List Bool)) (c r : ℕ) (reg : Reg) (f : Form) (hs ls : List KeyLit) (high low : Key) → ((bits : ℕ → Bool) → value f bits ≡ reg_capture reg bits) → hs ≡ reg_reads d claim moved c 0 true r reg → ls ≡ reg_reads d claim moved c 1 false r reg → high ≡ late_key d claim c 0 → low ≡ late_key d claim c 1 → rails Rows (value f) hs ls high low ≡ rails_reg d claim moved c r reg
+pub rails_reg_is : (d : Design) (claim : Claim) (moved : List (List Bool)) (c r : ℕ) (reg : Reg) (f : Form) (hs ls : List KeyLit) (high low : Key) → ((bits : ℕ → Bool) → value f bits ≡ reg_capture reg bits) → hs ≡ reg_reads d claim moved c 0 true r reg → ls ≡ reg_reads d claim moved c 1 false r reg → high ≡ late_key d claim c 0 → low ≡ late_key d claim c 1 → rails Rows (value f) hs ls high low ≡ rails_reg Rows d claim moved c r reg
 rails_reg_is d claim moved c r reg f hs ls high low value_is highs lows high_is low_is =
     rails_equal (value f) (reg_capture reg) hs (reg_reads d claim moved c 0 true r reg) ls (reg_reads d claim moved c 1 false r reg) high (late_key d claim c 0) low (late_key d claim c 1) value_is highs lows high_is low_is

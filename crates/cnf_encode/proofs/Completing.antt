@@ -48,7 +48,12 @@ clauses_listed v vars (d ∷ ds) within all zero lt c at =
     subst (λ x. clause_true (value_in (values_from v 1 vars)) x ≡ true) is (sym (clause_listed v vars d (All-head (λ x. All (InVars vars) x) d ds within)) ∙ all.0)
 clauses_listed v vars (d ∷ ds) within all (suc k) lt c at = clauses_listed v vars ds (All-tail (λ x. All (InVars vars) x) d ds within) all.1 k (omega (arith, lt)) c at
 
--- so they are a model
-pub model_listed : (formula : Formula) (v : ℕ → Bool) → IsFormula formula → AllCodesTrue v formula.clauses → (m : Model) × IsModel formula m
+-- so they are a model, which has these values
+pub model_listed : (formula : Formula) (v : ℕ → Bool) → IsFormula formula → AllCodesTrue v formula.clauses
+    → (m : Model) × IsModel formula m × ((var : ℕ) → 1 ≤ var → var ≤ formula.vars → value_in m.values var ≡ v var)
 model_listed formula v normal all =
-    (record { values = values_from v 1 formula.vars }, (length-values_from v 1 formula.vars, all_from_places (λ c. clause_true (value_in (values_from v 1 formula.vars)) c ≡ true) formula.clauses (clauses_listed v formula.vars formula.clauses normal.in_vars all)))
+    let holds = λ (c : List ℕ). clause_true (value_in (values_from v 1 formula.vars)) c ≡ true in (
+      record { values = values_from v 1 formula.vars },
+      (length-values_from v 1 formula.vars, all_from_places holds formula.clauses (clauses_listed v formula.vars formula.clauses normal.in_vars all)),
+      λ var from to. listed_value v formula.vars var from to,
+    )

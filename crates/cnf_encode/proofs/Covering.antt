@@ -20,7 +20,7 @@ use Rattle.query_model.proofs.Based.{get_within}
 use Rattle.query_model.proofs.Places.{same_key-true}
 use Rattle.cnf_encode.specs.Listed.{Lists}
 use Rattle.cnf_encode.specs.declared.cones.Cone.{Cone}
-use Rattle.cnf_encode.specs.Late.{plain_gate, rails_gate}
+use Rattle.query_model.specs.Defined.{plain_gate, rails_gate}
 use Rattle.cnf_encode.specs.Coned.{AreRows, IsConeFor, Covers, has_point, gate_points, bit_points}
 use Rattle.cnf_encode.proofs.Covered.{covered}
 use Rattle.cnf_encode.proofs.Standing.{length-below, bit_at_place}
@@ -135,11 +135,11 @@ Lists-gates d keys c places n covers all lists =
 layer_left_out : (d : Design) (claim : Claim) (moved : List (List Bool)) (keys : List Key) (c l k : ℕ) (g : Gate) → has_point keys c g.out ≡ false → flat_map (listed keys) (layer_gate Rows d claim moved c l k g) ≡ []
 layer_left_out d claim moved keys c l k g miss = by (has_own claim moved l g.out) claim.hazard
   where
-    by : (own hazard : Bool) → flat_map (listed keys) (cond (not own) [] (cond hazard (rails_gate d claim moved c (suc l) k g ∷ []) (plain_gate d claim moved c (suc l) k g ∷ []))) ≡ []
+    by : (own hazard : Bool) → flat_map (listed keys) (cond (not own) [] (cond hazard (rails_gate Rows d claim moved c (suc l) k g ∷ []) (plain_gate Rows d claim moved c (suc l) k g ∷ []))) ≡ []
     by false hazard = refl
     by true true =
-        two_left_out keys (rails_gate d claim moved c (suc l) k g) (key c (suc l) 0 g.out) (key c (suc l) 1 g.out) refl (no_key keys c g.out (suc l) 0 miss) (no_key keys c g.out (suc l) 1 miss)
-    by true false = one_left_out keys (plain_gate d claim moved c (suc l) k g) (key c (suc l) 0 g.out) refl (no_key keys c g.out (suc l) 0 miss)
+        two_left_out keys (rails_gate Rows d claim moved c (suc l) k g) (key c (suc l) 0 g.out) (key c (suc l) 1 g.out) refl (no_key keys c g.out (suc l) 0 miss) (no_key keys c g.out (suc l) 1 miss)
+    by true false = one_left_out keys (plain_gate Rows d claim moved c (suc l) k g) (key c (suc l) 0 g.out) refl (no_key keys c g.out (suc l) 0 miss)
 
 pub Lists-layer_gates : (d : Design) (claim : Claim) (moved : List (List Bool)) (keys : List Key) (c l : ℕ) (places : List ℕ) (n : ℕ) {old new : List (List ℕ)} → Covers keys c (gate_points d) places → length places ≤ n → Lists keys (flat_map (at_place (layer_gate Rows d claim moved c l) d.gates) (take n places)) old new → Lists keys (flat_map (λ (defs : List Definition). defs) (numbered (layer_gate Rows d claim moved c l) 0 d.gates)) old new
 Lists-layer_gates d claim moved keys c l places n covers all lists =

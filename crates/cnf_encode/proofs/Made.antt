@@ -1,7 +1,7 @@
 -- Clauses of definitions and of what is asked are the problem of a query.
 use Rattle.std.proofs.Common.{◌≡◌, ℕ, ◌^◌, ◌<◌, Bool, List, [], length, refl, sym, subst, arith}
 use Rattle.std.specs.Prelude.{All, flat_map}
-use Rattle.query_model.specs.Queries.{Query}
+use Rattle.net_model.specs.Queries.{Query}
 use Rattle.query_model.specs.Formula.{definitions, asked_clauses, formula_over, listed, AreMovedFor, AreNeeded}
 use Rattle.query_model.specs.Variables.{AreNormalsOf}
 use Rattle.query_model.specs.declared.keys.Key.{Key}

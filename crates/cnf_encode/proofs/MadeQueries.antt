@@ -1,7 +1,8 @@
 -- The problems of the queries about a claim and about a clause.
-use Rattle.std.proofs.Common.{◌≡◌, ℕ, ◌^◌, ◌<◌, Bool, List, [], length, ap, sym, ◌∙◌, subst}
-use Rattle.std.specs.Prelude.{All}
+use Rattle.std.proofs.Common.{◌≡◌, ℕ, ◌+◌, ◌^◌, ◌<◌, Bool, List, [], length, ap, sym, ◌∙◌, subst}
+use Rattle.std.specs.Prelude.{All, Contains}
 use Rattle.std.proofs.lemmas.List.Elements.{All-contains}
+use Rattle.net_model.proofs.Members.{In-from_Contains}
 use Rattle.net_model.specs.Netlist.{IsSound}
 use Rattle.net_model.specs.Fits.{Fits}
 use Rattle.net_model.specs.declared.netlist.Design.{Design}
@@ -9,20 +10,24 @@ use Rattle.net_model.specs.declared.cycles.Cycle.{Cycle}
 use Rattle.net_model.specs.declared.claims.Claim.{Claim}
 use Rattle.net_model.specs.declared.invariants.InvClause.{InvClause}
 use Rattle.net_model.specs.declared.queries.Phase.{Phase}
-use Rattle.query_model.specs.Queries.{Query, Question, IsAnswer, claim_query, clause_query}
+use Rattle.net_model.specs.Queries.{Query, Question, claim_query, clause_query}
+use Rattle.query_model.specs.Keys.{key}
+use Rattle.query_model.specs.Reads.{bit_key}
 use Rattle.query_model.specs.Defined.{Definition}
 use Rattle.query_model.specs.Formula.{definitions, asked_clauses, AreMovedFor, AreNeeded}
-use Rattle.query_model.specs.Laws.{NamesRegs, AnswersHaveNumberedModels}
+use Rattle.query_model.specs.Variables.{number_of, by_number}
+use Rattle.query_model.specs.Laws.{NamesRegs, AgreesWith, AnswersHaveNumberedModels}
 use Rattle.query_model.proofs.Claims.{claim_answers, clause_answers}
 use Rattle.query_model.proofs.Problems.{numbered_answers}
 use Rattle.query_model.specs.declared.keys.Key.{Key}
 use Rattle.query_model.specs.declared.keys.KeyLit.{KeyLit}
 use Rattle.query_model.specs.declared.keys.Coding.TheVariants.{Rows}
-use Rattle.proof_log.specs.Formulas.{IsModel}
-use Rattle.proof_log.specs.declared.models.Model.{Model}
+use Rattle.proof_log.specs.Formulas.{value_in}
 use Rattle.cnf_encode.specs.Coded.{Adds}
 use Rattle.cnf_encode.specs.Listed.{Lists}
+use Rattle.cnf_encode.specs.Problems.{IsCompleteFor}
 use Rattle.cnf_encode.specs.declared.problems.Problem.{Problem}
+use Rattle.cnf_encode.proofs.Coding.{number_from, number_to}
 use Rattle.cnf_encode.proofs.Completing.{model_listed}
 use Rattle.cnf_encode.proofs.Made.{IsMade, normals_made, made_exact, made_normal}
 
@@ -59,18 +64,33 @@ made q moved problem keys asked none defined clauses are_moved of needed asked_a
           (subst (λ (ks : List Key). Adds ks (asked_clauses q) defined clauses) back adds_are));
     }
 
--- each answer gives a model
-complete : (q : Query) (moved : List (List Bool)) (problem : Problem) → AnswersHaveNumberedModels Rows q → IsMade q moved problem → (run : List Cycle) → IsAnswer q run → (m : Model) × IsModel problem.formula m
-complete q moved problem law is run answer =
-    let found = law problem.frames problem.formula.vars problem.formula.clauses run (made_exact q moved problem is).clauses answer in
-    model_listed problem.formula found.0 (made_normal q moved problem is) found.1
+-- values of keys that are the same agree with the same cycles
+agrees_too : (d : Design) (keys : List Key) (v w : Key → Bool) (run : List Cycle) → ((k : Key) → Contains keys k → w k ≡ v k) → AgreesWith d keys v run → AgreesWith d keys w run
+agrees_too d keys v w run same agrees =
+    record {
+      nets = λ t c n at low has. same (key t 0 0 n) has ∙ agrees.nets t c n at low has;
+      bits = λ t c r at lt has. same (bit_key d t r) has ∙ agrees.bits t c r at lt has;
+      captures = λ t c r at lt has. same (bit_key d (t + 1) r) has ∙ agrees.captures t c r at lt has;
+    }
 
-pub claim_complete : (d : Design) (claim : Claim) (phase : Phase) (depth : ℕ) (inv : List InvClause) (moved : List (List Bool)) (problem : Problem) → IsSound d → Fits d claim → All (NamesRegs d) inv → IsMade (claim_query d claim phase depth inv) moved problem → (run : List Cycle) → IsAnswer (claim_query d claim phase depth inv) run → (m : Model) × IsModel problem.formula m
+-- each answer gives a model that agrees with it
+complete : (q : Query) (moved : List (List Bool)) (problem : Problem) → AnswersHaveNumberedModels Rows q → IsMade q moved problem → IsCompleteFor q problem
+complete q moved problem law is run answer =
+    let keys = problem.frames in
+    let found = law keys problem.formula.vars problem.formula.clauses run (made_exact q moved problem is).clauses answer in
+    let made = model_listed problem.formula found.0 (made_normal q moved problem is) found.1 in (
+      made.0,
+      made.1,
+      agrees_too q.design keys (by_number keys found.0) (by_number keys (value_in made.0.values)) run
+          (λ k has. made.2 (number_of keys k) (number_from keys k) (rw is.vars (number_to keys k (In-from_Contains keys k has)))) found.2,
+    )
+
+pub claim_complete : (d : Design) (claim : Claim) (phase : Phase) (depth : ℕ) (inv : List InvClause) (moved : List (List Bool)) (problem : Problem) → IsSound d → Fits d claim → All (NamesRegs d) inv → IsMade (claim_query d claim phase depth inv) moved problem → IsCompleteFor (claim_query d claim phase depth inv) problem
 claim_complete d claim phase depth inv moved problem sound fits names is =
     complete (claim_query d claim phase depth inv) moved problem
     (numbered_answers Rows (claim_query d claim phase depth inv) (claim_answers Rows d claim phase depth inv sound fits (λ i has. All-contains (NamesRegs d) inv i names has))) is
 
-pub clause_complete : (d : Design) (inv : List InvClause) (clause : InvClause) (phase : Phase) (depth : ℕ) (moved : List (List Bool)) (problem : Problem) → IsSound d → NamesRegs d clause → All (NamesRegs d) inv → IsMade (clause_query d inv clause phase depth) moved problem → (run : List Cycle) → IsAnswer (clause_query d inv clause phase depth) run → (m : Model) × IsModel problem.formula m
+pub clause_complete : (d : Design) (inv : List InvClause) (clause : InvClause) (phase : Phase) (depth : ℕ) (moved : List (List Bool)) (problem : Problem) → IsSound d → NamesRegs d clause → All (NamesRegs d) inv → IsMade (clause_query d inv clause phase depth) moved problem → IsCompleteFor (clause_query d inv clause phase depth) problem
 clause_complete d inv clause phase depth moved problem sound name names is =
     complete (clause_query d inv clause phase depth) moved problem
     (numbered_answers Rows (clause_query d inv clause phase depth) (clause_answers Rows d inv clause phase depth sound name (λ i has. All-contains (NamesRegs d) inv i names has))) is

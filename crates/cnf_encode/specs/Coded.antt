@@ -4,6 +4,7 @@ use Rattle.query_model.specs.Variables.{code_of, AreNormalsOf}
 use Rattle.query_model.specs.declared.keys.Key.{Key}
 use Rattle.query_model.specs.declared.keys.KeyLit.{KeyLit}
 
+-- the codes of the literals of clauses over keys
 abbrev pub coded : List Key → List (List KeyLit) → List (List ℕ)
 coded keys clauses = map (map (code_of keys)) clauses
 

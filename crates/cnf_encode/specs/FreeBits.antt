@@ -1,11 +1,12 @@
 -- Free bits: register bits of the first cycle, and bits of inputs that are neither fixed nor reset.
-use Rattle.std.specs.Prelude.{◌≡◌, ◌≢◌, ℕ, ◌<◌, Bool, false, List, length, None, Some, slice_get, slice_index, nat_lt, if◌then◌else◌}
+use Rattle.std.specs.Prelude.{◌≡◌, ◌≢◌, ℕ, ◌<◌, Bool, false, List, length, None, Some, slice_get, nat_lt, if◌then◌else◌}
 use Rattle.net_model.specs.Cycles.{bit_at}
 use Rattle.net_model.specs.Stimuli.{AreInputs}
 use Rattle.net_model.specs.declared.netlist.Design.{Design}
+use Rattle.net_model.specs.declared.cycles.Stimulus.{Stimulus}
 use Rattle.net_model.specs.declared.netlist.Fixed.{Fixed}
 use Rattle.query_model.specs.Keys.{key}
-use Rattle.query_model.specs.Reads.{bit_key}
+use Rattle.query_model.specs.Reads.{bit_key, input_key}
 use Rattle.query_model.specs.Defined.{set_in}
 use Rattle.query_model.specs.Formula.{has_key}
 use Rattle.query_model.specs.Variables.{by_number}
@@ -16,11 +17,6 @@ use Rattle.proof_log.specs.Formulas.{value_in}
 abbrev pub value_or_zero : List Key → List Bool → Key → Bool
 value_or_zero keys values k = if has_key keys k then by_number keys (value_in values) k else false
 
--- no input has two settings
-abbrev pub AreApart : List Fixed → Type 0
-AreApart settings =
-    (j k : ℕ) (s t : Fixed) → j < k → slice_get settings j ≡ Some s → slice_get settings k ≡ Some t → s.input ≢ t.input
-
 -- a bit for each register, as the first cycle's keys have it
 pub record AreFirstBits (d : Design) (keys : List Key) (values : List Bool) (bits : List Bool) : Type 0 where
   pub count : length bits ≡ length d.regs
@@ -30,4 +26,11 @@ pub record AreFirstBits (d : Design) (keys : List Key) (values : List Bool) (bit
 -- inputs are as their keys have it
 pub record AreInputsAt (d : Design) (keys : List Key) (values : List Bool) (live t : ℕ) (ins : List Bool) : Type 0 where
   pub lawful : AreInputs d (nat_lt t live) ins
-  pub free : (i : ℕ) → i < length d.inputs → set_in d.fixed i ≡ None → set_in d.resets i ≡ None → bit_at ins i ≡ value_or_zero keys values (key t 0 0 (slice_index d.inputs i))
+  pub free : (i : ℕ) → i < length d.inputs → set_in d.fixed i ≡ None → set_in d.resets i ≡ None
+      → bit_at ins i ≡ value_or_zero keys values (input_key d t i)
+
+-- the stimulus of a model: first bits, and input bits for each of so many cycles
+pub record IsStimulusOf (d : Design) (keys : List Key) (values : List Bool) (live cycles : ℕ) (s : Stimulus) : Type 0 where
+  pub count : length s.inputs ≡ cycles
+  pub state : AreFirstBits d keys values s.state
+  pub inputs : (t : ℕ) (ins : List Bool) → slice_get s.inputs t ≡ Some ins → AreInputsAt d keys values live t ins

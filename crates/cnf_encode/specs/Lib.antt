@@ -4,7 +4,5 @@ pub mod Runs
 pub mod Coded
 pub mod Chosen
 pub mod Listed
-pub mod Late
-pub mod Points
 pub mod Coned
 pub mod Placed

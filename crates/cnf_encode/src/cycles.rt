@@ -11,7 +11,7 @@ ghost use Rattle.cnf_encode.specs.Coned.{Covers, IsConeFor, gate_points, bit_poi
 use crate::cones::Cone;
 use crate::needed::{is_needed, list_unit};
 use crate::tables::push_plain;
-use frame_unroll::{Driver, Frames, base_reads, bit_lit, push_own};
+use frame_unroll::{Driver, Frames, bit_lit, pin_literals, push_own};
 use net_model::{Design, Gate, Reg, capture_func};
 use proof_log::Clause;
 use query_model::Key;
@@ -124,7 +124,7 @@ fn list_gate(
     if !is_needed(frames, &out) {
         return Ok(());
     }
-    let reads = base_reads(alloc, design, drivers, cycle, &gate.ins)?;
+    let reads = pin_literals(alloc, design, drivers, cycle, &gate.ins)?;
     push_plain(alloc, frames, &reads, out, &gate.func, clauses)?;
     Ok(())
 }
@@ -174,7 +174,7 @@ fn list_bit(
     if !is_needed(frames, &out) {
         return Ok(());
     }
-    let mut reads = base_reads(alloc, design, drivers, cycle, &reg.ins)?;
+    let mut reads = pin_literals(alloc, design, drivers, cycle, &reg.ins)?;
     push_own(&mut reads, reg, bit_lit(design, cycle, r))?;
     let func = capture_func(alloc, reg)?;
     push_plain(alloc, frames, &reads, out, &func, clauses)?;

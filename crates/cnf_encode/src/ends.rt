@@ -1,20 +1,19 @@
 //! The definition of what a claim's end captures where the start is late.
-ghost use Rattle.std.specs.Prelude.{◌≡◌, ◌<◌, ◌≤◌, ◌+◌, [], ◌∷◌, Bool, length, Some, slice_get, IfOk, OnOk};
+ghost use Rattle.std.specs.Prelude.{◌≡◌, ◌<◌, ◌≤◌, ◌+◌, [], ◌∷◌, length, slice_get, IfOk, OnOk};
 ghost use Rattle.net_model.specs.Netlist.{IsSound, IsRegInRange};
 ghost use Rattle.net_model.specs.Fits.{Fits};
 ghost use Rattle.query_model.specs.Keys.{lit};
-ghost use Rattle.query_model.specs.Reads.{bit_key};
-ghost use Rattle.query_model.specs.Defined.{late_key, late_reg_definition, end_definition};
+ghost use Rattle.query_model.specs.Defined.{late_key, late_reg, end_definition};
 ghost use Rattle.query_model.specs.declared.keys.Coding.TheVariants.{Rows};
 ghost use Rattle.frame_unroll.specs.Reading.{AreTables};
 ghost use Rattle.cnf_encode.specs.Listed.{IsClosed, Lists};
-ghost use Rattle.cnf_encode.specs.Late.{reg_reads, plain_reg, rails_reg};
+ghost use Rattle.query_model.specs.Defined.{reg_reads, plain_reg, rails_reg};
 
 use crate::clauses::lit;
 use crate::layers::rails_of;
 use crate::needed::{is_either_needed, is_needed};
 use crate::tables::{push_plain, push_rails};
-use frame_unroll::{Frames, Owner, Row, Tables, bit_lit, push_own, row_reads};
+use frame_unroll::{Frames, Owner, RailAt, Tables, bit_lit, pin_literals_at, push_own};
 use net_model::{Claim, Design, End, Reg, capture_func};
 use proof_log::Clause;
 use query_model::{Key, KeyLit};
@@ -54,12 +53,20 @@ fn late_reads(
     requires reg { IsRegInRange design.now reg.now }
     ensures { IfOk result (λ reads. reads ≡ reg_reads design.now claim.now tables.now.moved cycle rail own r reg.now) }
 {
-    let row = Row {
+    let rail_at = RailAt {
         cycle,
         layer: claim.through.len() + 1,
         rail,
     };
-    let mut reads = row_reads(alloc, design, claim, tables, Owner::Reg(r), &reg.ins, row)?;
+    let mut reads = pin_literals_at(
+        alloc,
+        design,
+        claim,
+        tables,
+        Owner::Reg(r),
+        &reg.ins,
+        rail_at,
+    )?;
     push_own(&mut reads, reg, lit(own, bit_lit(design, cycle, r).key))?;
     Ok(reads)
 }
@@ -81,8 +88,8 @@ fn list_plain_reg(
     requires tables { AreTables design.now claim.now tables.now }
     requires place { r < length design.now.regs }
     requires reg { IsRegInRange design.now reg.now }
-    requires closed { IsClosed frames.now (plain_reg design.now claim.now tables.now.moved cycle r reg.now ∷ []) }
-    ensures { OnOk result (Lists frames.now (plain_reg design.now claim.now tables.now.moved cycle r reg.now ∷ []) clauses.old clauses.new) }
+    requires closed { IsClosed frames.now (plain_reg Rows design.now claim.now tables.now.moved cycle r reg.now ∷ []) }
+    ensures { OnOk result (Lists frames.now (plain_reg Rows design.now claim.now tables.now.moved cycle r reg.now ∷ []) clauses.old clauses.new) }
 {
     let (out, _) = late_keys(design, claim, cycle);
     if !is_needed(frames, &out) {
@@ -111,8 +118,8 @@ fn list_rails_reg(
     requires tables { AreTables design.now claim.now tables.now }
     requires place { r < length design.now.regs }
     requires reg { IsRegInRange design.now reg.now }
-    requires closed { IsClosed frames.now (rails_reg design.now claim.now tables.now.moved cycle r reg.now ∷ []) }
-    ensures { OnOk result (Lists frames.now (rails_reg design.now claim.now tables.now.moved cycle r reg.now ∷ []) clauses.old clauses.new) }
+    requires closed { IsClosed frames.now (rails_reg Rows design.now claim.now tables.now.moved cycle r reg.now ∷ []) }
+    ensures { OnOk result (Lists frames.now (rails_reg Rows design.now claim.now tables.now.moved cycle r reg.now ∷ []) clauses.old clauses.new) }
 {
     let (high, low) = late_keys(design, claim, cycle);
     if !is_either_needed(frames, &high, &low) {
@@ -140,8 +147,8 @@ fn list_late_reg(
     requires few { length claim.now.through ≤ 4 }
     requires tables { AreTables design.now claim.now tables.now }
     requires place { r < length design.now.regs }
-    requires closed { IsClosed frames.now (late_reg_definition Rows design.now claim.now tables.now.moved cycle r (slice_get design.now.regs r)) }
-    ensures { OnOk result (Lists frames.now (late_reg_definition Rows design.now claim.now tables.now.moved cycle r (slice_get design.now.regs r)) clauses.old clauses.new) }
+    requires closed { IsClosed frames.now (late_reg Rows design.now claim.now tables.now.moved cycle r (slice_get design.now.regs r)) }
+    ensures { OnOk result (Lists frames.now (late_reg Rows design.now claim.now tables.now.moved cycle r (slice_get design.now.regs r)) clauses.old clauses.new) }
 {
     let reg = design.regs.item(r);
     if claim.hazard {

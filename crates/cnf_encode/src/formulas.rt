@@ -1,15 +1,13 @@
 //! The formulas of queries.
-ghost use Rattle.std.specs.Prelude.{◌≡◌, ◌≤◌, ◌<◌, ◌^◌, length, All, List, Some, slice_get, IfOk, OnOk};
+ghost use Rattle.std.specs.Prelude.{◌≡◌, ◌≤◌, ◌<◌, ◌^◌, length, All, IfOk, OnOk};
 ghost use Rattle.net_model.specs.Netlist.{IsSound};
 ghost use Rattle.net_model.specs.Fits.{Fits};
-ghost use Rattle.net_model.specs.declared.cycles.Cycle.{Cycle};
-ghost use Rattle.net_model.specs.declared.invariants.InvClause.{InvClause};
-ghost use Rattle.query_model.specs.Queries.{IsAnswer, claim_query, clause_query};
+ghost use Rattle.net_model.specs.Queries.{claim_query, clause_query};
 ghost use Rattle.query_model.specs.Laws.{NamesRegs};
-ghost use Rattle.proof_log.specs.Formulas.{IsFormula, IsModel};
-ghost use Rattle.proof_log.specs.declared.models.Model.{Model};
+ghost use Rattle.proof_log.specs.Formulas.{IsFormula};
+ghost use Rattle.frame_unroll.specs.Framed.{AtPlace};
 ghost use Rattle.cnf_encode.specs.Coded.{HasKeys, Adds};
-ghost use Rattle.cnf_encode.specs.Problems.{IsProblemFor};
+ghost use Rattle.cnf_encode.specs.Problems.{IsProblemFor, IsCompleteFor};
 
 use crate::claims::{list_claim_cycles, list_clause_cycles};
 use crate::clauses::push_clause;
@@ -78,7 +76,7 @@ pub fn formula(
     requires few { depth ≤ 64 }
     ensures exact { IfOk result (IsProblemFor (claim_query design.now claim.now phase depth inv.now)) }
     ensures normal { IfOk result (λ p. IsFormula p.formula) }
-    ensures complete { IfOk result (λ p. (run : List Cycle) → IsAnswer (claim_query design.now claim.now phase depth inv.now) run → (m : Model) × IsModel p.formula m) }
+    ensures complete { IfOk result (IsCompleteFor (claim_query design.now claim.now phase depth inv.now)) }
 {
     let span = claim_span(design, claim, phase, depth);
     let tables = Tables::of(alloc, design, claim)?;
@@ -121,7 +119,7 @@ fn clause_formula(
     requires few { depth ≤ 64 }
     ensures exact { IfOk result (IsProblemFor (clause_query design.now inv.now clause.now phase depth)) }
     ensures normal { IfOk result (λ p. IsFormula p.formula) }
-    ensures complete { IfOk result (λ p. (run : List Cycle) → IsAnswer (clause_query design.now inv.now clause.now phase depth) run → (m : Model) × IsModel p.formula m) }
+    ensures complete { IfOk result (IsCompleteFor (clause_query design.now inv.now clause.now phase depth)) }
 {
     let span = clause_span(design, phase, depth);
     let drivers = net_drivers(alloc, design)?;
@@ -156,9 +154,9 @@ pub fn inv_formula(
     requires names { All (NamesRegs design.now) inv.now }
     requires place { place < length inv.now }
     requires few { depth ≤ 64 }
-    ensures exact { IfOk result (λ p. (clause : InvClause) → slice_get inv.now place ≡ Some clause → IsProblemFor (clause_query design.now inv.now clause phase depth) p) }
+    ensures exact { IfOk result (λ p. AtPlace inv.now place (λ clause. IsProblemFor (clause_query design.now inv.now clause phase depth) p)) }
     ensures normal { IfOk result (λ p. IsFormula p.formula) }
-    ensures complete { IfOk result (λ p. (clause : InvClause) (run : List Cycle) → slice_get inv.now place ≡ Some clause → IsAnswer (clause_query design.now inv.now clause phase depth) run → (m : Model) × IsModel p.formula m) }
+    ensures complete { IfOk result (λ p. AtPlace inv.now place (λ clause. IsCompleteFor (clause_query design.now inv.now clause phase depth) p)) }
 {
     clause_formula(alloc, design, inv, &inv[place], phase, depth)
 }

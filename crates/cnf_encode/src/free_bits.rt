@@ -1,15 +1,16 @@
 //! The free bits of a run as a model has them: register bits of the first cycle, and inputs.
-ghost use Rattle.std.specs.Prelude.{◌≡◌, ◌<◌, ℕ, Bool, length, All, Contains, slice_index, not, if◌then◌else◌};
+ghost use Rattle.std.specs.Prelude.{◌≡◌, ◌<◌, ℕ, length, All, Contains, not, if◌then◌else◌};
 ghost use Rattle.net_model.specs.Netlist.{IsSound, setting_inputs, AllBelow};
 ghost use Rattle.net_model.specs.Cycles.{bit_at};
 ghost use Rattle.net_model.specs.declared.netlist.Fixed.{Fixed as Setting};
 ghost use Rattle.query_model.specs.Keys.{key};
-ghost use Rattle.query_model.specs.Reads.{bit_key};
-ghost use Rattle.cnf_encode.specs.FreeBits.{value_or_zero, AreApart, AreFirstBits, AreInputsAt};
+ghost use Rattle.query_model.specs.Reads.{bit_key, input_key};
+ghost use Rattle.cnf_encode.specs.FreeBits.{value_or_zero, AreFirstBits, AreInputsAt};
 
 use crate::problems::Problem;
 use frame_unroll::Frames;
-use net_model::{Design, Fixed};
+use net_model::Design;
+use net_sim::put_settings;
 use proof_log::Model;
 use query_model::Key;
 use sdcv_base::Seq;
@@ -58,7 +59,7 @@ fn put_values(design: &Design, frames: &Frames, model: &Model, cycle: usize, ins
     requires count { length model.now.values ≡ length frames.now }
     requires len { length ins.old ≡ length design.now.inputs }
     ensures len { length ins.new ≡ length design.now.inputs }
-    ensures each { (i : ℕ) → i < length design.now.inputs → bit_at ins.new i ≡ value_or_zero frames.now model.now.values (key cycle 0 0 (slice_index design.now.inputs i)) }
+    ensures each { (i : ℕ) → i < length design.now.inputs → bit_at ins.new i ≡ value_or_zero frames.now model.now.values (input_key design.now cycle i) }
 {
     for i in 0..design.inputs.len() {
         let key = Key {
@@ -68,25 +69,6 @@ fn put_values(design: &Design, frames: &Frames, model: &Model, cycle: usize, ins
             point: design.inputs.at(i),
         };
         ins.put(i, key_value(frames, model, &key));
-    }
-}
-
-/// Writes the values of settings, or where not `active` their complements, to their inputs.
-fn put_settings(settings: &Seq<Fixed>, active: bool, ins: &mut Seq<bool>)
-    requires in_range { AllBelow (length ins.old) (setting_inputs settings.now) }
-    requires apart { AreApart settings.now }
-    ensures len { length ins.new ≡ length ins.old }
-    ensures put { All (λ (f : Setting). bit_at ins.new f.input ≡ (if active then f.value else not f.value)) settings.now }
-    ensures others { (i : ℕ) → ¬ Contains (setting_inputs settings.now) i → bit_at ins.new i ≡ bit_at ins.old i }
-{
-    for k in 0..settings.len() {
-        let setting = settings.at(k);
-        let bit = if active {
-            setting.value
-        } else {
-            !setting.value
-        };
-        ins.put(setting.input, bit);
     }
 }
 

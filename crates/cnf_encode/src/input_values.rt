@@ -17,7 +17,7 @@ pub fn input_values(
     ensures { IfOk result (AreValuesOf settings.now inputs) }
 {
     let none: Option<bool> = None;
-    let mut values = Seq::from_vec(vec![in alloc; none; inputs]?);
+    let mut values = Seq::filled(alloc, none, inputs)?;
     let count = settings.len();
     for i in 0..count {
         let setting = settings.at(count - 1 - i);

@@ -1,20 +1,19 @@
 //! The definitions of nets in the layers of a cycle whose start is late.
-ghost use Rattle.std.specs.Prelude.{◌≡◌, ◌<◌, ◌≤◌, ◌+◌, [], ◌∷◌, true, flat_map, filter, length, IfOk, OnOk, List};
+ghost use Rattle.std.specs.Prelude.{◌≡◌, ◌<◌, ◌≤◌, ◌+◌, [], ◌∷◌, true, flat_map, filter, length, IfOk, OnOk};
 ghost use Rattle.net_model.specs.Netlist.{IsSound, IsGateInRange};
-ghost use Rattle.net_model.specs.Layers.{row_at};
 ghost use Rattle.sdcv_base.specs.Seqs.{is_marked};
 ghost use Rattle.query_model.specs.Keys.{key, below};
 ghost use Rattle.query_model.specs.Reads.{is_start_net};
-ghost use Rattle.query_model.specs.Defined.{Definition, numbered, unit, has_own, layer_gate, start_units, layer_definitions};
+ghost use Rattle.query_model.specs.Defined.{has_own, layer_gate, layer_gates, start_units, layer_definitions, all_layers};
 ghost use Rattle.query_model.specs.declared.keys.Coding.TheVariants.{Rows};
 ghost use Rattle.frame_unroll.specs.Reading.{AreTables};
 ghost use Rattle.cnf_encode.specs.Listed.{IsClosed, Lists};
 ghost use Rattle.cnf_encode.specs.Coned.{Covers, gate_points};
-ghost use Rattle.cnf_encode.specs.Late.{plain_gate, rails_gate, start_net};
+ghost use Rattle.query_model.specs.Defined.{plain_gate, rails_gate, start_net};
 
 use crate::needed::{is_either_needed, is_needed, list_unit};
 use crate::tables::{push_plain, push_rails};
-use frame_unroll::{Frames, Owner, Row, Tables, has_own, row_reads};
+use frame_unroll::{Frames, Owner, RailAt, Tables, has_own, pin_literals_at};
 use net_model::{Claim, Design, Gate, PinRef};
 use proof_log::Clause;
 use query_model::Key;
@@ -65,19 +64,27 @@ fn list_plain_gate(
     requires tables { AreTables design.now claim.now tables.now }
     requires layer { layer ≤ length claim.now.through + 1 }
     requires gate { IsGateInRange design.now gate.now }
-    requires closed { IsClosed frames.now (plain_gate design.now claim.now tables.now.moved cycle layer k gate.now ∷ []) }
-    ensures { OnOk result (Lists frames.now (plain_gate design.now claim.now tables.now.moved cycle layer k gate.now ∷ []) clauses.old clauses.new) }
+    requires closed { IsClosed frames.now (plain_gate Rows design.now claim.now tables.now.moved cycle layer k gate.now ∷ []) }
+    ensures { OnOk result (Lists frames.now (plain_gate Rows design.now claim.now tables.now.moved cycle layer k gate.now ∷ []) clauses.old clauses.new) }
 {
     let (out, _) = rails_of(cycle, layer, gate.out);
     if !is_needed(frames, &out) {
         return Ok(());
     }
-    let row = Row {
+    let rail_at = RailAt {
         cycle,
         layer,
         rail: 0,
     };
-    let reads = row_reads(alloc, design, claim, tables, Owner::Gate(k), &gate.ins, row)?;
+    let reads = pin_literals_at(
+        alloc,
+        design,
+        claim,
+        tables,
+        Owner::Gate(k),
+        &gate.ins,
+        rail_at,
+    )?;
     push_plain(alloc, frames, &reads, out, &gate.func, clauses)?;
     Ok(())
 }
@@ -99,21 +106,37 @@ fn list_rails_gate(
     requires tables { AreTables design.now claim.now tables.now }
     requires layer { layer ≤ length claim.now.through + 1 }
     requires gate { IsGateInRange design.now gate.now }
-    requires closed { IsClosed frames.now (rails_gate design.now claim.now tables.now.moved cycle layer k gate.now ∷ []) }
-    ensures { OnOk result (Lists frames.now (rails_gate design.now claim.now tables.now.moved cycle layer k gate.now ∷ []) clauses.old clauses.new) }
+    requires closed { IsClosed frames.now (rails_gate Rows design.now claim.now tables.now.moved cycle layer k gate.now ∷ []) }
+    ensures { OnOk result (Lists frames.now (rails_gate Rows design.now claim.now tables.now.moved cycle layer k gate.now ∷ []) clauses.old clauses.new) }
 {
     let (high, low) = rails_of(cycle, layer, gate.out);
     if !is_either_needed(frames, &high, &low) {
         return Ok(());
     }
-    let row = Row {
+    let rail_at = RailAt {
         cycle,
         layer,
         rail: 0,
     };
-    let highs = row_reads(alloc, design, claim, tables, Owner::Gate(k), &gate.ins, row)?;
-    let row = Row { rail: 1, ..row };
-    let lows = row_reads(alloc, design, claim, tables, Owner::Gate(k), &gate.ins, row)?;
+    let highs = pin_literals_at(
+        alloc,
+        design,
+        claim,
+        tables,
+        Owner::Gate(k),
+        &gate.ins,
+        rail_at,
+    )?;
+    let rail_at = RailAt { rail: 1, ..rail_at };
+    let lows = pin_literals_at(
+        alloc,
+        design,
+        claim,
+        tables,
+        Owner::Gate(k),
+        &gate.ins,
+        rail_at,
+    )?;
     push_rails(alloc, frames, &highs, &lows, high, low, &gate.func, clauses)?;
     Ok(())
 }
@@ -188,8 +211,8 @@ fn list_layer_gates(
     requires tables { AreTables design.now claim.now tables.now }
     requires gates { Covers frames.now cycle (gate_points design.now) gates.now }
     requires layer { layer ≤ length claim.now.through }
-    requires closed { IsClosed frames.now (flat_map (λ (defs : List Definition). defs) (numbered (layer_gate Rows design.now claim.now tables.now.moved cycle layer) 0 design.now.gates)) }
-    ensures { OnOk result (Lists frames.now (flat_map (λ (defs : List Definition). defs) (numbered (layer_gate Rows design.now claim.now tables.now.moved cycle layer) 0 design.now.gates)) clauses.old clauses.new) }
+    requires closed { IsClosed frames.now (layer_gates Rows design.now claim.now tables.now.moved cycle layer) }
+    ensures { OnOk result (Lists frames.now (layer_gates Rows design.now claim.now tables.now.moved cycle layer) clauses.old clauses.new) }
 {
     for j in 0..gates.len() {
         let k = gates.at(j);
@@ -309,8 +332,8 @@ pub fn list_layers(
     requires tables { AreTables design.now claim.now tables.now }
     requires starts { starts.now ≡ filter (is_start_net design.now claim.now) (below design.now.nets) }
     requires gates { Covers frames.now cycle (gate_points design.now) gates.now }
-    requires closed { IsClosed frames.now (flat_map (layer_definitions Rows design.now claim.now tables.now.moved cycle) (below (length claim.now.through + 1))) }
-    ensures { OnOk result (Lists frames.now (flat_map (layer_definitions Rows design.now claim.now tables.now.moved cycle) (below (length claim.now.through + 1))) clauses.old clauses.new) }
+    requires closed { IsClosed frames.now (all_layers Rows design.now claim.now tables.now.moved cycle) }
+    ensures { OnOk result (Lists frames.now (all_layers Rows design.now claim.now tables.now.moved cycle) clauses.old clauses.new) }
 {
     for layer in 0..claim.through.len() + 1 {
         list_layer(

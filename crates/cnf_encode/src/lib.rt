@@ -3,8 +3,6 @@
 //! Which clauses a query is, and that its models are exactly its answers, is said in query_model's `specs/`.
 #![tactic(auto)]
 
-#[cfg(test)]
-mod cases;
 mod chosen_lits;
 mod claims;
 mod clauses;
@@ -17,15 +15,11 @@ mod free_bits;
 mod input_values;
 mod layers;
 mod needed;
-#[cfg(test)]
-mod plain_answers;
 mod point_rows;
 mod points;
 mod problems;
 mod runs;
 mod tables;
-#[cfg(test)]
-mod tests;
 
 pub use formulas::{formula, inv_formula};
 pub use problems::Problem;

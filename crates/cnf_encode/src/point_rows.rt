@@ -1,5 +1,5 @@
 //! The places, in a list of points, of what keys are about, cycle by cycle.
-ghost use Rattle.std.specs.Prelude.{◌≡◌, ◌<◌, [], length, map, replicate, All, IfOk, OnOk};
+ghost use Rattle.std.specs.Prelude.{◌≡◌, ◌<◌, [], map, replicate, All, IfOk, OnOk};
 ghost use Rattle.cnf_encode.specs.Coned.{AreRows};
 ghost use Rattle.cnf_encode.specs.Placed.{StandOnce, ArePlaces, ArePushed, IsInOrder, AreInOrder, place_of, with_place};
 
@@ -38,7 +38,7 @@ fn places_by_point(
     ensures { IfOk result (ArePlaces points.now size) }
 {
     let none: Option<usize> = None;
-    let mut places = Seq::from_vec(vec![in alloc; none; size]?);
+    let mut places = Seq::filled(alloc, none, size)?;
     for k in 0..points.len() {
         places.put(points[k], Some(k));
     }
@@ -79,7 +79,7 @@ fn push_key(
     key: &Key,
     rows: &mut Vec<Vec<usize>>,
 ) -> Result<(), AllocError>
-    ensures { OnOk result (map (λ row. row.items) rows.new.items ≡ with_place (map (λ row. row.items) rows.old.items) key.now.cycle (place_of places.now key.now.point)) }
+    ensures { OnOk result (map (λ r. r.items) rows.new.items ≡ with_place (map (λ r. r.items) rows.old.items) key.now.cycle (place_of places.now key.now.point)) }
 {
     if key.point < places.len() && key.cycle < rows.len() {
         if let Some(place) = places.at(key.point) {

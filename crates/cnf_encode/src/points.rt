@@ -1,18 +1,17 @@
 //! The definitions of a cycle's further points: toggles of the start, changes of the capture, late captures that differ,
 //! and stale bits.
-ghost use Rattle.std.specs.Prelude.{◌≡◌, ◌<◌, ◌+◌, ◌-◌, ◌^◌, [], ◌∷◌, map, OnOk};
+ghost use Rattle.std.specs.Prelude.{◌≡◌, ◌<◌, ◌+◌, ◌-◌, ◌^◌, [], ◌∷◌, OnOk};
 ghost use Rattle.net_model.specs.Netlist.{IsSound};
 ghost use Rattle.net_model.specs.Fits.{Fits, IsStartIn, IsEndIn};
 ghost use Rattle.sdcv_base.specs.Kinds as kinds;
-ghost use Rattle.query_model.specs.Keys.{below};
-ghost use Rattle.query_model.specs.Defined.{exclusive, extra, toggle_key, change_key, start_lit, capture_lit, differ_definition, extra_definitions};
+ghost use Rattle.query_model.specs.Defined.{extra, start_lit, capture_lit, differ_definition, extra_definitions};
 ghost use Rattle.frame_unroll.specs.Drivers.{AreDrivers};
 ghost use Rattle.frame_unroll.specs.Reading.{AreTables};
 ghost use Rattle.cnf_encode.specs.Listed.{IsClosed, Lists};
-ghost use Rattle.cnf_encode.specs.Points.{toggle_definition, change_definition, stale_definition};
+ghost use Rattle.query_model.specs.Defined.{toggle_definition, change_definition, stale_definition, stale_definitions};
 
 use crate::needed::{list_both, list_exclusive};
-use frame_unroll::{Driver, Frames, Tables, capture_lit, judged_count, late_lit, start_lit};
+use frame_unroll::{Driver, Frames, Tables, capture_lit, late_capture_lit, start_lit};
 use net_model::{Claim, Design, End, Start};
 use proof_log::Clause;
 use query_model::Key;
@@ -94,9 +93,9 @@ fn list_differ(
     ensures { OnOk result (Lists frames.now (differ_definition design.now claim.now tables.now.moved cycle ∷ []) clauses.old clauses.new) }
 {
     let differs = extra(design, cycle, 2);
-    let high = late_lit(design, claim, tables, cycle, 0);
+    let high = late_capture_lit(design, claim, tables, cycle, 0);
     if claim.hazard {
-        let low = late_lit(design, claim, tables, cycle, 1);
+        let low = late_capture_lit(design, claim, tables, cycle, 1);
         list_both(alloc, frames, differs, high, low, clauses)?;
     } else {
         let capture = capture_lit(design, &tables.drivers, claim.end, cycle);
@@ -148,10 +147,10 @@ fn list_stales(
     requires sound { IsSound design.now }
     requires fits { Fits design.now claim.now }
     requires drivers { AreDrivers design.now drivers.now }
-    requires closed { IsClosed frames.now (map (stale_definition design.now claim.now.start cycle) (below (kinds.judged_count claim.now.kind - 1))) }
-    ensures { OnOk result (Lists frames.now (map (stale_definition design.now claim.now.start cycle) (below (kinds.judged_count claim.now.kind - 1))) clauses.old clauses.new) }
+    requires closed { IsClosed frames.now (stale_definitions design.now claim.now cycle) }
+    ensures { OnOk result (Lists frames.now (stale_definitions design.now claim.now cycle) clauses.old clauses.new) }
 {
-    for r in 0..judged_count(claim.kind).saturating_sub(1) {
+    for r in 0..claim.kind.judged_count().saturating_sub(1) {
         list_stale(
             alloc,
             frames,

@@ -1,31 +1,42 @@
 //! Runs and stretches that answer a query, read back from models of its clauses.
-ghost use Rattle.std.specs.Prelude.{◌≡◌, true, IfOk, ◌⊎◌};
+ghost use Rattle.std.specs.Prelude.{◌≡◌, length, IfOk, ◌⊎◌};
 ghost use Rattle.net_model.specs.Netlist.{IsSound};
-ghost use Rattle.net_model.specs.Cycles.{HasShape};
 ghost use Rattle.proof_log.specs.Formulas.{IsModel, value_in};
-ghost use Rattle.query_model.specs.Queries.{Query, IsAnswer};
+ghost use Rattle.net_model.specs.Queries.{Query, IsAnswer};
 ghost use Rattle.query_model.specs.Variables.{by_number};
-ghost use Rattle.query_model.specs.Laws.{AgreesWith, HasRails};
-ghost use Rattle.cnf_encode.specs.Problems.{IsClaimQuery, IsClauseQuery, IsProblemFor, IsMadeFor};
+ghost use Rattle.query_model.specs.Laws.{AgreesWith};
+ghost use Rattle.cnf_encode.specs.Problems.{IsClaimQuery, IsClauseQuery, IsProblemFor, IsMadeFor, HasRailsFor};
+ghost use Rattle.cnf_encode.specs.FreeBits.{IsStimulusOf};
 ghost use Rattle.cnf_encode.specs.Runs.{HasZeros};
 
 use crate::free_bits::{put_first_bits, put_inputs};
 use crate::problems::Problem;
-use net_model::{Cycle, Design};
-use net_sim::{settle, step};
+use net_model::{Cycle, Design, Stimulus};
+use net_sim::linked_run;
 use proof_log::Model;
 use sdcv_base::Seq;
 use std::alloc::{AllocError, Global};
 
-/// A cycle in which all bits are 0.
-pub fn blank(alloc: Global, design: &Design) -> Result<Cycle, AllocError>
-    ensures { IfOk result (HasShape design.now) }
+/// The bits that a model gives, and those of inputs that are fixed or reset, cycle by cycle.
+fn stimulus_of(
+    alloc: Global,
+    design: &Design,
+    problem: &Problem,
+    model: &Model,
+) -> Result<Stimulus, AllocError>
+    requires sound { IsSound design.now }
+    requires count { length model.now.values ≡ length problem.now.frames }
+    ensures { IfOk result (IsStimulusOf design.now problem.now.frames model.now.values problem.now.live problem.now.cycles) }
 {
-    Ok(Cycle {
-        bits: Seq::from_vec(vec![in alloc; false; design.regs.len()]?),
-        ins: Seq::from_vec(vec![in alloc; false; design.inputs.len()]?),
-        nets: Seq::from_vec(vec![in alloc; false; design.nets]?),
-    })
+    let mut state = Seq::filled(alloc, false, design.regs.len())?;
+    put_first_bits(design, &problem.frames, model, &mut state);
+    let mut inputs = Seq::new(alloc);
+    for t in 0..problem.cycles {
+        let mut ins = Seq::filled(alloc, false, design.inputs.len())?;
+        put_inputs(design, problem, model, t, &mut ins);
+        inputs.push(ins)?;
+    }
+    Ok(Stimulus { state, inputs })
 }
 
 /// The cycles of the answer that a model of a query's clauses stands for.
@@ -43,19 +54,10 @@ pub fn read_back(
     requires model { IsModel problem.now.formula model.now }
     ensures answers { IfOk result (λ run. (q : Query) → IsClaimQuery design.now q ⊎ IsClauseQuery design.now q → IsProblemFor q problem.now → IsAnswer q run) }
     ensures agrees { IfOk result (AgreesWith design.now problem.now.frames (by_number problem.now.frames (value_in model.now.values))) }
-    ensures rails { IfOk result (λ run. (q : Query) (asks : IsClaimQuery design.now q) → asks.claim.hazard ≡ true → IsProblemFor q problem.now → HasRails design.now asks.claim problem.now.frames (by_number problem.now.frames (value_in model.now.values)) run) }
+    ensures rails { IfOk result (HasRailsFor design.now problem.now model.now) }
     ensures zeros { IfOk result (HasZeros design.now problem.now.frames) }
 {
-    let mut run = Seq::new(alloc);
-    let mut cycle = blank(alloc, design)?;
-    put_first_bits(design, &problem.frames, model, &mut cycle.bits);
-    for t in 0..problem.cycles {
-        put_inputs(design, problem, model, t, &mut cycle.ins);
-        settle(design, &mut cycle);
-        let mut next = blank(alloc, design)?;
-        step(design, &cycle, &mut next);
-        run.push(cycle)?;
-        cycle = next;
-    }
-    Ok(run)
+    let stimulus = stimulus_of(alloc, design, problem, model)?;
+    let cycles = linked_run(alloc, design, &stimulus)?;
+    Ok(cycles)
 }

@@ -1,13 +1,12 @@
 //! The clauses by which a function of what its places read defines a key, or the two keys of its rails.
-ghost use Rattle.std.specs.Prelude.{◌≡◌, ◌≤◌, [], ◌∷◌, ◌++◌, true, length, map, All, OnOk};
-ghost use Rattle.net_model.specs.Ternary.{tern_of};
+ghost use Rattle.std.specs.Prelude.{◌≡◌, ◌≤◌, [], ◌∷◌, ◌++◌, true, length, All, OnOk};
 ghost use Rattle.net_model.specs.Form.{value, IsOver};
 ghost use Rattle.query_model.specs.Keys.{lit};
-ghost use Rattle.query_model.specs.Tables.{row_bits, row_cubes, constant_cubes, may_clause, may_be, must_clause};
+ghost use Rattle.query_model.specs.Tables.{may_be};
 ghost use Rattle.query_model.specs.Defined.{plain, rails};
 ghost use Rattle.query_model.specs.declared.keys.Coding.TheVariants.{Rows};
 ghost use Rattle.cnf_encode.specs.Coded.{HasKey, HasKeys, Adds, AddsNormals};
-ghost use Rattle.cnf_encode.specs.Chosen.{chosen};
+ghost use Rattle.cnf_encode.specs.Chosen.{chosen, row_chosen, may_clauses, must_clauses};
 
 use crate::chosen_lits::{complements, cube_lits, row_lits};
 use crate::clauses::{lit, push_normal};
@@ -80,8 +79,8 @@ fn push_may(
     requires few { length hs.now ≤ 7 }
     requires long { length ls.now ≡ length hs.now }
     requires over { IsOver (length hs.now) func.now }
-    requires keys { HasKeys frames.now (map (may_clause hs.now ls.now (lit true high) (lit true low)) (row_cubes (value func.now) (length hs.now))) }
-    ensures { OnOk result (Adds frames.now (map (may_clause hs.now ls.now (lit true high) (lit true low)) (row_cubes (value func.now) (length hs.now))) clauses.old clauses.new) }
+    requires keys { HasKeys frames.now (may_clauses func.now hs.now ls.now high low) }
+    ensures { OnOk result (Adds frames.now (may_clauses func.now hs.now ls.now high low) clauses.old clauses.new) }
 {
     let highs = codes(alloc, frames, hs.as_slice())?;
     let lows = codes(alloc, frames, ls.as_slice())?;
@@ -111,8 +110,8 @@ fn push_must(
     requires over { IsOver (length hs.now) func.now }
     requires hs { All (HasKey frames.now) hs.now }
     requires ls { All (HasKey frames.now) ls.now }
-    requires keys { HasKeys frames.now (map (must_clause hs.now ls.now (lit true high) (lit true low)) (constant_cubes (value func.now) (length hs.now))) }
-    ensures { OnOk result (Adds frames.now (map (must_clause hs.now ls.now (lit true high) (lit true low)) (constant_cubes (value func.now) (length hs.now))) clauses.old clauses.new) }
+    requires keys { HasKeys frames.now (must_clauses func.now hs.now ls.now high low) }
+    ensures { OnOk result (Adds frames.now (must_clauses func.now hs.now ls.now high low) clauses.old clauses.new) }
 {
     let zeros = codes(alloc, frames, hs.as_slice())?;
     let ones = codes(alloc, frames, ls.as_slice())?;
@@ -148,7 +147,7 @@ pub fn push_row(
     clauses: &mut Seq<Clause>,
 ) -> Result<(), AllocError>
     requires { length ones.now ≡ length zeros.now }
-    ensures { OnOk result (AddsNormals ((chosen zeros.now ones.now (map tern_of (row_bits (length zeros.now) row)) ++ last ∷ []) ∷ []) clauses.old clauses.new) }
+    ensures { OnOk result (AddsNormals ((row_chosen zeros.now ones.now row ++ last ∷ []) ∷ []) clauses.old clauses.new) }
 {
     let mut lits = row_lits(alloc, zeros, ones, row)?;
     lits.push(last)?;

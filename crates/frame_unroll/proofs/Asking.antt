@@ -13,7 +13,7 @@ use Rattle.query_model.specs.Keys.{lit, below}
 use Rattle.query_model.specs.Defined.{numbered, bad_key}
 use Rattle.query_model.specs.Formula.{plain_alternatives, hazard_alternatives, alternatives_at}
 use Rattle.query_model.specs.declared.keys.KeyLit.{KeyLit}
-use Rattle.frame_unroll.specs.Asked.{some_chosen, chosen_clauses, all_chosen}
+use Rattle.query_model.specs.Formula.{some_chosen, chosen_clauses, all_chosen}
 use Rattle.frame_unroll.proofs.Numbering.{numbered-take}
 
 pub below_more : (n : ℕ) → below (n + 1) ≡ below n ++ n ∷ []

@@ -16,12 +16,12 @@ use Rattle.net_model.specs.declared.queries.Phase.{Phase}
 use Rattle.net_model.specs.declared.queries.Phase.TheVariants.{Base, Step}
 use Rattle.query_model.specs.Keys.{lit, opposite, below}
 use Rattle.query_model.specs.Reads.{bit_key}
-use Rattle.query_model.specs.Queries.{claim_query, clause_query, live_of, only_in_step}
+use Rattle.net_model.specs.Queries.{claim_query, clause_query, live_of, only_in_step}
 use Rattle.query_model.specs.Laws.{NamesRegs}
 use Rattle.query_model.specs.Defined.{numbered, extra, toggle_key, change_key, differ_key, stale_key, bad_key}
 use Rattle.query_model.specs.Formula.{state_lit, clause_in, stale_if_later, plain_alternatives, hazard_alternatives, alternatives_at, alternatives, clean_clauses, bad_clauses, asked_clauses}
 use Rattle.query_model.specs.declared.keys.KeyLit.{KeyLit}
-use Rattle.frame_unroll.specs.Asked.{kept_in, some_chosen, chosen_clauses, all_chosen}
+use Rattle.query_model.specs.Formula.{kept_in, some_chosen, chosen_clauses, all_chosen}
 use Rattle.frame_unroll.specs.Framed.{IsWithin, AreWithin}
 use Rattle.frame_unroll.proofs.Asking.{below_few, judged_few}
 

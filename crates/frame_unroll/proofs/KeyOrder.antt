@@ -10,7 +10,7 @@ use Rattle.std.proofs.lemmas.Cmp.{ranked}
 use Rattle.std.proofs.lemmas.Map.Keys.{apart_from_distinct, ge_from_not_lt}
 use Rattle.std.proofs.lemmas.Option.{slice_get-get_or, slice_get_within, get_or_from_slice_get}
 use Rattle.net_model.proofs.Members.{Contains-from_In}
-use Rattle.query_model.specs.Keys.{IsBelow}
+use Rattle.query_model.specs.Keys.{IsBelow, ByCycle, ByLayer, ByRail, ByPoint, Ascend}
 use Rattle.query_model.specs.Formula.{same_key}
 use Rattle.query_model.specs.declared.keys.Key.{Key}
 use Rattle.query_model.proofs.Based.{in_place}
@@ -30,7 +30,8 @@ not_less x y rest e = by (nat_cmp x y) (ranked x y (nat_cmp x y) refl) e
 
 -- of two keys that differ the one that doesn't come after comes before
 key_below : (a b : Key) → is_lt (key_cmp b a) ≡ false → same_key a b ≡ false → IsBelow a b
-key_below a b after apart = record { cycle = by_cycle (not_less b.cycle a.cycle (ordering_then (nat_cmp b.layer a.layer) (ordering_then (nat_cmp b.rail a.rail) (nat_cmp b.point a.point))) after) }
+key_below a b after apart =
+    by_cycle (not_less b.cycle a.cycle (ordering_then (nat_cmp b.layer a.layer) (ordering_then (nat_cmp b.rail a.rail) (nat_cmp b.point a.point))) after)
   where
     same : a.cycle ≡ b.cycle → a.layer ≡ b.layer → a.rail ≡ b.rail → a.point ≡ b.point → same_key a b ≡ true
     same c l r p =
@@ -46,21 +47,21 @@ key_below a b after apart = record { cycle = by_cycle (not_less b.cycle a.cycle 
           | inr differ ↦ omega arith
         ]
 
-    by_rail : a.cycle ≡ b.cycle → a.layer ≡ b.layer → (a.rail < b.rail) ⊎ ((b.rail ≡ a.rail) × (is_lt (nat_cmp b.point a.point) ≡ false)) → a.rail < b.rail ⊎ ((a.rail ≡ b.rail) × (a.point < b.point))
-    by_rail c l (inl less) = inl less
-    by_rail c l (inr (r, e)) = inr (sym r, by_point c l (sym r) e)
+    by_rail : a.cycle ≡ b.cycle → a.layer ≡ b.layer → (a.rail < b.rail) ⊎ ((b.rail ≡ a.rail) × (is_lt (nat_cmp b.point a.point) ≡ false)) → IsBelow a b
+    by_rail c l (inl less) = ByRail c l less
+    by_rail c l (inr (r, e)) = ByPoint c l (sym r) (by_point c l (sym r) e)
 
-    by_layer : a.cycle ≡ b.cycle → (a.layer < b.layer) ⊎ ((b.layer ≡ a.layer) × (is_lt (ordering_then (nat_cmp b.rail a.rail) (nat_cmp b.point a.point)) ≡ false)) → a.layer < b.layer ⊎ ((a.layer ≡ b.layer) × (a.rail < b.rail ⊎ ((a.rail ≡ b.rail) × (a.point < b.point))))
-    by_layer c (inl less) = inl less
-    by_layer c (inr (l, e)) = inr (sym l, by_rail c (sym l) (not_less b.rail a.rail (nat_cmp b.point a.point) e))
+    by_layer : a.cycle ≡ b.cycle
+        → (a.layer < b.layer) ⊎ ((b.layer ≡ a.layer) × (is_lt (ordering_then (nat_cmp b.rail a.rail) (nat_cmp b.point a.point)) ≡ false)) → IsBelow a b
+    by_layer c (inl less) = ByLayer c less
+    by_layer c (inr (l, e)) = by_rail c (sym l) (not_less b.rail a.rail (nat_cmp b.point a.point) e)
 
-    by_cycle : (a.cycle < b.cycle) ⊎ ((b.cycle ≡ a.cycle) × (is_lt (ordering_then (nat_cmp b.layer a.layer) (ordering_then (nat_cmp b.rail a.rail) (nat_cmp b.point a.point))) ≡ false)) → a.cycle < b.cycle ⊎ ((a.cycle ≡ b.cycle) × (a.layer < b.layer ⊎ ((a.layer ≡ b.layer) × (a.rail < b.rail ⊎ ((a.rail ≡ b.rail) × (a.point < b.point))))))
-    by_cycle (inl less) = inl less
-    by_cycle (inr (c, e)) = inr (sym c, by_layer (sym c) (not_less b.layer a.layer (ordering_then (nat_cmp b.rail a.rail) (nat_cmp b.point a.point)) e))
+    after_layers : Ordering
+    after_layers = ordering_then (nat_cmp b.layer a.layer) (ordering_then (nat_cmp b.rail a.rail) (nat_cmp b.point a.point))
 
--- each key is below the next one
-abbrev pub Ascend : List Key → Type 0
-Ascend keys = (i : ℕ) (a b : Key) → slice_get keys i ≡ Some a → slice_get keys (i + 1) ≡ Some b → IsBelow a b
+    by_cycle : (a.cycle < b.cycle) ⊎ ((b.cycle ≡ a.cycle) × (is_lt after_layers ≡ false)) → IsBelow a b
+    by_cycle (inl less) = ByCycle less
+    by_cycle (inr (c, e)) = by_layer (sym c) (not_less b.layer a.layer (ordering_then (nat_cmp b.rail a.rail) (nat_cmp b.point a.point)) e)
 
 -- sorted keys of which no two are the same ascend
 pub ascend_from_sorted : (keys : List Key) → ((i : ℕ) (d : Key) → 0 ≤ i → i + 1 < length keys → is_lt (key_cmp (get_or keys (i + 1) d) (get_or keys i d)) ≡ false) → IsDistinct same_key keys → Ascend keys
@@ -79,13 +80,10 @@ abbrev rank : Key → ℕ
 rank k = k.cycle * 2640600 + (k.layer * 440100 + (k.rail * 220050 + k.point))
 
 rank_rises : (a b : Key) → IsSmall a → IsBelow a b → rank a < rank b
-rank_rises a b small below = by below.cycle
-  where
-    by : a.cycle < b.cycle ⊎ ((a.cycle ≡ b.cycle) × (a.layer < b.layer ⊎ ((a.layer ≡ b.layer) × (a.rail < b.rail ⊎ ((a.rail ≡ b.rail) × (a.point < b.point)))))) → rank a < rank b
-    by (inl c) = omega (arith, c, small.layer, small.rail, small.point)
-    by (inr (c, inl l)) = omega (arith, c, l, small.rail, small.point)
-    by (inr (c, inr (l, inl r))) = omega (arith, c, l, r, small.point)
-    by (inr (c, inr (l, inr (r, p)))) = omega (arith, c, l, r, p)
+rank_rises a b small (ByCycle c) = omega (arith, small.layer, small.rail, small.point)
+rank_rises a b small (ByLayer c l) = omega (arith, small.rail, small.point)
+rank_rises a b small (ByRail c l r) = omega (arith, small.point)
+rank_rises a b small (ByPoint c l r p) = omega arith
 
 small_at : (keys : List Key) (i : ℕ) (k : Key) → AreSmall keys → slice_get keys i ≡ Some k → IsSmall k
 small_at keys i k small at = small k (Contains-from_In keys k (in_place k keys i at))

@@ -22,13 +22,14 @@ use Rattle.net_model.proofs.Members.{In, In-from_Contains, In-cases, from_map}
 use Rattle.net_model.proofs.Settling.{All-at}
 use Rattle.query_model.specs.Keys.{key, lit, opposite, flipped}
 use Rattle.query_model.specs.Reads.{bit_key, shown_in, bit_or, read_from, read_base, is_start_net, read_late, read, read_pin}
-use Rattle.query_model.specs.Defined.{numbered, with_own, reads_own, late_key, start_lit, capture_lit, late_lit}
+use Rattle.net_model.specs.Mentions.{reads_own}
+use Rattle.query_model.specs.Defined.{numbered, with_own, late_key, start_lit, capture_lit, late_capture_lit}
 use Rattle.query_model.specs.declared.keys.Key.{Key}
 use Rattle.query_model.specs.declared.keys.KeyLit.{KeyLit}
 use Rattle.query_model.proofs.Based.{placed, from_numbered}
 use Rattle.frame_unroll.specs.declared.origins.Origin.{Origin}
 use Rattle.frame_unroll.specs.declared.origins.Origin.TheVariants.{Free, Gate as OfGate, Reg as OfReg, Toggle, Change, Differ, Stale}
-use Rattle.frame_unroll.specs.Origins.{gate_of, of_gate, base_origin, extra_origin, layer_origin, clause_origin, gate_base, reg_base, base_reads, on_rails, gate_late, reg_late, late_reads, origin_reads, claim_reads, clause_reads}
+use Rattle.frame_unroll.specs.Origins.{gate_of, of_gate, base_origin, extra_origin, layer_origin, clause_origin, gate_base, reg_base, reads_of_origin, on_rails, gate_late, reg_late, late_reads, reads_in_layer, claim_reads, clause_reads}
 use Rattle.frame_unroll.specs.Framed.{IsWithin}
 use Rattle.frame_unroll.specs.Found.{IsReached, Started, Read, AreKeysWithin}
 use Rattle.frame_unroll.proofs.OriginRange.{if_holds}
@@ -133,7 +134,7 @@ reg_base_within d cycles c r (Some reg) sound in_time at =
     own_within d cycles reg (lit true (bit_key d c r)) (map (read_base d c) reg.ins) (bit_within d cycles c r in_time (slice_get_within d.regs r reg at))
     (nets_within d cycles c reg.ins in_time (All-at (IsRegInRange d) d.regs r reg at sound.in_range.regs).ins)
 
-base_reads_within : (d : Design) (cycles : ℕ) (k : Key) (origin : Origin) → IsSound d → k.cycle ≤ cycles → AreLitsWithin d cycles (base_reads d k origin)
+base_reads_within : (d : Design) (cycles : ℕ) (k : Key) (origin : Origin) → IsSound d → k.cycle ≤ cycles → AreLitsWithin d cycles (reads_of_origin d k origin)
 base_reads_within d cycles k Free sound in_time = none_within d cycles
 base_reads_within d cycles k (OfGate i) sound in_time = gate_base_within d cycles k.cycle i (slice_get d.gates i) sound in_time refl
 base_reads_within d cycles k (OfReg r) sound in_time = reg_base_within d cycles (k.cycle - 1) r (slice_get d.regs r) sound (omega arith) refl
@@ -180,7 +181,7 @@ capture_within : (d : Design) (cycles c : ℕ) (end : End) → IsSound d → IsE
 capture_within d cycles c (RegEnd r) sound is early = bit_within d cycles (c + 1) r (omega arith) is
 capture_within d cycles c (OutputEnd o) sound is early = base_within d cycles c (slice_index d.outputs o) (omega arith) (sound.in_range.outputs o 0 is)
 
-late_lit_within : (d : Design) (claim : Claim) (moved : List (List Bool)) (cycles c rail : ℕ) (end : End) → IsSound d → Fits d claim → IsEndIn d end → c ≤ cycles → rail ≤ 1 → IsLitWithin d cycles (late_lit d claim moved c rail end)
+late_lit_within : (d : Design) (claim : Claim) (moved : List (List Bool)) (cycles c rail : ℕ) (end : End) → IsSound d → Fits d claim → IsEndIn d end → c ≤ cycles → rail ≤ 1 → IsLitWithin d cycles (late_capture_lit d claim moved c rail end)
 late_lit_within d claim moved cycles c rail (RegEnd r) sound fits is in_time on_rail = late_within d claim cycles c rail fits in_time on_rail
 late_lit_within d claim moved cycles c rail (OutputEnd o) sound fits is in_time on_rail =
     let few = fits.few in
@@ -220,16 +221,16 @@ cycle_before d claim moved cycles k =
     (λ plain. if_holds P (nat_lt k.point (d.nets + length d.regs)) (base_origin d cycles k) high (λ low. base_before d cycles k)
     (λ above. if_holds P (nat_lt k.cycle cycles) extra Free (λ early. extra_before claim cycles k (k.point - (d.nets + length d.regs)) (ltb-true k.cycle cycles early)) (λ late. tt)))
 
-differ_within : (d : Design) (claim : Claim) (moved : List (List Bool)) (cycles : ℕ) (k : Key) → IsSound d → Fits d claim → k.cycle < cycles → AreLitsWithin d cycles (origin_reads d claim moved k 0 Differ)
+differ_within : (d : Design) (claim : Claim) (moved : List (List Bool)) (cycles : ℕ) (k : Key) → IsSound d → Fits d claim → k.cycle < cycles → AreLitsWithin d cycles (reads_in_layer d claim moved k 0 Differ)
 differ_within d claim moved cycles k sound fits early =
-    let late = late_lit d claim moved k.cycle 1 claim.end in
+    let late = late_capture_lit d claim moved k.cycle 1 claim.end in
     let capture = capture_lit d claim.end k.cycle in
-    two_within d cycles (late_lit d claim moved k.cycle 0 claim.end) (cond claim.hazard late capture)
+    two_within d cycles (late_capture_lit d claim moved k.cycle 0 claim.end) (cond claim.hazard late capture)
     (late_lit_within d claim moved cycles k.cycle 0 claim.end sound fits fits.end_ (omega arith) (omega arith))
     (if_holds (IsLitWithin d cycles) claim.hazard late capture (λ hazard. late_lit_within d claim moved cycles k.cycle 1 claim.end sound fits fits.end_ (omega arith) (omega arith))
     (λ plain. capture_within d cycles k.cycle claim.end sound fits.end_ early))
 
-cycle_reads_within : (d : Design) (claim : Claim) (moved : List (List Bool)) (cycles : ℕ) (k : Key) (origin : Origin) → IsSound d → Fits d claim → k.cycle ≤ cycles → IsBeforeLast cycles k origin → AreLitsWithin d cycles (origin_reads d claim moved k 0 origin)
+cycle_reads_within : (d : Design) (claim : Claim) (moved : List (List Bool)) (cycles : ℕ) (k : Key) (origin : Origin) → IsSound d → Fits d claim → k.cycle ≤ cycles → IsBeforeLast cycles k origin → AreLitsWithin d cycles (reads_in_layer d claim moved k 0 origin)
 cycle_reads_within d claim moved cycles k Free sound fits in_time before = none_within d cycles
 cycle_reads_within d claim moved cycles k (OfGate i) sound fits in_time before = base_reads_within d cycles k (OfGate i) sound in_time
 cycle_reads_within d claim moved cycles k (OfReg r) sound fits in_time before = base_reads_within d cycles k (OfReg r) sound in_time
@@ -241,7 +242,7 @@ cycle_reads_within d claim moved cycles k Differ sound fits in_time before = dif
 cycle_reads_within d claim moved cycles k (Stale r) sound fits in_time before =
     two_within d cycles (start_lit d claim.start k.cycle) (start_lit d claim.start (k.cycle - r - 1)) (start_within d cycles k.cycle claim.start sound fits.start in_time) (start_within d cycles (k.cycle - r - 1) claim.start sound fits.start (omega arith))
 
-layer_reads_within : (d : Design) (claim : Claim) (moved : List (List Bool)) (cycles : ℕ) (k : Key) (layer : ℕ) → IsSound d → Fits d claim → k.cycle ≤ cycles → layer ≤ 5 → AreLitsWithin d cycles (origin_reads d claim moved k layer (layer_origin d claim moved cycles k layer))
+layer_reads_within : (d : Design) (claim : Claim) (moved : List (List Bool)) (cycles : ℕ) (k : Key) (layer : ℕ) → IsSound d → Fits d claim → k.cycle ≤ cycles → layer ≤ 5 → AreLitsWithin d cycles (reads_in_layer d claim moved k layer (layer_origin d claim moved cycles k layer))
 layer_reads_within d claim moved cycles k zero sound fits in_time in_layers =
     cycle_reads_within d claim moved cycles k (layer_origin d claim moved cycles k 0) sound fits in_time (cycle_before d claim moved cycles k)
 layer_reads_within d claim moved cycles k (suc l) sound fits in_time in_layers =

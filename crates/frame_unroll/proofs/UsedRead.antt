@@ -17,20 +17,20 @@ use Rattle.net_model.specs.declared.claims.End.{End}
 use Rattle.net_model.specs.declared.claims.End.TheVariants.{Reg as RegEnd, Output as OutputEnd}
 use Rattle.query_model.specs.Keys.{key, lit, below}
 use Rattle.query_model.specs.Reads.{is_start_net}
-use Rattle.query_model.specs.Queries.{Query, Violates}
-use Rattle.query_model.specs.Defined.{Definition, numbered, exclusive, base_definitions, unit, has_own, layer_gate, start_units, layer_definitions, late_key, late_reg_definition, end_definition, start_lit, capture_lit, extra, toggle_key, change_key, stale_key, differ_definition, extra_definitions, claim_definitions}
+use Rattle.net_model.specs.Queries.{Query, Violates}
+use Rattle.query_model.specs.Defined.{Definition, numbered, exclusive, base_definitions, unit, has_own, layer_gate, start_units, layer_definitions, late_key, late_reg, end_definition, start_lit, capture_lit, extra, toggle_key, change_key, stale_key, differ_definition, extra_definitions, claim_definitions}
 use Rattle.query_model.specs.Formula.{Mentions, definitions, cycle_definitions, question_definitions}
 use Rattle.query_model.proofs.Members.{below_less}
 use Rattle.query_model.proofs.Based.{from_numbered}
 use Rattle.query_model.specs.declared.keys.Key.{Key}
 use Rattle.query_model.specs.declared.keys.KeyLit.{KeyLit}
 use Rattle.query_model.specs.declared.keys.Coding.TheVariants.{Rows}
-use Rattle.frame_unroll.specs.Origins.{Uses, gate_of, of_gate, base_origin, extra_origin, end_origin, has_rail, late_origin, layer_origin, claim_origin, base_reads, gate_late, reg_late, late_reads, origin_reads, claim_reads}
+use Rattle.frame_unroll.specs.Origins.{Uses, gate_of, of_gate, base_origin, extra_origin, end_origin, has_rail, late_origin, layer_origin, claim_origin, reads_of_origin, gate_late, reg_late, late_reads, reads_in_layer, claim_reads}
 use Rattle.frame_unroll.specs.declared.origins.Origin.{Origin}
 use Rattle.frame_unroll.specs.declared.origins.Origin.TheVariants.{Free, Stale}
 use Rattle.frame_unroll.proofs.Saying.{Among, Among-left, Among-right, ReadsOf, plain_read, rails_reads, unit_read, exclusive_read}
 use Rattle.frame_unroll.proofs.Using.{gate_own, base_use}
-use Rattle.frame_unroll.proofs.UsingLate.{zero_more, gate_layer, gate_pins, gate_plain, gate_rails, gate_says, reg_row, reg_plain, reg_rails, reg_says, from_rails, reg_listed, differ_reads, differ_says, differ_out, stale_definition, earlier, base_level}
+use Rattle.frame_unroll.proofs.UsingLate.{zero_more, gate_layer, gate_pins, gate_plain, gate_rails, gate_says, reg_rail, reg_plain, reg_rails, reg_says, from_rails, reg_listed, differ_reads, differ_says, differ_out, stale_definition, earlier, base_level}
 
 -- the key itself, or one that its definition reads
 abbrev IsRead : Design → Claim → List (List Bool) → ℕ → Key → Key → Type 0
@@ -47,8 +47,8 @@ from_base d claim moved live cycles c def k j sound lt has out m =
     let origin : claim_origin d claim moved cycles k ≡ base_origin d cycles k =
     ap (layer_origin d claim moved cycles k) used.layer ∙ cond-false (not (k.rail == 0)) Free _ (not_from_true (k.rail == 0) (eq-eqb k.rail 0 used.rail))
     ∙ cond-true (nat_lt k.point (d.nets + length d.regs)) (base_origin d cycles k) _ (lt-ltb k.point (d.nets + length d.regs) used.point) in
-    let reads : claim_reads d claim moved cycles k ≡ base_reads d k (base_origin d cycles k) =
-    ap (λ (o : Origin). origin_reads d claim moved k k.layer o) origin ∙ ap (λ (n : ℕ). origin_reads d claim moved k n (base_origin d cycles k)) used.layer ∙ base_level d claim moved cycles k in
+    let reads : claim_reads d claim moved cycles k ≡ reads_of_origin d k (base_origin d cycles k) =
+    ap (λ (o : Origin). reads_in_layer d claim moved k k.layer o) origin ∙ ap (λ (n : ℕ). reads_in_layer d claim moved k n (base_origin d cycles k)) used.layer ∙ base_level d claim moved cycles k in
     elim used.only [ inl same ↦ inl same | inr a ↦ inr (subst (λ (ls : List KeyLit). Among ls j) (sym reads) a) ]
 
 -- what a late key reads, where its layer has it
@@ -192,13 +192,13 @@ from_end d claim moved cycles c def k j sound early (RegEnd r) is has out m = by
 
     of_plain : (reg : Reg) → slice_get d.regs r ≡ Some reg → reg_plain d claim moved c r reg ≡ def → IsRead d claim moved cycles k j
     of_plain reg at same =
-        from_one d claim moved cycles (reg_plain d claim moved c r reg) (reg_row d claim moved c r reg true 0) (own_key 0) k j refl (plain_read (reg_capture reg) (reg_row d claim moved c r reg true 0) (own_key 0))
-        (λ a. subst (λ (ls : List KeyLit). Among ls j) (sym (reg_eval d claim moved cycles c 0 r reg early (on_low claim) is at)) (Among-left (reg_listed d claim moved c r reg 0) _ j (Among-left (reg_row d claim moved c r reg true 0) (lit true (own_key 0) ∷ []) j a)))
+        from_one d claim moved cycles (reg_plain d claim moved c r reg) (reg_rail d claim moved c r reg true 0) (own_key 0) k j refl (plain_read (reg_capture reg) (reg_rail d claim moved c r reg true 0) (own_key 0))
+        (λ a. subst (λ (ls : List KeyLit). Among ls j) (sym (reg_eval d claim moved cycles c 0 r reg early (on_low claim) is at)) (Among-left (reg_listed d claim moved c r reg 0) _ j (Among-left (reg_rail d claim moved c r reg true 0) (lit true (own_key 0) ∷ []) j a)))
         (subst (λ (x : Definition). In k x.outs) (sym same) out) (subst (λ (x : Definition). Mentions x.clauses j) (sym same) m)
 
     on_key : (reg : Reg) (rail : ℕ) → slice_get d.regs r ≡ Some reg → claim.hazard ≡ true → has_rail claim rail ≡ true → Mentions (reg_rails d claim moved c r reg).clauses j → IsRead d claim moved cycles (own_key rail) j
     on_key reg rail at hazard on said =
-        from_both d claim moved cycles (reg_rails d claim moved c r reg) (reg_row d claim moved c r reg true 0) (reg_row d claim moved c r reg false 1) (own_key 0) (own_key 1) (own_key rail) j refl (reg_says d claim moved c r reg sound at)
+        from_both d claim moved cycles (reg_rails d claim moved c r reg) (reg_rail d claim moved c r reg true 0) (reg_rail d claim moved c r reg false 1) (own_key 0) (own_key 1) (own_key rail) j refl (reg_says d claim moved c r reg sound at)
         (λ z a. subst (λ (ls : List KeyLit). Among ls z) (sym (reg_eval d claim moved cycles c rail r reg early on is at)) (subst (λ h. Among (reg_listed d claim moved c r reg 0 ++ cond h (reg_listed d claim moved c r reg 1) []) z) (sym hazard) (from_rails d claim moved c r reg z a))) said
 
     by_mode : (reg : Reg) → slice_get d.regs r ≡ Some reg → (h : Bool) → claim.hazard ≡ h → In def (cond h (reg_rails d claim moved c r reg ∷ []) (reg_plain d claim moved c r reg ∷ [])) → IsRead d claim moved cycles k j
@@ -209,26 +209,26 @@ from_end d claim moved cycles c def k j sound early (RegEnd r) is has out m = by
     by_mode reg at false plain_mode (inl same) = of_plain reg at same
     by_mode reg at false plain_mode (inr none) = absurd none
 
-    by_reg : (o : Option Reg) → slice_get d.regs r ≡ o → In def (late_reg_definition Rows d claim moved c r o) → IsRead d claim moved cycles k j
+    by_reg : (o : Option Reg) → slice_get d.regs r ≡ o → In def (late_reg Rows d claim moved c r o) → IsRead d claim moved cycles k j
     by_reg None at there = absurd there
     by_reg (Some reg) at there = by_mode reg at claim.hazard refl there
 
 -- of the further points
-extra_eval : (d : Design) (claim : Claim) (moved : List (List Bool)) (cycles c n : ℕ) → c < cycles → claim_reads d claim moved cycles (extra d c n) ≡ origin_reads d claim moved (extra d c n) 0 (extra_origin claim n)
+extra_eval : (d : Design) (claim : Claim) (moved : List (List Bool)) (cycles c n : ℕ) → c < cycles → claim_reads d claim moved cycles (extra d c n) ≡ reads_in_layer d claim moved (extra d c n) 0 (extra_origin claim n)
 extra_eval d claim moved cycles c n early =
     let p : ℕ = d.nets + length d.regs + n in
     let place : p - (d.nets + length d.regs) ≡ n = omega arith in
-    ap (origin_reads d claim moved (extra d c n) 0)
+    ap (reads_in_layer d claim moved (extra d c n) 0)
     (cond-false (not (0 == 0)) Free _ (not_from_true (0 == 0) (eq-eqb 0 0 refl)) ∙ cond-false (nat_lt p (d.nets + length d.regs)) _ _ (le-ltb p (d.nets + length d.regs) (omega arith))
     ∙ cond-true (nat_lt c cycles) (extra_origin claim (p - (d.nets + length d.regs))) Free (lt-ltb c cycles early) ∙ ap (extra_origin claim) place)
 
 from_extra : (d : Design) (claim : Claim) (moved : List (List Bool)) (cycles c : ℕ) (def : Definition) (k j : Key) → c < cycles → In def (extra_definitions d claim moved c) → In k def.outs → Mentions def.clauses j → IsRead d claim moved cycles k j
 from_extra d claim moved cycles c def k j early has out m = by_place has
   where
-    read_at : (n : ℕ) (reads : List KeyLit) → origin_reads d claim moved (extra d c n) 0 (extra_origin claim n) ≡ reads → Among reads j → Among (claim_reads d claim moved cycles (extra d c n)) j
+    read_at : (n : ℕ) (reads : List KeyLit) → reads_in_layer d claim moved (extra d c n) 0 (extra_origin claim n) ≡ reads → Among reads j → Among (claim_reads d claim moved cycles (extra d c n)) j
     read_at n reads same a = subst (λ (ls : List KeyLit). Among ls j) (sym (extra_eval d claim moved cycles c n early ∙ same)) a
 
-    one_of : (n : ℕ) (this : Definition) (reads : List KeyLit) → this.outs ≡ extra d c n ∷ [] → ReadsOf this reads → origin_reads d claim moved (extra d c n) 0 (extra_origin claim n) ≡ reads → this ≡ def → IsRead d claim moved cycles k j
+    one_of : (n : ℕ) (this : Definition) (reads : List KeyLit) → this.outs ≡ extra d c n ∷ [] → ReadsOf this reads → reads_in_layer d claim moved (extra d c n) 0 (extra_origin claim n) ≡ reads → this ≡ def → IsRead d claim moved cycles k j
     one_of n this reads outs says same is =
         from_one d claim moved cycles this reads (extra d c n) k j outs says (read_at n reads same) (subst (λ (x : Definition). In k x.outs) (sym is) out) (subst (λ (x : Definition). Mentions x.clauses j) (sym is) m)
 
@@ -236,8 +236,8 @@ from_extra d claim moved cycles c def k j early has out m = by_place has
     of_stale r lt is =
         let place : 2 + (r + 1) ≡ suc (suc (suc r)) = omega arith in
         let origin : extra_origin claim (2 + (r + 1)) ≡ Stale (r + 1) = ap (extra_origin claim) place ∙ cond-true (nat_lt r (judged_count claim.kind - 1)) (Stale (r + 1)) Free (lt-ltb r (judged_count claim.kind - 1) lt) in
-        let reads : origin_reads d claim moved (extra d c (2 + (r + 1))) 0 (extra_origin claim (2 + (r + 1))) ≡ start_lit d claim.start c ∷ start_lit d claim.start (c - r - 2) ∷ [] =
-        ap (origin_reads d claim moved (extra d c (2 + (r + 1))) 0) origin ∙ ap (λ (n : ℕ). start_lit d claim.start c ∷ start_lit d claim.start n ∷ []) (earlier c r) in
+        let reads : reads_in_layer d claim moved (extra d c (2 + (r + 1))) 0 (extra_origin claim (2 + (r + 1))) ≡ start_lit d claim.start c ∷ start_lit d claim.start (c - r - 2) ∷ [] =
+        ap (reads_in_layer d claim moved (extra d c (2 + (r + 1))) 0) origin ∙ ap (λ (n : ℕ). start_lit d claim.start c ∷ start_lit d claim.start n ∷ []) (earlier c r) in
         one_of (2 + (r + 1)) (stale_definition d claim c r) (start_lit d claim.start c ∷ start_lit d claim.start (c - r - 2) ∷ []) refl (exclusive_read (stale_key d c (r + 1)) (start_lit d claim.start c) (start_lit d claim.start (c - r - 2))) reads is
 
     by_place : In def (extra_definitions d claim moved c) → IsRead d claim moved cycles k j

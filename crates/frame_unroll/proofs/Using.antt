@@ -15,7 +15,7 @@ use Rattle.net_model.specs.declared.netlist.Reg.{Reg}
 use Rattle.net_model.specs.declared.invariants.InvClause.{InvClause}
 use Rattle.query_model.specs.Keys.{key, lit, below}
 use Rattle.query_model.specs.Reads.{bit_key, read_base}
-use Rattle.query_model.specs.Queries.{Query, Breaks}
+use Rattle.net_model.specs.Queries.{Query, Breaks}
 use Rattle.query_model.specs.Defined.{Definition, numbered, with_own, gate_definition, bit_definition, base_definitions, input_definition, unit, unit_if, set_in}
 use Rattle.query_model.specs.Formula.{Mentions, definitions, cycle_definitions, question_definitions}
 use Rattle.query_model.proofs.Members.{below_less}
@@ -24,7 +24,7 @@ use Rattle.query_model.proofs.Based.{placed, in_place, from_numbered, in_numbere
 use Rattle.query_model.specs.declared.keys.Key.{Key}
 use Rattle.query_model.specs.declared.keys.KeyLit.{KeyLit}
 use Rattle.query_model.specs.declared.keys.Coding.TheVariants.{Rows}
-use Rattle.frame_unroll.specs.Origins.{Uses, gate_of, of_gate, base_origin, gate_base, reg_base, base_reads, clause_reads}
+use Rattle.frame_unroll.specs.Origins.{Uses, gate_of, of_gate, base_origin, gate_base, reg_base, reads_of_origin, clause_reads}
 use Rattle.frame_unroll.specs.declared.origins.Origin.{Origin}
 use Rattle.frame_unroll.specs.declared.origins.Origin.TheVariants.{Free, Gate as OfGate, Reg as OfReg}
 use Rattle.frame_unroll.proofs.Saying.{Among, ReadsOf, plain_read, unit_read}
@@ -101,7 +101,7 @@ bit_at_next : (d : Design) (k : Key) (c r : ℕ) → c + 1 ≡ k.cycle → 0 ≡
 bit_at_next d k c r ec el er ep = key_at k (c + 1) 0 0 (d.nets + r) ec el er ep
 
 -- the keys that a net or a bit reads are used
-pub base_used : (q : Query) (moved : List (List Bool)) (k j : Key) → k.layer ≡ 0 → k.rail ≡ 0 → Among (base_reads q.design k (base_origin q.design q.cycles k)) j → Uses (definitions Rows q moved) k j
+pub base_used : (q : Query) (moved : List (List Bool)) (k j : Key) → k.layer ≡ 0 → k.rail ≡ 0 → Among (reads_of_origin q.design k (base_origin q.design q.cycles k)) j → Uses (definitions Rows q moved) k j
 base_used q moved k j layer rail =
     cond_both (nat_lt k.point d.nets) (cond (nat_lt k.cycle q.cycles) (of_gate (gate_of d.gates 0 k.point)) Free) bit_origin Goal
     (λ net. cond_both (nat_lt k.cycle q.cycles) (of_gate (gate_of d.gates 0 k.point)) Free Goal (λ early. of_net (ltb-true k.cycle q.cycles early) (gate_of d.gates 0 k.point) refl) (λ late a. absurd a.1))
@@ -114,7 +114,7 @@ base_used q moved k j layer rail =
     d = q.design
 
     Goal : Origin → Type 0
-    Goal origin = Among (base_reads d k origin) j → Uses (definitions Rows q moved) k j
+    Goal origin = Among (reads_of_origin d k origin) j → Uses (definitions Rows q moved) k j
 
     bit_origin : Origin
     bit_origin = cond (nat_lt 0 k.cycle && (nat_lt k.cycle (q.cycles + 1) && nat_lt k.point (d.nets + length d.regs))) (OfReg (k.point - d.nets)) Free
@@ -149,7 +149,7 @@ pub record BaseUse (d : Design) (cycles : ℕ) (k j : Key) : Type 0 where
   pub layer : k.layer ≡ 0
   pub rail : k.rail ≡ 0
   pub point : k.point < d.nets + length d.regs
-  pub only : (j ≡ k) ⊎ Among (base_reads d k (base_origin d cycles k)) j
+  pub only : (j ≡ k) ⊎ Among (reads_of_origin d k (base_origin d cycles k)) j
 
 gate_origin : (d : Design) (cycles c i : ℕ) (g : Gate) → IsSound d → c < cycles → slice_get d.gates i ≡ Some g → base_origin d cycles (key c 0 0 g.out) ≡ OfGate i
 gate_origin d cycles c i g sound lt at =
@@ -186,8 +186,8 @@ gate_use d cycles c i g k j sound lt at same m = subst (λ (x : Key). BaseUse d 
     range : IsGateInRange d g
     range = All-at (IsGateInRange d) d.gates i g at sound.in_range.gates
 
-    read : Among (map (read_base d c) g.ins) j → Among (base_reads d own (base_origin d cycles own)) j
-    read a = subst (λ (o : Origin). Among (base_reads d own o) j) (sym (gate_origin d cycles c i g sound lt at)) (subst (λ (o : Option Gate). Among (gate_base d c o) j) (sym at) a)
+    read : Among (map (read_base d c) g.ins) j → Among (reads_of_origin d own (base_origin d cycles own)) j
+    read a = subst (λ (o : Origin). Among (reads_of_origin d own o) j) (sym (gate_origin d cycles c i g sound lt at)) (subst (λ (o : Option Gate). Among (gate_base d c o) j) (sym at) a)
 
     whole : BaseUse d cycles own j
     whole =
@@ -216,9 +216,9 @@ bit_use d cycles c r reg k j lt at same m = subst (λ (x : Key). BaseUse d cycle
     before : c ≡ c + 1 - 1
     before = omega arith
 
-    read : Among reads j → Among (base_reads d own (base_origin d cycles own)) j
+    read : Among reads j → Among (reads_of_origin d own (base_origin d cycles own)) j
     read a =
-        subst (λ (o : Origin). Among (base_reads d own o) j) (sym (bit_origin_is d cycles c r lt low))
+        subst (λ (o : Origin). Among (reads_of_origin d own o) j) (sym (bit_origin_is d cycles c r lt low))
         (subst (λ (n : ℕ). Among (reg_base d n r (slice_get d.regs r)) j) before (subst (λ (o : Option Reg). Among (reg_base d c r o) j) (sym at) a))
 
     whole : BaseUse d cycles own j
@@ -269,7 +269,7 @@ base_use d live cycles c def k j sound lt has out m =
 -- where a clause over register bits is asked about
 pub clause_reads_used : (q : Query) (clause : InvClause) (moved : List (List Bool)) → q.question ≡ Breaks clause → (k : Key) (l : KeyLit) → In l (clause_reads q.design q.cycles k) → Uses (definitions Rows q moved) k l.key
 clause_reads_used q clause moved asks k l has =
-    cond_both ((k.layer == 0) && (k.rail == 0)) (base_origin q.design q.cycles k) Free (λ origin. Among (base_reads q.design k origin) l.key → Uses (definitions Rows q moved) k l.key)
+    cond_both ((k.layer == 0) && (k.rail == 0)) (base_origin q.design q.cycles k) Free (λ origin. Among (reads_of_origin q.design k origin) l.key → Uses (definitions Rows q moved) k l.key)
     (λ both. let parts = and_parts (k.layer == 0) (k.rail == 0) both in base_used q moved k l.key (eqb-true k.layer 0 parts.0) (eqb-true k.rail 0 parts.1)) (λ other a. absurd a.1) (l, has, refl)
 
 pub clause_used_read : (q : Query) (clause : InvClause) (moved : List (List Bool)) → IsSound q.design → q.question ≡ Breaks clause → (k j : Key) → Uses (definitions Rows q moved) k j → (j ≡ k) ⊎ Among (clause_reads q.design q.cycles k) j
@@ -285,5 +285,5 @@ clause_used_read q clause moved sound asks k j (def, has, out, m) =
       | inl same ↦ inl same
       | inr a ↦
           let both : ((k.layer == 0) && (k.rail == 0)) ≡ true = and_from (k.layer == 0) (k.rail == 0) (eq-eqb k.layer 0 used.layer) (eq-eqb k.rail 0 used.rail) in
-          inr (subst (λ (o : Origin). Among (base_reads q.design k o) j) (sym (cond-true ((k.layer == 0) && (k.rail == 0)) (base_origin q.design q.cycles k) Free both)) a)
+          inr (subst (λ (o : Origin). Among (reads_of_origin q.design k o) j) (sym (cond-true ((k.layer == 0) && (k.rail == 0)) (base_origin q.design q.cycles k) Free both)) a)
     ]

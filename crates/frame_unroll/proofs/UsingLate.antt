@@ -21,8 +21,9 @@ use Rattle.net_model.specs.declared.claims.End.TheVariants.{Reg as RegEnd, Outpu
 use Rattle.net_model.specs.declared.claims.PinRef.TheVariants.{GateIn, RegIn}
 use Rattle.query_model.specs.Keys.{key, lit, below}
 use Rattle.query_model.specs.Reads.{bit_key, read_pin}
-use Rattle.query_model.specs.Queries.{Query, Violates}
-use Rattle.query_model.specs.Defined.{Definition, numbered, plain, rails, exclusive, both, with_own, reads_own, base_definitions, has_own, layer_gate, start_units, layer_definitions, late_key, late_reg_definition, end_definition, start_lit, capture_lit, late_lit, extra, toggle_key, change_key, differ_key, stale_key, differ_definition, extra_definitions, claim_definitions}
+use Rattle.net_model.specs.Queries.{Query, Violates}
+use Rattle.net_model.specs.Mentions.{reads_own}
+use Rattle.query_model.specs.Defined.{Definition, numbered, plain, rails, exclusive, both, with_own, base_definitions, has_own, layer_gate, start_units, layer_definitions, late_key, late_reg, end_definition, start_lit, capture_lit, late_capture_lit, extra, toggle_key, change_key, differ_key, stale_key, differ_definition, extra_definitions, claim_definitions}
 use Rattle.query_model.specs.Formula.{Mentions, definitions, cycle_definitions, question_definitions}
 use Rattle.query_model.proofs.Members.{In-below}
 use Rattle.query_model.proofs.Lists.{length-numbered}
@@ -30,7 +31,7 @@ use Rattle.query_model.proofs.Based.{placed, in_place, from_numbered, in_numbere
 use Rattle.query_model.specs.declared.keys.Key.{Key}
 use Rattle.query_model.specs.declared.keys.KeyLit.{KeyLit}
 use Rattle.query_model.specs.declared.keys.Coding.TheVariants.{Rows}
-use Rattle.frame_unroll.specs.Origins.{Uses, gate_of, of_gate, base_origin, extra_origin, end_origin, has_rail, late_origin, layer_origin, base_reads, gate_late, reg_late, origin_reads, claim_reads}
+use Rattle.frame_unroll.specs.Origins.{Uses, gate_of, of_gate, base_origin, extra_origin, end_origin, has_rail, late_origin, layer_origin, reads_of_origin, gate_late, reg_late, reads_in_layer, claim_reads}
 use Rattle.frame_unroll.specs.declared.origins.Origin.{Origin}
 use Rattle.frame_unroll.specs.declared.origins.Origin.TheVariants.{Free, Reg as OfReg, Stale}
 use Rattle.frame_unroll.proofs.Saying.{Among, Among-left, Among-right, ReadsOf, plain_read, plain_out, rails_reads, rails_read, exclusive_read, both_read}
@@ -140,15 +141,15 @@ abbrev pub reg_pins : Design → Claim → List (List Bool) → ℕ → ℕ → 
 reg_pins d claim moved c r reg rail = numbered (λ p n. read_pin d claim moved c (length claim.through + 1) rail (RegIn r p) n) 0 reg.ins
 
 -- its own bit is read as it is, or as its complement
-abbrev pub reg_row : Design → Claim → List (List Bool) → ℕ → ℕ → Reg → Bool → ℕ → List KeyLit
-reg_row d claim moved c r reg positive rail = with_own reg (lit positive (bit_key d c r)) (reg_pins d claim moved c r reg rail)
+abbrev pub reg_rail : Design → Claim → List (List Bool) → ℕ → ℕ → Reg → Bool → ℕ → List KeyLit
+reg_rail d claim moved c r reg positive rail = with_own reg (lit positive (bit_key d c r)) (reg_pins d claim moved c r reg rail)
 
 abbrev pub reg_plain : Design → Claim → List (List Bool) → ℕ → ℕ → Reg → Definition
-reg_plain d claim moved c r reg = plain Rows (reg_capture reg) (reg_row d claim moved c r reg true 0) (late_key d claim c 0)
+reg_plain d claim moved c r reg = plain Rows (reg_capture reg) (reg_rail d claim moved c r reg true 0) (late_key d claim c 0)
 
 abbrev pub reg_rails : Design → Claim → List (List Bool) → ℕ → ℕ → Reg → Definition
 reg_rails d claim moved c r reg =
-    rails Rows (reg_capture reg) (reg_row d claim moved c r reg true 0) (reg_row d claim moved c r reg false 1) (late_key d claim c 0) (late_key d claim c 1)
+    rails Rows (reg_capture reg) (reg_rail d claim moved c r reg true 0) (reg_rail d claim moved c r reg false 1) (late_key d claim c 0) (late_key d claim c 1)
 
 length-with_own : (reg : Reg) (own : KeyLit) (pins : List KeyLit) → (length (with_own reg own pins) ≤ length pins + 1)
 length-with_own reg own pins = cond_both (reads_own reg) (own ∷ []) [] (λ more. length (pins ++ more) ≤ length pins + 1) (λ yes_own. omega (arith, length-append pins (own ∷ []))) (λ no_own. omega (arith, length-append pins []))
@@ -160,12 +161,12 @@ same_length reg x y xs ys same = by_own (reads_own reg)
     by_own true = omega (arith, same, length-append xs (x ∷ []), length-append ys (y ∷ []))
     by_own false = omega (arith, same, length-append xs [], length-append ys [])
 
-pub reg_says : (d : Design) (claim : Claim) (moved : List (List Bool)) (c r : ℕ) (reg : Reg) → IsSound d → slice_get d.regs r ≡ Some reg → ReadsOf (reg_rails d claim moved c r reg) (rails_reads (reg_row d claim moved c r reg true 0) (reg_row d claim moved c r reg false 1) (late_key d claim c 0) (late_key d claim c 1))
+pub reg_says : (d : Design) (claim : Claim) (moved : List (List Bool)) (c r : ℕ) (reg : Reg) → IsSound d → slice_get d.regs r ≡ Some reg → ReadsOf (reg_rails d claim moved c r reg) (rails_reads (reg_rail d claim moved c r reg true 0) (reg_rail d claim moved c r reg false 1) (late_key d claim c 0) (late_key d claim c 1))
 reg_says d claim moved c r reg sound at =
     let range = All-at (IsRegInRange d) d.regs r reg at sound.in_range.regs in
     let long : (rail : ℕ) → length (reg_pins d claim moved c r reg rail) ≡ length reg.ins = λ rail. length-numbered (λ p n. read_pin d claim moved c (length claim.through + 1) rail (RegIn r p) n) 0 reg.ins in
     let few = length-with_own reg (lit true (bit_key d c r)) (reg_pins d claim moved c r reg 0) in
-    rails_read (reg_capture reg) (reg_row d claim moved c r reg true 0) (reg_row d claim moved c r reg false 1) (late_key d claim c 0) (late_key d claim c 1)
+    rails_read (reg_capture reg) (reg_rail d claim moved c r reg true 0) (reg_rail d claim moved c r reg false 1) (late_key d claim c 0) (late_key d claim c 1)
     (same_length reg (lit false (bit_key d c r)) (lit true (bit_key d c r)) (reg_pins d claim moved c r reg 1) (reg_pins d claim moved c r reg 0) (long 1 ∙ sym (long 0)))
     (omega (arith, few, long 0, range.few)) (wider (length reg.ins + 1) (reg_capture reg) (omega (arith, range.few)) (reads_capture d r reg sound at))
 
@@ -185,25 +186,25 @@ Among-cases xs ys j a = elim (In-cases a.0 xs ys a.1) [ inl l ↦ inl (a.0, l, a
 
 -- the reads of the late capture on its rails, as its origin lists them and as its definition does
 abbrev pub reg_listed : Design → Claim → List (List Bool) → ℕ → ℕ → Reg → ℕ → List KeyLit
-reg_listed d claim moved c r reg rail = reg_row d claim moved c r reg true rail ++ lit true (late_key d claim c rail) ∷ []
+reg_listed d claim moved c r reg rail = reg_rail d claim moved c r reg true rail ++ lit true (late_key d claim c rail) ∷ []
 
-to_rails : (d : Design) (claim : Claim) (moved : List (List Bool)) (c r : ℕ) (reg : Reg) (j : Key) → Among (reg_listed d claim moved c r reg 0 ++ reg_listed d claim moved c r reg 1) j → Among (rails_reads (reg_row d claim moved c r reg true 0) (reg_row d claim moved c r reg false 1) (late_key d claim c 0) (late_key d claim c 1)) j
+to_rails : (d : Design) (claim : Claim) (moved : List (List Bool)) (c r : ℕ) (reg : Reg) (j : Key) → Among (reg_listed d claim moved c r reg 0 ++ reg_listed d claim moved c r reg 1) j → Among (rails_reads (reg_rail d claim moved c r reg true 0) (reg_rail d claim moved c r reg false 1) (late_key d claim c 0) (late_key d claim c 1)) j
 to_rails d claim moved c r reg j a = elim (Among-cases (reg_listed d claim moved c r reg 0) (reg_listed d claim moved c r reg 1) j a) [
   | inl first ↦ Among-left (reg_listed d claim moved c r reg 0) _ j first
-  | inr second ↦ Among-right (reg_listed d claim moved c r reg 0) (reg_row d claim moved c r reg false 1 ++ lit true (late_key d claim c 1) ∷ []) j
-      (elim (Among-cases (reg_row d claim moved c r reg true 1) (lit true (late_key d claim c 1) ∷ []) j second) [
-        | inl inside ↦ Among-left (reg_row d claim moved c r reg false 1) (lit true (late_key d claim c 1) ∷ []) j (resigned reg (bit_key d c r) true false (reg_pins d claim moved c r reg 1) j inside)
-        | inr last ↦ Among-right (reg_row d claim moved c r reg false 1) (lit true (late_key d claim c 1) ∷ []) j last
+  | inr second ↦ Among-right (reg_listed d claim moved c r reg 0) (reg_rail d claim moved c r reg false 1 ++ lit true (late_key d claim c 1) ∷ []) j
+      (elim (Among-cases (reg_rail d claim moved c r reg true 1) (lit true (late_key d claim c 1) ∷ []) j second) [
+        | inl inside ↦ Among-left (reg_rail d claim moved c r reg false 1) (lit true (late_key d claim c 1) ∷ []) j (resigned reg (bit_key d c r) true false (reg_pins d claim moved c r reg 1) j inside)
+        | inr last ↦ Among-right (reg_rail d claim moved c r reg false 1) (lit true (late_key d claim c 1) ∷ []) j last
       ])
 ]
 
-pub from_rails : (d : Design) (claim : Claim) (moved : List (List Bool)) (c r : ℕ) (reg : Reg) (j : Key) → Among (rails_reads (reg_row d claim moved c r reg true 0) (reg_row d claim moved c r reg false 1) (late_key d claim c 0) (late_key d claim c 1)) j → Among (reg_listed d claim moved c r reg 0 ++ reg_listed d claim moved c r reg 1) j
-from_rails d claim moved c r reg j a = elim (Among-cases (reg_listed d claim moved c r reg 0) (reg_row d claim moved c r reg false 1 ++ lit true (late_key d claim c 1) ∷ []) j a) [
+pub from_rails : (d : Design) (claim : Claim) (moved : List (List Bool)) (c r : ℕ) (reg : Reg) (j : Key) → Among (rails_reads (reg_rail d claim moved c r reg true 0) (reg_rail d claim moved c r reg false 1) (late_key d claim c 0) (late_key d claim c 1)) j → Among (reg_listed d claim moved c r reg 0 ++ reg_listed d claim moved c r reg 1) j
+from_rails d claim moved c r reg j a = elim (Among-cases (reg_listed d claim moved c r reg 0) (reg_rail d claim moved c r reg false 1 ++ lit true (late_key d claim c 1) ∷ []) j a) [
   | inl first ↦ Among-left (reg_listed d claim moved c r reg 0) (reg_listed d claim moved c r reg 1) j first
   | inr second ↦ Among-right (reg_listed d claim moved c r reg 0) (reg_listed d claim moved c r reg 1) j
-      (elim (Among-cases (reg_row d claim moved c r reg false 1) (lit true (late_key d claim c 1) ∷ []) j second) [
-        | inl inside ↦ Among-left (reg_row d claim moved c r reg true 1) (lit true (late_key d claim c 1) ∷ []) j (resigned reg (bit_key d c r) false true (reg_pins d claim moved c r reg 1) j inside)
-        | inr last ↦ Among-right (reg_row d claim moved c r reg true 1) (lit true (late_key d claim c 1) ∷ []) j last
+      (elim (Among-cases (reg_rail d claim moved c r reg false 1) (lit true (late_key d claim c 1) ∷ []) j second) [
+        | inl inside ↦ Among-left (reg_rail d claim moved c r reg true 1) (lit true (late_key d claim c 1) ∷ []) j (resigned reg (bit_key d c r) false true (reg_pins d claim moved c r reg 1) j inside)
+        | inr last ↦ Among-right (reg_rail d claim moved c r reg true 1) (lit true (late_key d claim c 1) ∷ []) j last
       ])
 ]
 
@@ -212,7 +213,7 @@ end_in : (d : Design) (claim : Claim) (moved : List (List Bool)) (c r : ℕ) (re
 end_in d claim moved c r reg def is at has =
     In-right def (flat_map (layer_definitions Rows d claim moved c) (below (length claim.through + 1))) (end_definition Rows d claim moved c claim.end ++ extra_definitions d claim moved c)
     (In-left def (end_definition Rows d claim moved c claim.end) (extra_definitions d claim moved c)
-    (subst (λ e. In def (end_definition Rows d claim moved c e)) (sym is) (subst (λ (o : Option Reg). In def (late_reg_definition Rows d claim moved c r o)) (sym at) has)))
+    (subst (λ e. In def (end_definition Rows d claim moved c e)) (sym is) (subst (λ (o : Option Reg). In def (late_reg Rows d claim moved c r o)) (sym at) has)))
 
 reg_used : (q : Query) (claim : Claim) (offset clean : ℕ) (moved : List (List Bool)) (c rail r : ℕ) (reg : Reg) (j : Key) → IsSound q.design → q.question ≡ Violates claim offset clean → c < q.cycles → has_rail claim rail ≡ true → claim.end ≡ RegEnd r → slice_get q.design.regs r ≡ Some reg → Among (reg_late q.design claim moved c r (Some reg)) j → Uses (definitions Rows q moved) (late_key q.design claim c rail) j
 reg_used q claim offset clean moved c rail r reg j sound asks early on is at =
@@ -226,12 +227,12 @@ reg_used q claim offset clean moved c rail r reg j sound asks early on is at =
 
     by_mode : (h : Bool) → claim.hazard ≡ h → Among (reg_listed d claim moved c r reg 0 ++ cond h (reg_listed d claim moved c r reg 1) []) j → Uses (definitions Rows q moved) (late_key d claim c rail) j
     by_mode true hazard a =
-        use_by (definitions Rows q moved) (reg_rails d claim moved c r reg) (rails_reads (reg_row d claim moved c r reg true 0) (reg_row d claim moved c r reg false 1) (late_key d claim c 0) (late_key d claim c 1)) (late_key d claim c rail) j
+        use_by (definitions Rows q moved) (reg_rails d claim moved c r reg) (rails_reads (reg_rail d claim moved c r reg true 0) (reg_rail d claim moved c r reg false 1) (late_key d claim c 0) (late_key d claim c 1)) (late_key d claim c rail) j
         (listed (reg_rails d claim moved c r reg) (subst (λ h. In (reg_rails d claim moved c r reg) (cond h (reg_rails d claim moved c r reg ∷ []) (reg_plain d claim moved c r reg ∷ []))) (sym hazard) (inl refl)))
         (on_rail claim c (length claim.through + 1) rail (d.nets + length d.regs) hazard on) (reg_says d claim moved c r reg sound at) (to_rails d claim moved c r reg j a)
     by_mode false plain_mode a =
         subst (λ (n : ℕ). Uses (definitions Rows q moved) (late_key d claim c n) j) (sym (plain_rail claim rail plain_mode on))
-        (plain_use (definitions Rows q moved) (reg_capture reg) (reg_row d claim moved c r reg true 0) (late_key d claim c 0) j
+        (plain_use (definitions Rows q moved) (reg_capture reg) (reg_rail d claim moved c r reg true 0) (late_key d claim c 0) j
         (listed (reg_plain d claim moved c r reg) (subst (λ h. In (reg_plain d claim moved c r reg) (cond h (reg_rails d claim moved c r reg ∷ []) (reg_plain d claim moved c r reg ∷ []))) (sym plain_mode) (inl refl))) a)
 
 -- the further points of a cycle
@@ -242,19 +243,19 @@ extra_in d claim moved c def has =
 
 -- what the definition of a late capture that differs reads
 abbrev pub differ_reads : Design → Claim → List (List Bool) → ℕ → List KeyLit
-differ_reads d claim moved c = late_lit d claim moved c 0 claim.end ∷ cond claim.hazard (late_lit d claim moved c 1 claim.end) (capture_lit d claim.end c) ∷ []
+differ_reads d claim moved c = late_capture_lit d claim moved c 0 claim.end ∷ cond claim.hazard (late_capture_lit d claim moved c 1 claim.end) (capture_lit d claim.end c) ∷ []
 
 pub differ_says : (d : Design) (claim : Claim) (moved : List (List Bool)) (c : ℕ) → ReadsOf (differ_definition d claim moved c) (differ_reads d claim moved c)
 differ_says d claim moved c = by_mode claim.hazard
   where
-    by_mode : (h : Bool) → ReadsOf (cond h (both (differ_key d c) (late_lit d claim moved c 0 claim.end) (late_lit d claim moved c 1 claim.end)) (exclusive (differ_key d c) (late_lit d claim moved c 0 claim.end) (capture_lit d claim.end c))) (late_lit d claim moved c 0 claim.end ∷ cond h (late_lit d claim moved c 1 claim.end) (capture_lit d claim.end c) ∷ [])
-    by_mode true = both_read (differ_key d c) (late_lit d claim moved c 0 claim.end) (late_lit d claim moved c 1 claim.end)
-    by_mode false = exclusive_read (differ_key d c) (late_lit d claim moved c 0 claim.end) (capture_lit d claim.end c)
+    by_mode : (h : Bool) → ReadsOf (cond h (both (differ_key d c) (late_capture_lit d claim moved c 0 claim.end) (late_capture_lit d claim moved c 1 claim.end)) (exclusive (differ_key d c) (late_capture_lit d claim moved c 0 claim.end) (capture_lit d claim.end c))) (late_capture_lit d claim moved c 0 claim.end ∷ cond h (late_capture_lit d claim moved c 1 claim.end) (capture_lit d claim.end c) ∷ [])
+    by_mode true = both_read (differ_key d c) (late_capture_lit d claim moved c 0 claim.end) (late_capture_lit d claim moved c 1 claim.end)
+    by_mode false = exclusive_read (differ_key d c) (late_capture_lit d claim moved c 0 claim.end) (capture_lit d claim.end c)
 
 pub differ_out : (d : Design) (claim : Claim) (moved : List (List Bool)) (c : ℕ) → (differ_definition d claim moved c).outs ≡ differ_key d c ∷ []
 differ_out d claim moved c = by_mode claim.hazard
   where
-    by_mode : (h : Bool) → (cond h (both (differ_key d c) (late_lit d claim moved c 0 claim.end) (late_lit d claim moved c 1 claim.end)) (exclusive (differ_key d c) (late_lit d claim moved c 0 claim.end) (capture_lit d claim.end c))).outs ≡ differ_key d c ∷ []
+    by_mode : (h : Bool) → (cond h (both (differ_key d c) (late_capture_lit d claim moved c 0 claim.end) (late_capture_lit d claim moved c 1 claim.end)) (exclusive (differ_key d c) (late_capture_lit d claim moved c 0 claim.end) (capture_lit d claim.end c))).outs ≡ differ_key d c ∷ []
     by_mode true = refl
     by_mode false = refl
 
@@ -267,7 +268,7 @@ stale_in d claim moved c r lt = inr (inr (inr (In-map (stale_definition d claim 
 pub earlier : (c r : ℕ) → c - (r + 1) - 1 ≡ c - r - 2
 earlier c r = omega arith
 
-extra_used : (q : Query) (claim : Claim) (offset clean : ℕ) (moved : List (List Bool)) (k j : Key) → q.question ≡ Violates claim offset clean → k.layer ≡ 0 → k.rail ≡ 0 → k.cycle < q.cycles → (n : ℕ) → q.design.nets + length q.design.regs + n ≡ k.point → Among (origin_reads q.design claim moved k 0 (extra_origin claim n)) j → Uses (definitions Rows q moved) k j
+extra_used : (q : Query) (claim : Claim) (offset clean : ℕ) (moved : List (List Bool)) (k j : Key) → q.question ≡ Violates claim offset clean → k.layer ≡ 0 → k.rail ≡ 0 → k.cycle < q.cycles → (n : ℕ) → q.design.nets + length q.design.regs + n ≡ k.point → Among (reads_in_layer q.design claim moved k 0 (extra_origin claim n)) j → Uses (definitions Rows q moved) k j
 extra_used q claim offset clean moved k j asks layer rail early = by_point
   where
     d : Design
@@ -282,7 +283,7 @@ extra_used q claim offset clean moved k j asks layer rail early = by_point
     own : (n : ℕ) → d.nets + length d.regs + n ≡ k.point → extra d c n ≡ k
     own n point = key_at k c 0 0 (d.nets + length d.regs + n) refl (sym layer) (sym rail) point
 
-    by_point : (n : ℕ) → d.nets + length d.regs + n ≡ k.point → Among (origin_reads d claim moved k 0 (extra_origin claim n)) j → Uses (definitions Rows q moved) k j
+    by_point : (n : ℕ) → d.nets + length d.regs + n ≡ k.point → Among (reads_in_layer d claim moved k 0 (extra_origin claim n)) j → Uses (definitions Rows q moved) k j
     by_point zero point a =
         let def : Definition = exclusive (toggle_key d c) (start_lit d claim.start c) (start_lit d claim.start (c - 1)) in
         use_by (definitions Rows q moved) def (start_lit d claim.start c ∷ start_lit d claim.start (c - 1) ∷ []) k j (listed def (inl refl)) (inl (own 0 point)) (exclusive_read (toggle_key d c) (start_lit d claim.start c) (start_lit d claim.start (c - 1))) a
@@ -293,7 +294,7 @@ extra_used q claim offset clean moved k j asks layer rail early = by_point
         use_by (definitions Rows q moved) (differ_definition d claim moved c) (differ_reads d claim moved c) k j (listed (differ_definition d claim moved c) (inr (inr (inl refl))))
         (subst (λ (outs : List Key). In k outs) (sym (differ_out d claim moved c)) (inl (own 2 point))) (differ_says d claim moved c) a
     by_point (suc (suc (suc r))) point a =
-        cond_both (nat_lt r (judged_count claim.kind - 1)) (Stale (r + 1)) Free (λ o. Among (origin_reads d claim moved k 0 o) j → Uses (definitions Rows q moved) k j)
+        cond_both (nat_lt r (judged_count claim.kind - 1)) (Stale (r + 1)) Free (λ o. Among (reads_in_layer d claim moved k 0 o) j → Uses (definitions Rows q moved) k j)
         (λ judged read.
         let lt = ltb-true r (judged_count claim.kind - 1) judged in
         let there : d.nets + length d.regs + (2 + (r + 1)) ≡ k.point = omega (arith, point) in
@@ -302,14 +303,14 @@ extra_used q claim offset clean moved k j asks layer rail early = by_point
         (subst (λ (n : ℕ). Among (start_lit d claim.start c ∷ start_lit d claim.start n ∷ []) j) (earlier c r) read)) (λ other read. absurd read.1) a
 
 -- nets and bits read the same whether or not a claim is asked about
-pub base_level : (d : Design) (claim : Claim) (moved : List (List Bool)) (cycles : ℕ) (k : Key) → origin_reads d claim moved k 0 (base_origin d cycles k) ≡ base_reads d k (base_origin d cycles k)
+pub base_level : (d : Design) (claim : Claim) (moved : List (List Bool)) (cycles : ℕ) (k : Key) → reads_in_layer d claim moved k 0 (base_origin d cycles k) ≡ reads_of_origin d k (base_origin d cycles k)
 base_level d claim moved cycles k =
     cond_both (nat_lt k.point d.nets) (cond (nat_lt k.cycle cycles) (of_gate (gate_of d.gates 0 k.point)) Free) _ Same
     (λ net. cond_both (nat_lt k.cycle cycles) (of_gate (gate_of d.gates 0 k.point)) Free Same (λ early. of_net (gate_of d.gates 0 k.point)) (λ late. refl))
     (λ past. cond_both (nat_lt 0 k.cycle && (nat_lt k.cycle (cycles + 1) && nat_lt k.point (d.nets + length d.regs))) (OfReg (k.point - d.nets)) Free Same (λ yes_bit. refl) (λ no_bit. refl))
   where
     Same : Origin → Type 0
-    Same o = origin_reads d claim moved k 0 o ≡ base_reads d k o
+    Same o = reads_in_layer d claim moved k 0 o ≡ reads_of_origin d k o
 
     of_net : (o : Option ℕ) → Same (of_gate o)
     of_net None = refl
@@ -326,7 +327,7 @@ reads_used q claim offset clean moved sound fits asks k m has = by_layer k.layer
     j = m.key
 
     Goal : ℕ → Origin → Type 0
-    Goal n o = Among (origin_reads d claim moved k n o) j → Uses (definitions Rows q moved) k j
+    Goal n o = Among (reads_in_layer d claim moved k n o) j → Uses (definitions Rows q moved) k j
 
     in_cycle : k.layer ≡ 0 → Goal 0 (layer_origin d claim moved q.cycles k 0)
     in_cycle layer =

@@ -1,13 +1,12 @@
 -- The keys that are found from what is asked, by what each key's definition reads.
-use Rattle.std.specs.Prelude.{◌≡◌, ℕ, ◌+◌, ◌<◌, ◌≤◌, Bool, true, List, [], ◌∷◌, ◌++◌, length, Contains, Option, Some, None, slice_get, slice_index_or, if◌then◌else◌}
+use Rattle.std.specs.Prelude.{◌≡◌, ℕ, ◌+◌, ◌<◌, ◌≤◌, Bool, true, List, [], ◌∷◌, ◌++◌, length, Contains, Option}
+use Rattle.std.specs.Prelude.{None, slice_index_or, if◌then◌else◌}
 use Rattle.net_model.specs.declared.netlist.Design.{Design}
 use Rattle.net_model.specs.declared.netlist.Gate.{Gate}
 use Rattle.net_model.specs.declared.netlist.Reg.{Reg}
 use Rattle.net_model.specs.declared.claims.Claim.{Claim}
-use Rattle.net_model.specs.declared.claims.PinRef.TheVariants.{GateIn, RegIn}
-use Rattle.query_model.specs.Keys.{key, lit, IsBelow}
-use Rattle.query_model.specs.Reads.{bit_key, read_pin}
-use Rattle.query_model.specs.Defined.{numbered, with_own, late_key}
+use Rattle.query_model.specs.Keys.{key, lit, Ascend}
+use Rattle.query_model.specs.Defined.{gate_reads, reg_reads, late_key}
 use Rattle.query_model.specs.Formula.{has_key}
 use Rattle.query_model.specs.declared.keys.Key.{Key}
 use Rattle.query_model.specs.declared.keys.KeyLit.{KeyLit}
@@ -34,19 +33,22 @@ abbrev pub with_keys : List Key → List KeyLit → List Key
 with_keys keys [] = keys
 with_keys keys (l ∷ ls) = with_keys (with_key keys l.key) ls
 
+-- the keys of these literals that are new were added
+abbrev pub Finds : List KeyLit → List Key → List Key → Type 0
+Finds lits old new = new ≡ with_keys old lits
+
+-- the keys with those of these clauses that are new
 abbrev pub with_clauses : List Key → List (List KeyLit) → List Key
 with_clauses keys [] = keys
 with_clauses keys (clause ∷ clauses) = with_clauses (with_keys keys clause) clauses
 
 -- what a gate's pins read on a rail of a layer, and the key of its net there
-abbrev pub gate_row : Design → Claim → List (List Bool) → ℕ → ℕ → ℕ → ℕ → Gate → List KeyLit
-gate_row d claim moved c layer rail k g =
-    numbered (λ i n. read_pin d claim moved c layer rail (GateIn k i) n) 0 g.ins ++ lit true (key c layer rail g.out) ∷ []
+abbrev pub gate_rail : Design → Claim → List (List Bool) → ℕ → ℕ → ℕ → ℕ → Gate → List KeyLit
+gate_rail d claim moved c layer rail k g = gate_reads d claim moved c layer rail k g ++ lit true (key c layer rail g.out) ∷ []
 
 -- what a register's pins read on a rail of the last layer, and the key of the late capture
-abbrev pub reg_row : Design → Claim → List (List Bool) → ℕ → ℕ → ℕ → Reg → List KeyLit
-reg_row d claim moved c rail r reg =
-    with_own reg (lit true (bit_key d c r)) (numbered (λ i n. read_pin d claim moved c (length claim.through + 1) rail (RegIn r i) n) 0 reg.ins) ++ lit true (late_key d claim c rail) ∷ []
+abbrev pub reg_rail : Design → Claim → List (List Bool) → ℕ → ℕ → ℕ → Reg → List KeyLit
+reg_rail d claim moved c rail r reg = reg_reads d claim moved c rail true r reg ++ lit true (late_key d claim c rail) ∷ []
 
 -- the gate or register is one of the design
 abbrev pub IsOriginIn : Design → Origin → Type 0
@@ -81,11 +83,12 @@ pub record IsSmall (k : Key) : Type 0 where
   pub rail : k.rail ≤ 1
   pub point : k.point < 220050
 
+-- so is each key of a list
 abbrev pub AreSmall : List Key → Type 0
 AreSmall keys = (k : Key) → Contains keys k → IsSmall k
 
 -- the same keys, each once, ascending
 pub record AreAscending (found keys : List Key) : Type 0 where
-  pub ascending : (i : ℕ) (a b : Key) → slice_get keys i ≡ Some a → slice_get keys (i + 1) ≡ Some b → IsBelow a b
+  pub ascending : Ascend keys
   pub only : (k : Key) → Contains keys k → Contains found k
   pub all : (k : Key) → Contains found k → Contains keys k

@@ -1,7 +1,9 @@
 -- The needed keys of a query, in the order of their numbers.
-use Rattle.std.specs.Prelude.{ℕ, zero, suc, ◌+◌, ◌<◌, ◌≤◌, Bool, List, length, All, Option, Some, None, slice_get, if◌then◌else◌}
+use Rattle.std.specs.Prelude.{◌≡◌, ℕ, zero, suc, ◌+◌, ◌<◌, ◌≤◌, Bool, List, [], length, All, Option, Some, None, slice_get, if◌then◌else◌}
 use Rattle.net_model.specs.declared.netlist.Design.{Design}
-use Rattle.query_model.specs.Queries.{Query}
+use Rattle.net_model.specs.declared.claims.Claim.{Claim}
+use Rattle.net_model.specs.declared.invariants.InvClause.{InvClause}
+use Rattle.net_model.specs.Queries.{Query, Violates, Breaks}
 use Rattle.query_model.specs.Formula.{definitions, asked_clauses, has_key, AreMovedFor, AreNeeded}
 use Rattle.query_model.specs.Variables.{number_of}
 use Rattle.query_model.specs.declared.keys.Key.{Key}
@@ -22,6 +24,22 @@ pub record AreFramesOf (q : Query) (keys : List Key) : Type 0 where
   pub moved : List (List Bool)
   pub are_moved : AreMovedFor q.design q.question moved
   pub are_needed : AreNeeded (definitions Rows q moved) (asked_clauses q) keys
+
+-- it is so of the clause at a place
+abbrev pub AtPlace : List InvClause → ℕ → (InvClause → Type 0) → Type 0
+AtPlace inv place P = (clause : InvClause) → slice_get inv place ≡ Some clause → P clause
+
+-- these are the needed keys of each query about the claim in so many cycles, where this is what is asked of them
+abbrev pub AreNeededOfClaim : Design → Claim → ℕ → List (List Bool) → List (List KeyLit) → List Key → Type 0
+AreNeededOfClaim d claim cycles moved asked keys =
+    (q : Query) (offset clean : ℕ) → q.design ≡ d → q.cycles ≡ cycles → q.question ≡ Violates claim offset clean
+    → AreNeeded (definitions Rows q moved) asked keys
+
+-- the same of each query about a clause over register bits
+abbrev pub AreNeededOfClause : Design → ℕ → List (List KeyLit) → List Key → Type 0
+AreNeededOfClause d cycles asked keys =
+    (q : Query) (clause : InvClause) → q.design ≡ d → q.cycles ≡ cycles → q.question ≡ Breaks clause
+    → AreNeeded (definitions Rows q []) asked keys
 
 -- the key is of one of these cycles or the one after, of a layer and a rail that a fitting claim may have, and of a net, a
 -- register's bit or one of 50 further points

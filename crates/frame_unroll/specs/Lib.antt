@@ -5,4 +5,3 @@ pub mod Framed
 pub mod Gathered
 pub mod Origins
 pub mod Found
-pub mod Asked

@@ -25,4 +25,5 @@ HasNetsBelow limit set = (n : ℕ) → Contains set (Net n) → n < limit
 -- in a layer each gate output that isn't in its set is moved where a pin of the gate reads a moved net
 abbrev pub AreGatesMoved : Design → List (List PinRef) → List (List Bool) → ℕ → Type 0
 AreGatesMoved d sets rows l =
-    (k : ℕ) (g : Gate) → slice_get d.gates k ≡ Some g → is_in (Net g.out) (held_set sets l) ≡ false → net_at false rows l g.out ≡ any_below (length g.ins) (layer_pins false sets rows l k g.ins)
+    (k : ℕ) (g : Gate) → slice_get d.gates k ≡ Some g → is_in (Net g.out) (held_set sets l) ≡ false
+    → net_at false rows l g.out ≡ any_below (length g.ins) (layer_pins false sets rows l k g.ins)

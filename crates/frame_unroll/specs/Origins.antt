@@ -1,5 +1,6 @@
 -- What defines each key, and which keys its definition reads.
-use Rattle.std.specs.Prelude.{ℕ, zero, suc, ◌+◌, ◌-◌, ◌==◌, ◌&&◌, ◌||◌, Bool, true, not, List, [], ◌∷◌, ◌++◌, map, length, Contains, Option, Some, None, slice_get, nat_lt, if◌then◌else◌}
+use Rattle.std.specs.Prelude.{ℕ, zero, suc, ◌+◌, ◌-◌, ◌==◌, ◌&&◌, ◌||◌, Bool, true, not, List, [], ◌∷◌, ◌++◌, map, length, Contains, Option, Some}
+use Rattle.std.specs.Prelude.{None, slice_get, nat_lt, if◌then◌else◌}
 use Rattle.sdcv_base.specs.Kinds.{judged_count}
 use Rattle.net_model.specs.declared.netlist.Design.{Design}
 use Rattle.net_model.specs.declared.netlist.Gate.{Gate}
@@ -7,10 +8,9 @@ use Rattle.net_model.specs.declared.netlist.Reg.{Reg}
 use Rattle.net_model.specs.declared.claims.Claim.{Claim}
 use Rattle.net_model.specs.declared.claims.End.{End}
 use Rattle.net_model.specs.declared.claims.End.TheVariants.{Reg as RegEnd, Output as OutputEnd}
-use Rattle.net_model.specs.declared.claims.PinRef.TheVariants.{GateIn, RegIn}
 use Rattle.query_model.specs.Keys.{key, lit}
-use Rattle.query_model.specs.Reads.{bit_key, read_base, read_pin}
-use Rattle.query_model.specs.Defined.{Definition, numbered, with_own, has_own, late_key, start_lit, capture_lit, late_lit}
+use Rattle.query_model.specs.Reads.{bit_key, read_base}
+use Rattle.query_model.specs.Defined.{Definition, with_own, has_own, gate_reads, reg_reads, late_key, start_lit, capture_lit, late_capture_lit}
 use Rattle.query_model.specs.Formula.{Mentions}
 use Rattle.query_model.specs.declared.keys.Key.{Key}
 use Rattle.query_model.specs.declared.keys.KeyLit.{KeyLit}
@@ -26,6 +26,7 @@ abbrev pub gate_of : List Gate → ℕ → ℕ → Option ℕ
 gate_of [] k net = None
 gate_of (g ∷ gs) k net = if g.out == net then Some k else gate_of gs (k + 1) net
 
+-- a net that no gate drives is free
 abbrev pub of_gate : Option ℕ → Origin
 of_gate None = Free
 of_gate (Some k) = OfGate k
@@ -47,6 +48,7 @@ extra_origin claim (suc zero) = Change
 extra_origin claim (suc (suc zero)) = Differ
 extra_origin claim (suc (suc (suc r))) = if nat_lt r (judged_count claim.kind - 1) then Stale (r + 1) else Free
 
+-- of the late capture: a register end
 abbrev pub end_origin : End → Origin
 end_origin (RegEnd r) = OfReg r
 end_origin (OutputEnd o) = Free
@@ -61,6 +63,7 @@ late_origin d claim moved l k =
     if nat_lt k.point d.nets then (if has_own claim moved l k.point then of_gate (gate_of d.gates 0 k.point) else Free)
     else (if (k.point == d.nets + length d.regs) && (l == length claim.through) then end_origin claim.end else Free)
 
+-- of a key of a formula layer
 abbrev pub layer_origin : Design → Claim → List (List Bool) → ℕ → Key → ℕ → Origin
 layer_origin d claim moved cycles k zero =
     if not (k.rail == 0) then Free
@@ -78,15 +81,16 @@ abbrev pub gate_base : Design → ℕ → Option Gate → List KeyLit
 gate_base d c None = []
 gate_base d c (Some g) = map (read_base d c) g.ins
 
+-- the same of a register
 abbrev pub reg_base : Design → ℕ → ℕ → Option Reg → List KeyLit
 reg_base d c r None = []
 reg_base d c r (Some reg) = with_own reg (lit true (bit_key d c r)) (map (read_base d c) reg.ins)
 
 -- the literals by which a net or a bit is defined
-abbrev pub base_reads : Design → Key → Origin → List KeyLit
-base_reads d k (OfGate i) = gate_base d k.cycle (slice_get d.gates i)
-base_reads d k (OfReg r) = reg_base d (k.cycle - 1) r (slice_get d.regs r)
-base_reads d k _ = []
+abbrev pub reads_of_origin : Design → Key → Origin → List KeyLit
+reads_of_origin d k (OfGate i) = gate_base d k.cycle (slice_get d.gates i)
+reads_of_origin d k (OfReg r) = reg_base d (k.cycle - 1) r (slice_get d.regs r)
+reads_of_origin d k _ = []
 
 -- what is read on each rail of a layer
 abbrev pub on_rails : Claim → (ℕ → List KeyLit) → List KeyLit
@@ -96,32 +100,35 @@ on_rails claim f = f 0 ++ (if claim.hazard then f 1 else [])
 abbrev pub gate_late : Design → Claim → List (List Bool) → ℕ → ℕ → ℕ → Option Gate → List KeyLit
 gate_late d claim moved c l k None = []
 gate_late d claim moved c l k (Some g) =
-    on_rails claim (λ rail. numbered (λ i n. read_pin d claim moved c (suc l) rail (GateIn k i) n) 0 g.ins ++ lit true (key c (suc l) rail g.out) ∷ [])
+    on_rails claim (λ rail. gate_reads d claim moved c (suc l) rail k g ++ lit true (key c (suc l) rail g.out) ∷ [])
 
+-- the same of a register, in the last layer
 abbrev pub reg_late : Design → Claim → List (List Bool) → ℕ → ℕ → Option Reg → List KeyLit
 reg_late d claim moved c r None = []
 reg_late d claim moved c r (Some reg) =
-    on_rails claim (λ rail. with_own reg (lit true (bit_key d c r)) (numbered (λ i n. read_pin d claim moved c (length claim.through + 1) rail (RegIn r i) n) 0 reg.ins) ++ lit true (late_key d claim c rail) ∷ [])
+    on_rails claim (λ rail. reg_reads d claim moved c rail true r reg ++ lit true (late_key d claim c rail) ∷ [])
 
+-- the literals by which a net in layer suc l, or the late capture, is defined
 abbrev pub late_reads : Design → Claim → List (List Bool) → Key → ℕ → Origin → List KeyLit
 late_reads d claim moved k l (OfGate i) = gate_late d claim moved k.cycle l i (slice_get d.gates i)
 late_reads d claim moved k l (OfReg r) = reg_late d claim moved k.cycle r (slice_get d.regs r)
 late_reads d claim moved k l _ = []
 
 -- the literals by which a key is defined
-abbrev pub origin_reads : Design → Claim → List (List Bool) → Key → ℕ → Origin → List KeyLit
-origin_reads d claim moved k zero Toggle = start_lit d claim.start k.cycle ∷ start_lit d claim.start (k.cycle - 1) ∷ []
-origin_reads d claim moved k zero Change = capture_lit d claim.end k.cycle ∷ capture_lit d claim.end (k.cycle - 1) ∷ []
-origin_reads d claim moved k zero Differ =
-    late_lit d claim moved k.cycle 0 claim.end ∷ (if claim.hazard then late_lit d claim moved k.cycle 1 claim.end else capture_lit d claim.end k.cycle) ∷ []
-origin_reads d claim moved k zero (Stale r) = start_lit d claim.start k.cycle ∷ start_lit d claim.start (k.cycle - r - 1) ∷ []
-origin_reads d claim moved k zero origin = base_reads d k origin
-origin_reads d claim moved k (suc l) origin = late_reads d claim moved k l origin
+abbrev pub reads_in_layer : Design → Claim → List (List Bool) → Key → ℕ → Origin → List KeyLit
+reads_in_layer d claim moved k zero Toggle = start_lit d claim.start k.cycle ∷ start_lit d claim.start (k.cycle - 1) ∷ []
+reads_in_layer d claim moved k zero Change = capture_lit d claim.end k.cycle ∷ capture_lit d claim.end (k.cycle - 1) ∷ []
+reads_in_layer d claim moved k zero Differ =
+    late_capture_lit d claim moved k.cycle 0 claim.end
+    ∷ (if claim.hazard then late_capture_lit d claim moved k.cycle 1 claim.end else capture_lit d claim.end k.cycle) ∷ []
+reads_in_layer d claim moved k zero (Stale r) = start_lit d claim.start k.cycle ∷ start_lit d claim.start (k.cycle - r - 1) ∷ []
+reads_in_layer d claim moved k zero origin = reads_of_origin d k origin
+reads_in_layer d claim moved k (suc l) origin = late_reads d claim moved k l origin
 
 -- the literals by which the key is defined where a claim is asked about
 abbrev pub claim_reads : Design → Claim → List (List Bool) → ℕ → Key → List KeyLit
-claim_reads d claim moved cycles k = origin_reads d claim moved k k.layer (claim_origin d claim moved cycles k)
+claim_reads d claim moved cycles k = reads_in_layer d claim moved k k.layer (claim_origin d claim moved cycles k)
 
 -- the same where a clause over register bits is
 abbrev pub clause_reads : Design → ℕ → Key → List KeyLit
-clause_reads d cycles k = base_reads d k (clause_origin d cycles k)
+clause_reads d cycles k = reads_of_origin d k (clause_origin d cycles k)

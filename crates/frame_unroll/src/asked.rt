@@ -4,7 +4,7 @@ ghost use Rattle.net_model.specs.Netlist.{IsSound};
 ghost use Rattle.net_model.specs.Fits.{Fits};
 ghost use Rattle.sdcv_base.specs.Kinds.{judged_count};
 ghost use Rattle.query_model.specs.Keys.{opposite};
-ghost use Rattle.query_model.specs.Queries.{live_of, claim_query, clause_query};
+ghost use Rattle.net_model.specs.Queries.{live_of, claim_query, clause_query};
 ghost use Rattle.query_model.specs.Laws.{NamesRegs};
 ghost use Rattle.query_model.specs.Formula.{asked_clauses};
 ghost use Rattle.frame_unroll.specs.Framed.{AreWithin};
@@ -51,7 +51,7 @@ fn push_broken(
     ensures { OnOk result (asked.new ≡ asked.old ++ map (λ l. opposite l ∷ []) lits.now) }
 {
     for lit in lits.as_slice() {
-        asked.push(Seq::from_vec(vec![in alloc; opposite_of(*lit)]?))?;
+        asked.push(Seq::one(alloc, opposite_of(*lit))?)?;
     }
     Ok(())
 }

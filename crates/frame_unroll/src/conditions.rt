@@ -5,9 +5,8 @@ ghost use Rattle.net_model.specs.Fits.{Fits};
 ghost use Rattle.query_model.specs.Keys.{lit};
 ghost use Rattle.query_model.specs.Defined.{extra};
 ghost use Rattle.query_model.specs.Formula.{stale_if_later, plain_alternatives, hazard_alternatives, alternatives_at, alternatives};
-ghost use Rattle.frame_unroll.specs.Asked.{lone_change};
+ghost use Rattle.query_model.specs.Formula.{lone_change};
 
-use crate::spans::judged_count;
 use net_model::{Claim, Design, Kind};
 use query_model::{Key, KeyLit};
 use sdcv_base::Seq;
@@ -93,7 +92,7 @@ fn push_change(
     if let Kind::Multi(_) = claim.kind {
         if claim.through.is_empty() {
             let change = extra_lit(design, cycle, CHANGE, true);
-            found.push(Seq::from_vec(vec![in alloc; change]?))?;
+            found.push(Seq::one(alloc, change)?)?;
         }
     }
     Ok(())
@@ -112,7 +111,7 @@ fn push_hazard(
 {
     push_change(alloc, found, design, claim, cycle)?;
     let differ = extra_lit(design, cycle, DIFFER, true);
-    found.push(Seq::from_vec(vec![in alloc; differ]?))?;
+    found.push(Seq::one(alloc, differ)?)?;
     Ok(())
 }
 
@@ -152,7 +151,7 @@ pub fn alternatives(
     ensures few { IfOk result (λ found. length found ≤ 30) }
 {
     let mut found = Seq::new(alloc);
-    for later in 0..judged_count(claim.kind) {
+    for later in 0..claim.kind.judged_count() {
         push_alternatives(alloc, &mut found, design, claim, toggle, later)?;
     }
     Ok(found)

@@ -35,7 +35,7 @@ pub fn net_drivers(alloc: Global, design: &Design) -> Result<Seq<Driver>, AllocE
     requires { IsSound design.now }
     ensures { IfOk result (AreDrivers design.now) }
 {
-    let mut drivers = Seq::from_vec(vec![in alloc; Driver::Own; design.nets]?);
+    let mut drivers = Seq::filled(alloc, Driver::Own, design.nets)?;
     let count = design.regs.len();
     for i in 0..count {
         let reg = count - 1 - i;

@@ -1,17 +1,18 @@
 //! The keys that definitions read, added to those that were found.
-ghost use Rattle.std.specs.Prelude.{◌≡◌, ◌<◌, ◌≤◌, ◌+◌, ◌-◌, ◌^◌, [], ◌∷◌, ◌++◌, ℕ, length, slice_get, OnOk};
+ghost use Rattle.std.specs.Prelude.{◌≡◌, ◌<◌, ◌≤◌, ◌+◌, ◌-◌, ◌^◌, [], ◌∷◌, length, slice_get, OnOk};
 ghost use Rattle.net_model.specs.Netlist.{AllBelow, IsSound};
 ghost use Rattle.net_model.specs.Fits.{Fits};
 ghost use Rattle.query_model.specs.Defined as defined;
 ghost use Rattle.query_model.specs.declared.keys.Key.{Key};
 ghost use Rattle.frame_unroll.specs.Drivers.{AreDrivers};
 ghost use Rattle.frame_unroll.specs.Reading.{AreTables};
-ghost use Rattle.frame_unroll.specs.Found.{AreNetGates, IsOriginIn, IsOriginAt, gate_row, reg_row, with_keys, with_clauses};
+ghost use Rattle.frame_unroll.specs.Found.{AreNetGates, IsOriginIn, IsOriginAt, gate_rail, reg_rail, with_keys, with_clauses, Finds};
 ghost use Rattle.frame_unroll.specs.Origins as origins;
 
 use crate::drivers::Driver;
 use crate::gathered::{
-    Owner, Row, base_reads, bit_lit, capture_lit, late_lit, push_own, row_reads, start_lit,
+    Owner, RailAt, bit_lit, capture_lit, late_capture_lit, pin_literals, pin_literals_at, push_own,
+    start_lit,
 };
 use crate::origins::{Origin, claim_origin, clause_origin};
 use crate::read_tables::Tables;
@@ -63,7 +64,7 @@ fn add_base_gate(
     requires gate { gate < length design.now.gates }
     ensures { OnOk result (found.new.keys ≡ with_keys found.old.keys (origins.gate_base design.now cycle (slice_get design.now.gates gate))) }
 {
-    let reads = base_reads(alloc, design, drivers, cycle, &design.gates.item(gate).ins)?;
+    let reads = pin_literals(alloc, design, drivers, cycle, &design.gates.item(gate).ins)?;
     add_keys(&reads, found)
 }
 
@@ -81,7 +82,7 @@ fn add_base_reg(
     ensures { OnOk result (found.new.keys ≡ with_keys found.old.keys (origins.reg_base design.now cycle reg (slice_get design.now.regs reg))) }
 {
     let register = design.regs.item(reg);
-    let mut reads = base_reads(alloc, design, drivers, cycle, &register.ins)?;
+    let mut reads = pin_literals(alloc, design, drivers, cycle, &register.ins)?;
     push_own(&mut reads, register, bit_lit(design, cycle, reg))?;
     add_keys(&reads, found)
 }
@@ -98,7 +99,7 @@ fn add_base_reads(
     requires sound { IsSound design.now }
     requires drivers { AreDrivers design.now drivers.now }
     requires origin { IsOriginIn design.now origin }
-    ensures { OnOk result (found.new.keys ≡ with_keys found.old.keys (origins.base_reads design.now key origin)) }
+    ensures { OnOk result (found.new.keys ≡ with_keys found.old.keys (origins.reads_of_origin design.now key origin)) }
 {
     match origin {
         Origin::Gate(gate) => add_base_gate(alloc, design, drivers, key.cycle, gate, found),
@@ -130,36 +131,36 @@ pub fn add_clause_reads(
 }
 
 /// Adds what a gate's pins read on a rail of a layer, and the key of its net there.
-fn add_gate_row(
+fn add_gate_rail(
     alloc: Global,
     design: &Design,
     claim: &Claim,
     tables: &Tables,
     number: usize,
     gate: &Gate,
-    row: Row,
+    rail_at: RailAt,
     found: &mut IndexSet<Key>,
 ) -> Result<(), AllocError>
     requires sound { IsSound design.now }
     requires tables { AreTables design.now claim.now tables.now }
     requires nets { AllBelow design.now.nets gate.now.ins }
-    requires layer { row.layer ≤ length claim.now.through + 1 }
-    ensures { OnOk result (found.new.keys ≡ with_keys found.old.keys (gate_row design.now claim.now tables.now.moved row.cycle row.layer row.rail number gate.now)) }
+    requires layer { rail_at.layer ≤ length claim.now.through + 1 }
+    ensures { OnOk result (Finds (gate_rail design.now claim.now tables.now.moved rail_at.cycle rail_at.layer rail_at.rail number gate.now) found.old.keys found.new.keys) }
 {
-    let reads = row_reads(
+    let reads = pin_literals_at(
         alloc,
         design,
         claim,
         tables,
         Owner::Gate(number),
         &gate.ins,
-        row,
+        rail_at,
     )?;
     add_keys(&reads, found)?;
     found.insert(Key {
-        cycle: row.cycle,
-        layer: row.layer,
-        rail: row.rail,
+        cycle: rail_at.cycle,
+        layer: rail_at.layer,
+        rail: rail_at.rail,
         point: gate.out,
     })?;
     Ok(())
@@ -172,52 +173,52 @@ fn add_late_gate(
     claim: &Claim,
     tables: &Tables,
     gate: usize,
-    row: Row,
+    rail_at: RailAt,
     found: &mut IndexSet<Key>,
 ) -> Result<(), AllocError>
     requires sound { IsSound design.now }
     requires tables { AreTables design.now claim.now tables.now }
     requires gate { gate < length design.now.gates }
-    requires late { 0 < row.layer }
-    requires layer { row.layer ≤ length claim.now.through + 1 }
-    requires rail { row.rail ≡ 0 }
-    ensures { OnOk result (found.new.keys ≡ with_keys found.old.keys (origins.gate_late design.now claim.now tables.now.moved row.cycle (row.layer - 1) gate (slice_get design.now.gates gate))) }
+    requires late { 0 < rail_at.layer }
+    requires layer { rail_at.layer ≤ length claim.now.through + 1 }
+    requires rail { rail_at.rail ≡ 0 }
+    ensures { OnOk result (Finds (origins.gate_late design.now claim.now tables.now.moved rail_at.cycle (rail_at.layer - 1) gate (slice_get design.now.gates gate)) found.old.keys found.new.keys) }
 {
     let driver = design.gates.item(gate);
-    add_gate_row(alloc, design, claim, tables, gate, driver, row, found)?;
+    add_gate_rail(alloc, design, claim, tables, gate, driver, rail_at, found)?;
     if !claim.hazard {
         return Ok(());
     }
-    let other = Row { rail: 1, ..row };
-    add_gate_row(alloc, design, claim, tables, gate, driver, other, found)
+    let other = RailAt { rail: 1, ..rail_at };
+    add_gate_rail(alloc, design, claim, tables, gate, driver, other, found)
 }
 
 /// Adds what a register's pins read on a rail of the last layer, and the key of the late capture.
-fn add_reg_row(
+fn add_reg_rail(
     alloc: Global,
     design: &Design,
     claim: &Claim,
     tables: &Tables,
     number: usize,
     reg: &Reg,
-    row: Row,
+    rail_at: RailAt,
     found: &mut IndexSet<Key>,
 ) -> Result<(), AllocError>
     requires sound { IsSound design.now }
     requires tables { AreTables design.now claim.now tables.now }
     requires number { number < length design.now.regs }
     requires nets { AllBelow design.now.nets reg.now.ins }
-    requires layer { row.layer ≡ length claim.now.through + 1 }
-    ensures { OnOk result (found.new.keys ≡ with_keys found.old.keys (reg_row design.now claim.now tables.now.moved row.cycle row.rail number reg.now)) }
+    requires layer { rail_at.layer ≡ length claim.now.through + 1 }
+    ensures { OnOk result (Finds (reg_rail design.now claim.now tables.now.moved rail_at.cycle rail_at.rail number reg.now) found.old.keys found.new.keys) }
 {
     let owner = Owner::Reg(number);
-    let mut reads = row_reads(alloc, design, claim, tables, owner, &reg.ins, row)?;
-    push_own(&mut reads, reg, bit_lit(design, row.cycle, number))?;
+    let mut reads = pin_literals_at(alloc, design, claim, tables, owner, &reg.ins, rail_at)?;
+    push_own(&mut reads, reg, bit_lit(design, rail_at.cycle, number))?;
     add_keys(&reads, found)?;
     found.insert(Key {
-        cycle: row.cycle,
-        layer: row.layer,
-        rail: row.rail,
+        cycle: rail_at.cycle,
+        layer: rail_at.layer,
+        rail: rail_at.rail,
         point: design.nets + design.regs.len(),
     })?;
     Ok(())
@@ -237,21 +238,21 @@ fn add_late_reg(
     requires fits { Fits design.now claim.now }
     requires tables { AreTables design.now claim.now tables.now }
     requires reg { reg < length design.now.regs }
-    ensures { OnOk result (found.new.keys ≡ with_keys found.old.keys (origins.reg_late design.now claim.now tables.now.moved cycle reg (slice_get design.now.regs reg))) }
+    ensures { OnOk result (Finds (origins.reg_late design.now claim.now tables.now.moved cycle reg (slice_get design.now.regs reg)) found.old.keys found.new.keys) }
 {
     let register = design.regs.item(reg);
     let layer = claim.through.len() + 1;
-    let row = Row {
+    let rail_at = RailAt {
         cycle,
         layer,
         rail: 0,
     };
-    add_reg_row(alloc, design, claim, tables, reg, register, row, found)?;
+    add_reg_rail(alloc, design, claim, tables, reg, register, rail_at, found)?;
     if !claim.hazard {
         return Ok(());
     }
-    let other = Row { rail: 1, ..row };
-    add_reg_row(alloc, design, claim, tables, reg, register, other, found)
+    let other = RailAt { rail: 1, ..rail_at };
+    add_reg_rail(alloc, design, claim, tables, reg, register, other, found)
 }
 
 /// Adds the keys by which a key of a layer after the cycle itself is defined.
@@ -269,16 +270,16 @@ fn add_late_reads(
     requires tables { AreTables design.now claim.now tables.now }
     requires late { 0 < key.layer }
     requires origin { IsOriginAt design.now claim.now key.layer origin }
-    ensures { OnOk result (found.new.keys ≡ with_keys found.old.keys (origins.late_reads design.now claim.now tables.now.moved key (key.layer - 1) origin)) }
+    ensures { OnOk result (Finds (origins.late_reads design.now claim.now tables.now.moved key (key.layer - 1) origin) found.old.keys found.new.keys) }
 {
     match origin {
         Origin::Gate(gate) => {
-            let row = Row {
+            let rail_at = RailAt {
                 cycle: key.cycle,
                 layer: key.layer,
                 rail: 0,
             };
-            add_late_gate(alloc, design, claim, tables, gate, row, found)
+            add_late_gate(alloc, design, claim, tables, gate, rail_at, found)
         }
         Origin::Reg(reg) => add_late_reg(alloc, design, claim, tables, key.cycle, reg, found),
         _ => Ok(()),
@@ -297,11 +298,11 @@ fn add_differ_reads(
     requires fits { Fits design.now claim.now }
     requires tables { AreTables design.now claim.now tables.now }
     requires early { cycle < 2 ^ 32 }
-    ensures { OnOk result ((k : Key) → k.cycle ≡ cycle → found.new.keys ≡ with_keys found.old.keys (origins.origin_reads design.now claim.now tables.now.moved k 0 Origin.Differ)) }
+    ensures { OnOk result ((k : Key) → k.cycle ≡ cycle → Finds (origins.reads_in_layer design.now claim.now tables.now.moved k 0 Origin.Differ) found.old.keys found.new.keys) }
 {
-    let late = late_lit(design, claim, tables, cycle, 0);
+    let late = late_capture_lit(design, claim, tables, cycle, 0);
     let other = if claim.hazard {
-        late_lit(design, claim, tables, cycle, 1)
+        late_capture_lit(design, claim, tables, cycle, 1)
     } else {
         capture_lit(design, &tables.drivers, claim.end, cycle)
     };
@@ -320,7 +321,7 @@ fn add_starts(
     requires sound { IsSound design.now }
     requires fits { Fits design.now claim.now }
     requires tables { AreTables design.now claim.now tables.now }
-    ensures { OnOk result (found.new.keys ≡ with_keys found.old.keys (defined.start_lit design.now claim.now.start cycle ∷ defined.start_lit design.now claim.now.start before ∷ [])) }
+    ensures { OnOk result (Finds (defined.start_lit design.now claim.now.start cycle ∷ defined.start_lit design.now claim.now.start before ∷ []) found.old.keys found.new.keys) }
 {
     let now = start_lit(design, &tables.drivers, claim.start, cycle);
     let then = start_lit(design, &tables.drivers, claim.start, before);
@@ -339,7 +340,7 @@ fn add_captures(
     requires fits { Fits design.now claim.now }
     requires tables { AreTables design.now claim.now tables.now }
     requires early { cycle < 2 ^ 32 }
-    ensures { OnOk result (found.new.keys ≡ with_keys found.old.keys (defined.capture_lit design.now claim.now.end cycle ∷ defined.capture_lit design.now claim.now.end (cycle - 1) ∷ [])) }
+    ensures { OnOk result (Finds (defined.capture_lit design.now claim.now.end cycle ∷ defined.capture_lit design.now claim.now.end (cycle - 1) ∷ []) found.old.keys found.new.keys) }
 {
     let before = cycle.saturating_sub(1);
     let now = capture_lit(design, &tables.drivers, claim.end, cycle);
@@ -362,7 +363,7 @@ fn add_cycle_reads(
     requires tables { AreTables design.now claim.now tables.now }
     requires origin { IsOriginIn design.now origin }
     requires early { key.cycle < 2 ^ 32 }
-    ensures { OnOk result (found.new.keys ≡ with_keys found.old.keys (origins.origin_reads design.now claim.now tables.now.moved key 0 origin)) }
+    ensures { OnOk result (found.new.keys ≡ with_keys found.old.keys (origins.reads_in_layer design.now claim.now tables.now.moved key 0 origin)) }
 {
     match origin {
         Origin::Toggle => {

@@ -1,18 +1,16 @@
 //! The needed keys of a query, numbered.
-ghost use Rattle.std.specs.Prelude.{◌≡◌, ◌<◌, ◌≤◌, ◌^◌, ℕ, [], All, IfOk, Some, length, slice_get};
+ghost use Rattle.std.specs.Prelude.{◌≡◌, ◌<◌, ◌≤◌, ◌^◌, ℕ, All, IfOk, Some, length};
 ghost use Rattle.net_model.specs.Netlist.{IsSound};
 ghost use Rattle.net_model.specs.Fits.{Fits};
-ghost use Rattle.query_model.specs.Queries.{Query, Violates, Breaks, claim_query, clause_query};
+ghost use Rattle.net_model.specs.Queries.{claim_query, clause_query};
 ghost use Rattle.query_model.specs.Laws.{NamesRegs};
 ghost use Rattle.std.specs.List.{IsDistinct};
-ghost use Rattle.query_model.specs.Formula.{definitions, AreNeeded, same_key};
-ghost use Rattle.query_model.specs.declared.keys.Coding.TheVariants.{Rows};
+ghost use Rattle.query_model.specs.Formula.{same_key};
 ghost use Rattle.query_model.specs.declared.keys.Key.{Key};
-ghost use Rattle.net_model.specs.declared.invariants.InvClause.{InvClause};
 ghost use Rattle.frame_unroll.specs.Drivers.{AreDrivers};
 ghost use Rattle.frame_unroll.specs.Reading.{AreTables};
 ghost use Rattle.frame_unroll.specs.Found.{AreSmall, AreAscending};
-ghost use Rattle.frame_unroll.specs.Framed.{AreFramesOf, AreWithin, key_of, number_if_any};
+ghost use Rattle.frame_unroll.specs.Framed.{AreFramesOf, AreNeededOfClaim, AreNeededOfClause, AtPlace, AreWithin, key_of, number_if_any};
 
 use crate::asked::{claim_asked, clause_asked};
 use crate::drivers::{Driver, net_drivers};
@@ -65,7 +63,7 @@ impl Frames {
         requires tables { AreTables design.now claim.now tables.now }
         requires cycles { cycles ≤ 144 }
         requires within { AreWithin design.now cycles asked.now }
-        ensures { IfOk result (λ keys. (q : Query) (offset clean : ℕ) → q.design ≡ design.now → q.cycles ≡ cycles → q.question ≡ Violates claim.now offset clean → AreNeeded (definitions Rows q tables.now.moved) asked.now keys) }
+        ensures { IfOk result (AreNeededOfClaim design.now claim.now cycles tables.now.moved asked.now) }
     {
         let gates = net_gates(alloc, design)?;
         let mut found = IndexSet::new(alloc);
@@ -86,7 +84,7 @@ impl Frames {
         requires drivers { AreDrivers design.now drivers.now }
         requires cycles { cycles ≤ 144 }
         requires within { AreWithin design.now cycles asked.now }
-        ensures { IfOk result (λ keys. (q : Query) (clause : InvClause) → q.design ≡ design.now → q.cycles ≡ cycles → q.question ≡ Breaks clause → AreNeeded (definitions Rows q []) asked.now keys) }
+        ensures { IfOk result (AreNeededOfClause design.now cycles asked.now) }
     {
         let gates = net_gates(alloc, design)?;
         let mut found = IndexSet::new(alloc);
@@ -129,7 +127,7 @@ impl Frames {
         requires place { place < length inv.now }
         requires names { All (NamesRegs design.now) inv.now }
         requires few { depth ≤ 64 }
-        ensures { IfOk result (λ keys. (clause : InvClause) → slice_get inv.now place ≡ Some clause → AreFramesOf (clause_query design.now inv.now clause phase depth) keys) }
+        ensures { IfOk result (λ keys. AtPlace inv.now place (λ clause. AreFramesOf (clause_query design.now inv.now clause phase depth) keys)) }
     {
         let clause = &inv[place];
         let drivers = net_drivers(alloc, design)?;

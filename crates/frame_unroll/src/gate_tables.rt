@@ -13,7 +13,7 @@ pub fn net_gates(alloc: Global, design: &Design) -> Result<Seq<Option<usize>>, A
     ensures { IfOk result (AreNetGates design.now) }
 {
     let none: Option<usize> = None;
-    let mut table = Seq::from_vec(vec![in alloc; none; design.nets]?);
+    let mut table = Seq::filled(alloc, none, design.nets)?;
     let count = design.gates.len();
     for i in 0..count {
         let gate = count - 1 - i;

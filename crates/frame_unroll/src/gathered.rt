@@ -1,17 +1,16 @@
 //! The literals that the functions of gates and registers read, and those of starts and ends.
-ghost use Rattle.std.specs.Prelude.{◌≡◌, ◌<◌, ◌≤◌, ◌+◌, ◌^◌, ℕ, length, map, IfOk, OnOk};
+ghost use Rattle.std.specs.Prelude.{◌≡◌, ◌<◌, ◌≤◌, ◌+◌, ◌^◌, length, map, IfOk, OnOk};
 ghost use Rattle.net_model.specs.Netlist.{AllBelow, IsSound};
 ghost use Rattle.net_model.specs.Fits.{Fits, IsStartIn, IsEndIn};
 ghost use Rattle.std.specs.Prelude.{true};
-ghost use Rattle.query_model.specs.Reads.{bit_key, read_base, read_pin};
-ghost use Rattle.query_model.specs.Defined.{numbered, with_own};
+ghost use Rattle.query_model.specs.Reads.{bit_key, read_base};
+ghost use Rattle.query_model.specs.Defined.{with_own};
 ghost use Rattle.query_model.specs.Defined as defined;
 ghost use Rattle.frame_unroll.specs.Drivers.{AreDrivers};
 ghost use Rattle.frame_unroll.specs.Reading.{AreTables};
-ghost use Rattle.frame_unroll.specs.Gathered.{pin_of};
+ghost use Rattle.frame_unroll.specs.Gathered.{pin_of, reads_at};
 
 use crate::drivers::{Driver, base_lit};
-use crate::own_bits::reads_own;
 use crate::read_tables::Tables;
 use crate::reads::pin_lit;
 use net_model::{Claim, Design, End, PinRef, Reg, Start};
@@ -28,7 +27,7 @@ pub enum Owner {
 
 /// One rail of a layer in a cycle: layer 0 is the cycle itself.
 #[derive(Debug, Clone, Copy, PartialEq, Eq)]
-pub struct Row {
+pub struct RailAt {
     pub cycle: usize,
     pub layer: usize,
     pub rail: usize,
@@ -45,7 +44,7 @@ pub fn pin_of(owner: Owner, place: usize) -> PinRef
 }
 
 /// What pins on these nets read in layer 0, in their order.
-pub fn base_reads(
+pub fn pin_literals(
     alloc: Global,
     design: &Design,
     drivers: &Seq<Driver>,
@@ -64,28 +63,28 @@ pub fn base_reads(
     Ok(reads)
 }
 
-/// What an owner's pins on these nets read in a row, in their order.
-pub fn row_reads(
+/// What an owner's pins on these nets read on a rail of a layer, in their order.
+pub fn pin_literals_at(
     alloc: Global,
     design: &Design,
     claim: &Claim,
     tables: &Tables,
     owner: Owner,
     ins: &Seq<usize>,
-    row: Row,
+    rail_at: RailAt,
 ) -> Result<Seq<KeyLit>, AllocError>
     requires sound { IsSound design.now }
     requires tables { AreTables design.now claim.now tables.now }
     requires nets { AllBelow design.now.nets ins.now }
-    requires layer { row.layer ≤ length claim.now.through + 1 }
-    ensures { IfOk result (λ reads. reads ≡ numbered (λ i n. read_pin design.now claim.now tables.now.moved row.cycle row.layer row.rail (pin_of owner i) n) 0 ins.now) }
+    requires layer { rail_at.layer ≤ length claim.now.through + 1 }
+    ensures { IfOk result (λ reads. reads ≡ reads_at design.now claim.now tables.now.moved owner ins.now rail_at) }
 {
     let mut reads = Seq::new(alloc);
     for i in 0..ins.len() {
         let key = Key {
-            cycle: row.cycle,
-            layer: row.layer,
-            rail: row.rail,
+            cycle: rail_at.cycle,
+            layer: rail_at.layer,
+            rail: rail_at.rail,
             point: ins.at(i),
         };
         reads.push(pin_lit(design, claim, tables, pin_of(owner, i), key))?;
@@ -128,7 +127,7 @@ pub fn bit_lit(design: &Design, cycle: usize, reg: usize) -> KeyLit
 pub fn push_own(reads: &mut Seq<KeyLit>, reg: &Reg, own: KeyLit) -> Result<(), AllocError>
     ensures { OnOk result (reads.new ≡ with_own reg.now own reads.old) }
 {
-    if reads_own(reg) {
+    if reg.reads_own() {
         reads.push(own)?;
     }
     Ok(())
@@ -149,7 +148,7 @@ pub fn capture_lit(design: &Design, drivers: &Seq<Driver>, end: End, cycle: usiz
 }
 
 /// The literal of what a claim's end captures in a cycle where the start is late, on a rail.
-pub fn late_lit(
+pub fn late_capture_lit(
     design: &Design,
     claim: &Claim,
     tables: &Tables,
@@ -159,7 +158,7 @@ pub fn late_lit(
     requires sound { IsSound design.now }
     requires fits { Fits design.now claim.now }
     requires tables { AreTables design.now claim.now tables.now }
-    ensures { result ≡ defined.late_lit design.now claim.now tables.now.moved cycle rail claim.now.end }
+    ensures { result ≡ defined.late_capture_lit design.now claim.now tables.now.moved cycle rail claim.now.end }
 {
     let layer = claim.through.len() + 1;
     let point = match claim.end {

@@ -4,7 +4,7 @@ ghost use Rattle.net_model.specs.Netlist.{IsSound};
 ghost use Rattle.query_model.specs.Keys.{below};
 ghost use Rattle.query_model.specs.Laws.{NamesRegs};
 ghost use Rattle.query_model.specs.Formula as formula;
-ghost use Rattle.frame_unroll.specs.Asked.{kept_in};
+ghost use Rattle.query_model.specs.Formula.{kept_in};
 
 use crate::gathered::bit_lit;
 use net_model::{Design, InvClause, StateLit};

@@ -15,7 +15,6 @@ mod gathered;
 mod kept;
 mod moved_rows;
 mod origins;
-mod own_bits;
 mod pins;
 mod reached_keys;
 mod read_tables;
@@ -30,11 +29,11 @@ pub use asked::{claim_asked, clause_asked};
 pub use drivers::{Driver, base_lit, net_drivers};
 pub use frames::Frames;
 pub use gathered::{
-    Owner, Row, base_reads, bit_lit, capture_lit, late_lit, pin_of, push_own, row_reads, start_lit,
+    Owner, RailAt, bit_lit, capture_lit, late_capture_lit, pin_literals, pin_literals_at, pin_of,
+    push_own, start_lit,
 };
 pub use moved_rows::moved_nets;
 pub use origins::has_own;
-pub use own_bits::reads_own;
 pub use read_tables::Tables;
 pub use reads::{net_lit, pin_lit};
-pub use spans::{Span, claim_span, clause_span, judged_count};
+pub use spans::{Span, claim_span, clause_span};

@@ -1,7 +1,7 @@
 //! Which nets a late start moves, layer by layer.
-ghost use Rattle.std.specs.Prelude.{◌≡◌, ◌≢◌, ◌<◌, ◌≤◌, ◌&&◌, ℕ, true, false, length, All, Contains, IfOk};
+ghost use Rattle.std.specs.Prelude.{◌≡◌, ◌≢◌, ◌<◌, ◌≤◌, ◌&&◌, ℕ, true, false, length, Contains, IfOk};
 ghost use Rattle.net_model.specs.Netlist.{IsSound, source_nets};
-ghost use Rattle.net_model.specs.Fits.{Fits, IsPinIn};
+ghost use Rattle.net_model.specs.Fits.{Fits};
 ghost use Rattle.sdcv_base.specs.Seqs.{is_marked};
 ghost use Rattle.net_model.specs.Pins.{is_in};
 ghost use Rattle.net_model.specs.Layers.{row_at, net_at, held_set};
@@ -10,7 +10,7 @@ ghost use Rattle.query_model.specs.Reads.{AreMoved};
 ghost use Rattle.frame_unroll.specs.Marked.{HasNetsBelow, AreGatesMoved};
 
 use crate::pins::reads_marked;
-use crate::start_marks::{no_marks, start_marks};
+use crate::start_marks::start_marks;
 use net_model::{Claim, Design, PinRef, PinSet, is_held};
 use sdcv_base::Seq;
 use std::alloc::{AllocError, Global};
@@ -21,7 +21,7 @@ fn held_row(alloc: Global, set: &PinSet, row: &Seq<bool>) -> Result<Seq<bool>, A
     ensures len { IfOk result (λ held. length held ≡ length row.now) }
     ensures held { IfOk result (λ held. (n : ℕ) → is_marked held n ≡ (is_in (Net n) set.now && is_marked row.now n)) }
 {
-    let mut held = no_marks(alloc, row.len())?;
+    let mut held = Seq::filled(alloc, false, row.len())?;
     let pins = set.pins();
     for i in 0..pins.len() {
         if let PinRef::Net(net) = pins.at(i) {

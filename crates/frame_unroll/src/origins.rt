@@ -8,7 +8,6 @@ ghost use Rattle.frame_unroll.specs.Found.{AreNetGates};
 ghost use Rattle.frame_unroll.specs.Origins as origins;
 
 use crate::read_tables::Tables;
-use crate::spans::judged_count;
 use net_model::{Claim, Design, End, PinRef, is_held};
 use query_model::Key;
 use sdcv_base::Seq;
@@ -91,7 +90,7 @@ fn extra_origin(claim: &Claim, place: usize) -> Origin
         1 => Origin::Change,
         2 => Origin::Differ,
         _ => {
-            if place - 2 < judged_count(claim.kind) {
+            if place - 2 < claim.kind.judged_count() {
                 Origin::Stale(place - 2)
             } else {
                 Origin::Free

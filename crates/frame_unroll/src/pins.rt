@@ -1,4 +1,4 @@
-//! What the pins of a gate read.
+//! Whether the pins of a gate read a marked net.
 ghost use Rattle.std.specs.Prelude.{◌≡◌, ◌<◌, ◌≤◌, ℕ, false, length};
 ghost use Rattle.net_model.specs.Netlist.{AllBelow};
 ghost use Rattle.net_model.specs.Layers.{row_at, layer_pins};

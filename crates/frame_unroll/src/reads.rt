@@ -24,7 +24,7 @@ fn flip_if(lit: KeyLit, flip: bool) -> KeyLit
 }
 
 /// The literal of a moved net, which has the literal `base` in layer 0, in a layer that doesn't hold it.
-fn late_lit(design: &Design, claim: &Claim, tables: &Tables, base: KeyLit, key: Key) -> KeyLit
+fn late_net_lit(design: &Design, claim: &Claim, tables: &Tables, base: KeyLit, key: Key) -> KeyLit
     requires tables { AreTables design.now claim.now tables.now }
     requires net { key.point < design.now.nets }
     requires layer { 0 < key.layer }
@@ -64,7 +64,7 @@ pub fn net_lit(design: &Design, claim: &Claim, tables: &Tables, key: Key) -> Key
         };
         return net_lit(design, claim, tables, before);
     }
-    late_lit(design, claim, tables, base, key)
+    late_net_lit(design, claim, tables, base, key)
 }
 
 /// The literal that a pin on the net of a key reads: a pin in the set of the layer what it reads in the layer before.

@@ -3,9 +3,9 @@ ghost use Rattle.std.specs.Prelude.{◌≡◌, ◌≤◌, ◌+◌};
 ghost use Rattle.sdcv_base.specs.Kinds as kinds;
 ghost use Rattle.net_model.specs.Netlist.{IsSound};
 ghost use Rattle.net_model.specs.Fits.{Fits};
-ghost use Rattle.query_model.specs.Queries as queries;
+ghost use Rattle.net_model.specs.Queries as queries;
 
-use net_model::{Claim, Design, Kind, Phase};
+use net_model::{Claim, Design, Phase};
 
 /// The cycles of a query: those below `live` have active resets, and the kept clauses hold in those below `kept_below`.
 #[derive(Debug, Clone, Copy, PartialEq, Eq)]
@@ -13,16 +13,6 @@ pub struct Span {
     pub live: usize,
     pub cycles: usize,
     pub kept_below: usize,
-}
-
-/// How many captures from the toggle on a claim judges.
-pub fn judged_count(kind: Kind) -> usize
-    ensures { result ≡ kinds.judged_count kind }
-{
-    match kind {
-        Kind::False => 1,
-        Kind::Multi(k) => usize::from(k.saturating_sub(1)),
-    }
 }
 
 /// The cycles with active resets.
@@ -56,7 +46,7 @@ pub fn claim_span(design: &Design, claim: &Claim, phase: Phase, depth: usize) ->
     ensures few { (result.live ≤ 64) × (result.cycles ≤ 144) }
 {
     let live = live_of(design, phase);
-    let cycles = live + depth + 1 + judged_count(claim.kind);
+    let cycles = live + depth + 1 + claim.kind.judged_count();
     Span {
         live,
         cycles,

@@ -10,14 +10,6 @@ use net_model::{Claim, Design, RegOut, Start};
 use sdcv_base::Seq;
 use std::alloc::{AllocError, Global};
 
-/// Marks for the numbers below `count`, none of which is marked.
-pub fn no_marks(alloc: Global, count: usize) -> Result<Seq<bool>, AllocError>
-    ensures len { IfOk result (λ marks. length marks ≡ count) }
-    ensures free { IfOk result (λ marks. (n : ℕ) → is_marked marks n ≡ false) }
-{
-    Ok(Seq::from_vec(vec![in alloc; false; count]?))
-}
-
 /// Marks the nets of these outputs.
 fn mark_outs(outs: &Seq<RegOut>, marks: &mut Seq<bool>)
     requires { AllBelow (length marks.old) (out_nets outs.now) }
@@ -36,7 +28,7 @@ pub fn start_marks(alloc: Global, design: &Design, claim: &Claim) -> Result<Seq<
     ensures len { IfOk result (λ marks. length marks ≡ design.now.nets) }
     ensures marks { IfOk result (λ marks. (n : ℕ) → is_marked marks n ≡ is_start_net design.now claim.now n) }
 {
-    let mut marks = no_marks(alloc, design.nets)?;
+    let mut marks = Seq::filled(alloc, false, design.nets)?;
     match claim.start {
         Start::Reg(r) => mark_outs(&design.regs.item(r).outs, &mut marks),
         Start::Input(i) => marks.put(design.inputs.at(i), true),

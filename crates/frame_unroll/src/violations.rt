@@ -4,7 +4,7 @@ ghost use Rattle.net_model.specs.Netlist.{IsSound};
 ghost use Rattle.net_model.specs.Fits.{Fits};
 ghost use Rattle.query_model.specs.Keys.{opposite, below};
 ghost use Rattle.query_model.specs.Formula.{clean_clauses, bad_clauses};
-ghost use Rattle.frame_unroll.specs.Asked.{some_chosen, chosen_clauses, all_chosen};
+ghost use Rattle.query_model.specs.Formula.{some_chosen, chosen_clauses, all_chosen};
 
 use crate::conditions::{TOGGLE, alternatives, extra_lit};
 use net_model::{Claim, Design};
@@ -29,7 +29,7 @@ pub fn opposite_of(lit: KeyLit) -> KeyLit
 fn unless(alloc: Global, lit: KeyLit, conditions: &Seq<KeyLit>) -> Result<Seq<KeyLit>, AllocError>
     ensures { IfOk result (λ clause. clause ≡ lit ∷ map opposite conditions.now) }
 {
-    let mut clause = Seq::from_vec(vec![in alloc; lit]?);
+    let mut clause = Seq::one(alloc, lit)?;
     for condition in conditions.as_slice() {
         clause.push(opposite_of(*condition))?;
     }
@@ -111,7 +111,7 @@ fn push_chosen(
 {
     let other = extra_lit(design, cycle, FIRST_CHOICE + place, false);
     for condition in conditions.as_slice() {
-        asked.push(Seq::from_vec(vec![in alloc; other, *condition]?))?;
+        asked.push(Seq::of(alloc, &[other, *condition])?)?;
     }
     Ok(())
 }
@@ -149,7 +149,7 @@ pub fn push_bad(
 {
     let found = alternatives(alloc, design, claim, cycle)?;
     let toggles = extra_lit(design, cycle, TOGGLE, true);
-    asked.push(Seq::from_vec(vec![in alloc; toggles]?))?;
+    asked.push(Seq::one(alloc, toggles)?)?;
     asked.push(some_choice(alloc, design, cycle, &found)?)?;
     push_choices(alloc, asked, design, cycle, &found)?;
     Ok(())

@@ -1,21 +1,98 @@
--- The base and step query of a claim at a depth, without invariants.
-use Rattle.std.specs.Prelude.{◌≡◌, ℕ, ◌<◌, ◌+◌, List, length}
-use Rattle.net_model.specs.Cycles.{IsRun, IsStretch}
+-- What a query asks of runs and stretches, and those that answer it.
+use Rattle.std.specs.Prelude.{◌≡◌, ℕ, ◌+◌, ◌-◌, ◌<◌, Bool, true, false, not, List, [], length, Contains, Some, slice_get, nat_lt, if◌then◌else◌}
+use Rattle.std.specs.List.{list_any}
 use Rattle.sdcv_base.specs.Kinds.{judged_count}
+use Rattle.net_model.specs.Cycles.{bit_at, IsLinked, HasResets}
 use Rattle.net_model.specs.Judge.{IsViolatedAt}
 use Rattle.net_model.specs.declared.netlist.Design.{Design}
 use Rattle.net_model.specs.declared.cycles.Cycle.{Cycle}
+use Rattle.net_model.specs.declared.invariants.StateLit.{StateLit}
+use Rattle.net_model.specs.declared.invariants.InvClause.{InvClause}
+use Rattle.net_model.specs.declared.queries.Phase.{Phase}
+use Rattle.net_model.specs.declared.queries.Phase.TheVariants.{Base, Step}
 use Rattle.net_model.specs.declared.claims.Claim.{Claim}
 
--- answers the base query of a depth: a run from reset that is violated at this offset after its first live cycle
-pub record IsBaseAnswer (d : Design) (claim : Claim) (depth : ℕ) (run : List Cycle) : Type 0 where
-  pub from_reset : IsRun d run
-  pub count : length run ≡ d.reset_len + depth + 1 + judged_count claim.kind
-  pub violated : IsViolatedAt d.reset_len d claim run (d.reset_len + 1 + depth)
+-- whether the claim is violated at an offset from the first cycle that may toggle, and at none of the first `clean` offsets;
+-- or whether a clause fails in the last cycle
+pub data Question : Type 0 where
+  Violates : (claim : Claim) (offset clean : ℕ) → Question
+  Breaks : (clause : InvClause) → Question
 
--- answers the step query of a depth: a stretch, all of it live, that is violated at this offset and at none below
-pub record IsStepAnswer (d : Design) (claim : Claim) (depth : ℕ) (stretch : List Cycle) : Type 0 where
-  pub linked : IsStretch d stretch
-  pub count : length stretch ≡ depth + 1 + judged_count claim.kind
-  pub clean : (offset : ℕ) → offset < depth → ¬ IsViolatedAt 0 d claim stretch (1 + offset)
-  pub violated : IsViolatedAt 0 d claim stretch (1 + depth)
+-- a question about so many linked cycles of a design, of which the first `live` have active resets, and in whose first
+-- `kept_below` the kept clauses hold
+pub record Query : Type 0 where
+  pub design : Design
+  pub live : ℕ
+  pub cycles : ℕ
+  pub kept : List InvClause
+  pub kept_below : ℕ
+  pub question : Question
+
+-- the base phase asks about runs from reset, which begin with the resets; the step phase about stretches, which have none
+abbrev pub live_of : Design → Phase → ℕ
+live_of d Base = d.reset_len
+live_of d Step = 0
+
+-- a number in the step phase, and in the base phase 0
+abbrev pub only_in_step : Phase → ℕ → ℕ
+only_in_step Base n = 0
+only_in_step Step n = n
+
+-- is the claim violated at this depth, and at none below it in the step phase, where the clauses hold in every cycle? The
+-- cycles go up to the last capture that is judged
+abbrev pub claim_query : Design → Claim → Phase → ℕ → List InvClause → Query
+claim_query d claim phase depth inv =
+    record {
+      design = d;
+      live = live_of d phase;
+      cycles = live_of d phase + depth + 1 + judged_count claim.kind;
+      kept = inv;
+      kept_below = only_in_step phase (live_of d phase + depth + 1 + judged_count claim.kind);
+      question = Violates claim depth (only_in_step phase depth);
+    }
+
+-- does the clause fail in the cycle of this depth, where in the step phase the clauses hold in every cycle before?
+abbrev pub clause_query : Design → List InvClause → InvClause → Phase → ℕ → Query
+clause_query d inv clause phase depth =
+    record {
+      design = d;
+      live = live_of d phase;
+      cycles = live_of d phase + depth + 1;
+      kept = inv;
+      kept_below = only_in_step phase depth;
+      question = Breaks clause;
+    }
+
+-- the value of a literal in a cycle: the register's bit, or its complement
+abbrev pub state_value : Cycle → StateLit → Bool
+state_value c l = if l.value then bit_at c.bits l.reg else not (bit_at c.bits l.reg)
+
+-- the clause holds in a cycle: some literal of it is true there
+abbrev pub clause_holds : Cycle → InvClause → Bool
+clause_holds c clause = list_any (state_value c) clause.lits
+
+-- as many settled and linked cycles as the query has, with resets active where it has them so
+pub record AreCyclesOf (q : Query) (run : List Cycle) : Type 0 where
+  pub linked : IsLinked q.design run
+  pub resets : (t : ℕ) (c : Cycle) → slice_get run t ≡ Some c → HasResets q.design (nat_lt t q.live) c
+  pub count : length run ≡ q.cycles
+
+-- what is asked is so in these cycles
+abbrev pub IsAsked : Query → Question → List Cycle → Type 0
+IsAsked q (Violates claim offset clean) run =
+    ((o : ℕ) → o < clean → ¬ IsViolatedAt q.live q.design claim run (q.live + 1 + o)) × IsViolatedAt q.live q.design claim run (q.live + 1 + offset)
+IsAsked q (Breaks clause) run = (c : Cycle) → slice_get run (q.cycles - 1) ≡ Some c → clause_holds c clause ≡ false
+
+-- cycles that answer a query: in the first of them the kept clauses hold, and what is asked is so
+pub record IsAnswer (q : Query) (run : List Cycle) : Type 0 where
+  pub cycles : AreCyclesOf q run
+  pub kept : (t : ℕ) (c : Cycle) (clause : InvClause) → t < q.kept_below → slice_get run t ≡ Some c → Contains q.kept clause → clause_holds c clause ≡ true
+  pub asked : IsAsked q q.question run
+
+-- answers the step query of a claim at a depth, without kept clauses
+abbrev pub IsStepAnswer : Design → Claim → ℕ → List Cycle → Type 0
+IsStepAnswer d claim depth stretch = IsAnswer (claim_query d claim Step depth []) stretch
+
+-- some stretch answers that query
+abbrev pub HasStepAnswer : Design → Claim → ℕ → Type 0
+HasStepAnswer d claim depth = (stretch : List Cycle) × IsStepAnswer d claim depth stretch

@@ -10,7 +10,8 @@ use Rattle.net_model.specs.declared.netlist.Design.{Design}
 use Rattle.net_model.specs.declared.netlist.Reg.{Reg}
 use Rattle.query_model.specs.Tables.{on_list}
 use Rattle.net_model.specs.Mentions.{mentions, mentions_if_any}
-use Rattle.query_model.specs.Defined.{reads_own, with_own}
+use Rattle.net_model.specs.Mentions.{reads_own}
+use Rattle.query_model.specs.Defined.{with_own}
 use Rattle.query_model.proofs.Told.{TellEach, LitTells}
 use Rattle.query_model.specs.declared.keys.Key.{Key}
 use Rattle.query_model.specs.declared.keys.KeyLit.{KeyLit}

@@ -32,17 +32,17 @@ use Rattle.net_model.specs.declared.terns.Tern.{Tern}
 use Rattle.net_model.specs.declared.terns.Tern.TheVariants.{Zero, Unknown}
 use Rattle.query_model.specs.Keys.{key, lit, AllTrue}
 use Rattle.query_model.specs.Reads.{bit_key, read_base, AreMoved}
-use Rattle.query_model.specs.Queries.{Query, live_of, only_in_step, claim_query, clause_query, IsAnswer}
+use Rattle.net_model.specs.Queries.{Query, Question, live_of, only_in_step, claim_query, clause_query, AreCyclesOf, IsAnswer}
 use Rattle.query_model.specs.Formula.{definitions, asked_clauses, IsNeeded, AreNeeded, IsFormulaOf}
-use Rattle.query_model.specs.Laws.{AreCyclesOf, HasFreeBits, AgreesWith, ModelsAnswer, AnswersHaveModels}
+use Rattle.query_model.specs.Laws.{HasFreeBits, AgreesWith, ModelsAnswer, AnswersHaveModels}
 use Rattle.query_model.specs.Laws.{NamesRegs as Names}
 use Rattle.query_model.proofs.Runs.{AnyKey, rows_coding, Told, now_bits, next_bits}
 use Rattle.query_model.proofs.Told.{LitTells}
 use Rattle.query_model.proofs.NetKeys.{needed_own}
-use Rattle.query_model.proofs.Based.{IsFree, get_within, placed}
+use Rattle.query_model.proofs.Based.{IsFree, Says, get_within, placed}
 use Rattle.query_model.proofs.Clauses.{NamesRegs, model_told, clause_model_answers, clause_answer_models}
 use Rattle.query_model.proofs.Codings.{primes_coding, rows_settle, primes_settle}
-use Rattle.query_model.proofs.Meaning.{meaning}
+use Rattle.query_model.proofs.Meaning.{meaning, meaning_says}
 use Rattle.query_model.proofs.HazyGates.{IsCoding}
 use Rattle.query_model.proofs.Judged.{plain_decided}
 use Rattle.query_model.proofs.Violated.{IsAskedOf, claim_model_answers, claim_answer_models}
@@ -99,6 +99,19 @@ agrees coding q moved keys v run sound linked needed told =
       captures = λ t c r at lt has.
           let within = slice_get_within run t c at in
           told.bits (t + 1) (omega arith) r lt (needed.needed (bit_key q.design (t + 1) r) has) ∙ next_bits q.design run t c r linked at lt;
+    }
+
+-- values of keys that say what a run has agree with it
+says_agrees : (d : Design) (keys : List Key) (v : Key → Bool) (run : List Cycle) → IsLinked d run → Says v d run → AgreesWith d keys v run
+says_agrees d keys v run linked says =
+    record {
+      nets = λ t c n at low has. says.nets t c at n low;
+      bits = λ t c r at lt has.
+          let within = slice_get_within run t c at in
+          says.bits t (omega arith) r lt ∙ now_bits d run t c r at;
+      captures = λ t c r at lt has.
+          let within = slice_get_within run t c at in
+          says.bits (t + 1) (omega arith) r lt ∙ next_bits d run t c r linked at lt;
     }
 
 -- a choice for each cycle of a run
@@ -229,30 +242,30 @@ claim_models coding d claim phase depth inv sound fits names keys clauses v run 
 -- each answer to a claim's query gives a model
 pub claim_answers : (coding : Coding) (d : Design) (claim : Claim) (phase : Phase) (depth : ℕ) (inv : List InvClause) → IsSound d → Fits d claim → ((clause : InvClause) → Rattle.std.specs.Prelude.Contains inv clause → Names d clause) → AnswersHaveModels coding (claim_query d claim phase depth inv)
 claim_answers coding d claim phase depth inv sound fits names keys clauses run formula answer =
-    let found = made in (found.0, subst (AllTrue found.0) (sym formula.are_clauses) found.1)
+    let found = made in (found.0, subst (AllTrue found.0) (sym formula.are_clauses) found.1, says_agrees d keys found.0 run answer.cycles.linked found.2)
   where
     q : Query
     q = claim_query d claim phase depth inv
 
     asked : IsAskedOf d claim run
-    asked = asked_of d claim run sound fits answer.linked
+    asked = asked_of d claim run sound fits answer.cycles.linked
 
     Found : Type 0
-    Found = (v : Key → Bool) × AllTrue v (Rattle.query_model.specs.Formula.formula_over (definitions coding (claim_query d claim phase depth inv) formula.moved) (asked_clauses (claim_query d claim phase depth inv)) keys)
+    Found = (v : Key → Bool) × AllTrue v (Rattle.query_model.specs.Formula.formula_over (definitions coding (claim_query d claim phase depth inv) formula.moved) (asked_clauses (claim_query d claim phase depth inv)) keys) × Says v d run
 
     made : Found
     made =
         elim (cases_Bool claim.hazard) [
           | inl hazard ↦
-              let rows = hazy_rows d claim run sound fits answer.linked in
-              let hazy = are_hazy d claim formula.moved run sound fits answer.linked formula.are_moved hazard in
+              let rows = hazy_rows d claim run sound fits answer.cycles.linked in
+              let hazy = are_hazy d claim formula.moved run sound fits answer.cycles.linked formula.are_moved hazard in
               claim_answer_models coding d (live_of d phase) (live_of d phase + depth + 1 + judged_count claim.kind) inv (only_in_step phase (live_of d phase + depth + 1 + judged_count claim.kind)) claim depth (only_in_step phase depth) formula.moved (hazy_layer d claim run rows.0) (unknown_at d claim run rows.0) keys run (coded coding).covers (names_all d inv names) asked
               (hazy_decided AnyKey d claim run (unknown_at d claim run rows.0) (are_hazy_judged d claim formula.moved run rows.0 hazard asked hazy))
               (hazy_says coding d claim formula.moved run rows.0 (coded coding) hazard asked hazy)
               (few_judged claim.kind fits.kind) (short phase (live_of d phase + depth + 1 + judged_count claim.kind)) (omega arith) (short phase depth) answer
           | inr plain ↦
-              let rows = flipped_rows d claim run sound fits answer.linked in
-              let flips = are_flipped d claim formula.moved run sound fits answer.linked formula.are_moved plain in
+              let rows = flipped_rows d claim run sound fits answer.cycles.linked in
+              let flips = are_flipped d claim formula.moved run sound fits answer.cycles.linked formula.are_moved plain in
               claim_answer_models coding d (live_of d phase) (live_of d phase + depth + 1 + judged_count claim.kind) inv (only_in_step phase (live_of d phase + depth + 1 + judged_count claim.kind)) claim depth (only_in_step phase depth) formula.moved (flipped_layer d claim run rows.0) (differs_late_at d claim run rows.0) keys run (coded coding).covers (names_all d inv names) asked
               (plain_decided AnyKey d claim run (late_at d claim run rows.0) (differs_late_at d claim run rows.0) (are_judged d claim formula.moved run rows.0 plain asked flips))
               (plain_says coding d claim formula.moved run rows.0 (coded coding).covers plain asked flips)
@@ -278,4 +291,5 @@ clause_answers coding d inv clause phase depth sound name names keys clauses run
       (clause_answer_models coding d (live_of d phase) (live_of d phase + depth + 1) inv (only_in_step phase depth) clause formula.moved keys run (coded coding).covers sound
       (λ l has. let place = placed l clause.lits has in All-at (λ (s : StateLit). s.reg < length d.regs) clause.lits place.0 l place.1 name)
       (names_all d inv names) (let le = short phase depth in omega arith) answer),
+  says_agrees d keys (meaning d run (λ k. false)) run answer.cycles.linked (meaning_says d run (λ k. false)),
 )

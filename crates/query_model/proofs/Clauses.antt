@@ -12,7 +12,7 @@ use Rattle.net_model.specs.declared.invariants.StateLit.{StateLit}
 use Rattle.net_model.specs.declared.invariants.InvClause.{InvClause}
 use Rattle.query_model.specs.Keys.{lit, opposite, lit_value, is_true, AllTrue, below}
 use Rattle.query_model.specs.Reads.{bit_key}
-use Rattle.query_model.specs.Queries.{Query, Breaks, IsAnswer, meets, state_value}
+use Rattle.net_model.specs.Queries.{Query, Breaks, IsAnswer, clause_holds, state_value}
 use Rattle.query_model.specs.Defined.{Definition, base_definitions}
 use Rattle.query_model.specs.Formula.{state_lit, clause_in, kept_clauses, question_clauses, asked_clauses, definitions, cycle_definitions, question_definitions, IsNeeded, Asked, AreNeeded, formula_over}
 use Rattle.net_model.proofs.Members.{In, In-left, In-right, In-map, In-flat, In-cases, In-from_Contains, Contains-from_In, from_map, from_flat}
@@ -41,12 +41,12 @@ lits_same v d t c (l ∷ ls) tells =
     ∙ ap (λ (b : Bool). state_value c l || b) (lits_same v d t c ls (λ m has. tells m (inr has)))
 
 -- a clause is true in a cycle where its bits are told
-pub clause_same : (v : Key → Bool) (d : Design) (run : List Cycle) (t : ℕ) (c : Cycle) (clause : InvClause) (kind : Key → Type 0) → slice_get run t ≡ Some c → NamesRegs d clause → Told kind v d run → ((l : StateLit) → In l clause.lits → kind (bit_key d t l.reg)) → is_true v (clause_in d clause t) ≡ meets c clause
+pub clause_same : (v : Key → Bool) (d : Design) (run : List Cycle) (t : ℕ) (c : Cycle) (clause : InvClause) (kind : Key → Type 0) → slice_get run t ≡ Some c → NamesRegs d clause → Told kind v d run → ((l : StateLit) → In l clause.lits → kind (bit_key d t l.reg)) → is_true v (clause_in d clause t) ≡ clause_holds c clause
 clause_same v d run t c clause kind at names told has =
     let lt = slice_get_within run t c at in
     lits_same v d t c clause.lits (λ l i. told.bits t (omega arith) l.reg (names l i) (has l i) ∙ now_bits d run t c l.reg at)
 
-pub clause_said : (v : Key → Bool) (d : Design) (run : List Cycle) (t : ℕ) (c : Cycle) (clause : InvClause) → slice_get run t ≡ Some c → NamesRegs d clause → Says v d run → is_true v (clause_in d clause t) ≡ meets c clause
+pub clause_said : (v : Key → Bool) (d : Design) (run : List Cycle) (t : ℕ) (c : Cycle) (clause : InvClause) → slice_get run t ≡ Some c → NamesRegs d clause → Says v d run → is_true v (clause_in d clause t) ≡ clause_holds c clause
 clause_said v d run t c clause at names says =
     let lt = slice_get_within run t c at in
     lits_same v d t c clause.lits (λ l i. says.bits t (omega arith) l.reg (names l i) ∙ now_bits d run t c l.reg at)
@@ -77,13 +77,13 @@ pub lit_needed : (defs : List Definition) (q : Query) (t : ℕ) (clause : InvCla
 lit_needed defs q t clause l in_asked has =
     Asked (bit_key q.design t l.reg) (mentioned (asked_clauses q) (clause_in q.design clause t) (state_lit q.design t l) in_asked (In-map (state_lit q.design t) l clause.lits has))
 
-pub kept_told : (q : Query) (defs : List Definition) (v : Key → Bool) (run : List Cycle) → ((i : InvClause) → In i q.kept → NamesRegs q.design i) → Told (IsNeeded defs (asked_clauses q)) v q.design run → AllTrue v (asked_clauses q) → (t : ℕ) (c : Cycle) (clause : InvClause) → t < q.kept_below → slice_get run t ≡ Some c → In clause q.kept → meets c clause ≡ true
+pub kept_told : (q : Query) (defs : List Definition) (v : Key → Bool) (run : List Cycle) → ((i : InvClause) → In i q.kept → NamesRegs q.design i) → Told (IsNeeded defs (asked_clauses q)) v q.design run → AllTrue v (asked_clauses q) → (t : ℕ) (c : Cycle) (clause : InvClause) → t < q.kept_below → slice_get run t ≡ Some c → In clause q.kept → clause_holds c clause ≡ true
 kept_told q defs v run names told all t c clause lt at has =
     let there = kept_in q t clause lt has in
     sym (clause_same v q.design run t c clause (IsNeeded defs (asked_clauses q)) at (names clause has) told (λ l i. lit_needed defs q t clause l there i))
     ∙ true_at v (asked_clauses q) (clause_in q.design clause t) all there
 
-pub kept_said : (q : Query) (v : Key → Bool) (run : List Cycle) → ((i : InvClause) → In i q.kept → NamesRegs q.design i) → Says v q.design run → q.kept_below ≤ length run → ((t : ℕ) (c : Cycle) (clause : InvClause) → t < q.kept_below → slice_get run t ≡ Some c → In clause q.kept → meets c clause ≡ true) → AllTrue v (kept_clauses q)
+pub kept_said : (q : Query) (v : Key → Bool) (run : List Cycle) → ((i : InvClause) → In i q.kept → NamesRegs q.design i) → Says v q.design run → q.kept_below ≤ length run → ((t : ℕ) (c : Cycle) (clause : InvClause) → t < q.kept_below → slice_get run t ≡ Some c → In clause q.kept → clause_holds c clause ≡ true) → AllTrue v (kept_clauses q)
 kept_said q v run names says short holds =
     all_true v (kept_clauses q)
     (λ cl has.
@@ -120,9 +120,7 @@ clause_model_answers coding d live cycles kept kept_below clause moved keys v ru
     let told = model_told coding q moved keys v run covers sound linked resets count needed all free in
     let asked = asked_true v defs q keys all in
     record {
-      linked = linked;
-      resets = resets;
-      count = count;
+      cycles = record { linked = linked; resets = resets; count = count };
       kept = λ t c i lt at has. kept_told q defs v run all_name told asked t c i lt at (In-from_Contains kept i has);
       asked = λ c at.
           let last = cycles - 1 in
@@ -146,20 +144,20 @@ clause_answer_models coding d live cycles kept kept_below clause moved keys run 
     (λ def has.
     let of = from_flat (cycle_definitions coding q moved) def (below cycles) has in
     let lt = below_less cycles of.0 of.1 in
-    let here = get_within run of.0 (rw answer.count lt) in
+    let here = get_within run of.0 (rw answer.cycles.count lt) in
     elim (In-cases def (base_definitions coding d live of.0) [] of.2) [
-      | inl base ↦ base_true coding v d live run of.0 here.0 covers sound answer.linked (answer.resets of.0 here.0 here.1) here.1 says def base
+      | inl base ↦ base_true coding v d live run of.0 here.0 covers sound answer.cycles.linked (answer.cycles.resets of.0 here.0 here.1) here.1 says def base
       | inr none ↦ absurd none
     ])
     (all_true v (asked_clauses q)
     (λ cl has.
     elim (In-cases cl (kept_clauses q) (map (λ l. opposite l ∷ []) (clause_in d clause (cycles - 1))) has) [
       | inl in_kept ↦
-          true_at v (kept_clauses q) cl (kept_said q v run all_name says (rw answer.count short) (λ t c i lt at there. answer.kept t c i lt at (Contains-from_In kept i there))) in_kept
+          true_at v (kept_clauses q) cl (kept_said q v run all_name says (rw answer.cycles.count short) (λ t c i lt at there. answer.kept t c i lt at (Contains-from_In kept i there))) in_kept
       | inr asked ↦
           let last = cycles - 1 in
-          let some = answer.linked.some in
-          let count = answer.count in
+          let some = answer.cycles.linked.some in
+          let count = answer.cycles.count in
           let here = get_within run last (omega arith) in
           true_at v (map (λ l. opposite l ∷ []) (clause_in d clause last)) cl (true_none v (clause_in d clause last) (clause_said v d run last here.0 clause here.1 names says ∙ answer.asked here.0 here.1)) asked
     ]))

@@ -18,7 +18,7 @@ use Rattle.sdcv_base.specs.declared.kinds.Kind.TheVariants.{False, Multi}
 use Rattle.net_model.specs.declared.terns.Tern.{Tern}
 use Rattle.net_model.specs.declared.terns.Tern.TheVariants.{Zero, One, Unknown}
 use Rattle.query_model.specs.Keys.{key, lit, opposite, lit_value, AllTrue}
-use Rattle.query_model.specs.Defined.{Definition, both, extra_definitions, differ_definition, differ_key, change_key, late_lit}
+use Rattle.query_model.specs.Defined.{Definition, both, extra_definitions, differ_definition, differ_key, change_key, late_capture_lit}
 use Rattle.query_model.specs.Formula.{alternatives_at, hazard_alternatives}
 use Rattle.net_model.proofs.Members.{In}
 use Rattle.query_model.proofs.Tabled.{value_opposite}
@@ -170,10 +170,10 @@ are_hazy_judged d claim moved run rows hazard is hazy =
           ap (λ (x : Tern). may_one x && may_zero x) (ternary_once d claim c (tern_at d claim run rows t) Unknown is.sound is.end_in mine glitch);
     }
 
-hazy_differ : (d : Design) (claim : Claim) (moved : List (List Bool)) (t : ℕ) → claim.hazard ≡ true → differ_definition d claim moved t ≡ both (differ_key d t) (late_lit d claim moved t 0 claim.end) (late_lit d claim moved t 1 claim.end)
+hazy_differ : (d : Design) (claim : Claim) (moved : List (List Bool)) (t : ℕ) → claim.hazard ≡ true → differ_definition d claim moved t ≡ both (differ_key d t) (late_capture_lit d claim moved t 0 claim.end) (late_capture_lit d claim moved t 1 claim.end)
 hazy_differ d claim moved t mode = by_mode _ claim.hazard mode
   where
-    by_mode : (x : Definition) (h : Bool) → h ≡ true → cond h (both (differ_key d t) (late_lit d claim moved t 0 claim.end) (late_lit d claim moved t 1 claim.end)) x ≡ both (differ_key d t) (late_lit d claim moved t 0 claim.end) (late_lit d claim moved t 1 claim.end)
+    by_mode : (x : Definition) (h : Bool) → h ≡ true → cond h (both (differ_key d t) (late_capture_lit d claim moved t 0 claim.end) (late_capture_lit d claim moved t 1 claim.end)) x ≡ both (differ_key d t) (late_capture_lit d claim moved t 0 claim.end) (late_capture_lit d claim moved t 1 claim.end)
     by_mode x true e = refl
     by_mode x false e = absurd cc
 
@@ -215,12 +215,12 @@ hazy_tells coding kind v d claim moved run rows coded hazard is hazy told part t
     let tell = layers_may coding kind v d claim moved t c (rows t) coded (hazy t c at) (told.nets t c at) (layers_of coding kind v d claim moved t forces) in
     let ends = end_may coding kind v d claim moved t c (rows t) coded (hazy t c at) claim.end is.end_in tell (λ r small own. told.bits t (omega arith) r small own ∙ now_bits d run t c r at) (ends_of coding kind v d claim moved t forces) in
     let x = tern_at d claim run rows t in
-    let told_x : EndTold = subst (λ (y : Tern). (kind (late_lit d claim moved t 0 claim.end).key → lit_value v (late_lit d claim moved t 0 claim.end) ≡ may_one y) × (kind (late_lit d claim moved t 1 claim.end).key → lit_value v (late_lit d claim moved t 1 claim.end) ≡ may_zero y)) (sym (tern_now d claim run rows t c at)) ends in
-    both_told kind v (extra_definitions d claim moved t) (differ_key d t) (late_lit d claim moved t 0 claim.end) (late_lit d claim moved t 1 claim.end) (may_one x) (may_zero x) (extras_of coding kind v d claim moved t forces)
+    let told_x : EndTold = subst (λ (y : Tern). (kind (late_capture_lit d claim moved t 0 claim.end).key → lit_value v (late_capture_lit d claim moved t 0 claim.end) ≡ may_one y) × (kind (late_capture_lit d claim moved t 1 claim.end).key → lit_value v (late_capture_lit d claim moved t 1 claim.end) ≡ may_zero y)) (sym (tern_now d claim run rows t c at)) ends in
+    both_told kind v (extra_definitions d claim moved t) (differ_key d t) (late_capture_lit d claim moved t 0 claim.end) (late_capture_lit d claim moved t 1 claim.end) (may_one x) (may_zero x) (extras_of coding kind v d claim moved t forces)
     (inr (inr (inl (hazy_differ d claim moved t hazard)))) told_x.0 told_x.1 has
   where
     EndTold : Type 0
-    EndTold = (kind (late_lit d claim moved t 0 claim.end).key → lit_value v (late_lit d claim moved t 0 claim.end) ≡ may_one (tern_at d claim run rows t)) × (kind (late_lit d claim moved t 1 claim.end).key → lit_value v (late_lit d claim moved t 1 claim.end) ≡ may_zero (tern_at d claim run rows t))
+    EndTold = (kind (late_capture_lit d claim moved t 0 claim.end).key → lit_value v (late_capture_lit d claim moved t 0 claim.end) ≡ may_one (tern_at d claim run rows t)) × (kind (late_capture_lit d claim moved t 1 claim.end).key → lit_value v (late_capture_lit d claim moved t 1 claim.end) ≡ may_zero (tern_at d claim run rows t))
 
 -- the keys of the layers, read off layers in which the start is unknown
 abbrev pub hazy_layer : Design → Claim → List Cycle → (ℕ → List (List Tern)) → Key → ℕ → Bool
@@ -263,7 +263,7 @@ hazy_says coding d claim moved run rows coded hazard is hazy =
           let x = tern_capture_over d claim.through (rows t) claim.end c in
           let ends = end_may_said (v bad) d claim moved t c (rows t) (hazy t c at) claim.end is.end_in (tell bad t c at) (story_end d claim run rows bad t c at) in
           subst (λ (y : Definition). AllTrue (v bad) y.clauses) (sym (hazy_differ d claim moved t hazard))
-          (both_true (v bad) (differ_key d t) (late_lit d claim moved t 0 claim.end) (late_lit d claim moved t 1 claim.end) (may_one x) (may_zero x) (ends.0 tt) (ends.1 tt)
+          (both_true (v bad) (differ_key d t) (late_capture_lit d claim moved t 0 claim.end) (late_capture_lit d claim moved t 1 claim.end) (may_one x) (may_zero x) (ends.0 tt) (ends.1 tt)
           (story_differ d claim run (hazy_layer d claim run rows) (unknown_at d claim run rows) bad t ∙ ap (λ (y : Tern). may_one y && may_zero y) (tern_now d claim run rows t c at)));
     }
   where

@@ -25,7 +25,8 @@ use Rattle.net_model.specs.declared.terns.Tern.{Tern}
 use Rattle.net_model.specs.declared.terns.Tern.TheVariants.{Zero}
 use Rattle.query_model.specs.Keys.{key, lit, AllTrue, below}
 use Rattle.query_model.specs.Reads.{bit_key, read_pin, is_start_net}
-use Rattle.query_model.specs.Defined.{Definition, numbered, rails, has_own, layer_gate, layer_definitions, start_units, with_own, reads_own, late_key, late_reg_definition, end_definition, late_lit}
+use Rattle.net_model.specs.Mentions.{reads_own}
+use Rattle.query_model.specs.Defined.{Definition, numbered, rails, has_own, layer_gate, layer_definitions, start_units, with_own, late_key, late_reg, end_definition, late_capture_lit}
 use Rattle.query_model.proofs.Members.{below_less}
 use Rattle.query_model.proofs.Told.{LitTells, ReadTells}
 use Rattle.query_model.proofs.Runs.{AnyKey, Forces, unit_true, capture_reads}
@@ -126,7 +127,7 @@ hazy_end coding d claim moved t r reg =
     rails coding (reg_capture reg) (late_rails d claim moved t 0 true r reg) (late_rails d claim moved t 1 false r reg) (late_key d claim t 0) (late_key d claim t 1)
 
 hazy_end_is : (coding : Coding) (d : Design) (claim : Claim) (moved : List (List Bool)) (t r : ℕ) (reg : Reg) → claim.hazard ≡ true → slice_get d.regs r ≡ Some reg → end_definition coding d claim moved t (RegEnd r) ≡ hazy_end coding d claim moved t r reg ∷ []
-hazy_end_is coding d claim moved t r reg mode at = ap (late_reg_definition coding d claim moved t r) at ∙ by_mode _ claim.hazard mode
+hazy_end_is coding d claim moved t r reg mode at = ap (late_reg coding d claim moved t r) at ∙ by_mode _ claim.hazard mode
   where
     by_mode : (xs : List Definition) (h : Bool) → h ≡ true → cond h (hazy_end coding d claim moved t r reg ∷ []) xs ≡ hazy_end coding d claim moved t r reg ∷ []
     by_mode xs true e = refl
@@ -194,7 +195,7 @@ hazy_capture d claim rows c r reg range at =
 -- the rails of the late capture
 abbrev pub EndMay : (Key → Type 0) → (Key → Bool) → Design → Claim → List (List Bool) → ℕ → Cycle → List (List Tern) → End → Type 0
 EndMay kind v d claim moved t c rows e =
-    RailTells kind v (late_lit d claim moved t 0 e) (late_lit d claim moved t 1 e) (tern_capture_over d claim.through rows e c)
+    RailTells kind v (late_capture_lit d claim moved t 0 e) (late_capture_lit d claim moved t 1 e) (tern_capture_over d claim.through rows e c)
 
 output_may : (kind : Key → Type 0) (v : Key → Bool) (d : Design) (claim : Claim) (moved : List (List Bool)) (t : ℕ) (c : Cycle) (rows : List (List Tern)) (o : ℕ) → IsSound d → o < length d.outputs → ((l : ℕ) → l ≤ length claim.through → (n : ℕ) → n < d.nets → LayerMay kind v d claim moved t rows l n) → EndMay kind v d claim moved t c rows (OutputEnd o)
 output_may kind v d claim moved t c rows o sound lt tell =

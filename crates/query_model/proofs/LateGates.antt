@@ -23,7 +23,7 @@ use Rattle.net_model.specs.declared.claims.End.TheVariants.{Reg as RegEnd, Outpu
 use Rattle.query_model.specs.Keys.{key, lit, AllTrue}
 use Rattle.query_model.specs.Tables.{on_list}
 use Rattle.query_model.specs.Reads.{bit_key, read_pin, is_start_net}
-use Rattle.query_model.specs.Defined.{Definition, numbered, plain, covering, has_own, layer_gate, layer_definitions, start_units, with_own, late_key, late_reg_definition, end_definition, late_lit}
+use Rattle.query_model.specs.Defined.{Definition, numbered, plain, covering, has_own, layer_gate, layer_definitions, start_units, with_own, late_key, late_reg, end_definition, late_capture_lit}
 use Rattle.net_model.proofs.Members.{In, In-right, In-flat, In-cases, In-from_Contains, from_flat}
 use Rattle.query_model.proofs.Tabled.{Covers, says_plain}
 use Rattle.net_model.proofs.NetOrder.{over_nets}
@@ -212,7 +212,7 @@ plain_end coding d claim moved t r reg =
     plain coding (reg_capture reg) (late_reads d claim moved t r reg) (late_key d claim t 0)
 
 end_is : (coding : Coding) (d : Design) (claim : Claim) (moved : List (List Bool)) (t r : ℕ) (reg : Reg) → claim.hazard ≡ false → slice_get d.regs r ≡ Some reg → end_definition coding d claim moved t (RegEnd r) ≡ plain_end coding d claim moved t r reg ∷ []
-end_is coding d claim moved t r reg mode at = ap (late_reg_definition coding d claim moved t r) at ∙ by_mode _ claim.hazard mode where
+end_is coding d claim moved t r reg mode at = ap (late_reg coding d claim moved t r) at ∙ by_mode _ claim.hazard mode where
   by_mode : (xs : List Definition) (h : Bool) → h ≡ false → cond h xs (plain_end coding d claim moved t r reg ∷ []) ≡ plain_end coding d claim moved t r reg ∷ []
   by_mode xs false e = refl
   by_mode xs true e = absurd cc
@@ -230,13 +230,13 @@ end_covers : (coding : Coding) (d : Design) (claim : Claim) (moved : List (List 
 end_covers coding d claim moved t r reg covers range =
     let pins = numbered (λ i n. read_pin d claim moved t (length claim.through + 1) 0 (RegIn r i) n) 0 reg.ins in
     let short : length (late_reads d claim moved t r reg) ≤ 6 + 1 =
-    Rattle.query_model.proofs.Runs.own_short (Rattle.query_model.specs.Defined.reads_own reg) (lit true (bit_key d t r)) pins 6 (omega (arith, length-numbered (λ i n. read_pin d claim moved t (length claim.through + 1) 0 (RegIn r i) n) 0 reg.ins, range.few)) in
+    Rattle.query_model.proofs.Runs.own_short (Rattle.net_model.specs.Mentions.reads_own reg) (lit true (bit_key d t r)) pins 6 (omega (arith, length-numbered (λ i n. read_pin d claim moved t (length claim.through + 1) 0 (RegIn r i) n) 0 reg.ins, range.few)) in
     covers (reg_capture reg) (length (late_reads d claim moved t r reg)) (omega arith) (capture_reads d reg range)
 
 late_of : (d : Design) (claim : Claim) (rows : List (List Bool)) (c : Cycle) (r : ℕ) (reg : Reg) → slice_get d.regs r ≡ Some reg → capture_over d claim.through rows (RegEnd r) c ≡ reg_capture reg (late_reg_pins false claim.through rows r reg (bit_at c.bits r))
 late_of d claim rows c r reg at = ap (λ (o : Option Reg). late_reg_capture claim.through rows r o (bit_at c.bits r)) at
 
-pub end_told : (coding : Coding) (kind : Key → Type 0) (v : Key → Bool) (d : Design) (claim : Claim) (moved : List (List Bool)) (t : ℕ) (c : Cycle) (rows : List (List Bool)) → CodingCovers coding → IsFlipped d claim moved c rows → (e : End) → Rattle.net_model.specs.Fits.IsEndIn d e → ((l : ℕ) → l ≤ length claim.through → (n : ℕ) → n < d.nets → LayerTells kind v d claim moved t rows l n) → ((r : ℕ) → r < length d.regs → LitTells kind v (lit true (bit_key d t r)) (bit_at c.bits r)) → Forces kind v (end_definition coding d claim moved t e) → LitTells kind v (late_lit d claim moved t 0 e) (capture_over d claim.through rows e c)
+pub end_told : (coding : Coding) (kind : Key → Type 0) (v : Key → Bool) (d : Design) (claim : Claim) (moved : List (List Bool)) (t : ℕ) (c : Cycle) (rows : List (List Bool)) → CodingCovers coding → IsFlipped d claim moved c rows → (e : End) → Rattle.net_model.specs.Fits.IsEndIn d e → ((l : ℕ) → l ≤ length claim.through → (n : ℕ) → n < d.nets → LayerTells kind v d claim moved t rows l n) → ((r : ℕ) → r < length d.regs → LitTells kind v (lit true (bit_key d t r)) (bit_at c.bits r)) → Forces kind v (end_definition coding d claim moved t e) → LitTells kind v (late_capture_lit d claim moved t 0 e) (capture_over d claim.through rows e c)
 end_told coding kind v d claim moved t c rows covers flip (RegEnd r) is tell own forces =
     λ has.
     let reg = Rattle.query_model.proofs.Based.get_within d.regs r is in
@@ -261,7 +261,7 @@ end_true coding v d claim moved t c rows covers flip (RegEnd r) tell own late de
       only (inr none) = absurd none
 
       by_reg : (o : Option Reg) → slice_get d.regs r ≡ o → AllTrue v def.clauses
-      by_reg None e = absurd (subst (λ (x : Option Reg). In def (late_reg_definition coding d claim moved t r x)) e has)
+      by_reg None e = absurd (subst (λ (x : Option Reg). In def (late_reg coding d claim moved t r x)) e has)
       by_reg (Some reg) e =
           let range = All-at (IsRegInRange d) d.regs r reg e flip.sound.in_range.regs in
           let lt = slice_get_within d.regs r reg e in

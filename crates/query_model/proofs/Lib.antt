@@ -18,7 +18,6 @@ pub mod Violated
 pub mod PlainClaims
 pub mod HazyClaims
 pub mod Worked
-pub mod Cone
 pub mod Numbered
 pub mod Hazard
 pub mod Prime
@@ -35,3 +34,4 @@ pub mod Mentioned
 pub mod NetKeys
 pub mod Railed
 pub mod Problems
+pub mod OneProblem

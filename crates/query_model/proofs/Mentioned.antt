@@ -25,8 +25,9 @@ use Rattle.net_model.specs.declared.terns.Tern.TheVariants.{Zero, One, Unknown}
 use Rattle.query_model.specs.Keys.{key, lit, opposite, flipped, below}
 use Rattle.query_model.specs.Tables.{outside, cube_clause, plain_clauses, barred, escapes, may_be, may_clause, must_clause, hazard_clauses}
 use Rattle.query_model.specs.Reads.{bit_key, read_base, is_start_net, read_late, read, read_pin}
-use Rattle.query_model.specs.Queries.{Query, Question, Violates, Breaks}
-use Rattle.query_model.specs.Defined.{Definition, numbered, plain, rails, unit, exclusive, both, covering, settling, set_in, unit_if, input_definition, gate_definition, bit_definition, base_definitions, has_own, layer_gate, start_units, layer_definitions, reads_own, with_own, late_key, late_reg_definition, end_definition, start_lit, capture_lit, late_lit, extra, toggle_key, change_key, differ_key, stale_key, bad_key, differ_definition, extra_definitions, claim_definitions}
+use Rattle.net_model.specs.Queries.{Query, Question, Violates, Breaks}
+use Rattle.net_model.specs.Mentions.{reads_own}
+use Rattle.query_model.specs.Defined.{Definition, numbered, plain, rails, unit, exclusive, both, covering, settling, set_in, unit_if, input_definition, gate_definition, bit_definition, base_definitions, has_own, layer_gate, start_units, layer_definitions, with_own, late_key, late_reg, end_definition, start_lit, capture_lit, late_capture_lit, extra, toggle_key, change_key, differ_key, stale_key, bad_key, differ_definition, extra_definitions, claim_definitions}
 use Rattle.query_model.specs.Formula.{state_lit, clause_in, kept_clauses, alternatives, alternatives_at, plain_alternatives, hazard_alternatives, stale_if_later, clean_clauses, bad_clauses, question_clauses, asked_clauses, question_definitions, cycle_definitions, definitions, Mentions, IsNeeded, Asked, Used}
 use Rattle.query_model.proofs.Members.{below_less}
 use Rattle.query_model.proofs.Based.{placed, from_numbered}
@@ -281,7 +282,7 @@ end_have coding P d base claim moved layers c (RegEnd r) is = by_reg (slice_get 
     ends : (rail : ℕ) → P (late_key d claim c rail)
     ends rail = layers.ends c rail r is
 
-    by_reg : (o : Option Reg) → DefinitionsHave P (late_reg_definition coding d claim moved c r o)
+    by_reg : (o : Option Reg) → DefinitionsHave P (late_reg coding d claim moved c r o)
     by_reg None = no_definitions P
     by_reg (Some reg) = by_mode claim.hazard
       where
@@ -316,16 +317,16 @@ capture_lit_has : (P : Key → Type 0) (d : Design) (base : BaseHas P d) (e : En
 capture_lit_has P d base (RegEnd r) c = base.past (c + 1) r
 capture_lit_has P d base (OutputEnd o) c = base.reads c (slice_index d.outputs o)
 
-late_lit_has : (P : Key → Type 0) (d : Design) (base : BaseHas P d) (claim : Claim) (moved : List (List Bool)) (layers : LayersHave P d claim moved) (c rail : ℕ) (e : End) → claim.end ≡ e → P (late_lit d claim moved c rail e).key
+late_lit_has : (P : Key → Type 0) (d : Design) (base : BaseHas P d) (claim : Claim) (moved : List (List Bool)) (layers : LayersHave P d claim moved) (c rail : ℕ) (e : End) → claim.end ≡ e → P (late_capture_lit d claim moved c rail e).key
 late_lit_has P d base claim moved layers c rail (RegEnd r) is = layers.ends c rail r is
 late_lit_has P d base claim moved layers c rail (OutputEnd o) is = pin_has P d base claim moved layers c (length claim.through + 1) rail (OutPort o) (slice_index d.outputs o)
 
 differ_have : (P : Key → Type 0) (d : Design) (base : BaseHas P d) (claim : Claim) (moved : List (List Bool)) (layers : LayersHave P d claim moved) (c : ℕ) → ClausesHave P (differ_definition d claim moved c).clauses
 differ_have P d base claim moved layers c = by_mode claim.hazard
   where
-    by_mode : (h : Bool) → ClausesHave P (cond h (both (differ_key d c) (late_lit d claim moved c 0 claim.end) (late_lit d claim moved c 1 claim.end)) (exclusive (differ_key d c) (late_lit d claim moved c 0 claim.end) (capture_lit d claim.end c))).clauses
-    by_mode true = both_have P (differ_key d c) (late_lit d claim moved c 0 claim.end) (late_lit d claim moved c 1 claim.end) (extra_has P d base c 2) (late_lit_has P d base claim moved layers c 0 claim.end refl) (late_lit_has P d base claim moved layers c 1 claim.end refl)
-    by_mode false = exclusive_have P (differ_key d c) (late_lit d claim moved c 0 claim.end) (capture_lit d claim.end c) (extra_has P d base c 2) (late_lit_has P d base claim moved layers c 0 claim.end refl) (capture_lit_has P d base claim.end c)
+    by_mode : (h : Bool) → ClausesHave P (cond h (both (differ_key d c) (late_capture_lit d claim moved c 0 claim.end) (late_capture_lit d claim moved c 1 claim.end)) (exclusive (differ_key d c) (late_capture_lit d claim moved c 0 claim.end) (capture_lit d claim.end c))).clauses
+    by_mode true = both_have P (differ_key d c) (late_capture_lit d claim moved c 0 claim.end) (late_capture_lit d claim moved c 1 claim.end) (extra_has P d base c 2) (late_lit_has P d base claim moved layers c 0 claim.end refl) (late_lit_has P d base claim moved layers c 1 claim.end refl)
+    by_mode false = exclusive_have P (differ_key d c) (late_capture_lit d claim moved c 0 claim.end) (capture_lit d claim.end c) (extra_has P d base c 2) (late_lit_has P d base claim moved layers c 0 claim.end refl) (capture_lit_has P d base claim.end c)
 
 extras_have : (P : Key → Type 0) (d : Design) (base : BaseHas P d) (claim : Claim) (moved : List (List Bool)) (layers : LayersHave P d claim moved) (c : ℕ) → DefinitionsHave P (extra_definitions d claim moved c)
 extras_have P d base claim moved layers c def (inl here) = subst (λ (x : Definition). ClausesHave P x.clauses) here (exclusive_have P (toggle_key d c) (start_lit d claim.start c) (start_lit d claim.start (c - 1)) (extra_has P d base c 0) (start_lit_has P d base claim.start c) (start_lit_has P d base claim.start (c - 1)))

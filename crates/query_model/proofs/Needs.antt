@@ -5,7 +5,7 @@ use Rattle.std.specs.List.{list_any}
 use Rattle.std.proofs.lemmas.Bool.{eq-eqb, and_from, or_left, or_right}
 use Rattle.query_model.specs.Keys.{AllTrue, below}
 use Rattle.query_model.specs.Defined.{Definition, base_definitions}
-use Rattle.query_model.specs.Queries.{Query}
+use Rattle.net_model.specs.Queries.{Query}
 use Rattle.query_model.specs.Formula.{IsNeeded, Used, Mentions, AreNeeded, same_key, has_key, listed, formula_over, definitions, cycle_definitions, question_definitions}
 use Rattle.net_model.proofs.Members.{In, In-left, In-flat, In-from_Contains, Contains-from_In, from_flat, In-cases}
 use Rattle.query_model.proofs.Members.{In-below, all_true, true_at}

@@ -11,7 +11,7 @@ use Rattle.net_model.specs.declared.netlist.Reg.{Reg}
 use Rattle.net_model.specs.declared.netlist.RegOut.{RegOut}
 use Rattle.query_model.specs.Keys.{key, lit}
 use Rattle.query_model.specs.Reads.{bit_key, shown_in, bit_or, read_from, read_base}
-use Rattle.query_model.specs.Queries.{Query, Question, Violates, Breaks}
+use Rattle.net_model.specs.Queries.{Query, Question, Violates, Breaks}
 use Rattle.query_model.specs.Formula.{asked_clauses, definitions, IsNeeded}
 use Rattle.query_model.proofs.Told.{found_shown}
 use Rattle.query_model.proofs.Mentioned.{QuestionHas, needed_has}

@@ -15,7 +15,7 @@ use Rattle.net_model.specs.declared.claims.End.{End}
 use Rattle.net_model.specs.declared.claims.End.TheVariants.{Reg as RegEnd, Output as OutputEnd}
 use Rattle.query_model.specs.Keys.{key, AllTrue, below}
 use Rattle.query_model.specs.Reads.{read_pin}
-use Rattle.query_model.specs.Defined.{Definition, exclusive, layer_definitions, end_definition, extra_definitions, claim_definitions, differ_definition, differ_key, late_key, late_lit, capture_lit}
+use Rattle.query_model.specs.Defined.{Definition, exclusive, layer_definitions, end_definition, extra_definitions, claim_definitions, differ_definition, differ_key, late_key, late_capture_lit, capture_lit}
 use Rattle.net_model.proofs.Members.{In-left, In-right, In-flat}
 use Rattle.query_model.proofs.Members.{In-below}
 use Rattle.query_model.proofs.Told.{LitTells}
@@ -65,9 +65,9 @@ are_judged d claim moved run rows plain is flips =
       differs_are = differs_now d claim run rows;
     }
 
-plain_differ : (d : Design) (claim : Claim) (moved : List (List Bool)) (t : ℕ) → claim.hazard ≡ false → differ_definition d claim moved t ≡ exclusive (differ_key d t) (late_lit d claim moved t 0 claim.end) (capture_lit d claim.end t)
+plain_differ : (d : Design) (claim : Claim) (moved : List (List Bool)) (t : ℕ) → claim.hazard ≡ false → differ_definition d claim moved t ≡ exclusive (differ_key d t) (late_capture_lit d claim moved t 0 claim.end) (capture_lit d claim.end t)
 plain_differ d claim moved t mode = by_mode _ claim.hazard mode where
-  by_mode : (x : Definition) (h : Bool) → h ≡ false → cond h x (exclusive (differ_key d t) (late_lit d claim moved t 0 claim.end) (capture_lit d claim.end t)) ≡ exclusive (differ_key d t) (late_lit d claim moved t 0 claim.end) (capture_lit d claim.end t)
+  by_mode : (x : Definition) (h : Bool) → h ≡ false → cond h x (exclusive (differ_key d t) (late_capture_lit d claim moved t 0 claim.end) (capture_lit d claim.end t)) ≡ exclusive (differ_key d t) (late_capture_lit d claim moved t 0 claim.end) (capture_lit d claim.end t)
   by_mode x false e = refl
   by_mode x true e = absurd cc
 
@@ -100,12 +100,12 @@ plain_tells coding kind v d claim moved run rows covers plain is flips told part
     let flip = flips t c at in
     let forces = part t lt in
     let tell = layers_told coding kind v d claim moved t c (rows t) covers flip (told.nets t c at) (layers_of coding kind v d claim moved t forces) in
-    let late : LitTells kind v (late_lit d claim moved t 0 claim.end) (late_at d claim run rows t) =
+    let late : LitTells kind v (late_capture_lit d claim moved t 0 claim.end) (late_at d claim run rows t) =
     λ has.
     end_told coding kind v d claim moved t c (rows t) covers flip claim.end is.end_in tell (λ r small own. told.bits t (omega arith) r small own ∙ now_bits d run t c r at) (ends_of coding kind v d claim moved t forces) has
     ∙ sym (late_now d claim run rows t c at) in
     λ has.
-    exclusive_told kind v (extra_definitions d claim moved t) (differ_key d t) (late_lit d claim moved t 0 claim.end) (capture_lit d claim.end t) (late_at d claim run rows t) (capture d claim.end c) (extras_of coding kind v d claim moved t forces)
+    exclusive_told kind v (extra_definitions d claim moved t) (differ_key d t) (late_capture_lit d claim moved t 0 claim.end) (capture_lit d claim.end t) (late_at d claim run rows t) (capture d claim.end c) (extras_of coding kind v d claim moved t forces)
     (inr (inr (inl (plain_differ d claim moved t plain)))) late (capture_told kind v d run claim.end is.sound is.end_in is.linked told t c at) has
     ∙ sym (differs_now d claim run rows t c at)
 
@@ -126,7 +126,7 @@ story_late d claim run rows bad t =
     ∙ cond-false (nat_lt (d.nets + length d.regs) d.nets) (net_at false (rows t) (length claim.through) (d.nets + length d.regs)) (late_at d claim run rows t) (le-ltb (d.nets + length d.regs) d.nets (omega arith))
 
 -- the literal of the late capture, where all keys say the run
-late_said : (v : Key → Bool) (d : Design) (claim : Claim) (moved : List (List Bool)) (t : ℕ) (c : Cycle) (rows : List (List Bool)) → IsFlipped d claim moved c rows → (e : End) → IsEndIn d e → ((l : ℕ) → l ≤ length claim.through → (n : ℕ) → n < d.nets → LayerTells AnyKey v d claim moved t rows l n) → v (late_key d claim t 0) ≡ capture_over d claim.through rows e c → LitTells AnyKey v (late_lit d claim moved t 0 e) (capture_over d claim.through rows e c)
+late_said : (v : Key → Bool) (d : Design) (claim : Claim) (moved : List (List Bool)) (t : ℕ) (c : Cycle) (rows : List (List Bool)) → IsFlipped d claim moved c rows → (e : End) → IsEndIn d e → ((l : ℕ) → l ≤ length claim.through → (n : ℕ) → n < d.nets → LayerTells AnyKey v d claim moved t rows l n) → v (late_key d claim t 0) ≡ capture_over d claim.through rows e c → LitTells AnyKey v (late_capture_lit d claim moved t 0 e) (capture_over d claim.through rows e c)
 late_said v d claim moved t c rows flip (RegEnd r) is tell late = λ any. late
 late_said v d claim moved t c rows flip (OutputEnd o) is tell late =
     let n = slice_index d.outputs o in
@@ -144,15 +144,15 @@ plain_says coding d claim moved run rows covers plain is flips =
           (λ r small. (meaning_says d run (others d claim run (flipped_layer d claim run rows) (differs_late_at d claim run rows) bad)).bits t (within t c at) r small ∙ now_bits d run t c r at)
           (story_late d claim run rows bad t ∙ late_now d claim run rows t c at) def has;
       differ = λ bad t c at.
-          let late : LitTells AnyKey (v bad) (late_lit d claim moved t 0 claim.end) (late_at d claim run rows t) =
+          let late : LitTells AnyKey (v bad) (late_capture_lit d claim moved t 0 claim.end) (late_at d claim run rows t) =
           λ any.
           late_said (v bad) d claim moved t c (rows t) (flips t c at) claim.end is.end_in (tell bad t c at) (story_late d claim run rows bad t ∙ late_now d claim run rows t c at) tt
           ∙ sym (late_now d claim run rows t c at) in
           let took = capture_told AnyKey (v bad) d run claim.end is.sound is.end_in is.linked (told bad) t c at in
           subst (λ (x : Definition). AllTrue (v bad) x.clauses) (sym (plain_differ d claim moved t plain))
-          (exclusive_true (v bad) (differ_key d t) (late_lit d claim moved t 0 claim.end) (capture_lit d claim.end t)
+          (exclusive_true (v bad) (differ_key d t) (late_capture_lit d claim moved t 0 claim.end) (capture_lit d claim.end t)
           (story_differ d claim run (flipped_layer d claim run rows) (differs_late_at d claim run rows) bad t
-          ∙ differs_now d claim run rows t c at ∙ sym (both_same (v bad) (late_lit d claim moved t 0 claim.end) (capture_lit d claim.end t) (late_at d claim run rows t) (capture d claim.end c) (late tt) (took tt))));
+          ∙ differs_now d claim run rows t c at ∙ sym (both_same (v bad) (late_capture_lit d claim moved t 0 claim.end) (capture_lit d claim.end t) (late_at d claim run rows t) (capture d claim.end c) (late tt) (took tt))));
     }
   where
     v : (ℕ → Bool) → Key → Bool

@@ -4,12 +4,15 @@ use Rattle.std.specs.Prelude.{flat_map, ◌||◌}
 use Rattle.std.specs.List.{list_any}
 use Rattle.std.proofs.lemmas.Bool.{or_cases}
 use Rattle.net_model.proofs.Members.{In, In-cases, from_flat, In-from_Contains, Contains-from_In}
-use Rattle.query_model.specs.Keys.{lit_value, is_true, AllTrue}
-use Rattle.query_model.specs.Queries.{Query}
+use Rattle.net_model.specs.declared.netlist.Design.{Design}
+use Rattle.net_model.specs.declared.cycles.Cycle.{Cycle}
+use Rattle.query_model.specs.Keys.{key, lit_value, is_true, AllTrue}
+use Rattle.net_model.specs.Queries.{Query, IsAnswer}
+use Rattle.query_model.specs.Reads.{bit_key}
 use Rattle.query_model.specs.Defined.{Definition}
-use Rattle.query_model.specs.Formula.{definitions, asked_clauses, same_key, has_key, listed, formula_over, Asked, Used, AreNeeded}
-use Rattle.query_model.specs.Variables.{code_of, AllCodesTrue, by_number}
-use Rattle.query_model.specs.Laws.{ModelsAnswer, AnswersHaveModels, NumberedModelsAnswer, AnswersHaveNumberedModels}
+use Rattle.query_model.specs.Formula.{definitions, asked_clauses, same_key, has_key, listed, formula_over, IsNeeded, Asked, Used, AreNeeded, IsFormulaOf}
+use Rattle.query_model.specs.Variables.{code_of, code_true, IsProblemOf, AllCodesTrue, by_number}
+use Rattle.query_model.specs.Laws.{HasFreeBits, AgreesWith, ModelsAnswer, AnswersHaveModels, NumberedModelsAnswer, AnswersHaveNumberedModels}
 use Rattle.query_model.proofs.Needs.{mentioned}
 use Rattle.query_model.proofs.Numbered.{coded_same, normals_true, true_normals, model_by_number}
 use Rattle.query_model.proofs.Places.{same_key-true, by_key, by_key_number}
@@ -64,11 +67,23 @@ true_coded keys w (c ∷ cs) inside hold = (
   true_coded keys w cs (λ d l has. inside d l (inr has)) hold.1,
 )
 
+-- and agrees with the same runs
+agrees_by_number : (d : Design) (keys : List Key) (w : Key → Bool) (run : List Cycle) → AgreesWith d keys w run → AgreesWith d keys (by_number keys (by_key keys w)) run
+agrees_by_number d keys w run agrees =
+    record {
+      nets = λ t c n at low has. by_key_number keys w (key t 0 0 n) (In-from_Contains keys (key t 0 0 n) has) ∙ agrees.nets t c n at low has;
+      bits = λ t c r at lt has. by_key_number keys w (bit_key d t r) (In-from_Contains keys (bit_key d t r) has) ∙ agrees.bits t c r at lt has;
+      captures = λ t c r at lt has.
+          by_key_number keys w (bit_key d (t + 1) r) (In-from_Contains keys (bit_key d (t + 1) r) has) ∙ agrees.captures t c r at lt has;
+    }
+
+-- each model of a problem answers its query
 pub numbered_models : (coding : Coding) (q : Query) → ModelsAnswer coding q → NumberedModelsAnswer coding q
 numbered_models coding q law keys vars clauses v run problem hold are free =
     law keys problem.over_keys (by_number keys v) run problem.formula
     (model_by_number keys v problem.over_keys (normals_true v (map (map (code_of keys)) problem.over_keys) clauses problem.clauses_are hold)) are free
 
+-- and each answer gives a model of the problem
 pub numbered_answers : (coding : Coding) (q : Query) → AnswersHaveModels coding q → AnswersHaveNumberedModels coding q
 numbered_answers coding q law keys vars clauses run problem answer =
     let found = law keys problem.over_keys run problem.formula answer in
@@ -77,4 +92,5 @@ numbered_answers coding q law keys vars clauses run problem answer =
       true_normals (by_key keys found.0) (map (map (code_of keys)) problem.over_keys) clauses problem.clauses_are
           (true_coded keys found.0 problem.over_keys
           (λ c l has. keys_listed (definitions coding q f.moved) (asked_clauses q) keys c l f.are_needed (subst (In c) f.are_clauses has)) found.1),
+      agrees_by_number q.design keys found.0 run found.2,
     )

@@ -26,10 +26,10 @@ use Rattle.net_model.specs.declared.terns.Tern.{Tern}
 use Rattle.net_model.specs.declared.terns.Tern.TheVariants.{Zero, Unknown}
 use Rattle.query_model.specs.Keys.{key, lit, AllTrue}
 use Rattle.query_model.specs.Reads.{bit_key, read_late, read, AreMoved}
-use Rattle.query_model.specs.Queries.{Query, claim_query, only_in_step}
+use Rattle.net_model.specs.Queries.{Query, claim_query, only_in_step}
 use Rattle.query_model.specs.Defined.{has_own, late_key, claim_definitions}
 use Rattle.query_model.specs.Formula.{definitions, asked_clauses, formula_over, IsNeeded, AreNeeded}
-use Rattle.query_model.specs.Laws.{rail_value, HasRails, ModelsHaveRails, NumberedModelsHaveRails}
+use Rattle.query_model.specs.Laws.{rail_value, HasRails, ModelsHaveRails, NumberedHaveRails}
 use Rattle.query_model.proofs.Late.{start_net_in}
 use Rattle.query_model.proofs.Runs.{Told, Forces, now_bits}
 use Rattle.query_model.proofs.Needs.{forces, forces_some}
@@ -203,7 +203,7 @@ claim_rails coding d claim phase depth inv sound fits hazard keys clauses v run 
     at layers)
 
 -- and over numbered variables
-pub numbered_rails : (coding : Coding) (claim : Claim) (q : Query) → ModelsHaveRails coding claim q → NumberedModelsHaveRails coding claim q
+pub numbered_rails : (coding : Coding) (claim : Claim) (q : Query) → ModelsHaveRails coding claim q → NumberedHaveRails coding claim q
 numbered_rails coding claim q law keys vars clauses v run problem hold are free =
     law keys problem.over_keys (Rattle.query_model.specs.Variables.by_number keys v) run problem.formula
     (model_by_number keys v problem.over_keys (normals_true v (map (map (Rattle.query_model.specs.Variables.code_of keys)) problem.over_keys) clauses problem.clauses_are hold)) are free

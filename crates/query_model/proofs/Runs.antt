@@ -16,7 +16,8 @@ use Rattle.net_model.specs.declared.claims.End.TheVariants.{Reg as RegEnd}
 use Rattle.query_model.specs.Keys.{key, lit, AllTrue}
 use Rattle.query_model.specs.Tables.{on_list}
 use Rattle.query_model.specs.Reads.{bit_key, read_base}
-use Rattle.query_model.specs.Defined.{Definition, covering, gate_definition, bit_definition, with_own, reads_own}
+use Rattle.net_model.specs.Mentions.{reads_own}
+use Rattle.query_model.specs.Defined.{Definition, covering, gate_definition, bit_definition, with_own}
 use Rattle.net_model.proofs.Members.{In}
 use Rattle.query_model.proofs.Tabled.{Covers, says_plain, rows_cover}
 use Rattle.query_model.proofs.Told.{LitTells, TellEach, BitsTell, ReadTells, reads_tell, values_told, plain_gives}

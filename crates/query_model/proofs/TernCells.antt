@@ -12,7 +12,8 @@ use Rattle.net_model.specs.declared.netlist.Design.{Design}
 use Rattle.net_model.specs.declared.netlist.Reg.{Reg}
 use Rattle.net_model.specs.declared.terns.Tern.{Tern}
 use Rattle.net_model.specs.declared.terns.Tern.TheVariants.{Zero, One, Unknown}
-use Rattle.query_model.specs.Defined.{numbered, reads_own}
+use Rattle.net_model.specs.Mentions.{reads_own}
+use Rattle.query_model.specs.Defined.{numbered}
 use Rattle.query_model.proofs.Celled.{capture_but_last}
 use Rattle.query_model.proofs.Rails.{any_bit}
 use Rattle.query_model.proofs.RailValues.{on_terns}

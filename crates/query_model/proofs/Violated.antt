@@ -12,14 +12,14 @@ use Rattle.net_model.specs.declared.cycles.Cycle.{Cycle}
 use Rattle.net_model.specs.declared.invariants.InvClause.{InvClause}
 use Rattle.net_model.specs.declared.claims.Claim.{Claim}
 use Rattle.query_model.specs.Keys.{lit, opposite, lit_value, is_true, AllTrue, below}
-use Rattle.query_model.specs.Queries.{Query, Question, Violates, IsAnswer}
+use Rattle.net_model.specs.Queries.{Query, Question, Violates, IsAnswer}
 use Rattle.query_model.specs.Defined.{Definition, numbered, base_definitions, layer_definitions, end_definition, differ_definition, extra_definitions, claim_definitions, toggle_key, differ_key, bad_key}
 use Rattle.query_model.specs.Formula.{alternatives, alternatives_at, clean_clauses, bad_clauses, kept_clauses, question_clauses, asked_clauses, definitions, cycle_definitions, question_definitions, IsNeeded, Asked, AreNeeded, formula_over}
 use Rattle.net_model.proofs.Members.{In, In-left, In-right, In-map, In-flat, In-cases, In-from_Contains, Contains-from_In, from_map, from_flat}
 use Rattle.query_model.proofs.Members.{In-below, below_less, all_true, true_at}
 use Rattle.query_model.proofs.Tabled.{value_opposite}
 use Rattle.query_model.proofs.Runs.{Told, CodingCovers, Forces, AnyKey, unit_true, unit_says}
-use Rattle.query_model.proofs.Based.{IsFree, base_true, get_within, in_place, placed, from_numbered, in_numbered}
+use Rattle.query_model.proofs.Based.{Says, IsFree, base_true, get_within, in_place, placed, from_numbered, in_numbered}
 use Rattle.query_model.proofs.Needs.{forces, forces_some, formula_true, mentioned}
 use Rattle.query_model.proofs.Meaning.{meaning_says}
 use Rattle.query_model.proofs.Clauses.{NamesRegs, kept_told, kept_said, model_told, asked_true}
@@ -152,9 +152,7 @@ claim_model_answers coding d live cycles kept kept_below claim offset clean move
     let true_asked = asked_true v defs q keys all in
     let t = live + 1 + offset in
     record {
-      linked = is.linked;
-      resets = resets;
-      count = count;
+      cycles = record { linked = is.linked; resets = resets; count = count };
       kept = λ i c clause lt at has. kept_told q defs v run names told true_asked i c clause lt at (In-from_Contains kept clause has);
       asked = (
         λ o lt bad.
@@ -234,10 +232,10 @@ bad_true v d claim t chosen alt cl bads toggle at hold (inr (inr later)) =
     ]))
 
 -- each answer of a claim's query gives a model
-pub claim_answer_models : (coding : Coding) (d : Design) (live cycles : ℕ) (kept : List InvClause) (kept_below : ℕ) (claim : Claim) (offset clean : ℕ) (moved : List (List Bool)) (layer : Key → ℕ → Bool) (differs : ℕ → Bool) (keys : List Key) (run : List Cycle) → CodingCovers coding → ((i : InvClause) → In i kept → NamesRegs d i) → IsAskedOf d claim run → IsDecided AnyKey d claim run differs → SaysLate coding d claim moved run layer differs → judged_count claim.kind ≤ 15 → kept_below ≤ cycles → live + 1 + offset + judged_count claim.kind ≤ cycles → clean ≤ offset → IsAnswer (violated d live cycles kept kept_below claim offset clean) run → (v : Key → Bool) × AllTrue v (formula_over (definitions coding (violated d live cycles kept kept_below claim offset clean) moved) (asked_clauses (violated d live cycles kept kept_below claim offset clean)) keys)
+pub claim_answer_models : (coding : Coding) (d : Design) (live cycles : ℕ) (kept : List InvClause) (kept_below : ℕ) (claim : Claim) (offset clean : ℕ) (moved : List (List Bool)) (layer : Key → ℕ → Bool) (differs : ℕ → Bool) (keys : List Key) (run : List Cycle) → CodingCovers coding → ((i : InvClause) → In i kept → NamesRegs d i) → IsAskedOf d claim run → IsDecided AnyKey d claim run differs → SaysLate coding d claim moved run layer differs → judged_count claim.kind ≤ 15 → kept_below ≤ cycles → live + 1 + offset + judged_count claim.kind ≤ cycles → clean ≤ offset → IsAnswer (violated d live cycles kept kept_below claim offset clean) run → (v : Key → Bool) × AllTrue v (formula_over (definitions coding (violated d live cycles kept kept_below claim offset clean) moved) (asked_clauses (violated d live cycles kept kept_below claim offset clean)) keys) × Says v d run
 claim_answer_models coding d live cycles kept kept_below claim offset clean moved layer differs keys run covers names is decided late few short fits less answer =
     let q = violated d live cycles kept kept_below claim offset clean in
-    let count = answer.count in
+    let count = answer.cycles.count in
     let t = live + 1 + offset in
     let found = violated_holds AnyKey d claim run differs live t decided tt (λ alt l i j. tt) answer.asked.1 in
     let alt = found.1.0 in
@@ -262,7 +260,7 @@ claim_answer_models coding d live cycles kept kept_below claim offset clean move
           let c = here.0 in
           let lists = flat_map (layer_definitions coding d claim moved i) (below (length claim.through + 1)) in
           elim (In-cases def (base_definitions coding d live i) (claim_definitions coding d claim moved i) of.2) [
-            | inl base ↦ base_true coding v d live run i c covers is.sound is.linked (answer.resets i c here.1) here.1 says def base
+            | inl base ↦ base_true coding v d live run i c covers is.sound is.linked (answer.cycles.resets i c here.1) here.1 says def base
             | inr more ↦
                 elim (In-cases def lists (end_definition coding d claim moved i claim.end ++ extra_definitions d claim moved i) more) [
                   | inl layer ↦
@@ -304,4 +302,5 @@ claim_answer_models coding d live cycles kept kept_below claim offset clean move
                       bad_true v d claim t place.0 alt cl (story_bad d claim run layer differs bad t) (found.0 v extras) place.1 (found.1.2 v extras) in_bad
                 ]
           ])),
+      says,
     )

@@ -11,7 +11,7 @@ use Rattle.net_model.specs.declared.terns.Tern.TheVariants.{Zero, One, Unknown}
 use Rattle.net_model.specs.declared.queries.Phase.TheVariants.{Step}
 use Rattle.query_model.specs.Keys.{key, lit}
 use Rattle.query_model.specs.Tables.{Cube, constant_cubes}
-use Rattle.query_model.specs.Queries.{claim_query}
+use Rattle.net_model.specs.Queries.{claim_query}
 use Rattle.query_model.specs.Defined.{prime_cubes}
 use Rattle.query_model.specs.Formula.{definitions, asked_clauses, formula_over}
 use Rattle.query_model.specs.declared.keys.Key.{Key}

@@ -17,6 +17,7 @@ abbrev pub row_bits : ℕ → ℕ → List Bool
 row_bits zero w = []
 row_bits (suc places) w = (w % 2 == 1) ∷ row_bits places (w / 2)
 
+-- row w, with what the function gives there
 abbrev pub row_cube : ((ℕ → Bool) → Bool) → ℕ → ℕ → Cube
 row_cube cell places w =
     record { fixed = map tern_of (row_bits places w); value = on_list cell (row_bits places w) }
@@ -31,10 +32,12 @@ digit_tern zero = Zero
 digit_tern (suc zero) = One
 digit_tern (suc (suc n)) = Unknown
 
+-- what cube w fixes at each place
 abbrev pub cube_terns : ℕ → ℕ → List Tern
 cube_terns zero w = []
 cube_terns (suc places) w = digit_tern (w % 3) ∷ cube_terns places (w / 3)
 
+-- the cube with the value that the function has all over it, if it has one
 abbrev pub known_cube : List Tern → Tern → List Cube
 known_cube terns Zero = record { fixed = terns; value = false } ∷ []
 known_cube terns One = record { fixed = terns; value = true } ∷ []
@@ -46,6 +49,7 @@ constant_from cell places [] = []
 constant_from cell places (w ∷ ws) =
     known_cube (cube_terns places w) (cell_value cell (λ i. slice_index_or (cube_terns places w) i Zero)) ++ constant_from cell places ws
 
+-- all cubes on which the function is constant, by their numbers
 abbrev pub constant_cubes : ((ℕ → Bool) → Bool) → ℕ → List Cube
 constant_cubes cell places = constant_from cell places (below (3 ^ places))
 
@@ -60,6 +64,7 @@ outside _ _ = []
 abbrev pub cube_clause : List KeyLit → KeyLit → Cube → List KeyLit
 cube_clause reads out cube = outside reads cube.fixed ++ flipped (not cube.value) out ∷ []
 
+-- one such clause for each cube
 abbrev pub plain_clauses : List KeyLit → KeyLit → List Cube → List (List KeyLit)
 plain_clauses reads out cubes = map (cube_clause reads out) cubes
 
@@ -82,12 +87,15 @@ escapes (h ∷ hs) (l ∷ ls) (One ∷ ts) = l ∷ escapes hs ls ts
 escapes (h ∷ hs) (l ∷ ls) (Unknown ∷ ts) = escapes hs ls ts
 escapes _ _ _ = []
 
+-- "some fixed place cannot have its bit, or the output may have the cube's value"
 abbrev pub may_clause : List KeyLit → List KeyLit → KeyLit → KeyLit → Cube → List KeyLit
 may_clause hs ls high low cube = barred hs ls cube.fixed ++ may_be cube.value high low ∷ []
 
+-- "some fixed place may have the other bit, or the output cannot have the other value"
 abbrev pub must_clause : List KeyLit → List KeyLit → KeyLit → KeyLit → Cube → List KeyLit
 must_clause hs ls high low cube = escapes hs ls cube.fixed ++ opposite (may_be (not cube.value) high low) ∷ []
 
+-- the first for each cube of one list, the second for each of the other
 abbrev pub hazard_clauses : List KeyLit → List KeyLit → KeyLit → KeyLit → List Cube → List Cube → List (List KeyLit)
 hazard_clauses hs ls high low rows cubes =
     map (may_clause hs ls high low) rows ++ map (must_clause hs ls high low) cubes

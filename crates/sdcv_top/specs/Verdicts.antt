@@ -1,5 +1,5 @@
 -- The claim of a false path between two registers, and the verdict on it.
-use Rattle.std.specs.Prelude.{ℕ, false, List, [], Option, None, Some}
+use Rattle.std.specs.Prelude.{ℕ, false, [], Option, None, Some}
 use Rattle.net_model.specs.declared.netlist.Design.{Design}
 use Rattle.net_model.specs.declared.claims.Claim.{Claim}
 use Rattle.sdcv_base.specs.declared.kinds.Kind.TheVariants.{False}
@@ -7,8 +7,7 @@ use Rattle.net_model.specs.declared.claims.Start.TheVariants.{Reg as RegStart}
 use Rattle.net_model.specs.declared.claims.End.TheVariants.{Reg as RegEnd}
 use Rattle.net_model.specs.Judge.{Holds}
 use Rattle.net_model.specs.Paths.{HasPath}
-use Rattle.net_model.specs.declared.cycles.Cycle.{Cycle}
-use Rattle.net_model.specs.Queries.{IsStepAnswer}
+use Rattle.net_model.specs.Queries.{HasStepAnswer}
 use Rattle.sdcv_top.specs.declared.verdicts.Verdict.{Verdict}
 use Rattle.sdcv_top.specs.declared.verdicts.Verdict.TheVariants as verdict
 
@@ -16,13 +15,9 @@ use Rattle.sdcv_top.specs.declared.verdicts.Verdict.TheVariants as verdict
 abbrev pub false_path : ℕ → ℕ → Claim
 false_path start end_ = record { kind = False; hazard = false; start = RegStart start; end = RegEnd end_; through = [] }
 
--- some stretch answers the step query of depth 0
-abbrev pub HasStepAnswer : Design → Claim → Type 0
-HasStepAnswer d claim = (stretch : List Cycle) × IsStepAnswer d claim 0 stretch
-
 -- a pair is selected exactly where it has a path; it is justified only where the claim holds in every run and the
 -- step query of depth 0 has no answer, and open only where that query has one
 abbrev pub IsVerdict : Design → Claim → Option Verdict → Type 0
 IsVerdict d claim None = ¬ HasPath d claim.start claim.end claim.through
-IsVerdict d claim (Some verdict.Justified) = HasPath d claim.start claim.end claim.through × Holds d claim × ¬ HasStepAnswer d claim
-IsVerdict d claim (Some verdict.Open) = HasPath d claim.start claim.end claim.through × HasStepAnswer d claim
+IsVerdict d claim (Some verdict.Justified) = HasPath d claim.start claim.end claim.through × Holds d claim × ¬ HasStepAnswer d claim 0
+IsVerdict d claim (Some verdict.Open) = HasPath d claim.start claim.end claim.through × HasStepAnswer d claim 0

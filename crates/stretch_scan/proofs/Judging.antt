@@ -11,6 +11,7 @@ use Rattle.net_model.specs.Layers.{IsLateCapture}
 use Rattle.sdcv_base.specs.Kinds.{judged_count}
 use Rattle.net_model.specs.Judge.{start_bit, DiffersLate, IsBadPlain, IsBadFor, IsViolatedAt}
 use Rattle.net_model.specs.Queries.{IsStepAnswer}
+use Rattle.net_model.proofs.Stretches.{step_answer}
 use Rattle.net_model.proofs.Unique.{settled_same}
 use Rattle.net_model.specs.declared.netlist.Design.{Design}
 use Rattle.net_model.specs.declared.cycles.Cycle.{Cycle}
@@ -63,32 +64,27 @@ one_judged claim plain = ap judged_count plain.kind
 pub answer_from : (d : Design) (claim : Claim) (s : Stretch) (late : Bool) → IsPlainFalse claim → IsReady d s → IsSimulated d s → start_bit claim.start s.second ≢ start_bit claim.start s.first → IsLateCapture d claim s.second (start_bit claim.start s.first) late → late ≢ capture d claim.end s.second → IsStepAnswer d claim 0 (two s)
 answer_from d claim s late plain ready run toggles is_late differs =
     let one = one_judged claim plain in
-    record {
-      linked = is_stretch d s ready run;
-      count = omega arith;
-      clean = λ offset low. absurd (omega arith);
-      violated =
+    step_answer d claim 0 (two s) (is_stretch d s ready run) (omega arith) (λ offset low. absurd (omega arith))
+    (record {
+      stale = start_bit claim.start s.first;
+      toggles =
           record {
-            stale = start_bit claim.start s.first;
-            toggles =
-                record {
-                  before = s.first;
-                  now = s.second;
-                  before_at = refl;
-                  now_at = refl;
-                  is_live = omega arith;
-                  stale_is = refl;
-                  differs = toggles;
-                };
-            r = 0;
-            judged = omega arith;
             before = s.first;
-            c = s.second;
+            now = s.second;
             before_at = refl;
-            c_at = refl;
-            bad = bad_from d claim (start_bit claim.start s.first) s.first s.second plain (late, is_late, differs);
+            now_at = refl;
+            is_live = omega arith;
+            stale_is = refl;
+            differs = toggles;
           };
-    }
+      r = 0;
+      judged = omega arith;
+      before = s.first;
+      c = s.second;
+      before_at = refl;
+      c_at = refl;
+      bad = bad_from d claim (start_bit claim.start s.first) s.first s.second plain (late, is_late, differs);
+    })
 
 -- no toggle, or a late capture that is the capture
 abbrev pub IsClean : Design → Claim → Stretch → Type 0
@@ -146,11 +142,11 @@ same_stretch d s0 s t sound ready chosen run same other =
 -- the cycles of an answer are simulated
 run_of : (d : Design) (claim : Claim) (t : Stretch) → IsStepAnswer d claim 0 (two t) → IsSimulated d t
 run_of d claim t answer =
-    let settled = answer.linked.linked.settled in
+    let settled = answer.cycles.linked.settled in
     record {
       first = All-head (IsSettled d) t.first (t.second ∷ []) settled;
       second = All-head (IsSettled d) t.second [] (All-tail (IsSettled d) t.first (t.second ∷ []) settled);
-      next = answer.linked.linked.next 0 t.first t.second refl refl;
+      next = answer.cycles.linked.next 0 t.first t.second refl refl;
     }
 
 -- a clean stretch leaves no answer with its chosen bits
@@ -159,7 +155,7 @@ none_from d claim s0 s sound plain ready chosen run clean t same answer =
     let one = same_stretch d s0 s t sound ready chosen run same (run_of d claim t answer) in
     let first = subst (λ (c : Cycle). IsStepAnswer d claim 0 (c ∷ t.second ∷ [])) one.0 answer in
     let both = subst (λ (c : Cycle). IsStepAnswer d claim 0 (s.first ∷ c ∷ [])) one.1 first in
-    clean_has_none d claim s clean (violation_of d claim s plain both.violated)
+    clean_has_none d claim s clean (violation_of d claim s plain both.asked.1)
 
 pub same_bits : (a b : Bool) → beq a b ≡ true → a ≡ b
 same_bits true true e = refl

@@ -7,6 +7,7 @@ use Rattle.net_model.specs.Stimuli.{AreInputs}
 use Rattle.sdcv_base.specs.Kinds.{judged_count}
 use Rattle.net_model.specs.Queries.{IsStepAnswer}
 use Rattle.net_model.proofs.Settling.{All-at}
+use Rattle.net_model.proofs.Stretches.{stretch_of}
 use Rattle.net_model.specs.declared.netlist.Design.{Design}
 use Rattle.net_model.specs.declared.netlist.Fixed.{Fixed}
 use Rattle.net_model.specs.declared.cycles.Cycle.{Cycle}
@@ -41,9 +42,9 @@ held_same d x y input held one other =
 
 inputs_of : (d : Design) (claim : Claim) (a b : Cycle) → IsStepAnswer d claim 0 (a ∷ b ∷ []) → AreInputs d false a.ins × AreInputs d false b.ins
 inputs_of d claim a b answer =
-    let settled = answer.linked.linked.settled in
-    let fixed = answer.linked.linked.fixed in
-    let resets = answer.linked.resets in (
+    let settled = answer.cycles.linked.settled in
+    let fixed = answer.cycles.linked.fixed in
+    let resets = (stretch_of d claim 0 (a ∷ b ∷ []) answer).resets in (
       record {
         count = (All-head (IsSettled d) a (b ∷ []) settled).shape.ins;
         fixed = All-head (HasFixed d) a (b ∷ []) fixed;
@@ -63,9 +64,9 @@ held_spot d s t (Second i) ready first second held = held_same d s.second.ins t.
 
 -- where no stretch that differs at free bits alone answers the query, none does
 pub none_at_all : (d : Design) (claim : Claim) (free : List Spot) (s : Stretch) → IsPlainFalse claim → IsReady d s → ((spot : Spot) → IsSpotIn d spot → Contains free spot ⊎ (is_free_spot d spot ≡ false)) → HasNoAnswerBut d claim free s → (stretch : List Cycle) → ¬ IsStepAnswer d claim 0 stretch
-none_at_all d claim free s plain ready all none [] answer = absurd (omega (arith, answer.count))
+none_at_all d claim free s plain ready all none [] answer = absurd (omega (arith, answer.cycles.count))
 none_at_all d claim free s plain ready all none (a ∷ []) answer =
-    absurd (omega (arith, answer.count, ap judged_count plain.kind))
+    absurd (omega (arith, answer.cycles.count, ap judged_count plain.kind))
 none_at_all d claim free s plain ready all none (a ∷ b ∷ []) answer =
     let inputs = inputs_of d claim a b answer in
     none (record { first = a; second = b })
@@ -76,4 +77,4 @@ none_at_all d claim free s plain ready all none (a ∷ b ∷ []) answer =
     ])
     answer
 none_at_all d claim free s plain ready all none (a ∷ b ∷ c ∷ rest) answer =
-    absurd (omega (arith, answer.count, ap judged_count plain.kind))
+    absurd (omega (arith, answer.cycles.count, ap judged_count plain.kind))

@@ -2,7 +2,7 @@
 use Rattle.std.specs.Prelude.{◌≡◌, ℕ, ◌+◌, ◌*◌, ◌==◌, ◌&&◌, Bool, false, not, List, length, count_by}
 use Rattle.std.specs.List.{list_any, range_with_len}
 use Rattle.net_model.specs.Judge.{Holds}
-use Rattle.net_model.specs.Queries.{IsStepAnswer}
+use Rattle.net_model.specs.Queries.{IsStepAnswer, HasStepAnswer}
 use Rattle.net_model.specs.declared.netlist.Design.{Design}
 use Rattle.net_model.specs.declared.netlist.Fixed.{Fixed}
 use Rattle.net_model.specs.declared.cycles.Cycle.{Cycle}
@@ -32,11 +32,7 @@ pub record IsPlainFalse (claim : Claim) : Type 0 where
   pub kind : claim.kind ≡ False
   pub plain : claim.hazard ≡ false
 
--- some stretch answers the step query of depth 0
-abbrev pub HasAnswer : Design → Claim → Type 0
-HasAnswer d claim = (stretch : List Cycle) × IsStepAnswer d claim 0 stretch
-
 -- justified where no stretch answers the step query of depth 0, and then the claim holds; open where one does
 abbrev pub ScanMeans : Design → Claim → Scan → Type 0
 ScanMeans d claim Justified = ((stretch : List Cycle) → ¬ IsStepAnswer d claim 0 stretch) × Holds d claim
-ScanMeans d claim Open = HasAnswer d claim
+ScanMeans d claim Open = HasStepAnswer d claim 0

@@ -2,10 +2,9 @@
 ghost use Rattle.std.specs.Prelude.{◌≡◌, [], true, false, All};
 ghost use Rattle.net_model.specs.Netlist.{IsSound};
 ghost use Rattle.net_model.specs.Fits.{Fits};
-ghost use Rattle.net_model.specs.Queries.{IsStepAnswer};
+ghost use Rattle.net_model.specs.Queries.{IsStepAnswer, HasStepAnswer};
 ghost use Rattle.net_model.specs.declared.cycles.Cycle.{Cycle as CycleRecord};
 ghost use Rattle.net_sim.specs.Layers.{AreLayersFor};
-ghost use Rattle.stretch_scan.specs.Scans.{HasAnswer};
 ghost use Rattle.stretch_scan.specs.Spots.{IsReady, IsFreeSpot, AreSameBut, HasNoAnswerBut, KeepsChoice, IsSimulated};
 ghost use Rattle.stretch_scan.specs.Scans.{IsPlainFalse};
 ghost use Rattle.stretch_scan.specs.declared.stretches.Stretch.{Stretch as StretchRecord};
@@ -38,7 +37,7 @@ fn is_violated(design: &Design, claim: &Claim, stretch: &mut Stretch, layers: &m
     ensures chosen { KeepsChoice stretch.old stretch.new }
     ensures ready { IsReady design.now stretch.new }
     ensures room { AreLayersFor design.now layers.new }
-    ensures yes { result ≡ true → HasAnswer design.now claim.now }
+    ensures yes { result ≡ true → HasStepAnswer design.now claim.now 0 }
     ensures no { result ≡ false → HasNoAnswerBut design.now claim.now [] stretch.old }
 {
     run_stretch(design, stretch);
@@ -67,7 +66,7 @@ pub fn is_any_violated(
     ensures same { AreSameBut design.now free.now stretch.old stretch.new }
     ensures ready { IsReady design.now stretch.new }
     ensures room { AreLayersFor design.now layers.new }
-    ensures yes { result ≡ true → HasAnswer design.now claim.now }
+    ensures yes { result ≡ true → HasStepAnswer design.now claim.now 0 }
     ensures no { result ≡ false → HasNoAnswerBut design.now claim.now free.now stretch.old }
 {
     let Some((spot, rest)) = free.split_first() else {

@@ -1,9 +1,10 @@
 use Rattle.std.proofs.Common.{◌≡◌, ◌∙◌, true, ap, subst, sym}
+use Rattle.query_model.specs.declared.keys.Coding.TheVariants.{Rows}
 use Rattle.query_model.specs.Defined.{Definition, late_key}
 use Rattle.query_model.specs.Formula.{has_key}
 use Rattle.query_model.specs.declared.keys.Key.{Key}
 use Rattle.cnf_encode.specs.Coded.{HasKeys, Adds}
-use Rattle.cnf_encode.specs.Late.{plain_reg}
+use Rattle.query_model.specs.Defined.{plain_reg}
 use Rattle.cnf_encode.proofs.Listing.{Closed-clauses, Lists-needed, one_needed}
 use Rattle.cnf_encode.proofs.Captures.{late_few, late_over, plain_reg_is}
 use Rattle.cnf_encode.proofs.ends.list_plain_reg.Goals as goal
@@ -21,12 +22,12 @@ push_plain-requires-clause-keys c =
     let out = late_key c.args.design.now c.args.claim.now c.args.cycle 0 in
     let needed : has_key c.args.frames.now out ≡ true = ap (λ (k : Key). has_key c.args.frames.now k) (sym c.late_keys.ensures.high) ∙ sym c.is_needed.ensures ∙ c.if-not-is_needed.false in
     subst (λ (def : Definition). HasKeys c.args.frames.now def.clauses) (sym is)
-    (Closed-clauses (plain_reg c.args.design.now c.args.claim.now c.args.tables.now.moved c.args.cycle c.args.r c.args.reg.now) c.requires.closed (one_needed c.args.frames.now out needed))
+    (Closed-clauses (plain_reg Rows c.args.design.now c.args.claim.now c.args.tables.now.moved c.args.cycle c.args.r c.args.reg.now) c.requires.closed (one_needed c.args.frames.now out needed))
 
 pub returns : goal.returns
 returns c =
     let is = plain_reg_is c.args.design.now c.args.claim.now c.args.tables.now.moved c.args.cycle c.args.r c.args.reg.now c.in_ok-func.func c.in_ok-reads.reads c.late_keys.result.0 c.in_ok-func.ensures.value c.in_ok-reads.ensures c.late_keys.ensures.high in
     let out = late_key c.args.design.now c.args.claim.now c.args.cycle 0 in
     let needed : has_key c.args.frames.now out ≡ true = ap (λ (k : Key). has_key c.args.frames.now k) (sym c.late_keys.ensures.high) ∙ sym c.is_needed.ensures ∙ c.if-not-is_needed.false in
-    Lists-needed c.args.frames.now (plain_reg c.args.design.now c.args.claim.now c.args.tables.now.moved c.args.cycle c.args.r c.args.reg.now) c.args.clauses.now c.push_plain.new.clauses (one_needed c.args.frames.now out needed)
+    Lists-needed c.args.frames.now (plain_reg Rows c.args.design.now c.args.claim.now c.args.tables.now.moved c.args.cycle c.args.r c.args.reg.now) c.args.clauses.now c.push_plain.new.clauses (one_needed c.args.frames.now out needed)
     (subst (λ (def : Definition). Adds c.args.frames.now def.clauses c.args.clauses.now c.push_plain.new.clauses) is c.in_ok-push_plain.ensures)

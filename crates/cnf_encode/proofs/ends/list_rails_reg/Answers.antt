@@ -1,10 +1,11 @@
 use Rattle.std.proofs.Common.{◌≡◌, ◌∙◌, true, [], ◌∷◌, ap, subst, sym}
 use Rattle.std.specs.List.{list_any}
+use Rattle.query_model.specs.declared.keys.Coding.TheVariants.{Rows}
 use Rattle.query_model.specs.Defined.{Definition, late_key}
 use Rattle.query_model.specs.Formula.{has_key}
 use Rattle.query_model.specs.declared.keys.Key.{Key}
 use Rattle.cnf_encode.specs.Coded.{HasKeys, Adds}
-use Rattle.cnf_encode.specs.Late.{rails_reg}
+use Rattle.query_model.specs.Defined.{rails_reg}
 use Rattle.cnf_encode.proofs.Listing.{Closed-clauses, Lists-needed}
 use Rattle.cnf_encode.proofs.Captures.{late_few, late_over, late_long, rails_reg_is}
 use Rattle.cnf_encode.proofs.ends.list_rails_reg.Goals as goal
@@ -29,7 +30,7 @@ push_rails-requires-clause-keys c =
     ∙ ap (λ (k : Key). list_any (has_key c.args.frames.now) (c.late_keys.result.0 ∷ k ∷ [])) (sym c.late_keys.ensures.low)
     ∙ sym c.is_either_needed.ensures ∙ c.if-not-is_either_needed.false in
     subst (λ (def : Definition). HasKeys c.args.frames.now def.clauses) (sym is)
-    (Closed-clauses (rails_reg c.args.design.now c.args.claim.now c.args.tables.now.moved c.args.cycle c.args.r c.args.reg.now) c.requires.closed needed)
+    (Closed-clauses (rails_reg Rows c.args.design.now c.args.claim.now c.args.tables.now.moved c.args.cycle c.args.r c.args.reg.now) c.requires.closed needed)
 
 pub returns : goal.returns
 returns c =
@@ -40,5 +41,5 @@ returns c =
     ap (λ (k : Key). list_any (has_key c.args.frames.now) (k ∷ low ∷ [])) (sym c.late_keys.ensures.high)
     ∙ ap (λ (k : Key). list_any (has_key c.args.frames.now) (c.late_keys.result.0 ∷ k ∷ [])) (sym c.late_keys.ensures.low)
     ∙ sym c.is_either_needed.ensures ∙ c.if-not-is_either_needed.false in
-    Lists-needed c.args.frames.now (rails_reg c.args.design.now c.args.claim.now c.args.tables.now.moved c.args.cycle c.args.r c.args.reg.now) c.args.clauses.now c.push_rails.new.clauses needed
+    Lists-needed c.args.frames.now (rails_reg Rows c.args.design.now c.args.claim.now c.args.tables.now.moved c.args.cycle c.args.r c.args.reg.now) c.args.clauses.now c.push_rails.new.clauses needed
     (subst (λ (def : Definition). Adds c.args.frames.now def.clauses c.args.clauses.now c.push_rails.new.clauses) is c.in_ok-push_rails.ensures)

@@ -1,7 +1,7 @@
 use Rattle.std.proofs.Common.{◌∙◌, ℕ, refl, sym, subst}
 use Rattle.std.specs.Prelude.{flat_map}
 use Rattle.query_model.specs.Keys.{below}
-use Rattle.query_model.specs.Queries.{Query, Violates, only_in_step, claim_query}
+use Rattle.net_model.specs.Queries.{Query, Violates, only_in_step, claim_query}
 use Rattle.query_model.specs.Formula.{definitions, AreNeeded}
 use Rattle.query_model.specs.declared.keys.Coding.TheVariants.{Rows}
 use Rattle.cnf_encode.specs.Listed.{Lists, claim_cycle}

@@ -1,6 +1,7 @@
 use Rattle.std.proofs.Common.{◌≡◌, ◌∙◌, ℕ, length, subst, sym}
 use Rattle.net_model.specs.Netlist.{AllBelow, setting_inputs}
-use Rattle.cnf_encode.proofs.SettingsPut.{fixed_apart, resets_apart, resets_below, fixed_stay, not_set}
+use Rattle.net_sim.proofs.SettingsPut.{fixed_apart, resets_apart, resets_below, inputs_made}
+use Rattle.cnf_encode.proofs.SettingsPut.{not_set}
 use Rattle.cnf_encode.proofs.free_bits.put_inputs.Goals as goal
 
 pub put_settings-requires-clause-apart : goal.put_settings-requires-clause-apart
@@ -19,11 +20,9 @@ returns c =
     let d = c.args.design.now in
     record {
       lawful =
-          record {
-            count = c.put_settings-2.ensures.len ∙ (c.put_settings.ensures.len ∙ c.put_values.ensures.len);
-            fixed = fixed_stay d c.put_settings.new.ins c.put_settings-2.new.ins c.requires.sound c.put_settings.ensures.put c.put_settings-2.ensures.others;
-            resets = c.put_settings-2.ensures.put;
-          };
+          inputs_made d _ c.put_settings.new.ins c.put_settings-2.new.ins c.requires.sound
+          (c.put_settings-2.ensures.len ∙ (c.put_settings.ensures.len ∙ c.put_values.ensures.len))
+          c.put_settings.ensures.put c.put_settings-2.ensures.put c.put_settings-2.ensures.others;
       free = λ i low fixed reset.
           c.put_settings-2.ensures.others i (not_set d.resets i reset)
           ∙ (c.put_settings.ensures.others i (not_set d.fixed i fixed)

@@ -1,6 +1,6 @@
 use Rattle.std.proofs.Common.{◌<◌, ◌-◌, ◌∙◌, Some, arith, length, length-set}
 use Rattle.cnf_encode.proofs.Valued.{values_back}
-use Rattle.cnf_encode.proofs.SettingsPut.{input_below}
+use Rattle.net_sim.proofs.SettingsPut.{input_below}
 use Rattle.cnf_encode.proofs.input_values.input_values.Goals as goal
 
 pub put-requires : goal.put-requires

@@ -1,11 +1,12 @@
 use Rattle.std.proofs.Common.{◌≡◌, ◌∙◌, true, [], ◌∷◌, length, ap, subst, sym}
 use Rattle.std.specs.List.{list_any}
 use Rattle.query_model.specs.Keys.{key}
+use Rattle.query_model.specs.declared.keys.Coding.TheVariants.{Rows}
 use Rattle.query_model.specs.Defined.{Definition}
 use Rattle.query_model.specs.Formula.{has_key}
 use Rattle.query_model.specs.declared.keys.Key.{Key}
 use Rattle.cnf_encode.specs.Coded.{HasKeys, Adds}
-use Rattle.cnf_encode.specs.Late.{rails_gate}
+use Rattle.query_model.specs.Defined.{rails_gate}
 use Rattle.cnf_encode.proofs.Listing.{Closed-clauses, Lists-needed}
 use Rattle.cnf_encode.proofs.Layering.{length-gate_reads, gate_few, gate_over, rails_gate_is}
 use Rattle.cnf_encode.proofs.layers.list_rails_gate.Goals as goal
@@ -33,7 +34,7 @@ push_rails-requires-clause-keys c =
     ∙ ap (λ (k : Key). list_any (has_key c.args.frames.now) (c.rails_of.result.0 ∷ k ∷ [])) (sym c.rails_of.ensures.low)
     ∙ sym c.is_either_needed.ensures ∙ c.if-not-is_either_needed.false in
     subst (λ (def : Definition). HasKeys c.args.frames.now def.clauses) (sym is)
-    (Closed-clauses (rails_gate c.args.design.now c.args.claim.now c.args.tables.now.moved c.args.cycle c.args.layer c.args.k c.args.gate.now) c.requires.closed needed)
+    (Closed-clauses (rails_gate Rows c.args.design.now c.args.claim.now c.args.tables.now.moved c.args.cycle c.args.layer c.args.k c.args.gate.now) c.requires.closed needed)
 
 pub returns : goal.returns
 returns c =
@@ -44,5 +45,5 @@ returns c =
     ap (λ (k : Key). list_any (has_key c.args.frames.now) (k ∷ low ∷ [])) (sym c.rails_of.ensures.high)
     ∙ ap (λ (k : Key). list_any (has_key c.args.frames.now) (c.rails_of.result.0 ∷ k ∷ [])) (sym c.rails_of.ensures.low)
     ∙ sym c.is_either_needed.ensures ∙ c.if-not-is_either_needed.false in
-    Lists-needed c.args.frames.now (rails_gate c.args.design.now c.args.claim.now c.args.tables.now.moved c.args.cycle c.args.layer c.args.k c.args.gate.now) c.args.clauses.now c.push_rails.new.clauses needed
+    Lists-needed c.args.frames.now (rails_gate Rows c.args.design.now c.args.claim.now c.args.tables.now.moved c.args.cycle c.args.layer c.args.k c.args.gate.now) c.args.clauses.now c.push_rails.new.clauses needed
     (subst (λ (def : Definition). Adds c.args.frames.now def.clauses c.args.clauses.now c.push_rails.new.clauses) is c.in_ok-push_rails.ensures)

@@ -2,7 +2,7 @@ use Rattle.std.proofs.Common.{arith, ap}
 use Rattle.std.specs.Prelude.{flat_map}
 use Rattle.std.proofs.lemmas.List.{take_all}
 use Rattle.query_model.proofs.Based.{in_place}
-use Rattle.cnf_encode.specs.Late.{start_net}
+use Rattle.query_model.specs.Defined.{start_net}
 use Rattle.cnf_encode.proofs.Listing.{Closed-flat, Lists-same}
 use Rattle.cnf_encode.proofs.Covering.{Lists-flat_more}
 use Rattle.cnf_encode.proofs.layers.list_start_nets.Goals as goal

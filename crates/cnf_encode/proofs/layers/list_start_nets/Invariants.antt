@@ -1,7 +1,7 @@
 use Rattle.std.proofs.Common.{take}
 use Rattle.std.specs.Prelude.{flat_map}
 use Rattle.cnf_encode.specs.Listed.{Lists}
-use Rattle.cnf_encode.specs.Late.{start_net}
+use Rattle.query_model.specs.Defined.{start_net}
 use Rattle.cnf_encode.proofs.layers.list_start_nets.Given as goal
 
 abbrev pub invariant-loop-j : goal.invariant-loop-j

@@ -2,7 +2,7 @@ use Rattle.std.proofs.Common.{List, [], ◌∷◌, ◌-◌, map}
 use Rattle.sdcv_base.specs.Kinds.{judged_count}
 use Rattle.query_model.specs.Keys.{below}
 use Rattle.query_model.specs.Defined.{Definition, differ_definition}
-use Rattle.cnf_encode.specs.Points.{toggle_definition, change_definition, stale_definition}
+use Rattle.query_model.specs.Defined.{toggle_definition, change_definition, stale_definition}
 use Rattle.cnf_encode.proofs.Listing.{Closed-left, Closed-right}
 use Rattle.cnf_encode.proofs.points.list_points.Goals as goal
 

@@ -1,7 +1,7 @@
 use Rattle.std.proofs.Common.{◌<◌, ◌-◌, ◌∙◌, ap, subst}
 use Rattle.sdcv_base.specs.Kinds.{judged_count}
 use Rattle.cnf_encode.proofs.Listing.{Closed-map_below, Lists-map_below_more}
-use Rattle.cnf_encode.specs.Points.{stale_definition}
+use Rattle.query_model.specs.Defined.{stale_definition}
 use Rattle.cnf_encode.proofs.points.list_stales.Goals as goal
 
 pub list_stale-requires-clause-closed : goal.list_stale-requires-clause-closed

@@ -1,7 +1,7 @@
 use Rattle.std.proofs.Common.{map}
 use Rattle.query_model.specs.Keys.{below}
 use Rattle.cnf_encode.specs.Listed.{Lists}
-use Rattle.cnf_encode.specs.Points.{stale_definition}
+use Rattle.query_model.specs.Defined.{stale_definition}
 use Rattle.cnf_encode.proofs.points.list_stales.Given as goal
 
 abbrev pub invariant-loop-r : goal.invariant-loop-r

@@ -1,7 +1,7 @@
 use Rattle.std.proofs.Common.{◌≡◌, ◌+◌, subst, sym, arith}
 use Rattle.std.proofs.lemmas.Grind.{common_steps}
 use Rattle.sdcv_base.specs.Kinds.{judged_count}
-use Rattle.query_model.specs.Queries.{live_of, claim_query}
+use Rattle.net_model.specs.Queries.{live_of, claim_query}
 use Rattle.query_model.specs.Formula.{asked_clauses}
 use Rattle.frame_unroll.specs.Framed.{AreWithin}
 use Rattle.frame_unroll.proofs.Bounded.{claim_within}

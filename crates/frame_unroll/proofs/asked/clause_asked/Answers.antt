@@ -1,6 +1,6 @@
 use Rattle.std.proofs.Common.{◌≡◌, ◌+◌, subst, sym, arith}
 use Rattle.std.proofs.lemmas.Grind.{common_steps}
-use Rattle.query_model.specs.Queries.{live_of, clause_query}
+use Rattle.net_model.specs.Queries.{live_of, clause_query}
 use Rattle.query_model.specs.Formula.{asked_clauses}
 use Rattle.frame_unroll.specs.Framed.{AreWithin}
 use Rattle.frame_unroll.proofs.Bounded.{broken_within}

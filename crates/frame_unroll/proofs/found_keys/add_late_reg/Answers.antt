@@ -1,7 +1,7 @@
 use Rattle.std.proofs.Common.{◌≡◌, ◌∙◌, ap, sym, subst, ℕ, List, OnOk}
 use Rattle.query_model.specs.declared.keys.Key.{Key}
 use Rattle.query_model.specs.declared.keys.KeyLit.{KeyLit}
-use Rattle.frame_unroll.specs.Found.{with_keys, reg_row}
+use Rattle.frame_unroll.specs.Found.{with_keys, reg_rail}
 use Rattle.frame_unroll.proofs.Rows.{reg_late-rows, rails_two}
 use Rattle.frame_unroll.proofs.found_keys.add_late_reg.Goals as goal
 
@@ -12,7 +12,7 @@ returns c =
     let moved = c.args.tables.now.moved in
     let reg = c.item-register.result.now in
     let found = c.args.found.now.keys in
-    let rails : ℕ → List KeyLit = λ rail. reg_row d claim moved c.args.cycle rail c.args.reg reg in
-    let whole = ap (λ (keys : List Key). with_keys keys (rails 1)) c.in_ok-add_reg_row.ensures
+    let rails : ℕ → List KeyLit = λ rail. reg_rail d claim moved c.args.cycle rail c.args.reg reg in
+    let whole = ap (λ (keys : List Key). with_keys keys (rails 1)) c.in_ok-add_reg_rail.ensures
     ∙ (sym (rails_two claim found rails c.if-not-claim.false) ∙ sym (ap (with_keys found) (reg_late-rows d claim moved c.args.cycle c.args.reg reg c.item-register.ensures))) in
-    subst (λ (keys : List Key). OnOk c.add_reg_row-2.result (c.add_reg_row-2.new.found.keys ≡ keys)) whole c.add_reg_row-2.ensures
+    subst (λ (keys : List Key). OnOk c.add_reg_rail-2.result (c.add_reg_rail-2.new.found.keys ≡ keys)) whole c.add_reg_rail-2.ensures

@@ -1,5 +1,5 @@
 use Rattle.std.proofs.Common.{◌≡◌, ◌++◌, take}
-use Rattle.frame_unroll.specs.Asked.{kept_in}
+use Rattle.query_model.specs.Formula.{kept_in}
 use Rattle.frame_unroll.proofs.kept.push_kept_in.Given as goal
 
 abbrev pub invariant-loop-clause : goal.invariant-loop-clause

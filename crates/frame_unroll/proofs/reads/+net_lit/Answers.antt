@@ -29,5 +29,5 @@ pub returns : goal.returns
 returns t c =
     let key = c.args.key in
     let next : key.layer ≡ suc (key.layer - 1) = omega arith in
-    c.late_lit.ensures
+    c.late_net_lit.ensures
     ∙ sym (read_free c.args.design.now c.args.claim.now c.args.tables.now.moved key.cycle (key.layer - 1) key.layer key.rail key.point c.item.result.now next c.item.ensures c.if-not-at.ensures (sym c.if-is_held.ensures))

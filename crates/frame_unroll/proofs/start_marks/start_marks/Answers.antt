@@ -9,7 +9,7 @@ use Rattle.frame_unroll.proofs.start_marks.start_marks.Goals.{in-Reg, in-Input}
 pub returns-clause-marks : goal.returns-clause-marks
 returns-clause-marks c =
     let d = c.args.design.now in
-    let free = c.in_ok-marks.ensures.free in
+    let free = c.in_ok-marks.ensures.each in
     elim c.match-claim.branch [
       | in-Reg w ↦ rw w.marks-is (λ n. w.mark_outs.ensures.marks n ∙ (ap (λ (b : Bool). b || is_out w.item.result.now.outs n) (free n) ∙ sym (reg_start d c.args.claim.now w.in-Reg.r w.item.result.now n w.in-Reg.is w.item.ensures)))
       | in-Input w ↦

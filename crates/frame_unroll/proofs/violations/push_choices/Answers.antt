@@ -1,6 +1,6 @@
 use Rattle.std.proofs.Common.{◌++◌, ◌∙◌, ap, sym, take, List, append_assoc}
 use Rattle.query_model.specs.declared.keys.KeyLit.{KeyLit}
-use Rattle.frame_unroll.specs.Asked.{all_chosen, chosen_clauses}
+use Rattle.query_model.specs.Formula.{all_chosen, chosen_clauses}
 use Rattle.frame_unroll.proofs.Asking.{all_chosen-take}
 use Rattle.frame_unroll.proofs.violations.push_choices.Goals as goal
 

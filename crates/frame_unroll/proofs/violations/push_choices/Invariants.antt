@@ -1,5 +1,5 @@
 use Rattle.std.proofs.Common.{◌≡◌, ◌++◌, take}
-use Rattle.frame_unroll.specs.Asked.{all_chosen}
+use Rattle.query_model.specs.Formula.{all_chosen}
 use Rattle.frame_unroll.proofs.violations.push_choices.Given as goal
 
 abbrev pub invariant-loop-place : goal.invariant-loop-place

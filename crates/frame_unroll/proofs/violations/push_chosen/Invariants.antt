@@ -1,5 +1,5 @@
 use Rattle.std.proofs.Common.{◌≡◌, ◌++◌, take}
-use Rattle.frame_unroll.specs.Asked.{chosen_clauses}
+use Rattle.query_model.specs.Formula.{chosen_clauses}
 use Rattle.frame_unroll.proofs.violations.push_chosen.Given as goal
 
 abbrev pub invariant-loop-condition : goal.invariant-loop-condition

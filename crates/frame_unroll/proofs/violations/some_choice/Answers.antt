@@ -1,6 +1,6 @@
 use Rattle.std.proofs.Common.{◌++◌, ◌∷◌, [], ◌∙◌, ap, sym, take, List, arith}
 use Rattle.query_model.specs.declared.keys.KeyLit.{KeyLit}
-use Rattle.frame_unroll.specs.Asked.{some_chosen}
+use Rattle.query_model.specs.Formula.{some_chosen}
 use Rattle.frame_unroll.proofs.Asking.{some_chosen-take}
 use Rattle.frame_unroll.proofs.violations.some_choice.Goals as goal
 

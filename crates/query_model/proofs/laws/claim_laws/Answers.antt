@@ -1,8 +1,9 @@
 use Rattle.std.proofs.lemmas.List.Elements.{All-contains}
 use Rattle.query_model.specs.Laws.{NamesRegs}
 use Rattle.query_model.proofs.Claims.{claim_models, claim_answers}
-use Rattle.query_model.specs.Queries.{claim_query}
+use Rattle.net_model.specs.Queries.{claim_query}
 use Rattle.query_model.proofs.Problems.{numbered_models, numbered_answers}
+use Rattle.query_model.proofs.OneProblem.{one_problem}
 use Rattle.query_model.proofs.Railed.{claim_rails, numbered_rails}
 use Rattle.query_model.proofs.laws.claim_laws.Goals as goal
 
@@ -27,3 +28,7 @@ returns-clause-rails c hazard coding =
 pub returns-clause-numbered_rails : goal.returns-clause-numbered_rails
 returns-clause-numbered_rails c hazard coding =
     numbered_rails coding c.args.claim.now (claim_query c.args.design.now c.args.claim.now c.args.phase c.args.depth c.args.inv.now) (claim_rails coding c.args.design.now c.args.claim.now c.args.phase c.args.depth c.args.inv.now c.requires.sound c.requires.fits hazard)
+
+pub returns-clause-one_problem : goal.returns-clause-one_problem
+returns-clause-one_problem c coding =
+    one_problem coding (claim_query c.args.design.now c.args.claim.now c.args.phase c.args.depth c.args.inv.now) c.requires.sound

@@ -2,7 +2,7 @@ use Rattle.std.proofs.Common.{◌∙◌, ◌+◌, List, ℕ, length, subst, sym}
 use Rattle.net_model.specs.Netlist.{AllBelow, setting_inputs}
 use Rattle.cnf_encode.specs.Placed.{StandOnce}
 use Rattle.cnf_encode.proofs.Standing.{inputs_once, gates_below, gates_once, bits_below, bits_once}
-use Rattle.cnf_encode.proofs.SettingsPut.{fixed_below, resets_below}
+use Rattle.net_sim.proofs.SettingsPut.{fixed_below, resets_below}
 use Rattle.cnf_encode.proofs.cones.Cone.of.Goals as goal
 
 pub input_values-requires : goal.input_values-requires

@@ -3,7 +3,7 @@ use Rattle.std.proofs.lemmas.Result.{IfOk-weaker}
 use Rattle.net_model.specs.Netlist.{IsSound}
 use Rattle.net_model.specs.declared.netlist.Design.{Design}
 use Rattle.net_model.specs.declared.invariants.InvClause.{InvClause}
-use Rattle.query_model.specs.Queries.{Query, Breaks}
+use Rattle.net_model.specs.Queries.{Query, Breaks}
 use Rattle.query_model.specs.Formula.{definitions, AreNeeded}
 use Rattle.query_model.specs.declared.keys.Key.{Key}
 use Rattle.query_model.specs.declared.keys.Coding.TheVariants.{Rows}

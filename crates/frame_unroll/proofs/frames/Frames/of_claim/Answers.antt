@@ -1,6 +1,6 @@
 use Rattle.std.proofs.Common.{◌≡◌, refl, sym, subst, List, ℕ}
 use Rattle.std.proofs.lemmas.Result.{IfOk-weaker}
-use Rattle.query_model.specs.Queries.{Query, Violates, claim_query, only_in_step}
+use Rattle.net_model.specs.Queries.{Query, Violates, claim_query, only_in_step}
 use Rattle.query_model.specs.Formula.{definitions, AreNeeded}
 use Rattle.query_model.specs.declared.keys.Key.{Key}
 use Rattle.query_model.specs.declared.keys.KeyLit.{KeyLit}

@@ -2,7 +2,7 @@ use Rattle.std.proofs.Common.{◌≡◌, ◌∙◌, refl, sym, subst, ap, ◌+�
 use Rattle.std.proofs.lemmas.Option.{get_or_from_slice_get}
 use Rattle.std.proofs.lemmas.Result.{IfOk-weaker}
 use Rattle.net_model.specs.declared.invariants.InvClause.{InvClause}
-use Rattle.query_model.specs.Queries.{Query, Breaks, clause_query}
+use Rattle.net_model.specs.Queries.{Query, Breaks, clause_query}
 use Rattle.query_model.specs.Formula.{definitions, asked_clauses, AreNeeded}
 use Rattle.query_model.specs.declared.keys.Key.{Key}
 use Rattle.query_model.specs.declared.keys.KeyLit.{KeyLit}

@@ -7,10 +7,9 @@ ghost use Rattle.proof_log.specs.Clauses.{clause_true};
 ghost use Rattle.proof_log.specs.Formulas.{value_in, IsModel};
 ghost use Rattle.cnf_encode.specs.Problems.{IsMadeFor};
 
-use crate::cases::Case;
-use crate::runs::blank;
-use crate::{Problem, read_back};
+use cnf_encode::{Problem, read_back};
 use net_model::{Cycle, Design, InvClause, Stimulus};
+use net_samples::Case;
 use net_sim::{settle, step};
 use proof_log::{Clause, Formula, Lit, Model};
 use query_model::Key;
@@ -85,7 +84,7 @@ fn place_to_change(formula: &Formula, model: &Model) -> usize {
 /// All models. Each assignment of at most 16 variables is tried.
 pub fn models(rt: &impl Abort, alloc: Global, formula: &Formula) -> Result<Seq<Model>, AllocError> {
     let mut found = Seq::new(alloc);
-    let values = Seq::from_vec(vec![in alloc; false; formula.vars as usize]?);
+    let values = Seq::filled(alloc, false, formula.vars as usize)?;
     let mut model = Model { values };
     for _ in 0..1 << 16 {
         if are_true(formula, &model) {
@@ -164,9 +163,9 @@ pub fn stimulus_of(
         .split_at_checked(design.regs.len())
         .unwrap_or((&[], &[]));
     for row in rest.chunks(design.inputs.len().max(1)) {
-        inputs.push(Seq::from_vec(Vec::from_slice(alloc, row)?))?;
+        inputs.push(Seq::of(alloc, row)?)?;
     }
-    let state = Seq::from_vec(Vec::from_slice(alloc, state)?);
+    let state = Seq::of(alloc, state)?;
     Ok(Stimulus { state, inputs })
 }
 
@@ -181,7 +180,7 @@ fn settled(
     requires sound { IsSound design.now }
     ensures { IfOk result (IsSettled design.now) }
 {
-    let mut cycle = blank(alloc, design)?;
+    let mut cycle = Cycle::blank(alloc, design)?;
     assert_eq!(rt; bits.len(), design.regs.len());
     assert_eq!(rt; ins.len(), design.inputs.len());
     cycle.bits = bits;
@@ -203,7 +202,7 @@ pub fn run_of(
     let mut bits = stimulus.state.copy(alloc)?;
     for ins in stimulus.inputs.as_slice() {
         let cycle = settled(rt, alloc, design, bits, ins.copy(alloc)?)?;
-        let mut next = blank(alloc, design)?;
+        let mut next = Cycle::blank(alloc, design)?;
         step(design, &cycle, &mut next);
         bits = next.bits;
         run.push(cycle)?;

@@ -2,10 +2,10 @@ use Rattle.std.proofs.Common.{refl, inr}
 use Rattle.std.proofs.lemmas.Result.{IfOk-weaker}
 use Rattle.net_model.proofs.Settling.{All-at}
 use Rattle.query_model.specs.Laws.{NamesRegs}
-use Rattle.query_model.specs.Queries.{clause_query}
+use Rattle.net_model.specs.Queries.{clause_query}
 use Rattle.query_model.proofs.Based.{get_within}
 use Rattle.cnf_encode.specs.Problems.{IsMadeFor}
-use Rattle.cnf_encode.proofs.tests.first_problem.Goals as goal
+use Rattle.formula_tests.proofs.tests.first_problem.Goals as goal
 
 pub returns : goal.returns
 returns c =

@@ -5,11 +5,11 @@ use Rattle.query_model.specs.Defined.{numbered}
 use Rattle.query_model.specs.declared.keys.KeyLit.{KeyLit}
 use Rattle.frame_unroll.specs.Gathered.{pin_of}
 use Rattle.frame_unroll.proofs.Numbering.{numbered-take}
-use Rattle.frame_unroll.proofs.gathered.row_reads.Goals as goal
+use Rattle.frame_unroll.proofs.gathered.pin_literals_at.Goals as goal
 
 pub loop-i-preserved : goal.loop-i-preserved
 loop-i-preserved c =
-    let at : PinRef → ℕ → KeyLit = λ pin n. read_pin c.args.design.now c.args.claim.now c.args.tables.now.moved c.args.row.cycle c.args.row.layer c.args.row.rail pin n in
+    let at : PinRef → ℕ → KeyLit = λ pin n. read_pin c.args.design.now c.args.claim.now c.args.tables.now.moved c.args.rail_at.cycle c.args.rail_at.layer c.args.rail_at.rail pin n in
     let f : ℕ → ℕ → KeyLit = λ i n. at (pin_of c.args.owner i) n in
     let read : c.pin_lit.result ≡ f c.loop-i.i c.at.result = c.pin_lit.ensures ∙ ap (λ pin. at pin c.at.result) c.pin_of.ensures in
     c.in_ok-push.ensures.ok ∙ ap (λ (ls : List KeyLit). ls ++ c.pin_lit.result ∷ []) c.loop-i.invariant

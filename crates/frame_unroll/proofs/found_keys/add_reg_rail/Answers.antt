@@ -7,13 +7,13 @@ use Rattle.query_model.specs.declared.keys.Key.{Key}
 use Rattle.query_model.specs.declared.keys.KeyLit.{KeyLit}
 use Rattle.frame_unroll.specs.Found.{with_key, with_keys}
 use Rattle.frame_unroll.proofs.Adding.{with_keys-append}
-use Rattle.frame_unroll.proofs.found_keys.add_reg_row.Goals as goal
+use Rattle.frame_unroll.proofs.found_keys.add_reg_rail.Goals as goal
 
 pub returns : goal.returns
 returns c =
     let d = c.args.design.now in
     let claim = c.args.claim.now in
-    let row = c.args.row in
+    let row = c.args.rail_at in
     let reg = c.args.reg.now in
     let found = c.args.found.now.keys in
     let last = length claim.through + 1 in

@@ -5,18 +5,18 @@ ghost use Rattle.net_model.specs.Fits.{Fits};
 ghost use Rattle.query_model.specs.Laws.{NamesRegs};
 ghost use Rattle.cnf_encode.specs.Problems.{IsMadeFor};
 
-use crate::cases::Ask::{Either, Fails, From, Hazard, In, Keeps, Multi, Out, To, Via};
-use crate::cases::Form::{And, AndOr, Choice, Not, One, Or, Pin, Xor};
-use crate::cases::Out::{Q, Qn};
-use crate::cases::Part::{Drives, Holds, Nets, Outputs, Reset, Zero};
-use crate::cases::{Ask, Case, Controls, Lits, Part, case_of, design};
 use crate::plain_answers::{
     advance, is_broken, is_lawful, marked, models, number_of, run_of, stimulus_of,
 };
-use crate::{Problem, formula, inv_formula};
+use cnf_encode::{Problem, formula, inv_formula};
 use net_model::Phase::{Base, Step};
 use net_model::PinRef::{GateIn as G, Net as N, OutPort as O, RegIn as R};
 use net_model::{Claim, Cycle, Design, InvClause, Phase, Stimulus};
+use net_samples::Ask::{Either, Fails, From, Hazard, In, Keeps, Multi, Out, To, Via};
+use net_samples::{
+    Ask, BOTH, CELL, CHAIN, CLEAR, Case, FLIPS, FORK, GATES, KEEPS, LOOP, Lits, PORTS, Part, RESET,
+    TWO, case_of, design,
+};
 use proof_log::{Clause, Model};
 use query_model::Key;
 use sdcv_base::Seq;
@@ -188,7 +188,7 @@ fn answers(rt: &impl Abort, alloc: Global, trial: Trial) -> Result<usize, AllocE
     let design = &trial.case.design;
     let inputs = trial.problem.cycles.saturating_mul(design.inputs.len());
     let width = inputs.saturating_add(design.regs.len());
-    let mut bits = Seq::from_vec(vec![in alloc; false; width]?);
+    let mut bits = Seq::filled(alloc, false, width)?;
     let mut count = 0_usize;
     for _ in 0..1 << 14 {
         count = count.saturating_add(count_of(rt, alloc, trial, &bits)?);
@@ -283,119 +283,6 @@ fn count_row(rt: &impl Abort, alloc: Global, row: &Row) -> Result<usize, AllocEr
     count_case(rt, alloc, row, &case)
 }
 
-const FREE: Controls = Controls(None, None, true);
-
-// A clear by pin 1.
-const CLEARED: Controls = Controls(Some(Pin(1)), None, true);
-
-const CLEARED_LOW: Controls = Controls(Some(Not(1)), None, true);
-
-// A clear by pin 0 and a preset by pin 1.
-const PRESET_WINS: Controls = Controls(Some(Pin(0)), Some(Pin(1)), true);
-
-// A clear where pin 1 is 0, and a preset where pin 2 is 1.
-const CLEAR_WINS: Controls = Controls(Some(Not(1)), Some(Pin(2)), false);
-
-// Register 0 takes the input, and register 1 takes register 0.
-const TWO: &[Part] = &[
-    Nets(3, &[0]),
-    Holds(Pin(0), FREE, &[0], &[Q(1)]),
-    Holds(Pin(0), FREE, &[1], &[Q(2)]),
-];
-
-// The same with a clear that is active for one cycle.
-const RESET: &[Part] = &[
-    Nets(4, &[0, 1]),
-    Reset(1, true),
-    Holds(Pin(0), CLEARED, &[0, 1], &[Q(2)]),
-    Holds(Pin(0), CLEARED, &[2, 1], &[Q(3)]),
-];
-
-// A port that shows a conjunction of two inputs, unless a third one is 1, which is 0.
-const PORTS: &[Part] = &[
-    Nets(4, &[0, 1, 2]),
-    Zero(2),
-    Outputs(&[3]),
-    Drives(AndOr(0, 1, 2), &[0, 1, 2], 3),
-];
-
-// Register 1 takes a conjunction of both outputs of register 0, which is 0.
-const BOTH: &[Part] = &[
-    Nets(5, &[0]),
-    Drives(And(0, 1), &[1, 2], 3),
-    Holds(Pin(0), FREE, &[0], &[Q(1), Qn(2)]),
-    Holds(Pin(0), FREE, &[3], &[Q(4)]),
-];
-
-// Register 1 is cleared by register 0, and preset by input 1, also where both are 1.
-const CLEAR: &[Part] = &[
-    Nets(5, &[0, 1, 2]),
-    Holds(Pin(0), FREE, &[0], &[Q(3)]),
-    Holds(Pin(2), PRESET_WINS, &[3, 1, 2], &[Q(4)]),
-];
-
-// Register 1 takes register 0 where input 1 is 1, and else keeps its bit.
-const KEEPS: &[Part] = &[
-    Nets(4, &[0, 1]),
-    Holds(Pin(0), FREE, &[0], &[Q(2)]),
-    Holds(Choice(0, 2, 1), FREE, &[2, 1], &[Q(3)]),
-];
-
-// A register that changes where the input is 1.
-const FLIPS: &[Part] = &[Nets(2, &[0]), Holds(Xor(0, 1), FREE, &[0, 1], &[Q(1)])];
-
-// Register 1 takes input 1, chosen by register 0 from two pins: by four gates, and in one cell.
-const GATES: &[Part] = &[
-    Nets(8, &[0, 1]),
-    Drives(Not(0), &[2], 3),
-    Drives(And(0, 1), &[1, 2], 4),
-    Drives(And(0, 1), &[1, 3], 5),
-    Drives(Or(0, 1), &[4, 5], 6),
-    Holds(Pin(0), FREE, &[0], &[Q(2)]),
-    Holds(Pin(0), FREE, &[6], &[Q(7)]),
-];
-
-const CELL: &[Part] = &[
-    Nets(5, &[0, 1]),
-    Drives(Choice(0, 1, 2), &[1, 1, 2], 3),
-    Holds(Pin(0), FREE, &[0], &[Q(2)]),
-    Holds(Pin(0), FREE, &[3], &[Q(4)]),
-];
-
-// Gate 0 is a conjunction of register 0 and input 1, and gate 1 says whether it differs from register 0.
-const FORK: &[Part] = &[
-    Nets(6, &[0, 1]),
-    Drives(And(0, 1), &[2, 1], 3),
-    Drives(Xor(0, 1), &[3, 2], 4),
-    Holds(Pin(0), FREE, &[0], &[Q(2)]),
-    Holds(Pin(0), FREE, &[4], &[Q(5)]),
-];
-
-// Register 1 takes the choice of three gates, input 1 where register 0 is 1 and else its own bit, or where register 0 is 1
-// the complement of that: its pin 0 is the choice, and pin 1 register 0.
-const LOOP: &[Part] = &[
-    Nets(8, &[0, 1]),
-    Drives(And(0, 1), &[1, 2], 3),
-    Drives(And(0, 1), &[6, 7], 4),
-    Drives(Or(0, 1), &[3, 4], 5),
-    Holds(Pin(0), FREE, &[0], &[Q(2), Qn(7)]),
-    Holds(Xor(0, 1), FREE, &[5, 2], &[Q(6)]),
-];
-
-// Two registers that are cleared in the first cycle, where input 1 is 0. Between them a cell would choose a constant 1 if
-// input 2 were 1. Input 0 presets register 1, but the clear wins. Output 0 shows where input 0 is 1 and register 0 is 0.
-const CHAIN: &[Part] = &[
-    Nets(9, &[0, 1, 2]),
-    Outputs(&[8, 7]),
-    Zero(2),
-    Reset(1, false),
-    Drives(One, &[], 5),
-    Drives(Choice(1, 0, 2), &[3, 5, 2], 6),
-    Drives(And(0, 1), &[0, 4], 8),
-    Holds(Pin(0), CLEARED_LOW, &[0, 1], &[Q(3), Qn(4)]),
-    Holds(Pin(0), CLEAR_WINS, &[6, 1, 0], &[Qn(7)]),
-];
-
 const LOW_0: Lits = &[(0, false)];
 
 const LOW_1: Lits = &[(1, false)];
@@ -405,7 +292,7 @@ const IMPLIED: Lits = &[(0, true), (1, false)];
 const NAND: Lits = &[(0, false), (1, false)];
 
 // Pins of through sets are N(net), G(gate, place), R(register, place) and O(output).
-const ROWS: &[Row] = &[
+const SMALL: &[Row] = &[
     Row(TWO, &[], Step, 1, 3, 8),
     Row(TWO, &[From(1), To(0)], Step, 0, 2, 0),
     Row(TWO, &[Multi(2), Keeps(IMPLIED)], Step, 1, 3, 2),
@@ -415,37 +302,57 @@ const ROWS: &[Row] = &[
     Row(RESET, &[From(1), To(0), Multi(2)], Base, 1, 4, 16),
     Row(RESET, &[Fails(LOW_1)], Base, 1, 3, 0),
     Row(RESET, &[Fails(LOW_1)], Base, 2, 4, 32),
-    Row(PORTS, &[In(0), Out(0), Hazard], Step, 1, 3, 12),
     Row(PORTS, &[In(0), Out(0), Via(O(0))], Base, 1, 3, 16),
     Row(BOTH, &[], Step, 0, 2, 0),
-    Row(BOTH, &[Hazard], Step, 0, 2, 8),
     Row(BOTH, &[Via(N(2))], Step, 0, 2, 4),
     Row(CLEAR, &[], Step, 0, 2, 32),
+];
+
+const LARGER: &[Row] = &[
     Row(KEEPS, &[Multi(3), Via(N(2))], Step, 0, 3, 60),
-    Row(KEEPS, &[Multi(2), Hazard, Keeps(IMPLIED)], Step, 0, 2, 6),
     Row(FLIPS, &[To(0), Multi(3), Via(R(0, 1))], Step, 0, 3, 6),
     Row(GATES, &[], Step, 0, 2, 0),
-    Row(GATES, &[Hazard], Step, 0, 2, 16),
-    Row(CELL, &[Hazard], Step, 0, 2, 0),
     Row(FORK, &[Via(N(3)), Either(N(3), G(1, 0))], Step, 0, 2, 16),
     Row(FORK, &[Via(N(4)), Via(G(1, 1))], Step, 0, 2, 0),
-    Row(FORK, &[Via(N(2)), Via(G(1, 1)), Hazard], Step, 0, 2, 32),
-    Row(LOOP, &[Hazard, Via(R(1, 0)), Keeps(NAND)], Step, 0, 2, 10),
     Row(LOOP, &[Multi(3), Via(R(1, 1))], Step, 0, 3, 40),
-    Row(LOOP, &[Hazard, Via(G(1, 1)), Via(R(1, 0))], Step, 1, 3, 32),
     Row(CHAIN, &[In(0), Out(0), Multi(2)], Base, 1, 4, 24),
     Row(CHAIN, &[Multi(2), Via(G(1, 0))], Base, 1, 4, 8),
-    Row(CHAIN, &[Hazard, Either(N(4), G(1, 0))], Step, 1, 3, 6),
     Row(CHAIN, &[Fails(LOW_1)], Base, 0, 2, 0),
 ];
 
-#[test]
-fn models_are_the_answers(rt: HostRuntime) -> Result<(), AllocError> {
-    for (place, row) in ROWS.iter().enumerate() {
-        let found = count_row(&rt, rt.alloc(), row)?;
+const HAZARDS: &[Row] = &[
+    Row(PORTS, &[In(0), Out(0), Hazard], Step, 1, 3, 12),
+    Row(BOTH, &[Hazard], Step, 0, 2, 8),
+    Row(KEEPS, &[Multi(2), Hazard, Keeps(IMPLIED)], Step, 0, 2, 6),
+    Row(GATES, &[Hazard], Step, 0, 2, 16),
+    Row(CELL, &[Hazard], Step, 0, 2, 0),
+    Row(FORK, &[Via(N(2)), Via(G(1, 1)), Hazard], Step, 0, 2, 32),
+    Row(LOOP, &[Hazard, Via(R(1, 0)), Keeps(NAND)], Step, 0, 2, 10),
+    Row(LOOP, &[Hazard, Via(G(1, 1)), Via(R(1, 0))], Step, 1, 3, 32),
+    Row(CHAIN, &[Hazard, Either(N(4), G(1, 0))], Step, 1, 3, 6),
+];
+
+fn check_rows(rt: &impl Abort, alloc: Global, rows: &[Row]) -> Result<(), AllocError> {
+    for (place, row) in rows.iter().enumerate() {
+        let found = count_row(rt, alloc, row)?;
         assert_eq!(rt; found, row.5, "row {place}");
     }
     Ok(())
+}
+
+#[test]
+fn models_are_the_answers_of_small_designs(rt: HostRuntime) -> Result<(), AllocError> {
+    check_rows(&rt, rt.alloc(), SMALL)
+}
+
+#[test]
+fn models_are_the_answers_of_larger_designs(rt: HostRuntime) -> Result<(), AllocError> {
+    check_rows(&rt, rt.alloc(), LARGER)
+}
+
+#[test]
+fn models_are_the_answers_where_hazards_count(rt: HostRuntime) -> Result<(), AllocError> {
+    check_rows(&rt, rt.alloc(), HAZARDS)
 }
 
 fn push_keys(text: &mut String, problem: &Problem) -> Result<(), AllocError> {

@@ -7,11 +7,11 @@ use Rattle.query_model.specs.declared.keys.Key.{Key}
 use Rattle.query_model.specs.declared.keys.KeyLit.{KeyLit}
 use Rattle.frame_unroll.specs.Found.{with_key, with_keys}
 use Rattle.frame_unroll.proofs.Adding.{with_keys-append}
-use Rattle.frame_unroll.proofs.found_keys.add_gate_row.Goals as goal
+use Rattle.frame_unroll.proofs.found_keys.add_gate_rail.Goals as goal
 
 pub returns : goal.returns
 returns c =
-    let row = c.args.row in
+    let row = c.args.rail_at in
     let found = c.args.found.now.keys in
     let own : Key = key row.cycle row.layer row.rail c.args.gate.now.out in
     let reads : List KeyLit = numbered (λ i n. read_pin c.args.design.now c.args.claim.now c.args.tables.now.moved row.cycle row.layer row.rail (GateIn c.args.number i) n) 0 c.args.gate.now.ins in
