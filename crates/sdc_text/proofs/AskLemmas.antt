@@ -1,13 +1,13 @@
 -- A script that is read asks about three names.
 use Rattle.std.proofs.Common.{◌≡◌, ℕ, Bool, true, false, List, [], ◌∷◌, Option, Some, None, Result, Ok, Err, IfOk, IfSome, IsSome, codes, if◌then◌else◌, refl, subst}
-use Rattle.texts.specs.Reads.{◌>>=◌}
+use Rattle.texts.specs.Reads.{Gives, ◌>>=◌}
 use Rattle.sdc_text.specs.declared.scripts.Class.{Class}
 use Rattle.sdc_text.specs.declared.scripts.Class.TheVariants as class
 use Rattle.sdc_text.specs.declared.scripts.Object.{Object}
 use Rattle.sdc_text.specs.declared.scripts.Object.TheVariants.{Named}
 use Rattle.sdc_text.specs.declared.scripts.What.{What}
 use Rattle.sdc_text.specs.declared.faults.SdcFault.{SdcFault}
-use Rattle.sdc_text.specs.Gives.{Gives}
+use Rattle.sdc_text.specs.Fails.{Fails}
 use Rattle.sdc_text.specs.declared.scripts.Script.{Script}
 use Rattle.sdc_text.specs.Words.{after, name_at, after_number, is_end}
 use Rattle.sdc_text.specs.Objects.{object_at}
@@ -68,6 +68,6 @@ read_asks s =
     after_known HasEnds IsAsked (false_path_at r) _ (path_has_ends r) (λ p ends. last_step (is_end p.1) _ (rw (port.1, ends.1) refl))))
 
 -- an answer that is the script of a text asks
-pub asked_always : (s : List ℕ) (r : Result Script SdcFault) → Gives (λ (x : Script). x) r (script_of s) → IfOk r IsAsked
+pub asked_always : (s : List ℕ) (r : Result Script SdcFault) → Gives Fails (λ (x : Script). x) r (script_of s) → IfOk r IsAsked
 asked_always s (Ok script) e = subst (λ (o : Option Script). IfSome o IsAsked) e (read_asks s)
 asked_always s (Err e) h = tt

@@ -1,5 +1,5 @@
 pub mod Commands
-pub mod Gives
+pub mod Fails
 pub mod Objects
 pub mod Scripts
 pub mod Words

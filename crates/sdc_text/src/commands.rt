@@ -1,7 +1,8 @@
 //! Commands.
 
 ghost use Rattle.sdcv_base.specs.Cursors.{rest};
-ghost use Rattle.sdc_text.specs.Gives.{Gives};
+ghost use Rattle.texts.specs.Reads.{Gives};
+ghost use Rattle.sdc_text.specs.Fails.{Fails};
 ghost use Rattle.sdc_text.specs.Commands as spec;
 
 use crate::faults::SdcFault;
@@ -14,7 +15,7 @@ use std::alloc::Global;
 /// `create_clock -name NAME -period NUMBER [get_ports NAME]`.
 #[tactic(auto, unfolding(crate::specs::Commands::clock_at))]
 pub fn clock(alloc: Global, c: &mut Cursor<'_>) -> Result<What, SdcFault>
-    ensures { Gives (λ what. (what, rest c.new)) result (spec.clock_at (rest c.old)) }
+    ensures { Gives Fails (λ what. (what, rest c.new)) result (spec.clock_at (rest c.old)) }
 {
     expect(c, "create_clock -name ")?;
     let name = take_name(alloc, c)?;
@@ -31,7 +32,7 @@ pub fn clock(alloc: Global, c: &mut Cursor<'_>) -> Result<What, SdcFault>
 /// `set_false_path -from [get_cells NAME] -to [get_cells NAME]`.
 #[tactic(auto, unfolding(crate::specs::Commands::false_path_at))]
 pub fn false_path(alloc: Global, c: &mut Cursor<'_>) -> Result<What, SdcFault>
-    ensures { Gives (λ what. (what, rest c.new)) result (spec.false_path_at (rest c.old)) }
+    ensures { Gives Fails (λ what. (what, rest c.new)) result (spec.false_path_at (rest c.old)) }
 {
     expect(c, "set_false_path -from ")?;
     let from = object(alloc, c, "get_cells", Class::Cells)?;

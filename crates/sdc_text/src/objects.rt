@@ -1,7 +1,8 @@
 //! Objects of a command.
 
 ghost use Rattle.sdcv_base.specs.Cursors.{rest};
-ghost use Rattle.sdc_text.specs.Gives.{Gives};
+ghost use Rattle.texts.specs.Reads.{Gives};
+ghost use Rattle.sdc_text.specs.Fails.{Fails};
 ghost use Rattle.sdc_text.specs.Objects as spec;
 
 use crate::faults::SdcFault;
@@ -18,18 +19,17 @@ pub fn object(
     get: &str,
     class: Class,
 ) -> Result<Seq<Object>, SdcFault>
-    ensures { Gives (λ objects. (objects, rest c.new)) result (spec.object_at get.now class (rest c.old)) }
+    ensures { Gives Fails (λ objects. (objects, rest c.new)) result (spec.object_at get.now class (rest c.old)) }
 {
     expect(c, "[")?;
     expect(c, get)?;
     expect(c, " ")?;
     let pattern = take_name(alloc, c)?;
     expect(c, "]")?;
-    let mut objects = Seq::new(alloc);
-    objects.push(Object::Named(Query {
+    let query = Query {
         class,
         hier: false,
         pattern,
-    }))?;
-    Ok(objects)
+    };
+    Ok(Seq::one(alloc, Object::Named(query))?)
 }

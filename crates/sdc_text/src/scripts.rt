@@ -1,7 +1,8 @@
 //! Scripts as callers see them, and the call that reads one.
 ghost use Rattle.std.specs.Prelude.{◌≡◌, None, Some, IfOk, IsErrOf, IsSome};
 ghost use Rattle.sdc_text.specs.Scripts.{script_of, asks};
-ghost use Rattle.sdc_text.specs.Gives.{Gives};
+ghost use Rattle.texts.specs.Reads.{Gives};
+ghost use Rattle.sdc_text.specs.Fails.{Fails};
 
 use crate::commands::{clock, false_path};
 use crate::faults::SdcFault;
@@ -88,7 +89,7 @@ pub fn read_sdc(alloc: Global, text: &[u8]) -> Result<Script, SdcFault>
 
 #[tactic(auto, unfolding(crate::specs::Scripts::script_of))]
 fn two_commands(alloc: Global, text: &[u8]) -> Result<Script, SdcFault>
-    ensures { Gives (λ script. script) result (script_of text.now) }
+    ensures { Gives Fails (λ script. script) result (script_of text.now) }
 {
     let mut c = Cursor::new(text);
     let clock = clock(alloc, &mut c)?;

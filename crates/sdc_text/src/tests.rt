@@ -15,41 +15,44 @@ fn is_lone(objects: &Seq<Object>, class: Class, name: &[u8]) -> bool {
     }
 }
 
+fn is_clock(command: &Command) -> bool {
+    match &command.what {
+        What::Clock {
+            name: Some(name),
+            source,
+        } => command.line == 1
+            && name.as_bytes() == b"ck".as_slice()
+            && is_lone(source, Class::Ports, b"clk"),
+        _ => false,
+    }
+}
+
+fn is_false_path(command: &Command) -> bool {
+    match &command.what {
+        What::Claiming(
+            Exception {
+                kind: Kind::False,
+                from: Some(from),
+                through,
+                to: Some(to),
+            },
+        ) => command.line == 2
+            && is_lone(from, Class::Cells, b"a")
+            && through.is_empty()
+            && is_lone(to, Class::Cells, b"b"),
+        _ => false,
+    }
+}
+
 // The first line names a clock and its port, the second two cells.
 #[test]
 fn two_lines_are_a_clock_and_a_false_path(rt: HostRuntime) -> Result<(), Fail> {
     for end in ["", "\n"] {
         let text = format!(in rt.alloc(); "{CLOCK}\n{PATH}{end}")?;
         let script = read_sdc(rt.alloc(), text.as_bytes())?;
-        let commands = script.commands.as_slice();
-        assert_eq!(rt; commands.len(), 2);
-        assert_eq!(rt; commands[0].line, 1);
-        assert_eq!(rt; commands[1].line, 2);
-        match &commands[0].what {
-            What::Clock {
-                name: Some(name),
-                source,
-            } => {
-                assert_eq!(rt; name.as_bytes(), b"ck".as_slice());
-                assert!(rt; is_lone(source, Class::Ports, b"clk"));
-            }
-            _ => assert!(rt; false, "a clock"),
-        }
-        match &commands[1].what {
-            What::Claiming(
-                Exception {
-                    kind,
-                    from: Some(from),
-                    through,
-                    to: Some(to),
-                },
-            ) => {
-                assert_eq!(rt; *kind, Kind::False);
-                assert!(rt; is_lone(from, Class::Cells, b"a"));
-                assert!(rt; through.is_empty());
-                assert!(rt; is_lone(to, Class::Cells, b"b"));
-            }
-            _ => assert!(rt; false, "a false path"),
+        match script.commands.as_slice() {
+            [clock, path] => assert!(rt; is_clock(clock) && is_false_path(path)),
+            _ => assert!(rt; false, "two commands"),
         }
     }
     Ok(())
@@ -68,72 +71,87 @@ fn a_script_asks_for_three_names(rt: HostRuntime) -> Result<(), Fail> {
 }
 
 // Texts that are no script, each by the fault that its lines show.
+const REFUSED: &[(&str, &str)] = &[
+    ("", ""),
+    (CLOCK, ""),
+    ("", PATH),
+    (
+        CLOCK,
+        "set_false_path -from [get_cells a] -to [get_cells b]\n\n",
+    ),
+    (
+        CLOCK,
+        "set_false_path -from [get_cells a] -to [get_cells b] ",
+    ),
+    (
+        CLOCK,
+        "set_false_path -from [get_cells a] -to [get_cells b]\r\n",
+    ),
+    (
+        CLOCK,
+        "set_false_path  -from [get_cells a] -to [get_cells b]",
+    ),
+    (
+        CLOCK,
+        "set_false_path -from [get_cells a]  -to [get_cells b]",
+    ),
+    (
+        CLOCK,
+        "set_false_path -from [get_cells {a}] -to [get_cells b]",
+    ),
+    (
+        CLOCK,
+        "set_false_path -from [get_cells a*] -to [get_cells b]",
+    ),
+    (
+        CLOCK,
+        "set_false_path -from [get_cells a/b] -to [get_cells b]",
+    ),
+    (CLOCK, "set_false_path -from [get_cells ] -to [get_cells b]"),
+    (CLOCK, "set_false_path -from [get_pins a] -to [get_cells b]"),
+    (
+        CLOCK,
+        "set_false_path -to [get_cells b] -from [get_cells a]",
+    ),
+    (CLOCK, "set_false_path -from [get_cells a]"),
+    (
+        CLOCK,
+        "set_multicycle_path 2 -from [get_cells a] -to [get_cells b]",
+    ),
+    ("create_clock -name ck -period 10 [get_ports clk]\r", PATH),
+    ("create_clock -name ck -period 10 [get_ports clk]\n", PATH),
+    ("create_clock -name ck -period 10  [get_ports clk]", PATH),
+    ("create_clock -name ck -period 1.0.0 [get_ports clk]", PATH),
+    ("create_clock -name ck -period . [get_ports clk]", PATH),
+    ("create_clock -name ck -period  [get_ports clk]", PATH),
+    ("create_clock -name ck -period -1 [get_ports clk]", PATH),
+    ("create_clock -name ck -period 1e3 [get_ports clk]", PATH),
+    ("create_clock -period 10 -name ck [get_ports clk]", PATH),
+    ("create_clock -name ck -period 10", PATH),
+    ("create_clock -name ck -period 10 [get_cells clk]", PATH),
+    (" create_clock -name ck -period 10 [get_ports clk]", PATH),
+    ("# a comment", PATH),
+];
+
 #[test]
 fn a_text_of_another_form_is_refused(rt: HostRuntime) -> Result<(), Fail> {
-    for (clock, path) in [
-        ("", ""),
-        (CLOCK, ""),
-        ("", PATH),
-        (
-            CLOCK,
-            "set_false_path -from [get_cells a] -to [get_cells b]\n\n",
-        ),
-        (
-            CLOCK,
-            "set_false_path -from [get_cells a] -to [get_cells b] ",
-        ),
-        (
-            CLOCK,
-            "set_false_path -from [get_cells a] -to [get_cells b]\r\n",
-        ),
-        (
-            CLOCK,
-            "set_false_path  -from [get_cells a] -to [get_cells b]",
-        ),
-        (
-            CLOCK,
-            "set_false_path -from [get_cells a]  -to [get_cells b]",
-        ),
-        (
-            CLOCK,
-            "set_false_path -from [get_cells {a}] -to [get_cells b]",
-        ),
-        (
-            CLOCK,
-            "set_false_path -from [get_cells a*] -to [get_cells b]",
-        ),
-        (
-            CLOCK,
-            "set_false_path -from [get_cells a/b] -to [get_cells b]",
-        ),
-        (CLOCK, "set_false_path -from [get_cells ] -to [get_cells b]"),
-        (CLOCK, "set_false_path -from [get_pins a] -to [get_cells b]"),
-        (
-            CLOCK,
-            "set_false_path -to [get_cells b] -from [get_cells a]",
-        ),
-        (CLOCK, "set_false_path -from [get_cells a]"),
-        (
-            CLOCK,
-            "set_multicycle_path 2 -from [get_cells a] -to [get_cells b]",
-        ),
-        ("create_clock -name ck -period 10 [get_ports clk]\r", PATH),
-        ("create_clock -name ck -period 10 [get_ports clk]\n", PATH),
-        ("create_clock -name ck -period 10  [get_ports clk]", PATH),
-        ("create_clock -name ck -period 1.0.0 [get_ports clk]", PATH),
-        ("create_clock -name ck -period . [get_ports clk]", PATH),
-        ("create_clock -name ck -period  [get_ports clk]", PATH),
-        ("create_clock -name ck -period -1 [get_ports clk]", PATH),
-        ("create_clock -name ck -period 1e3 [get_ports clk]", PATH),
-        ("create_clock -period 10 -name ck [get_ports clk]", PATH),
-        ("create_clock -name ck -period 10", PATH),
-        ("create_clock -name ck -period 10 [get_cells clk]", PATH),
-        (" create_clock -name ck -period 10 [get_ports clk]", PATH),
-        ("# a comment", PATH),
-    ] {
+    for (clock, path) in REFUSED {
         let text = format!(in rt.alloc(); "{clock}\n{path}")?;
         let refused = matches!(read_sdc(rt.alloc(), text.as_bytes()), Err(SdcFault::NotYet));
         assert!(rt; refused, "{text}");
+    }
+    Ok(())
+}
+
+// What developers see of each fault.
+#[test]
+fn faults_are_shown(rt: HostRuntime) -> Result<(), Fail> {
+    for (fault, want) in [
+        (SdcFault::NotYet, "this form of constraints is not read yet"),
+        (SdcFault::Memory, "out of memory"),
+    ] {
+        let shown = format!(in rt.alloc(); "{fault}")?;
+        assert_eq!(rt; shown.as_str(), want);
     }
     Ok(())
 }

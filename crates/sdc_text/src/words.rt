@@ -3,7 +3,8 @@ ghost use Rattle.std.specs.Prelude.{◌≡◌, ◌≤◌, ◌==◌, length, coun
 ghost use Rattle.std.specs.List.{prefix_len, list_any};
 ghost use Rattle.std.specs.Char.{is_ascii_digit};
 ghost use Rattle.sdcv_base.specs.Cursors.{rest};
-ghost use Rattle.sdc_text.specs.Gives.{Gives, Holds};
+ghost use Rattle.texts.specs.Reads.{Gives};
+ghost use Rattle.sdc_text.specs.Fails.{Fails, Holds};
 ghost use Rattle.sdc_text.specs.Words as spec;
 
 use crate::faults::SdcFault;
@@ -14,7 +15,7 @@ use texts::{upto, word_len};
 /// Passes these bytes.
 #[tactic(auto, unfolding(crate::specs::Words::after))]
 pub fn expect(c: &mut Cursor<'_>, text: &str) -> Result<(), SdcFault>
-    ensures { Gives (λ _. rest c.new) result (spec.after text.now (rest c.old)) }
+    ensures { Gives Fails (λ _. rest c.new) result (spec.after text.now (rest c.old)) }
 {
     if !c.rest().starts_with(text.as_bytes()) {
         return Err(SdcFault::NotYet);
@@ -26,7 +27,7 @@ pub fn expect(c: &mut Cursor<'_>, text: &str) -> Result<(), SdcFault>
 /// Takes a name.
 #[tactic(auto, unfolding(crate::specs::Words::name_at))]
 pub fn take_name(alloc: Global, c: &mut Cursor<'_>) -> Result<Name, SdcFault>
-    ensures { Gives (λ name. (name, rest c.new)) result (spec.name_at (rest c.old)) }
+    ensures { Gives Fails (λ name. (name, rest c.new)) result (spec.name_at (rest c.old)) }
 {
     let text = c.rest();
     let len = word_len(text);
@@ -71,7 +72,7 @@ fn is_number(word: &[u8]) -> bool
 /// Passes a number.
 #[tactic(auto, unfolding(crate::specs::Words::after_number))]
 pub fn expect_number(c: &mut Cursor<'_>) -> Result<(), SdcFault>
-    ensures { Gives (λ _. rest c.new) result (spec.after_number (rest c.old)) }
+    ensures { Gives Fails (λ _. rest c.new) result (spec.after_number (rest c.old)) }
 {
     let text = c.rest();
     let len = numeral_len(text);

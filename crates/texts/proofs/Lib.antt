@@ -1,2 +1,4 @@
+pub mod EachLemmas
+pub mod FrontLemmas
 pub mod NameLemmas
 pub mod ReadLemmas

@@ -1,5 +1,5 @@
-//! Kinds of bytes, and the bytes at the front of a text.
-ghost use Rattle.std.specs.Prelude.{◌≡◌, ◌≤◌, length, take, drop};
+//! Kinds of bytes.
+ghost use Rattle.std.specs.Prelude.{◌≡◌, ◌≤◌, length};
 ghost use Rattle.std.specs.List.{prefix_len};
 ghost use Rattle.texts.specs.Bytes as spec;
 
@@ -23,20 +23,4 @@ pub fn word_len(text: &[u8]) -> usize
     ensures within { result ≤ length text.now }
 {
     text.iter().take_while(|byte| is_word(**byte)).count()
-}
-
-/// What follows the first `count` bytes.
-pub fn after(text: &[u8], count: usize) -> &[u8]
-    requires { count ≤ length text.now }
-    ensures { result.now ≡ drop count text.now }
-{
-    &text[count..]
-}
-
-/// The first `count` bytes.
-pub fn upto(text: &[u8], count: usize) -> &[u8]
-    requires { count ≤ length text.now }
-    ensures { result.now ≡ take count text.now }
-{
-    &text[..count]
 }

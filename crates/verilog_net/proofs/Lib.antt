@@ -1,4 +1,4 @@
 pub mod DeclareLemmas
 pub mod FormLemmas
-pub mod GivesLemmas
+pub mod FailLemmas
 pub mod SourceLemmas

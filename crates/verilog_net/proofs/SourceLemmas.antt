@@ -4,13 +4,13 @@ use Rattle.std.proofs.lemmas.List.Elements.{All-nil, All-cons}
 use Rattle.verilog_syntax.specs.declared.declarations.ModuleDecl.{ModuleDecl}
 use Rattle.verilog_syntax.specs.declared.faults.SyntaxFault.{SyntaxFault}
 use Rattle.verilog_syntax.specs.declared.faults.SyntaxFault.TheVariants as syntax_fault
-use Rattle.verilog_syntax.specs.Gives as reader
+use Rattle.verilog_syntax.specs.Fails as reader
 use Rattle.verilog_syntax.specs.Modules as grammar
 use Rattle.verilog_net.specs.declared.faults.VerFault.{VerFault}
 use Rattle.verilog_net.specs.declared.faults.VerFault.TheVariants as fault
 use Rattle.verilog_net.specs.declared.sources.Module.{Module}
 use Rattle.verilog_net.specs.declared.sources.Source.{Source}
-use Rattle.verilog_net.specs.Gives.{of_syntax, Fails}
+use Rattle.verilog_net.specs.Fails.{of_syntax, Fails}
 use Rattle.verilog_net.specs.Modules.{module_of}
 use Rattle.verilog_net.specs.Sources.{source_of, IsPlainModule, HasFirstForm}
 use Rattle.verilog_net.proofs.FormLemmas.{module_of_plain}

@@ -1,5 +1,5 @@
 pub mod Declares
-pub mod Gives
+pub mod Fails
 pub mod Modules
 pub mod Rules
 pub mod Sources

@@ -1,6 +1,7 @@
 //! What a module declares, and that it does so once.
 ghost use Rattle.std.specs.Prelude.{◌≡◌, map, IfOk};
-ghost use Rattle.verilog_net.specs.Gives.{Gives};
+ghost use Rattle.texts.specs.Reads.{Gives};
+ghost use Rattle.verilog_net.specs.Fails.{Fails};
 ghost use Rattle.verilog_net.specs.Rules as rule;
 ghost use Rattle.verilog_net.specs.Declares as spec;
 
@@ -13,7 +14,7 @@ use verilog_syntax::{InstDecl, ItemDecl, ModuleDecl};
 /// The names that a module declares as nets. It refuses a name that is declared twice, of a net or of an instance, and
 /// an instance that names a pin twice.
 pub fn declared(alloc: Global, decl: &ModuleDecl) -> Result<NameTable, VerFault>
-    ensures { Gives (λ t. t) result (spec.declared_of decl.now) }
+    ensures { Gives Fails (λ t. t) result (spec.declared_of decl.now) }
 {
     let mut nets = NameTable::new(alloc);
     let mut insts = NameTable::new(alloc);
@@ -28,7 +29,7 @@ fn declare_items(
     insts: &mut NameTable,
     items: &[ItemDecl],
 ) -> Result<(), VerFault>
-    ensures { Gives (λ _. (nets.new, insts.new)) result (spec.declare_items (nets.old, insts.old) items.now) }
+    ensures { Gives Fails (λ _. (nets.new, insts.new)) result (spec.declare_items (nets.old, insts.old) items.now) }
 {
     for item in items {
         declare_item(alloc, nets, insts, item)?;
@@ -43,7 +44,7 @@ fn declare_item(
     insts: &mut NameTable,
     item: &ItemDecl,
 ) -> Result<(), VerFault>
-    ensures { Gives (λ _. (nets.new, insts.new)) result (spec.declare_item (nets.old, insts.old) item.now) }
+    ensures { Gives Fails (λ _. (nets.new, insts.new)) result (spec.declare_item (nets.old, insts.old) item.now) }
 {
     match item {
         ItemDecl::Wires(names) => declare_all(alloc, nets, names.as_slice()),
@@ -59,7 +60,7 @@ fn declare_item(
 /// Adds names that are all new.
 #[tactic(auto, unfolding(crate::specs::Declares::declare), using(texts::proofs::NameLemmas::with_names_new))]
 fn declare_all<T: Named>(alloc: Global, table: &mut NameTable, these: &[T]) -> Result<(), VerFault>
-    ensures { Gives (λ _. table.new) result (spec.declare table.old (map T.named these.now)) }
+    ensures { Gives Fails (λ _. table.new) result (spec.declare table.old (map T.named these.now)) }
 {
     if table.add_all(alloc, these)? {
         Ok(())

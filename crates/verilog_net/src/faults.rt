@@ -1,7 +1,7 @@
 //! Why a text is no netlist.
 ghost use Rattle.std.specs.Prelude.{◌≡◌};
 ghost use Rattle.verilog_net.specs.declared.faults.VerFault.TheVariants as fault;
-ghost use Rattle.verilog_net.specs.Gives.{of_syntax};
+ghost use Rattle.verilog_net.specs.Fails.{of_syntax};
 
 use std::alloc::{AllocError, AllocFailed};
 use thiserror::Error;

@@ -1,5 +1,5 @@
 //! Ports and instances whose names have become nets.
-ghost use Rattle.std.specs.Prelude.{◌≡◌, [], ◌∷◌, map, IfOk};
+ghost use Rattle.std.specs.Prelude.{◌≡◌, map, IfOk};
 ghost use Rattle.std.specs.List.{flat_map};
 ghost use Rattle.verilog_net.specs.Rules as rule;
 ghost use Rattle.verilog_net.specs.Modules as spec;
@@ -24,22 +24,13 @@ fn port(alloc: Global, nets: &NameTable, decl: &PortDecl) -> Result<Port, AllocE
     ensures { IfOk result (λ port. port ≡ spec.port_of nets.now decl.now) }
 {
     let name = decl.name.copy(alloc)?;
-    let bits = one(alloc, nets.place(&decl.name))?;
+    let bits = Seq::one(alloc, nets.place(&decl.name))?;
     Ok(Port {
         name,
         dir: decl.dir,
         bits,
         bus: false,
     })
-}
-
-/// A list of one item.
-pub fn one<T: Drop>(alloc: Global, item: T) -> Result<Seq<T>, AllocError>
-    ensures { IfOk result (λ items. items ≡ item ∷ []) }
-{
-    let mut items = Seq::new(alloc);
-    items.push(item)?;
-    Ok(items)
 }
 
 /// The instances among the items.
@@ -78,7 +69,7 @@ fn conn(alloc: Global, nets: &NameTable, decl: &ConnDecl) -> Result<Conn, AllocE
     ensures { IfOk result (λ conn. conn ≡ spec.conn_of nets.now decl.now) }
 {
     let pin = decl.pin.copy(alloc)?;
-    let wires = one(alloc, Wire::Net(nets.place(&decl.net)))?;
+    let wires = Seq::one(alloc, Wire::Net(nets.place(&decl.net)))?;
     Ok(Conn {
         pin,
         wires: Some(wires),

@@ -1,6 +1,7 @@
 //! From the declarations of a module to its nets and items.
 ghost use Rattle.std.specs.Prelude.{◌≡◌, IfOk};
-ghost use Rattle.verilog_net.specs.Gives.{Gives};
+ghost use Rattle.texts.specs.Reads.{Gives};
+ghost use Rattle.verilog_net.specs.Fails.{Fails};
 ghost use Rattle.verilog_net.specs.Modules as spec;
 
 use crate::declares::declared;
@@ -14,7 +15,7 @@ use verilog_syntax::ModuleDecl;
 
 /// The module that these declarations make. `NotYet` comes exactly where they break a static rule.
 pub fn module(alloc: Global, decl: &ModuleDecl) -> Result<Module, VerFault>
-    ensures { Gives (λ m. m) result (spec.module_of decl.now) }
+    ensures { Gives Fails (λ m. m) result (spec.module_of decl.now) }
 {
     let declared = declared(alloc, decl)?;
     if !are_connections_declared(&declared, decl.items.as_slice()) {

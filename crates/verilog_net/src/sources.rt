@@ -3,7 +3,6 @@ ghost use Rattle.std.specs.Prelude.{◌≡◌, None, Some, IfOk, IsErrOf};
 ghost use Rattle.verilog_net.specs.Sources.{source_of, HasFirstForm};
 
 use crate::faults::VerFault;
-use crate::items::one;
 use crate::modules::module;
 use sdcv_base::{Name, Seq};
 use std::alloc::Global;
@@ -89,6 +88,6 @@ pub fn read_verilog(alloc: Global, text: &[u8]) -> Result<Source, VerFault>
 {
     let decl = read_module(alloc, text)?;
     let module = module(alloc, &decl)?;
-    let modules = one(alloc, module)?;
+    let modules = Seq::one(alloc, module)?;
     Ok(Source { modules })
 }

@@ -1,3 +1,3 @@
-pub mod GivesLemmas
+pub mod FailLemmas
 pub mod ListLemmas
 pub mod ModuleLemmas

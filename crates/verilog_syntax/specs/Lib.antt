@@ -1,4 +1,4 @@
-pub mod Gives
+pub mod Fails
 pub mod Items
 pub mod Lists
 pub mod Modules

@@ -2,7 +2,8 @@
 ghost use Rattle.std.specs.Prelude.{◌≡◌, ◌<◌, length, OnOk};
 ghost use Rattle.sdcv_base.specs.Cursors.{rest, text_of};
 ghost use Rattle.verilog_words.specs.Tokens.{tok_of};
-ghost use Rattle.verilog_syntax.specs.Gives.{Gives};
+ghost use Rattle.texts.specs.Reads.{Gives};
+ghost use Rattle.verilog_syntax.specs.Fails.{Fails};
 ghost use Rattle.verilog_syntax.specs.Names.{name_at};
 ghost use Rattle.verilog_syntax.specs.Items as spec;
 
@@ -24,7 +25,7 @@ impl Entry for Name {
 
 #[tactic(auto, unfolding(crate::specs::Items::dir_at))]
 fn dir(c: &mut Cursor<'_>) -> Result<Dir, SyntaxFault>
-    ensures value { Gives (length (text_of c.old)) (λ d. (d, rest c.new)) result (spec.dir_at (rest c.old)) }
+    ensures value { Gives (Fails (length (text_of c.old))) (λ d. (d, rest c.new)) result (spec.dir_at (rest c.old)) }
     ensures text { text_of c.new ≡ text_of c.old }
     ensures shorter { OnOk result (length (rest c.new) < length (rest c.old)) }
 {
@@ -66,7 +67,7 @@ impl Entry for ConnDecl {
 /// What follows the name of the cell: `NAME (CONNECTIONS);`.
 #[tactic(auto, unfolding(crate::specs::Items::inst_at))]
 fn inst(alloc: Global, c: &mut Cursor<'_>, cell: &[u8]) -> Result<InstDecl, SyntaxFault>
-    ensures value { Gives (length (text_of c.old)) (λ i. (i, rest c.new)) result (spec.inst_at cell.now (rest c.old)) }
+    ensures value { Gives (Fails (length (text_of c.old))) (λ i. (i, rest c.new)) result (spec.inst_at cell.now (rest c.old)) }
     ensures text { text_of c.new ≡ text_of c.old }
     ensures shorter { OnOk result (length (rest c.new) < length (rest c.old)) }
 {
@@ -81,7 +82,7 @@ fn inst(alloc: Global, c: &mut Cursor<'_>, cell: &[u8]) -> Result<InstDecl, Synt
 /// The item that begins with this token, which was passed.
 #[tactic(auto, unfolding(crate::specs::Items::item_at))]
 pub fn item(alloc: Global, c: &mut Cursor<'_>, first: Token<'_>) -> Result<ItemDecl, SyntaxFault>
-    ensures value { Gives (length (text_of c.old)) (λ i. (i, rest c.new)) result (spec.item_at (tok_of first.entry) (rest c.old)) }
+    ensures value { Gives (Fails (length (text_of c.old))) (λ i. (i, rest c.new)) result (spec.item_at (tok_of first.entry) (rest c.old)) }
     ensures text { text_of c.new ≡ text_of c.old }
     ensures shorter { OnOk result (length (rest c.new) < length (rest c.old)) }
 {

@@ -1,7 +1,8 @@
 //! Lists of entries with commas between them.
 ghost use Rattle.std.specs.Prelude.{◌≡◌, ◌<◌, List, ℕ, Option, length, OnOk};
 ghost use Rattle.sdcv_base.specs.Cursors.{rest, text_of};
-ghost use Rattle.verilog_syntax.specs.Gives.{Gives};
+ghost use Rattle.texts.specs.Reads.{Gives};
+ghost use Rattle.verilog_syntax.specs.Fails.{Fails};
 ghost use Rattle.verilog_syntax.specs.Lists as spec;
 
 use crate::faults::SyntaxFault;
@@ -16,14 +17,14 @@ pub trait Entry: Sized + Drop {
     ghost reads: { List ℕ → Option (Self × List ℕ) };
 
     fn read(alloc: Global, c: &mut Cursor<'_>) -> Result<Self, SyntaxFault>
-        ensures value { Gives (length (text_of c.old)) (λ x. (x, rest c.new)) result (reads (rest c.old)) }
+        ensures value { Gives (Fails (length (text_of c.old))) (λ x. (x, rest c.new)) result (reads (rest c.old)) }
         ensures text { text_of c.new ≡ text_of c.old }
         ensures shorter { OnOk result (length (rest c.new) < length (rest c.old)) };
 }
 
 /// One entry or more, up to the closing mark.
 pub fn list<T: Entry>(alloc: Global, c: &mut Cursor<'_>, close: u8) -> Result<Seq<T>, SyntaxFault>
-    ensures value { Gives (length (text_of c.old)) (λ x. (x, rest c.new)) result (spec.list_at T.reads close (rest c.old)) }
+    ensures value { Gives (Fails (length (text_of c.old))) (λ x. (x, rest c.new)) result (spec.list_at T.reads close (rest c.old)) }
     ensures text { text_of c.new ≡ text_of c.old }
     ensures shorter { OnOk result (length (rest c.new) < length (rest c.old)) }
 {
@@ -45,7 +46,7 @@ pub fn list_or_none<T: Entry>(
     c: &mut Cursor<'_>,
     close: u8,
 ) -> Result<Seq<T>, SyntaxFault>
-    ensures value { Gives (length (text_of c.old)) (λ x. (x, rest c.new)) result (spec.list_or_none T.reads close (rest c.old)) }
+    ensures value { Gives (Fails (length (text_of c.old))) (λ x. (x, rest c.new)) result (spec.list_or_none T.reads close (rest c.old)) }
     ensures text { text_of c.new ≡ text_of c.old }
     ensures shorter { OnOk result (length (rest c.new) < length (rest c.old)) }
 {

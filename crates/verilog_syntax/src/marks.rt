@@ -2,7 +2,8 @@
 ghost use Rattle.std.specs.Prelude.{◌≡◌, ◌<◌, length, OnOk};
 ghost use Rattle.sdcv_base.specs.Cursors.{rest, text_of};
 ghost use Rattle.verilog_words.specs.Tokens.{mark_at};
-ghost use Rattle.verilog_syntax.specs.Gives.{Gives};
+ghost use Rattle.texts.specs.Reads.{Gives};
+ghost use Rattle.verilog_syntax.specs.Fails.{Fails};
 ghost use Rattle.verilog_syntax.specs.Names as spec;
 
 use crate::faults::SyntaxFault;
@@ -12,7 +13,7 @@ use verilog_words::{Token, take_token, try_mark};
 
 /// Passes this mark.
 pub fn expect_mark(c: &mut Cursor<'_>, mark: u8) -> Result<(), SyntaxFault>
-    ensures value { Gives (length (text_of c.old)) (λ _. rest c.new) result (mark_at mark (rest c.old)) }
+    ensures value { Gives (Fails (length (text_of c.old))) (λ _. rest c.new) result (mark_at mark (rest c.old)) }
     ensures text { text_of c.new ≡ text_of c.old }
     ensures shorter { OnOk result (length (rest c.new) < length (rest c.old)) }
 {
@@ -26,7 +27,7 @@ pub fn expect_mark(c: &mut Cursor<'_>, mark: u8) -> Result<(), SyntaxFault>
 /// Takes a name.
 #[tactic(auto, unfolding(crate::specs::Names::name_at))]
 pub fn take_name(alloc: Global, c: &mut Cursor<'_>) -> Result<Name, SyntaxFault>
-    ensures value { Gives (length (text_of c.old)) (λ n. (n, rest c.new)) result (spec.name_at (rest c.old)) }
+    ensures value { Gives (Fails (length (text_of c.old))) (λ n. (n, rest c.new)) result (spec.name_at (rest c.old)) }
     ensures text { text_of c.new ≡ text_of c.old }
     ensures shorter { OnOk result (length (rest c.new) < length (rest c.old)) }
 {

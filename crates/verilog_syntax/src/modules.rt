@@ -2,7 +2,8 @@
 ghost use Rattle.std.specs.Prelude.{◌≡◌, ◌<◌, length, OnOk};
 ghost use Rattle.sdcv_base.specs.Cursors.{rest, text_of};
 ghost use Rattle.verilog_words.specs.Tokens.{tok_of};
-ghost use Rattle.verilog_syntax.specs.Gives.{Gives};
+ghost use Rattle.texts.specs.Reads.{Gives};
+ghost use Rattle.verilog_syntax.specs.Fails.{Fails};
 ghost use Rattle.verilog_syntax.specs.Modules as spec;
 
 use crate::declarations::{ItemDecl, ModuleDecl};
@@ -17,7 +18,7 @@ use verilog_words::{Token, Word, take_token};
 /// The module that the whole text is. `Syntax` comes exactly where the text is none.
 #[tactic(auto, unfolding(crate::specs::Modules::module_of))]
 pub fn read_module(alloc: Global, text: &[u8]) -> Result<ModuleDecl, SyntaxFault>
-    ensures { Gives (length text.now) (λ m. m) result (spec.module_of text.now) }
+    ensures { Gives (Fails (length text.now)) (λ m. m) result (spec.module_of text.now) }
 {
     let mut c = Cursor::new(text);
     let found = module(alloc, &mut c)?;
@@ -30,7 +31,7 @@ pub fn read_module(alloc: Global, text: &[u8]) -> Result<ModuleDecl, SyntaxFault
 
 #[tactic(auto, unfolding(crate::specs::Modules::module_at))]
 fn module(alloc: Global, c: &mut Cursor<'_>) -> Result<ModuleDecl, SyntaxFault>
-    ensures value { Gives (length (text_of c.old)) (λ m. (m, rest c.new)) result (spec.module_at (rest c.old)) }
+    ensures value { Gives (Fails (length (text_of c.old))) (λ m. (m, rest c.new)) result (spec.module_at (rest c.old)) }
     ensures text { text_of c.new ≡ text_of c.old }
     ensures shorter { OnOk result (length (rest c.new) < length (rest c.old)) }
 {
@@ -46,7 +47,7 @@ fn module(alloc: Global, c: &mut Cursor<'_>) -> Result<ModuleDecl, SyntaxFault>
 /// Passes the word `module`.
 #[tactic(auto, unfolding(crate::specs::Modules::begun_at))]
 fn begin(c: &mut Cursor<'_>) -> Result<(), SyntaxFault>
-    ensures value { Gives (length (text_of c.old)) (λ _. rest c.new) result (spec.begun_at (rest c.old)) }
+    ensures value { Gives (Fails (length (text_of c.old))) (λ _. rest c.new) result (spec.begun_at (rest c.old)) }
     ensures text { text_of c.new ≡ text_of c.old }
     ensures shorter { OnOk result (length (rest c.new) < length (rest c.old)) }
 {
@@ -65,7 +66,7 @@ fn is_last(token: &Token<'_>) -> bool
 
 /// The items up to `endmodule`, which is passed.
 fn items(alloc: Global, c: &mut Cursor<'_>) -> Result<Seq<ItemDecl>, SyntaxFault>
-    ensures value { Gives (length (text_of c.old)) (λ x. (x, rest c.new)) result (spec.items_at (rest c.old)) }
+    ensures value { Gives (Fails (length (text_of c.old))) (λ x. (x, rest c.new)) result (spec.items_at (rest c.old)) }
     ensures text { text_of c.new ≡ text_of c.old }
     ensures shorter { OnOk result (length (rest c.new) < length (rest c.old)) }
 {

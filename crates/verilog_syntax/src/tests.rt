@@ -19,3 +19,19 @@ fn a_module_has_its_declarations(rt: HostRuntime) -> Result<(), Fail> {
     }
     Ok(())
 }
+
+// What developers see of each fault.
+#[test]
+fn faults_are_shown(rt: HostRuntime) -> Result<(), Fail> {
+    for (fault, want) in [
+        (
+            SyntaxFault::Syntax(7),
+            "byte 7: no netlist goes on like this",
+        ),
+        (SyntaxFault::Memory, "out of memory"),
+    ] {
+        let shown = format!(in rt.alloc(); "{fault}")?;
+        assert_eq!(rt; shown.as_str(), want);
+    }
+    Ok(())
+}

@@ -2,7 +2,7 @@ use Rattle.std.proofs.Common.{◌+◌, drop, ◌∙◌}
 use Rattle.std.proofs.lemmas.List.{drop_all}
 use Rattle.std.proofs.lemmas.Result.{err_from_is_err_and}
 use Rattle.texts.proofs.ReadLemmas.{split_at}
-use Rattle.verilog_net.proofs.GivesLemmas.{fails_through}
+use Rattle.verilog_net.proofs.FailLemmas.{fails_through}
 use Rattle.verilog_net.proofs.DeclareLemmas.{items_done, items_bad, items_more}
 use Rattle.verilog_net.proofs.declares.declare_items.Goals as goal
 

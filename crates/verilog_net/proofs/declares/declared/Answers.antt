@@ -3,7 +3,7 @@ use Rattle.std.proofs.lemmas.Result.{err_from_is_err_and}
 use Rattle.texts.proofs.ReadLemmas.{bind_is}
 use Rattle.verilog_net.specs.Rules.{port_names}
 use Rattle.verilog_net.specs.Declares.{declare, declare_items}
-use Rattle.verilog_net.proofs.GivesLemmas.{fails_through}
+use Rattle.verilog_net.proofs.FailLemmas.{fails_through}
 use Rattle.verilog_net.proofs.DeclareLemmas.{declared_is, after_items}
 use Rattle.verilog_net.proofs.declares.declared.Goals as goal
 

@@ -4,7 +4,7 @@ use Rattle.std.specs.List.{list_all}
 use Rattle.verilog_syntax.specs.declared.declarations.ItemDecl.{ItemDecl}
 use Rattle.verilog_net.specs.declared.sources.Module.{Module}
 use Rattle.verilog_net.specs.Rules.{declared, insts_in, connects_among}
-use Rattle.verilog_net.proofs.GivesLemmas.{some_under, none_under, fails_through}
+use Rattle.verilog_net.proofs.FailLemmas.{some_under, none_under, fails_through}
 use Rattle.verilog_net.proofs.FormLemmas.{list_all-insts, module_none, module_bad, module_good}
 use Rattle.verilog_net.proofs.modules.module.Goals as goal
 

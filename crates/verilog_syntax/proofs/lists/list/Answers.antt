@@ -1,7 +1,7 @@
 use Rattle.std.proofs.Common.{length, ◌∙◌, ap, refl, arith}
 use Rattle.std.proofs.lemmas.Result.{err_from_is_err_and}
 use Rattle.sdcv_base.specs.Cursors.{rest}
-use Rattle.verilog_syntax.proofs.GivesLemmas.{fails_through}
+use Rattle.verilog_syntax.proofs.FailLemmas.{fails_through}
 use Rattle.verilog_syntax.proofs.ListLemmas.{list_bad, list_ends, list_stuck, list_more}
 use Rattle.verilog_syntax.proofs.lists.list.Goals as goal
 

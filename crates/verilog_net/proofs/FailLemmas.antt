@@ -1,8 +1,8 @@
--- Answers of one rule that go through to another.
+-- Refusals of one rule that go through to another.
 use Rattle.std.proofs.Common.{◌≡◌, Bool, true, false, if◌then◌else◌, Option, Some, None, refl}
 use Rattle.verilog_net.specs.declared.faults.VerFault.{VerFault}
 use Rattle.verilog_net.specs.declared.faults.VerFault.TheVariants as fault
-use Rattle.verilog_net.specs.Gives.{Fails}
+use Rattle.verilog_net.specs.Fails.{Fails}
 
 -- what fails because its part fails
 pub fails_through : {A B : Type 0} (e : VerFault) (a : Option A) (b : Option B) → Fails e a → (a ≡ None → b ≡ None) → Fails e b

@@ -1,8 +1,8 @@
--- Answers of one rule that go through to another.
+-- Refusals of one rule that go through to another.
 use Rattle.std.proofs.Common.{◌≡◌, ℕ, Option, None}
 use Rattle.verilog_syntax.specs.declared.faults.SyntaxFault.{SyntaxFault}
 use Rattle.verilog_syntax.specs.declared.faults.SyntaxFault.TheVariants as fault
-use Rattle.verilog_syntax.specs.Gives.{Fails}
+use Rattle.verilog_syntax.specs.Fails.{Fails}
 
 -- what fails because its part fails, in a text of the same length
 pub fails_through : {A B : Type 0} (old new : ℕ) → old ≡ new → (e : SyntaxFault) (a : Option A) (b : Option B) → Fails old e a → (a ≡ None → b ≡ None) → Fails new e b
