@@ -8,3 +8,5 @@ pub mod AtConflict
 pub mod Models
 pub mod Counting
 pub mod Logging
+pub mod Watching
+pub mod Queueing

@@ -91,3 +91,22 @@ two_open_quiet set c u inside unset w =
   where
     only : (x q : ℕ) → is_set (x ∷ []) q ≡ true → x ≡ q
     only x q h = elim (or_cases (eqb x q) (is_set [] q) (sym (is_set-cons x [] q) ∙ h)) [ inl e ↦ eqb-true x q e | inr z ↦ absurd (false≢true (sym (is_set-nil q) ∙ z)) ]
+
+-- a literal that is not false stands among the open ones
+open_in : (set clause : List ℕ) (l : ℕ) → is_set clause l ≡ true → is_set set (negated l) ≡ false → is_set (open_literals set clause) l ≡ true
+open_in set clause l inside unset = filter_mem (λ q. not (is_set set (negated q))) clause l inside (not_from_false _ unset)
+
+pub only : (x q : ℕ) → is_set (x ∷ []) q ≡ true → x ≡ q
+only x q h = elim (or_cases (eqb x q) (is_set [] q) (sym (is_set-cons x [] q) ∙ h)) [ inl e ↦ eqb-true x q e | inr z ↦ absurd (false≢true (sym (is_set-nil q) ∙ z)) ]
+
+-- a clause with a true literal is quiet
+pub true_quiet : (set clause : List ℕ) (l : ℕ) → is_set clause l ≡ true → is_set set (negated l) ≡ false → is_set set l ≡ true → IsQuietUnder set clause
+true_quiet set clause l inside unset t =
+    let here = open_in set clause l inside unset in (
+      λ f. false≢true (sym (is_set-nil l) ∙ (sym (ap (λ xs. is_set xs l) f) ∙ here)),
+      λ u unit. let same : u ≡ l = only u l (sym (ap (λ xs. is_set xs l) unit.0) ∙ here) in both_ways _ unit.1 (ap (is_set set) same ∙ t),
+    )
+
+-- and one with two different literals that are not false
+pub two_quiet : (set clause : List ℕ) (a b : ℕ) → is_set clause a ≡ true → is_set clause b ≡ true → (a ≡ b → ⊥) → is_set set (negated a) ≡ false → is_set set (negated b) ≡ false → IsQuietUnder set clause
+two_quiet set clause a b in_a in_b ne open_a open_b = two_open_quiet set clause a in_a open_a (b, in_b, (λ e. ne (sym e)), open_b)

@@ -1,15 +1,13 @@
 -- Setting literals of unit clauses, and clauses that stay quiet.
-use Rattle.std.proofs.Common.{◌≡◌, ℕ, ◌+◌, ◌<◌, ◌≤◌, Bool, true, false, List, [], ◌∷◌, ◌++◌, length, get_or, take, refl, sym, ap, ◌∙◌, subst, inl, inr, arith}
-use Rattle.std.specs.Bool.{MatchBool}
+use Rattle.std.proofs.Common.{◌≡◌, ℕ, ◌<◌, List, [], ◌∷◌, ◌++◌, length, get_or, take, refl, sym, ap, ◌∙◌, subst, inl, inr, arith}
 use Rattle.std.proofs.lemmas.Option.{slice_get_read}
 use Rattle.std.proofs.lemmas.Bool.{cond-false, cases_lt}
 use Rattle.std.proofs.lemmas.List.{take_all, length-append, take-append-le, get_or_append_left, take_at, get_or_push, take-take, get_or-take}
-use Rattle.std.proofs.lemmas.List.Elements.{All-more}
 use Rattle.proof_log.specs.Clauses.{is_set, IsQuietUnder}
 use Rattle.proof_log.specs.Effects.{effect_of, effect_of_open}
 use Rattle.proof_log.specs.declared.effects.Effect.TheVariants.{Falsified, Sets, Neither}
 use Rattle.proof_log.proofs.Effecting.{falsified_is, sets_is}
-use Rattle.sat_solver.specs.Searches.{IsQuiet, IsUnitAt, IsFalseAt, Propagates}
+use Rattle.sat_solver.specs.Searches.{IsUnitAt, IsFalseAt, Propagates}
 use Rattle.sat_solver.specs.Trails.{Trailed, Justified, Extends}
 
 pub neither_quiet : (set clause : List ℕ) → effect_of set clause ≡ Neither → IsQuietUnder set clause
@@ -73,33 +71,6 @@ unit_in clauses set i clause u h e s = (clause, slice_get_read clauses _ i claus
 
 pub false_at : (clauses : List (List ℕ)) (set : List ℕ) (i : ℕ) (clause : List ℕ) → i < length clauses → clause ≡ get_or clauses i clause → effect_of set clause ≡ Falsified → IsFalseAt clauses set i
 false_at clauses set i clause h e s = (clause, slice_get_read clauses _ i clause refl h e, falsified_is set _ s)
-
--- what a scan has done before the clause at i
-pub record Scanned (clauses : List (List ℕ)) (i : ℕ) (old new : Trailed) (changed : Bool) : Type 0 where
-  pub extends : Extends clauses old new
-  pub so_far : MatchBool changed ((length old.lits < length new.lits) × (length new.lits ≤ new.vars + 1)) ((new.lits ≡ old.lits) × IsQuiet (take i clauses) new.lits)
-
-pub Scanned-sets : (clauses : List (List ℕ)) (i : ℕ) (old now next : Trailed) (changed : Bool) (clause : List ℕ) (u : ℕ) → Scanned clauses i old now changed → i < length clauses → clause ≡ get_or clauses i clause → effect_of now.lits clause ≡ Sets u → next.vars ≡ now.vars → next.lits ≡ now.lits ++ u ∷ [] → next.reasons ≡ now.reasons ++ i ∷ [] → length next.lits ≤ next.vars + 1 → Scanned clauses (i + 1) old next true
-Scanned-sets clauses i old now next changed clause u s h e sets vars lits reasons few =
-    record {
-      extends = Extends-push clauses old now next i u s.extends vars lits reasons (unit_in clauses now.lits i clause u h e sets);
-      so_far = (omega (arith, s.extends.longer, ap length lits, length-append now.lits (u ∷ [])), few);
-    }
-
-pub Scanned-neither : (clauses : List (List ℕ)) (i : ℕ) (old now : Trailed) (changed : Bool) (clause : List ℕ) → Scanned clauses i old now changed → i < length clauses → clause ≡ get_or clauses i clause → effect_of now.lits clause ≡ Neither → Scanned clauses (i + 1) old now changed
-Scanned-neither clauses i old now true clause s h e quiet = record { extends = s.extends; so_far = s.so_far }
-Scanned-neither clauses i old now false clause s h e quiet =
-    let P : List ℕ → Type 0 = λ c. IsQuietUnder now.lits c in
-    record {
-      extends = s.extends;
-      so_far = (s.so_far.0, All-more P clauses i clause h s.so_far.1 (subst P e (neither_quiet now.lits _ quiet)));
-    }
-
-pub Scanned-end : (clauses : List (List ℕ)) (i : ℕ) (old now : Trailed) (changed : Bool) → Scanned clauses i old now changed → length clauses ≤ i → changed ≡ false → IsQuiet clauses now.lits
-Scanned-end clauses i old now true s h e = cc
-Scanned-end clauses i old now false s h e =
-    let P : List (List ℕ) → Type 0 = λ cs. IsQuiet cs now.lits in
-    subst P (take_all i clauses h) s.so_far.1
 
 -- what a caller sees of it
 pub Propagates-from_extends : (clauses : List (List ℕ)) (old new : Trailed) → Extends clauses old new → Propagates clauses old.lits new.lits

@@ -2,6 +2,6 @@ pub mod Searches
 pub mod Learning
 pub mod Answers
 pub mod Trails
-pub mod Passes
+pub mod Watches
 pub mod Cuts
 pub mod Engines

@@ -138,8 +138,9 @@ pub fn others_false(trail: &Trail, len: usize, lits: &[Lit], unit: Lit) -> bool
     true
 }
 
-fn is_open_other(trail: &Trail, len: usize, l: Lit, unit: Lit) -> bool
-    requires { is_set trail.now.lits (negated l) ≡ true }
+/// Whether the literal is another one that the first `len` set literals do not make false.
+pub fn is_open_other(trail: &Trail, len: usize, l: Lit, unit: Lit) -> bool
+    requires { (l ≡ unit → ⊥) → is_set trail.now.lits (negated l) ≡ true }
     ensures { MatchBool result
         ((l ≡ unit → ⊥) × (is_set (take len trail.now.lits) (negated l) ≡ false))
         ((l ≡ unit → ⊥) → is_set (take len trail.now.lits) (negated l) ≡ true) }

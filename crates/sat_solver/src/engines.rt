@@ -1,15 +1,16 @@
 //! The steps of a search: propagate, decide, go back, learn.
 ghost use Rattle.std.specs.Prelude.{◌≡◌, ◌+◌, ◌*◌, ◌^◌, ◌<◌, ◌≤◌, ◌⊎◌, [], ◌∷◌, ◌++◌, take, length, true, false, All, MatchBool, MatchOption, IfSome, IfNone, IfOk, OnErr, slice_index, ℕ};
 ghost use Rattle.proof_log.specs.Literals.{negated, literal, InVars};
-ghost use Rattle.proof_log.specs.Clauses.{is_set, clause_true};
+ghost use Rattle.proof_log.specs.Clauses.{is_set, clause_true, IsNormal};
 ghost use Rattle.proof_log.specs.Derivations.{LeadsToConflict};
 ghost use Rattle.proof_log.specs.Formulas.{IsFormula, value_in};
-ghost use Rattle.sat_solver.specs.Searches.{Search, IsQuiet, IsFalseAt, Propagates, lits_up_to, AllSet, IsUnset};
+ghost use Rattle.sat_solver.specs.Searches.{Search, IsQuiet, IsFalseAt, Propagates, lits_up_to, AllSet, AllInVars, IsUnset};
+ghost use Rattle.sat_solver.specs.Watches.{IsQueued};
 ghost use Rattle.sat_solver.specs.Learning.{IsLearnt};
 
 use crate::activities::Activities;
-use crate::learning::{Learnt, analyze, last_step};
-use crate::propagation::settle;
+use crate::learning::{Learnt, analyze, last_step, second_watch};
+use crate::propagation::Queue;
 use crate::trails::Trail;
 use proof_log::{Clause, DerivStep, Formula, Lit, LitSet};
 use sdcv_base::Seq;
@@ -34,19 +35,22 @@ pub struct Engine {
     clauses: Vec<Clause>,
     trail: Trail,
     starts: Vec<usize>,
+    walks: Vec<usize>,
+    queue: Queue,
     activities: Activities,
 }
 
 impl Model for Engine {
     ghost use Rattle.std.specs.Prelude.{vec_capacity, ◌+◌, ◌≤◌};
     ghost use Rattle.sat_solver.specs.Searches.{Search, search_of};
-    ghost use Rattle.sat_solver.specs.Engines.{IsSearch};
+    ghost use Rattle.sat_solver.specs.Engines.{IsEngine};
 
     ghost Value = { Search };
 
     ghost view = { λ e. search_of e.trail.vars e.clauses.items e.trail.lits e.starts.items };
 
-    ghost invariant = { λ e. IsSearch e.clauses.items e.trail e.starts.items × (e.trail.vars + 1 ≤ vec_capacity e.starts) };
+    ghost invariant = { λ e. IsEngine e.clauses.items e.trail e.starts.items e.walks.items e.queue
+        × (e.trail.vars + 1 ≤ vec_capacity e.starts) × (e.trail.vars + 1 ≤ vec_capacity e.walks) };
 }
 
 impl Engine {
@@ -60,11 +64,15 @@ impl Engine {
         let clauses = copied(alloc, formula.clauses.as_slice())?;
         let trail = Trail::new(alloc, formula.vars)?;
         let starts = Vec::with_capacity(alloc, formula.vars as usize + 1)?;
+        let walks = Vec::with_capacity(alloc, formula.vars as usize + 1)?;
+        let queue = queue_of(alloc, formula.vars, &clauses)?;
         let activities = Activities::new(alloc, formula.vars)?;
         Ok(Engine {
             clauses,
             trail,
             starts,
+            walks,
+            queue,
             activities,
         })
     }
@@ -88,7 +96,7 @@ impl Engine {
             (λ place. IsFalseAt self.new.clauses self.new.lits place) }
         ensures few { length self.new.lits ≤ self.new.vars + 1 }
     {
-        let conflict = settle(&self.clauses, &mut self.trail);
+        let conflict = self.queue.settle(&self.clauses, &mut self.trail);
         let _len = self.trail.len();
         conflict
     }
@@ -108,6 +116,7 @@ impl Engine {
         let start = self.trail.len();
         self.trail.set(l, 0);
         self.starts.push_reserved(start);
+        self.walks.push_reserved(self.queue.done);
         Some(l)
     }
 
@@ -122,7 +131,9 @@ impl Engine {
             let from = self.starts[level];
             self.activities.keep_phases(&self.trail, from);
             self.trail.truncate(from);
+            self.queue.done = self.walks[level];
             self.starts.truncate(level);
+            self.walks.truncate(level);
         }
     }
 
@@ -144,13 +155,18 @@ impl Engine {
         let clause = learnt.step.clause.copy(alloc)?;
         self.clauses.reserve(1)?;
         let place = self.clauses.len();
+        self.queue.provide(place)?;
         self.activities
             .raise_hints(&self.clauses, learnt.step.hints.as_slice());
+        let second = second_watch(&self.trail, &self.starts, clause.as_slice(), &learnt);
         let from = self.starts[learnt.level];
         self.activities.keep_phases(&self.trail, from);
         self.trail.truncate(from);
+        self.queue.done = self.walks[learnt.level];
         self.starts.truncate(learnt.level);
+        self.walks.truncate(learnt.level);
         self.clauses.push_reserved(clause);
+        self.queue.watch(place, learnt.unit, second);
         self.trail.set(learnt.unit, place);
         Ok(learnt)
     }
@@ -189,6 +205,21 @@ fn copied(alloc: Global, clauses: &[Clause]) -> Result<Vec<Clause>, AllocError>
         out.push(clause.copy(alloc)?)?;
     }
     Ok(out)
+}
+
+/// A queue for the clauses, none of which is looked at.
+fn queue_of(alloc: Global, vars: u32, clauses: &[Clause]) -> Result<Queue, AllocError>
+    requires few { vars < 2 ^ 31 }
+    requires many { length clauses.now < 2 ^ 63 }
+    requires in_vars { AllInVars vars clauses.now }
+    requires normal { All IsNormal clauses.now }
+    ensures { IfOk result (λ q. IsQueued clauses.now (record { vars = vars; lits = []; reasons = [] }) q) }
+{
+    let mut queue = Queue::new(alloc, vars)?;
+    for (place, clause) in clauses.iter().enumerate() {
+        queue.add_clause(place, clause.as_slice())?;
+    }
+    Ok(queue)
 }
 
 /// The unset variable of the greatest score, as the literal of its phase.

@@ -1,13 +1,14 @@
 //! What is learnt from a conflict.
-ghost use Rattle.std.specs.Prelude.{◌≡◌, ◌-◌, ◌<◌, ◌≤◌, [], length, map, IfOk, All, slice_index, take};
+ghost use Rattle.std.specs.Prelude.{◌≡◌, ◌-◌, ◌<◌, ◌≤◌, [], length, map, IfOk, All, MatchOption, slice_index, take, true, false};
 ghost use Rattle.proof_log.specs.Literals.{negated};
 ghost use Rattle.proof_log.specs.Derivations.{LeadsToConflict};
 ghost use Rattle.sat_solver.specs.Searches.{IsFalseAt, search_of};
-ghost use Rattle.sat_solver.specs.Engines.{IsSearch};
+ghost use Rattle.proof_log.specs.Clauses.{is_set};
+ghost use Rattle.sat_solver.specs.Engines.{IsSearch, level_floor};
 ghost use Rattle.sat_solver.specs.Learning.{OthersFalse, IsLevel, IsLearnt};
 ghost use Rattle.sat_solver.specs.Cuts.{FalseBy, IsAsserting};
 
-use crate::cuts::{Cut, others_false, resolve_below, resolve_to_unit};
+use crate::cuts::{Cut, is_open_other, others_false, resolve_below, resolve_to_unit};
 use crate::trails::Trail;
 use proof_log::{Clause, DerivStep, Lit};
 use sdcv_base::Seq;
@@ -117,4 +118,33 @@ pub fn last_step(
         },
         hints: Seq::from_vec(hints),
     })
+}
+
+/// A literal to be watched beside the unit: one of the level that the learnt clause goes back to.
+pub fn second_watch(trail: &Trail, starts: &[usize], lits: &[Lit], learnt: &Learnt) -> Option<Lit>
+    requires level { learnt.now.level < length starts.now }
+    requires falsified { OthersFalse trail.now.lits lits.now learnt.now.unit }
+    ensures { MatchOption result
+        (OthersFalse (take (level_floor starts.now learnt.now.level) trail.now.lits) lits.now learnt.now.unit)
+        (λ l. (is_set lits.now l ≡ true) × (l ≡ learnt.now.unit → ⊥)
+        × (is_set (take (level_floor starts.now learnt.now.level) trail.now.lits) (negated l) ≡ false)) }
+{
+    let floor = floor_of(starts, learnt.level);
+    for l in lits {
+        if is_open_other(trail, floor, *l, learnt.unit) {
+            return Some(*l);
+        }
+    }
+    None
+}
+
+/// Where the level below that one begins, 0 for the lowest.
+fn floor_of(starts: &[usize], level: usize) -> usize
+    requires { level < length starts.now }
+    ensures { result ≡ level_floor starts.now level }
+{
+    if level == 0 {
+        return 0;
+    }
+    starts[level - 1]
 }

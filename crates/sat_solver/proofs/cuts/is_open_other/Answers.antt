@@ -12,3 +12,6 @@ returns-then-ne c =
     open_other_means front c.args.l c.args.unit (negated c.args.l) c.place.result c.args.len
     (eqb-false _ _ (not_true_false _ (sym c.ne.ensures ∙ c.if-ne.true)))
     (ap (is_set front) (sym c.negated.ensures) ∙ c.place.ensures.front c.args.len)
+
+pub place-requires : goal.place-requires
+place-requires c = ap (is_set c.args.trail.now.lits) c.negated.ensures ∙ c.requires (eqb-false _ _ (not_true_false _ (sym c.ne.ensures ∙ c.if-ne.true)))

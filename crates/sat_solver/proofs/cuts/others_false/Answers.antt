@@ -6,7 +6,7 @@ use Rattle.sat_solver.proofs.Analyzing.{OthersFalse-none, OthersFalse-more, Othe
 use Rattle.sat_solver.proofs.cuts.others_false.Goals as goal
 
 pub is_open_other-requires : goal.is_open_other-requires
-is_open_other-requires c =
+is_open_other-requires c = λ ne.
     c.requires c.l-item.result
     (ap (is_set c.args.lits.now) (get_or_read c.args.lits.now c.loop-l.l-index c.l-item.result (omega arith) c.l-item.is 0)
     ∙ is_set-at c.args.lits.now c.loop-l.l-index (omega arith))

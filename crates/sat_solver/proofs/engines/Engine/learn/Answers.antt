@@ -1,9 +1,57 @@
-use Rattle.std.proofs.Common.{◌≡◌, ◌∙◌, ◌++◌, ◌∷◌, [], get_or, length, take, ap, arith}
+use Rattle.std.proofs.Common.{◌≡◌, ◌∙◌, ◌+◌, ◌*◌, ◌++◌, ◌∷◌, [], ℕ, List, get_or, length, take, ap, sym, subst, arith}
+use Rattle.std.specs.List.{All}
 use Rattle.std.proofs.lemmas.List.{get_or_read}
-use Rattle.proof_log.specs.Literals.{negated}
+use Rattle.proof_log.specs.Literals.{negated, InVars}
 use Rattle.proof_log.specs.Clauses.{is_set}
-use Rattle.sat_solver.proofs.AtConflict.{IsSearch-learn, unit_unset_at, unit_in_vars, learnt_shown}
+use Rattle.proof_log.proofs.Members.{is_set-take}
+use Rattle.sat_solver.specs.Engines.{level_floor}
+use Rattle.sat_solver.proofs.AtConflict.{unit_unset_at, unit_in_vars, learnt_shown}
+use Rattle.sat_solver.proofs.Queueing.{IsSecond, ArePut, IsEngine-more, IsEngine-learn, second_low}
 use Rattle.sat_solver.proofs.engines.Engine.learn.Goals as goal
+
+pub invariant_of-self-in_err-provide : goal.invariant_of-self-in_err-provide
+invariant_of-self-in_err-provide c =
+    let e = c.self.inside in
+    rw c.reserve.ensures.items (
+      IsEngine-more e.clauses.items e.trail e.starts.items e.walks.items e.queue c.provide.new.self c.self.invariant.0 c.provide.ensures.more,
+      c.self.invariant.1,
+      c.self.invariant.2,
+    )
+
+pub second_watch-second-requires-clause-falsified : goal.second_watch-second-requires-clause-falsified
+second_watch-second-requires-clause-falsified c = λ l m ne.
+    let e = c.self.inside in
+    let r = c.in_ok-learnt.learnt in
+    let learnt = learnt_shown e.trail.vars e.clauses.items _ e.trail.lits e.starts.items _ r.step r.level r.unit c.deref.ensures.value c.deref-2.ensures.value c.in_ok-learnt.ensures in
+    is_set-take (get_or e.starts.items r.level 0) e.trail.lits (negated l)
+    (learnt.back.falsified l (ap (λ xs. is_set xs l) (sym (c.as_slice-2.ensures ∙ c.in_ok-clause.ensures)) ∙ m) ne)
+
+pub watch-requires-clause-first_free : goal.watch-requires-clause-first_free
+watch-requires-clause-first_free c =
+    let clauses = c.self.inside.clauses.items in
+    let place_is : c.len-place.result ≡ length clauses = omega (arith, c.len-place.ensures, c.in_ok-reserve.ensures.len, c.self.inside.clauses.ok.0) in
+    c.provide.ensures.more.same (2 * c.len-place.result) ∙ c.self.invariant.0.queued.watches.spare (2 * c.len-place.result) (omega (arith, place_is))
+
+pub watch-requires-clause-second_free : goal.watch-requires-clause-second_free
+watch-requires-clause-second_free c =
+    let clauses = c.self.inside.clauses.items in
+    let place_is : c.len-place.result ≡ length clauses = omega (arith, c.len-place.ensures, c.in_ok-reserve.ensures.len, c.self.inside.clauses.ok.0) in
+    c.provide.ensures.more.same (2 * c.len-place.result + 1) ∙ c.self.invariant.0.queued.watches.spare (2 * c.len-place.result + 1) (omega (arith, place_is))
+
+pub watch-requires-clause-first_low : goal.watch-requires-clause-first_low
+watch-requires-clause-first_low c =
+    let r = c.in_ok-learnt.learnt in
+    let v = unit_in_vars _ r.step r.level r.unit c.in_ok-learnt.ensures in
+    omega (arith, v.1, c.provide.ensures.more.limit, c.self.invariant.0.queued.limit)
+
+pub watch-requires-clause-second_low : goal.watch-requires-clause-second_low
+watch-requires-clause-second_low c =
+    let e = c.self.inside in
+    let r = c.in_ok-learnt.learnt in
+    let learnt = learnt_shown e.trail.vars e.clauses.items _ e.trail.lits e.starts.items _ r.step r.level r.unit c.deref.ensures.value c.deref-2.ensures.value c.in_ok-learnt.ensures in
+    let V : List ℕ → Type 0 = λ xs. All (InVars e.trail.vars) xs in
+    second_low e.trail.vars c.provide.new.self.watches.limit (take (level_floor c.deref-4.result.now r.level) e.trail.lits) c.as_slice-2.result.now r.unit c.second_watch-second.result c.second_watch-second.ensures
+    (subst V (sym (c.as_slice-2.ensures ∙ c.in_ok-clause.ensures)) learnt.in_vars) (c.provide.ensures.more.limit ∙ c.self.invariant.0.queued.limit)
 
 pub set-requires-clause-in_vars : goal.set-requires-clause-in_vars
 set-requires-clause-in_vars c =
@@ -18,7 +66,7 @@ set-requires-clause-not_true c =
     let lits = c.self.inside.trail.lits in
     let learnt = learnt_shown c.self.inside.trail.vars c.self.inside.clauses.items _ lits starts _ r.step r.level r.unit c.deref.ensures.value c.deref-2.ensures.value c.in_ok-learnt.ensures in
     let from_is : c.index-from.result.now ≡ get_or starts r.level 0 = get_or_read starts r.level c.index-from.result.now learnt.back.below c.index-from.ensures 0 in
-    let u = unit_unset_at c.self.inside.clauses.items c.self.inside.trail starts r.step r.level r.unit c.self.invariant.0 learnt in
+    let u = unit_unset_at c.self.inside.clauses.items c.self.inside.trail starts r.step r.level r.unit c.self.invariant.0.search learnt in
     ap (λ xs. is_set xs r.unit) (c.truncate.ensures.lits ∙ ap (λ n. take n lits) from_is) ∙ u.0
 
 pub set-requires-clause-not_false : goal.set-requires-clause-not_false
@@ -28,25 +76,44 @@ set-requires-clause-not_false c =
     let lits = c.self.inside.trail.lits in
     let learnt = learnt_shown c.self.inside.trail.vars c.self.inside.clauses.items _ lits starts _ r.step r.level r.unit c.deref.ensures.value c.deref-2.ensures.value c.in_ok-learnt.ensures in
     let from_is : c.index-from.result.now ≡ get_or starts r.level 0 = get_or_read starts r.level c.index-from.result.now learnt.back.below c.index-from.ensures 0 in
-    let u = unit_unset_at c.self.inside.clauses.items c.self.inside.trail starts r.step r.level r.unit c.self.invariant.0 learnt in
+    let u = unit_unset_at c.self.inside.clauses.items c.self.inside.trail starts r.step r.level r.unit c.self.invariant.0.search learnt in
     ap (λ xs. is_set xs (negated r.unit)) (c.truncate.ensures.lits ∙ ap (λ n. take n lits) from_is) ∙ u.1
 
 pub invariant_of-self-2 : goal.invariant_of-self-2
 invariant_of-self-2 c =
+    let e = c.self.inside in
     let r = c.in_ok-learnt.learnt in
-    let clauses = c.self.inside.clauses.items in
-    let starts = c.self.inside.starts.items in
-    let t = c.self.inside.trail in
+    let clauses = e.clauses.items in
+    let starts = e.starts.items in
+    let walks = e.walks.items in
+    let t = e.trail in
     let learnt = learnt_shown t.vars clauses _ t.lits starts _ r.step r.level r.unit c.deref.ensures.value c.deref-2.ensures.value c.in_ok-learnt.ensures in
     let from_is : c.index-from.result.now ≡ get_or starts r.level 0 = get_or_read starts r.level c.index-from.result.now learnt.back.below c.index-from.ensures 0 in
+    let walk_is : c.index.result.now ≡ get_or walks r.level 0 = get_or_read walks r.level c.index.result.now (omega (arith, learnt.back.below, c.self.invariant.0.levels)) c.index.ensures 0 in
     let clauses_are : c.push_reserved.new.self.items ≡ clauses ++ r.step.clause ∷ [] =
     c.push_reserved.ensures.items ∙ ap (λ cs. cs ++ c.in_ok-clause.clause ∷ []) c.in_ok-reserve.ensures.items ∙ ap (λ x. clauses ++ x ∷ []) c.in_ok-clause.ensures in
-    let place_is : c.len-place.result ≡ length clauses = omega (arith, c.len-place.ensures, c.in_ok-reserve.ensures.len, c.self.inside.clauses.ok.0) in
+    let place_is : c.len-place.result ≡ length clauses = omega (arith, c.len-place.ensures, c.in_ok-reserve.ensures.len, e.clauses.ok.0) in
     let vars_are : c.set.new.self.vars ≡ t.vars = c.set.ensures.vars ∙ c.truncate.ensures.vars in
-    rw (clauses_are, c.truncate-2.ensures.items) (
-      IsSearch-learn clauses t c.set.new.self starts r.step r.level r.unit c.self.invariant.0 learnt vars_are
+    let second = c.second_watch-second.result in
+    let S : List ℕ → Type 0 = λ xs. IsSecond (take (level_floor xs r.level) t.lits) c.as_slice-2.result.now r.unit second in
+    let C : List ℕ → Type 0 = λ xs. IsSecond (take (level_floor starts r.level) t.lits) xs r.unit second in
+    let A : ℕ → Type 0 = λ k. ArePut c.provide.new.self.watches.literals c.watch.new.self.watches.literals k r.unit second in
+    rw (clauses_are, c.truncate-2.ensures.items, c.truncate-3.ensures.items) (
+      IsEngine-learn clauses t c.set.new.self starts walks e.queue c.provide.new.self c.watch.new.self r.step r.level r.unit second c.self.invariant.0 learnt c.provide.ensures.more
+          (omega (arith, c.in_ok-provide.ensures.room, place_is))
+          (subst C (c.as_slice-2.ensures ∙ c.in_ok-clause.ensures) (subst S c.deref-4.ensures.value c.second_watch-second.ensures))
+          (subst A place_is c.watch.ensures.watched)
+          c.watch.ensures.limit c.watch.ensures.waiting (c.watch.ensures.done ∙ walk_is) c.watch.ensures.looked vars_are
           (c.set.ensures.lits ∙ ap (λ xs. xs ++ r.unit ∷ []) (c.truncate.ensures.lits ∙ ap (λ n. take n t.lits) from_is))
           (c.set.ensures.reasons ∙ ap (λ xs. xs ++ c.len-place.result ∷ []) (c.truncate.ensures.reasons ∙ ap (λ n. take n t.reasons) from_is)
           ∙ ap (λ n. take (get_or starts r.level 0) t.reasons ++ n ∷ []) place_is),
       omega (arith, vars_are, c.truncate-2.ensures.capacity, c.self.invariant.1),
+      omega (arith, vars_are, c.truncate-3.ensures.capacity, c.self.invariant.2),
     )
+
+pub returns-clause-learnt : goal.returns-clause-learnt
+returns-clause-learnt c =
+    let e = c.self.inside in
+    let r = c.in_ok-learnt.learnt in
+    let learnt = learnt_shown e.trail.vars e.clauses.items _ e.trail.lits e.starts.items _ r.step r.level r.unit c.deref.ensures.value c.deref-2.ensures.value c.in_ok-learnt.ensures in
+    rw (← c.self.view_is) learnt
