@@ -1,12 +1,6 @@
 -- What steps gave, where what they lead to is known.
 use Rattle.std.proofs.Common.{◌≡◌, Option, Some, None, IfSome, MatchOption, refl, subst}
 use Rattle.std.specs.Option.{option_map}
-use Rattle.texts.specs.Reads.{◌>>=◌}
-
--- a step gave something
-pub bind_gave : {A B : Type 0} (o : Option A) (f : A → Option B) (y : B) → (o >>= f) ≡ Some y → (x : A) × (o ≡ Some x) × (f x ≡ Some y)
-bind_gave None f y e = absurd cc
-bind_gave (Some x) f y e = (x, refl, e)
 
 -- what was mapped was there
 pub map_gave : {A B : Type 0} (f : A → B) (o : Option A) (y : B) → option_map f o ≡ Some y → (x : A) × (o ≡ Some x) × (f x ≡ y)

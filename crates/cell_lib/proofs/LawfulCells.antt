@@ -1,31 +1,32 @@
 -- The functions of a cell that was read are over its inputs.
-use Rattle.std.proofs.Common.{◌≡◌, ℕ, ◌+◌, Bool, true, false, List, [], ◌∷◌, ◌++◌, length, map, All, Option, Some, None, is_some, ◌&&◌, IfSome, refl, subst}
+use Rattle.std.proofs.Common.{◌≡◌, ℕ, ◌+◌, Bool, true, false, List, [], ◌∷◌, ◌++◌, length, map, All, Option, Some, None, is_some, ◌&&◌, IfSome, refl, sym, subst}
 use Rattle.std.proofs.lemmas.List.Elements.{All-cons, All-nil, All-append}
 use Rattle.texts.specs.Names.{is_among, each_once}
 use Rattle.net_model.specs.Form.{Form, ZeroForm, OneForm, NotForm, AndForm, OrForm, XorForm, IsOver}
 use Rattle.net_model.specs.Netlist.{IsOptionOver}
-use Rattle.lib_func.specs.declared.scopes.States.{States}
+use Rattle.cell_lib.specs.declared.scopes.States.{States}
 use Rattle.lib_func.specs.Trees.{Tree, ZeroTree, OneTree, NameTree, NotTree, AndTree, OrTree, XorTree}
-use Rattle.lib_func.specs.Scopes.{meaning, resolved, reach}
-use Rattle.lib_func.proofs.ScopeLemmas.{place_in_reach, state_in_reach}
+use Rattle.cell_lib.specs.Scopes.{meaning, resolved, reach}
+use Rattle.cell_lib.proofs.ScopeLemmas.{place_in_reach, state_in_reach}
 use Rattle.lib_words.specs.declared.groups.Attribute.{Attribute}
 use Rattle.lib_words.specs.declared.groups.Part.{Part}
 use Rattle.lib_words.specs.declared.groups.CellGroup.{CellGroup}
-use Rattle.cell_lib.specs.declared.libraries.CombOut.{CombOut}
-use Rattle.cell_lib.specs.declared.libraries.Flop.{Flop}
+use Rattle.cell_types.specs.declared.libraries.CombOut.{CombOut}
+use Rattle.cell_types.specs.declared.libraries.Flop.{Flop}
 use Rattle.cell_lib.specs.declared.flops.Resets.{Resets}
 use Rattle.cell_lib.specs.declared.pins.Role.TheVariants as role
 use Rattle.cell_lib.specs.declared.pins.OutPin.{OutPin}
 use Rattle.cell_lib.specs.declared.shapes.Shape.{Shape}
 use Rattle.lib_words.specs.declared.kinds.AttributeKind.TheVariants as attribute
-use Rattle.cell_lib.specs.Libraries.{IsLawfulFlop, IsLawfulKind, IsLawfulCell}
+use Rattle.cell_types.specs.Libraries.{IsLawfulFlop, IsLawfulKind, IsLawfulCell}
 use Rattle.cell_lib.specs.Values.{expr_of}
-use Rattle.cell_lib.specs.Fits.{each_from}
 use Rattle.cell_lib.specs.Combs.{comb_out, comb_outs}
-use Rattle.cell_lib.specs.Flops.{data_inputs, states_of, clock_of, next_of, reset_of, resets_of, both_of, flop_outs, flop_of}
+use Rattle.cell_lib.specs.Flops.{data_inputs, states_of, clock_of, next_of, reset_of, resets_of, both_of, flop_outs, flop_on, flop_of}
 use Rattle.cell_lib.specs.Pins.{names_of, outs_of}
-use Rattle.cell_lib.specs.Cells.{comb_kind, flop_shape, shape_by, shape_of, is_plain, first_ff, cell_of}
-use Rattle.cell_lib.proofs.Inversions.{bind_gave, map_gave, some_holds}
+use Rattle.cell_lib.specs.Cells.{comb_kind, flop_shape, shape_by, shape_of, is_modelled, first_ff, cell_of}
+use Rattle.texts.proofs.ReadLemmas.{bind_gave}
+use Rattle.texts.proofs.EachLemmas.{each_holds}
+use Rattle.cell_lib.proofs.Inversions.{map_gave, some_holds}
 
 -- a name's meaning is in reach
 none_means : (inputs : List (List ℕ)) (names : Option States) (n : List ℕ) → is_among n inputs ≡ false → IfSome (meaning inputs names n) (IsOver (reach inputs names))
@@ -61,14 +62,6 @@ resolved_over inputs names (XorTree t u) f e =
     let same : XorForm x y ≡ f = cc in
     subst (IsOver (reach inputs names)) same (resolved_over inputs names t x xs, resolved_over inputs names u y ys)
 
--- what holds of each thing that is made holds of all
-each_holds : {A B : Type 0} (P : B → Type 0) (f : A → Option B) → ((x : A) (y : B) → f x ≡ Some y → P y) → (found : List B) → All P found → (xs : List A) (ys : List B) → each_from f found xs ≡ Some ys → All P ys
-unfolding each_from
-each_holds P f made found all [] ys e = let same : found ≡ ys = cc in subst (All P) same all
-each_holds P f made found all (x ∷ xs) ys e =
-    let (y, one, rest) = bind_gave (f x) _ ys e in
-    each_holds P f made (found ++ y ∷ []) (All-append P found (y ∷ []) all (All-cons P y [] (made x y one) (All-nil P))) xs ys rest
-
 comb_out_over : (inputs : List (List ℕ)) (o : OutPin) (x : CombOut) → comb_out inputs o ≡ Some x → IsOver (length inputs) x.func
 unfolding comb_out
 comb_out_over inputs o x e =
@@ -83,7 +76,7 @@ comb_kind_over inputs (Some ys) all = all ys refl
 comb_lawful : (inputs : List (List ℕ)) (outs : List OutPin) → IsLawfulKind (length inputs) (comb_kind (comb_outs inputs outs))
 comb_lawful inputs outs =
     let P : CombOut → Type 0 = λ (y : CombOut). IsOver (length inputs) y.func in
-    comb_kind_over inputs (comb_outs inputs outs) (λ ys e. each_holds P (comb_out inputs) (comb_out_over inputs) [] (All-nil P) outs ys e)
+    comb_kind_over inputs (comb_outs inputs outs) (λ ys e. each_holds P (comb_out inputs) (comb_out_over inputs) outs ys e)
 
 reset_over : (inputs : List (List ℕ)) (t : Option Tree) (r : Option Form) → reset_of inputs t ≡ Some r → IsOptionOver (length inputs) r
 reset_over inputs None r e = let same : None ≡ r = cc in subst (IsOptionOver (length inputs)) same tt
@@ -112,19 +105,26 @@ resets_over inputs attributes r e =
     let over : ResetsOver (length inputs) made = record { clear = reset_over inputs (expr_of attribute.Clear attributes) clear clears; preset = reset_over inputs (expr_of attribute.Preset attributes) preset presets } in
     subst (ResetsOver (length inputs)) same over
 
+flop_on_over : (clock : List ℕ) (pins : List (List ℕ)) (states : States) (outs : List OutPin) (attributes : List Attribute) (flop : Flop)
+    → flop_on clock pins states outs attributes ≡ Some flop → (flop.clock ≡ clock) × IsLawfulFlop (length pins) flop
+unfolding flop_on
+flop_on_over clock pins states outs attributes flop e =
+    let (next, e_next, e1) = bind_gave (next_of pins states attributes) _ flop e in
+    let (resets, e_resets, e2) = bind_gave (resets_of pins attributes) _ flop e1 in
+    let (found, e_found, e3) = bind_gave (flop_outs states outs) _ flop e2 in
+    let made : Flop = record { clock = clock; next = next; clear = resets.clear; preset = resets.preset; both = resets.both; outs = found } in
+    let same : made ≡ flop = cc in
+    let over = resets_over pins attributes resets e_resets in
+    let lawful : IsLawfulFlop (length pins) made = record { next = next_over pins states attributes next e_next; clear = over.clear; preset = over.preset } in
+    subst (λ (f : Flop). (f.clock ≡ clock) × IsLawfulFlop (length pins) f) same (refl, lawful)
+
 flop_over : (inputs : List (List ℕ)) (outs : List OutPin) (ff : Part) (flop : Flop) → flop_of inputs outs ff ≡ Some flop → IsLawfulFlop (length (data_inputs flop.clock inputs)) flop
 unfolding flop_of
 flop_over inputs outs ff flop e =
     let (states, e_states, e1) = bind_gave (states_of ff.names) _ flop e in
     let (clock, e_clock, e2) = bind_gave (clock_of inputs ff.attributes) _ flop e1 in
-    let (next, e_next, e3) = bind_gave (next_of (data_inputs clock inputs) states ff.attributes) _ flop e2 in
-    let (resets, e_resets, e4) = bind_gave (resets_of (data_inputs clock inputs) ff.attributes) _ flop e3 in
-    let (found, e_found, e5) = bind_gave (flop_outs states outs) _ flop e4 in
-    let made : Flop = record { clock = clock; next = next; clear = resets.clear; preset = resets.preset; both = resets.both; outs = found } in
-    let same : made ≡ flop = cc in
-    let over = resets_over (data_inputs clock inputs) ff.attributes resets e_resets in
-    let lawful : IsLawfulFlop (length (data_inputs clock inputs)) made = record { next = next_over (data_inputs clock inputs) states ff.attributes next e_next; clear = over.clear; preset = over.preset } in
-    subst (λ (f : Flop). IsLawfulFlop (length (data_inputs f.clock inputs)) f) same lawful
+    let (same, lawful) = flop_on_over clock (data_inputs clock inputs) states outs ff.attributes flop e2 in
+    subst (λ (n : List ℕ). IsLawfulFlop (length (data_inputs n inputs)) flop) (sym same) lawful
 
 IsLawfulShape : Shape → Type 0
 IsLawfulShape s = IsLawfulKind (length s.inputs) s.kind
@@ -139,14 +139,14 @@ unfolding IsLawfulShape
 by_lawful inputs outs None = comb_lawful (each_once inputs) outs
 by_lawful inputs outs (Some ff) = flop_lawful inputs (flop_of inputs outs ff) (flop_over inputs outs ff)
 
-shape_cases : (g : CellGroup) (b : Bool) → is_plain g ≡ b → IsLawfulShape (shape_of g)
+shape_cases : (g : CellGroup) (b : Bool) → is_modelled g ≡ b → IsLawfulShape (shape_of g)
 unfolding shape_of IsLawfulShape
 shape_cases g true e = rw e (by_lawful (names_of role.Input g.parts) (outs_of g.parts) (first_ff g.parts))
 shape_cases g false e = rw e tt
 
 pub cell_lawful : (g : CellGroup) → IsLawfulCell (cell_of g)
 unfolding cell_of IsLawfulShape
-cell_lawful g = shape_cases g (is_plain g) refl
+cell_lawful g = shape_cases g (is_modelled g) refl
 
 -- every cell that was read is lawful
 pub cells_lawful : (groups : List CellGroup) → All IsLawfulCell (map cell_of groups)

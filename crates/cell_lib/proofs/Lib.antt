@@ -1,6 +1,6 @@
 pub mod DataLemmas
-pub mod FitLemmas
+pub mod FailLemmas
 pub mod Inversions
-pub mod Lawful
 pub mod LawfulCells
+pub mod ScopeLemmas
 pub mod TextLemmas

@@ -12,8 +12,8 @@ use Rattle.texts.proofs.NameLemmas.{are_distinct-push, are_distinct_front}
 use Rattle.texts.proofs.ReadLemmas.{split_at}
 use Rattle.lib_words.specs.declared.groups.CellGroup.{CellGroup}
 use Rattle.lib_words.specs.Groups as words
-use Rattle.cell_lib.specs.declared.libraries.Cell.{Cell}
-use Rattle.cell_lib.specs.Libraries.{IsLawful}
+use Rattle.cell_types.specs.declared.libraries.Cell.{Cell}
+use Rattle.cell_types.specs.Libraries.{IsLawful}
 use Rattle.cell_lib.specs.Cells.{cell_of}
 use Rattle.lib_words.specs.declared.faults.GroupFault.{GroupFault}
 use Rattle.lib_words.specs.declared.faults.GroupFault.TheVariants as group_fault

@@ -4,15 +4,15 @@ use Rattle.std.specs.List.{list_all}
 use Rattle.texts.specs.Names.{each_once}
 use Rattle.lib_words.specs.declared.groups.Part.{Part}
 use Rattle.lib_words.specs.declared.groups.CellGroup.{CellGroup}
-use Rattle.cell_lib.specs.declared.libraries.Cell.{Cell}
-use Rattle.cell_lib.specs.declared.libraries.CellKind.{CellKind}
-use Rattle.cell_lib.specs.declared.libraries.CellKind.TheVariants as kind
-use Rattle.cell_lib.specs.declared.libraries.CombOut.{CombOut}
-use Rattle.cell_lib.specs.declared.libraries.Flop.{Flop}
+use Rattle.cell_types.specs.declared.libraries.Cell.{Cell}
+use Rattle.cell_types.specs.declared.libraries.CellKind.{CellKind}
+use Rattle.cell_types.specs.declared.libraries.CellKind.TheVariants as kind
+use Rattle.cell_types.specs.declared.libraries.CombOut.{CombOut}
+use Rattle.cell_types.specs.declared.libraries.Flop.{Flop}
 use Rattle.cell_lib.specs.declared.pins.Role.TheVariants as role
 use Rattle.cell_lib.specs.declared.pins.OutPin.{OutPin}
 use Rattle.cell_lib.specs.declared.shapes.Shape.{Shape}
-use Rattle.cell_lib.specs.Pins.{is_ff, is_directed, is_native, names_differ, names_of, outs_of}
+use Rattle.cell_lib.specs.Pins.{is_ff, is_directed, can_be_modelled, names_differ, names_of, outs_of}
 use Rattle.cell_lib.specs.Combs.{comb_outs}
 use Rattle.cell_lib.specs.Flops.{flop_of, data_inputs}
 
@@ -41,8 +41,8 @@ abbrev pub first_ff : List Part → Option Part
 first_ff parts = find (λ (p : Part). is_ff p.kind) parts
 
 -- each group and attribute can be modelled, each pin is an input or an output, names differ, and there is one `ff` at most
-unfoldable pub is_plain : CellGroup → Bool
-is_plain g = is_native g && (list_all is_directed g.parts && (nat_le (ff_count g.parts) 1 && names_differ g.parts))
+unfoldable pub is_modelled : CellGroup → Bool
+is_modelled g = can_be_modelled g && (list_all is_directed g.parts && (nat_le (ff_count g.parts) 1 && names_differ g.parts))
 
 -- what pins, and an `ff` where there is one, make of a cell
 abbrev pub shape_by : List (List ℕ) → List OutPin → Option Part → Shape
@@ -52,7 +52,7 @@ shape_by inputs outs (Some ff) = flop_shape inputs (flop_of inputs outs ff)
 unfoldable pub shape_of : CellGroup → Shape
 shape_of g =
     let inputs = names_of role.Input g.parts in
-    if is_plain g then shape_by inputs (outs_of g.parts) (first_ff g.parts) else other_shape inputs
+    if is_modelled g then shape_by inputs (outs_of g.parts) (first_ff g.parts) else other_shape inputs
 
 -- the cell that a group is
 unfoldable pub cell_of : CellGroup → Cell

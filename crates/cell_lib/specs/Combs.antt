@@ -1,12 +1,11 @@
 -- Combinational cells.
 use Rattle.std.specs.Prelude.{ℕ, List, Option, None}
 use Rattle.std.specs.Option.{option_map}
-use Rattle.texts.specs.Reads.{◌>>=◌}
+use Rattle.texts.specs.Reads.{each, ◌>>=◌}
 use Rattle.net_model.specs.Form.{Form}
-use Rattle.lib_func.specs.Scopes.{meaning, resolved}
-use Rattle.cell_lib.specs.declared.libraries.CombOut.{CombOut}
+use Rattle.cell_lib.specs.Scopes.{meaning, resolved}
+use Rattle.cell_types.specs.declared.libraries.CombOut.{CombOut}
 use Rattle.cell_lib.specs.declared.pins.OutPin.{OutPin}
-use Rattle.cell_lib.specs.Fits.{each}
 
 -- an output pin whose function has input pins alone
 unfoldable pub comb_out : List (List ℕ) → OutPin → Option CombOut

@@ -3,20 +3,19 @@ use Rattle.std.specs.Prelude.{ℕ, Bool, true, false, not, ◌&&◌, if◌then�
 use Rattle.std.specs.Option.{option_map}
 use Rattle.std.specs.Str.{bytes_eq}
 use Rattle.texts.specs.Names.{is_among, with_name, each_once}
-use Rattle.texts.specs.Reads.{◌>>=◌}
+use Rattle.texts.specs.Reads.{each, ◌>>=◌}
 use Rattle.net_model.specs.Form.{Form}
-use Rattle.lib_func.specs.declared.scopes.States.{States}
+use Rattle.cell_lib.specs.declared.scopes.States.{States}
 use Rattle.lib_func.specs.Trees.{Tree, NameTree, NotTree}
-use Rattle.lib_func.specs.Scopes.{meaning, resolved}
+use Rattle.cell_lib.specs.Scopes.{meaning, resolved}
 use Rattle.lib_words.specs.declared.kinds.AttributeKind.TheVariants as attribute
 use Rattle.lib_words.specs.declared.groups.Attribute.{Attribute}
 use Rattle.lib_words.specs.declared.groups.Part.{Part}
-use Rattle.cell_lib.specs.declared.libraries.Flop.{Flop}
-use Rattle.cell_lib.specs.declared.libraries.FlopOut.{FlopOut}
+use Rattle.cell_types.specs.declared.libraries.Flop.{Flop}
+use Rattle.cell_types.specs.declared.libraries.FlopOut.{FlopOut}
 use Rattle.cell_lib.specs.declared.pins.OutPin.{OutPin}
 use Rattle.cell_lib.specs.declared.flops.Resets.{Resets}
 use Rattle.cell_lib.specs.Values.{says, expr_of}
-use Rattle.cell_lib.specs.Fits.{each}
 
 -- the group's two arguments: the state and its complement
 abbrev pub states_of : List (List ℕ) → Option States
@@ -82,12 +81,17 @@ flop_out states o = o.func >>= λ e. option_map (λ (b : Bool). record { name = 
 abbrev pub flop_outs : States → List OutPin → Option (List FlopOut)
 flop_outs states outs = each (flop_out states) outs
 
+-- the flop on this clock whose other input pins are these
+unfoldable pub flop_on : List ℕ → List (List ℕ) → States → List OutPin → List Attribute → Option Flop
+flop_on clock pins states outs attributes =
+    next_of pins states attributes >>= λ next.
+    resets_of pins attributes >>= λ resets.
+    flop_outs states outs >>= λ found.
+    Some (record { clock = clock; next = next; clear = resets.clear; preset = resets.preset; both = resets.both; outs = found })
+
 -- the flop that a group `ff` makes of a cell's pins
 unfoldable pub flop_of : List (List ℕ) → List OutPin → Part → Option Flop
 flop_of inputs outs ff =
     states_of ff.names >>= λ states.
     clock_of inputs ff.attributes >>= λ clock.
-    next_of (data_inputs clock inputs) states ff.attributes >>= λ next.
-    resets_of (data_inputs clock inputs) ff.attributes >>= λ resets.
-    flop_outs states outs >>= λ found.
-    Some (record { clock = clock; next = next; clear = resets.clear; preset = resets.preset; both = resets.both; outs = found })
+    flop_on clock (data_inputs clock inputs) states outs ff.attributes

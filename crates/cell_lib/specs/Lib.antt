@@ -1,10 +1,9 @@
-pub mod Builtin
 pub mod Cells
 pub mod Combs
-pub mod Fits
+pub mod Fails
 pub mod Flops
-pub mod Libraries
 pub mod Pins
+pub mod Scopes
 pub mod Texts
 pub mod Told
 pub mod Values

@@ -14,6 +14,7 @@ use Rattle.cell_lib.specs.declared.pins.Role.TheVariants as role
 use Rattle.cell_lib.specs.declared.pins.OutPin.{OutPin}
 use Rattle.cell_lib.specs.Values.{says, expr_of}
 
+-- the groups that name pins, power pins, and the state of a flop
 abbrev pub is_pin : PartKind → Bool
 is_pin part.Pin = true
 is_pin _ = false
@@ -27,27 +28,27 @@ is_ff part.Ff = true
 is_ff _ = false
 
 -- a group with which a cell is not modelled, and in whose cell no function is read
-abbrev pub is_bank : PartKind → Bool
-is_bank part.FfBank = true
-is_bank part.Latch = true
-is_bank part.LatchBank = true
-is_bank part.Statetable = true
-is_bank part.Bus = true
-is_bank part.Bundle = true
-is_bank _ = false
+abbrev pub is_unmodelled_group : PartKind → Bool
+is_unmodelled_group part.FfBank = true
+is_unmodelled_group part.Latch = true
+is_unmodelled_group part.LatchBank = true
+is_unmodelled_group part.Statetable = true
+is_unmodelled_group part.Bus = true
+is_unmodelled_group part.Bundle = true
+is_unmodelled_group _ = false
 
-abbrev pub has_bank : List Part → Bool
-has_bank parts = list_any (λ (p : Part). is_bank p.kind) parts
+abbrev pub has_unmodelled_group : List Part → Bool
+has_unmodelled_group parts = list_any (λ (p : Part). is_unmodelled_group p.kind) parts
 
 -- an attribute with which a cell is not modelled
-abbrev pub is_foreign : AttributeKind → Bool
-is_foreign attribute.ThreeState = true
-is_foreign attribute.ClockedOnAlso = true
-is_foreign attribute.ClockGatingIntegratedCell = true
-is_foreign _ = false
+abbrev pub is_unmodelled_attribute : AttributeKind → Bool
+is_unmodelled_attribute attribute.ThreeState = true
+is_unmodelled_attribute attribute.ClockedOnAlso = true
+is_unmodelled_attribute attribute.ClockGatingIntegratedCell = true
+is_unmodelled_attribute _ = false
 
-abbrev pub has_foreign : List Attribute → Bool
-has_foreign attributes = list_any (λ (a : Attribute). is_foreign a.kind) attributes
+abbrev pub has_unmodelled_attribute : List Attribute → Bool
+has_unmodelled_attribute attributes = list_any (λ (a : Attribute). is_unmodelled_attribute a.kind) attributes
 
 abbrev pub is_input : Part → Bool
 is_input p = is_pin p.kind && says attribute.Direction (codes "input") p.attributes
@@ -56,13 +57,13 @@ abbrev pub is_output : Part → Bool
 is_output p = is_pin p.kind && says attribute.Direction (codes "output") p.attributes
 
 -- the group names what is asked for: input pins, power pins, or whatever has a name of its own in a cell
-abbrev pub bears : Role → Part → Bool
-bears role.Input p = is_input p
-bears role.Power p = is_power p.kind
-bears role.Every p = is_pin p.kind || (is_power p.kind || is_ff p.kind)
+abbrev pub has_role : Role → Part → Bool
+has_role role.Input p = is_input p
+has_role role.Power p = is_power p.kind
+has_role role.Any p = is_pin p.kind || (is_power p.kind || is_ff p.kind)
 
 abbrev pub names_in : Role → Part → List (List ℕ)
-names_in role p = if bears role p then p.names else []
+names_in role p = if has_role role p then p.names else []
 
 abbrev pub names_of : Role → List Part → List (List ℕ)
 names_of role parts = flat_map (names_in role) parts
@@ -78,13 +79,13 @@ outs_of parts = flat_map outs_in parts
 abbrev pub is_directed : Part → Bool
 is_directed p = not (is_pin p.kind) || (is_input p || is_output p)
 
-abbrev pub has_foreign_part : List Part → Bool
-has_foreign_part parts = list_any (λ (p : Part). has_foreign p.attributes) parts
+abbrev pub has_unmodelled_part : List Part → Bool
+has_unmodelled_part parts = list_any (λ (p : Part). has_unmodelled_attribute p.attributes) parts
 
--- no group and no attribute stands there with which a cell is not modelled
-abbrev pub is_native : CellGroup → Bool
-is_native g = not (has_bank g.parts) && not (has_foreign g.attributes || has_foreign_part g.parts)
+-- each group and attribute of the cell can be modelled
+abbrev pub can_be_modelled : CellGroup → Bool
+can_be_modelled g = not (has_unmodelled_group g.parts) && not (has_unmodelled_attribute g.attributes || has_unmodelled_part g.parts)
 
 -- pins, power pins and states have names that differ
 abbrev pub names_differ : List Part → Bool
-names_differ parts = are_distinct (names_of role.Every parts)
+names_differ parts = are_distinct (names_of role.Any parts)

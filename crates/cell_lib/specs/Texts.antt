@@ -12,11 +12,11 @@ use Rattle.lib_words.specs.declared.groups.Part.{Part}
 use Rattle.lib_words.specs.declared.groups.CellGroup.{CellGroup}
 use Rattle.lib_words.specs.declared.faults.GroupFault.TheVariants as group_fault
 use Rattle.lib_words.specs.Groups as words
-use Rattle.cell_lib.specs.declared.libraries.Cell.{Cell}
-use Rattle.cell_lib.specs.declared.libraries.Library.{Library}
+use Rattle.cell_types.specs.declared.libraries.Cell.{Cell}
+use Rattle.cell_types.specs.declared.libraries.Library.{Library}
 use Rattle.cell_lib.specs.declared.faults.LibFault.{LibFault}
 use Rattle.cell_lib.specs.declared.faults.LibFault.TheVariants as fault
-use Rattle.cell_lib.specs.Pins.{has_bank}
+use Rattle.cell_lib.specs.Pins.{has_unmodelled_group}
 use Rattle.cell_lib.specs.Cells.{cell_of}
 
 -- the attribute of such a group is read as a function
@@ -47,9 +47,9 @@ broken_in_part p = first_of (broken_attribute p.kind) p.attributes
 abbrev pub broken_in_parts : List Part → Option ℕ
 broken_in_parts parts = first_of broken_in_part parts
 
--- the same of a cell; beside a bank or a latch no function is read
+-- the same of a cell; beside a group that is not modelled no function is read
 unfoldable pub broken_in_cell : CellGroup → Option ℕ
-broken_in_cell g = if has_bank g.parts then None else broken_in_parts g.parts
+broken_in_cell g = if has_unmodelled_group g.parts then None else broken_in_parts g.parts
 
 abbrev pub broken_in : List CellGroup → Option ℕ
 broken_in groups = first_of broken_in_cell groups

@@ -2,11 +2,12 @@
 ghost use Rattle.std.specs.Prelude.{◌≡◌, IfOk};
 ghost use Rattle.cell_lib.specs.Texts as spec;
 
-use crate::pins::has_bank;
+use crate::pins::has_unmodelled_group;
 use lib_func::read_function;
 use lib_words::{Attribute, AttributeKind, CellGroup, Part, PartKind};
 use std::alloc::{AllocError, Global};
 
+/// Whether the attribute of such a group is read as a function.
 fn is_read(part: PartKind, attribute: AttributeKind) -> bool
     ensures { result ≡ spec.is_read part attribute }
 {
@@ -23,6 +24,7 @@ fn is_read(part: PartKind, attribute: AttributeKind) -> bool
     }
 }
 
+/// Whether a quoted text is read as a function and is none.
 fn is_broken(alloc: Global, kind: PartKind, attribute: &Attribute) -> Result<bool, AllocError>
     ensures { IfOk result (λ b. b ≡ spec.is_broken kind attribute.now) }
 {
@@ -33,6 +35,7 @@ fn is_broken(alloc: Global, kind: PartKind, attribute: &Attribute) -> Result<boo
     Ok(found.is_none())
 }
 
+/// The offset of the first such text of a group.
 fn broken_in_part(alloc: Global, part: &Part) -> Result<Option<usize>, AllocError>
     ensures { IfOk result (λ place. place ≡ spec.broken_in_part part.now) }
 {
@@ -44,6 +47,7 @@ fn broken_in_part(alloc: Global, part: &Part) -> Result<Option<usize>, AllocErro
     Ok(None)
 }
 
+/// The offset of the first such text of these groups.
 fn broken_in_parts(alloc: Global, parts: &[Part]) -> Result<Option<usize>, AllocError>
     ensures { IfOk result (λ place. place ≡ spec.broken_in_parts parts.now) }
 {
@@ -56,12 +60,13 @@ fn broken_in_parts(alloc: Global, parts: &[Part]) -> Result<Option<usize>, Alloc
     Ok(None)
 }
 
+/// The same of a cell: beside a group that is not modelled no function is read.
 #[tactic(auto, unfolding(crate::specs::Texts::broken_in_cell))]
 fn broken_in_cell(alloc: Global, group: &CellGroup) -> Result<Option<usize>, AllocError>
     ensures { IfOk result (λ place. place ≡ spec.broken_in_cell group.now) }
 {
     let parts = group.parts.as_slice();
-    if has_bank(parts) {
+    if has_unmodelled_group(parts) {
         return Ok(None);
     }
     broken_in_parts(alloc, parts)

@@ -4,7 +4,7 @@ ghost use Rattle.cell_lib.specs.Cells as spec;
 
 use crate::Cell;
 use crate::pins::{Role, names_of};
-use crate::shapes::shape_of;
+use crate::shapes::{Shape, shape_of};
 use lib_words::CellGroup;
 use sdcv_base::Seq;
 use std::alloc::{AllocError, Global};
@@ -14,15 +14,14 @@ use std::alloc::{AllocError, Global};
 fn cell_of(alloc: Global, group: &CellGroup) -> Result<Cell, AllocError>
     ensures { IfOk result (λ cell. cell ≡ spec.cell_of group.now) }
 {
-    let shape = shape_of(alloc, group)?;
     let name = group.name.copy(alloc)?;
-    let inputs = Seq::from_vec(shape.inputs.names(alloc)?);
     let power = names_of(alloc, group.parts.as_slice(), Role::Power)?;
+    let Shape { inputs, kind } = shape_of(alloc, group)?;
     Ok(Cell {
         name,
         inputs,
         power,
-        kind: shape.kind,
+        kind,
     })
 }
 

@@ -1,18 +1,20 @@
 //! Combinational cells.
-ghost use Rattle.cell_lib.specs.Fits.{Gives};
+ghost use Rattle.texts.specs.Reads.{Gives};
+ghost use Rattle.cell_lib.specs.Fails.{Fails};
 ghost use Rattle.cell_lib.specs.Combs as spec;
 
 use crate::CombOut;
 use crate::misfits::Misfit;
 use crate::pins::OutPin;
-use lib_func::resolve;
+use crate::scopes::resolve;
 use sdcv_base::Seq;
 use std::alloc::Global;
 use texts::NameTable;
 
+/// An output pin whose function has input pins alone.
 #[tactic(auto, unfolding(crate::specs::Combs::comb_out))]
 fn comb_out(alloc: Global, inputs: &NameTable, out: &OutPin) -> Result<CombOut, Misfit>
-    ensures { Gives result (spec.comb_out inputs.now out.now) }
+    ensures { Gives Fails (λ x. x) result (spec.comb_out inputs.now out.now) }
 {
     let Some(expr) = &out.func else {
         return Err(Misfit::Other);
@@ -25,8 +27,9 @@ fn comb_out(alloc: Global, inputs: &NameTable, out: &OutPin) -> Result<CombOut, 
 }
 
 /// The output pins, where each has a function of input pins.
+#[tactic(auto, using(texts::proofs::EachLemmas::each_none, texts::proofs::EachLemmas::each_more, texts::proofs::EachLemmas::each_bad))]
 pub fn comb_outs(alloc: Global, inputs: &NameTable, outs: &[OutPin]) -> Result<Seq<CombOut>, Misfit>
-    ensures { Gives result (spec.comb_outs inputs.now outs.now) }
+    ensures { Gives Fails (λ x. x) result (spec.comb_outs inputs.now outs.now) }
 {
     let mut found = Seq::new(alloc);
     for out in outs {

@@ -2,14 +2,16 @@
 ghost use Rattle.std.specs.Prelude.{◌≡◌, IfOk, OnOk};
 ghost use Rattle.std.specs.Option.{option_copied};
 ghost use Rattle.texts.specs.Names.{is_among};
-ghost use Rattle.cell_lib.specs.Fits.{Gives};
+ghost use Rattle.texts.specs.Reads.{Gives};
+ghost use Rattle.cell_lib.specs.Fails.{Fails};
 ghost use Rattle.cell_lib.specs.Flops as spec;
 
 use crate::misfits::Misfit;
 use crate::pins::OutPin;
+use crate::scopes::{States, resolve};
 use crate::values::{expr_of, says};
 use crate::{Flop, FlopOut};
-use lib_func::{Expr, States, Term, resolve};
+use lib_func::{Expr, Term};
 use lib_words::{Attribute, AttributeKind, Part};
 use net_model::Func;
 use sdcv_base::{Name, Seq};
@@ -24,8 +26,9 @@ pub struct Resets {
     pub both: bool,
 }
 
+/// The names of the state and of its complement: the group's two arguments.
 fn states_of(alloc: Global, names: &[Name]) -> Result<States, Misfit>
-    ensures { Gives result (spec.states_of names.now) }
+    ensures { Gives Fails (λ x. x) result (spec.states_of names.now) }
 {
     match names {
         [state, complement] => {
@@ -37,12 +40,14 @@ fn states_of(alloc: Global, names: &[Name]) -> Result<States, Misfit>
     }
 }
 
+/// Whether a name is among these.
 fn is_named(names: &[Name], name: &Name) -> bool
     ensures { result ≡ is_among name.now names.now }
 {
     names.iter().any(|n| name == n)
 }
 
+/// The name that an expression is.
 fn lone_name(expr: &Option<Expr>) -> Option<&Name>
     ensures { option_copied result ≡ spec.lone_name expr.now }
 {
@@ -58,7 +63,7 @@ fn lone_name(expr: &Option<Expr>) -> Option<&Name>
 /// The clock pin.
 #[tactic(auto, unfolding(crate::specs::Flops::clock_of))]
 fn clock_of(alloc: Global, inputs: &[Name], attributes: &[Attribute]) -> Result<Name, Misfit>
-    ensures { Gives result (spec.clock_of inputs.now attributes.now) }
+    ensures { Gives Fails (λ x. x) result (spec.clock_of inputs.now attributes.now) }
 {
     let expr = expr_of(alloc, attributes, AttributeKind::ClockedOn)?;
     match lone_name(&expr) {
@@ -72,7 +77,7 @@ fn clock_of(alloc: Global, inputs: &[Name], attributes: &[Attribute]) -> Result<
     }
 }
 
-// Adds a name that is not the clock's.
+/// Adds a name that is not the clock's.
 fn add_data(
     alloc: Global,
     table: &mut NameTable,
@@ -99,6 +104,7 @@ pub fn data_inputs(alloc: Global, clock: &Name, inputs: &[Name]) -> Result<NameT
     Ok(table)
 }
 
+/// The next state, a function of input pins and of the state.
 #[tactic(auto, unfolding(crate::specs::Flops::next_of))]
 fn next_of(
     alloc: Global,
@@ -106,7 +112,7 @@ fn next_of(
     states: &States,
     attributes: &[Attribute],
 ) -> Result<Func, Misfit>
-    ensures { Gives result (spec.next_of inputs.now states.now attributes.now) }
+    ensures { Gives Fails (λ x. x) result (spec.next_of inputs.now states.now attributes.now) }
 {
     let Some(expr) = expr_of(alloc, attributes, AttributeKind::NextState)? else {
         return Err(Misfit::Other);
@@ -117,8 +123,9 @@ fn next_of(
     }
 }
 
+/// What `clear` or `preset` does, where it is given.
 fn reset_of(alloc: Global, inputs: &NameTable, expr: Option<Expr>) -> Result<Option<Func>, Misfit>
-    ensures { Gives result (spec.reset_of inputs.now expr) }
+    ensures { Gives Fails (λ x. x) result (spec.reset_of inputs.now expr) }
 {
     let Some(expr) = expr else {
         return Ok(None);
@@ -129,9 +136,10 @@ fn reset_of(alloc: Global, inputs: &NameTable, expr: Option<Expr>) -> Result<Opt
     }
 }
 
+/// The state where clear and preset are both 1, as stated where both are given.
 #[tactic(auto, unfolding(crate::specs::Flops::both_of))]
 fn both_of(are_given: bool, attributes: &[Attribute]) -> Result<bool, Misfit>
-    ensures { Gives result (spec.both_of are_given attributes.now) }
+    ensures { Gives Fails (λ x. x) result (spec.both_of are_given attributes.now) }
 {
     if !are_given {
         Ok(false)
@@ -144,9 +152,10 @@ fn both_of(are_given: bool, attributes: &[Attribute]) -> Result<bool, Misfit>
     }
 }
 
+/// What `clear` and `preset` do.
 #[tactic(auto, unfolding(crate::specs::Flops::resets_of))]
 fn resets_of(alloc: Global, inputs: &NameTable, attributes: &[Attribute]) -> Result<Resets, Misfit>
-    ensures { Gives result (spec.resets_of inputs.now attributes.now) }
+    ensures { Gives Fails (λ x. x) result (spec.resets_of inputs.now attributes.now) }
 {
     let clear = expr_of(alloc, attributes, AttributeKind::Clear)?;
     let clear = reset_of(alloc, inputs, clear)?;
@@ -160,6 +169,7 @@ fn resets_of(alloc: Global, inputs: &NameTable, attributes: &[Attribute]) -> Res
     })
 }
 
+/// Whether a name of the state is the complement.
 fn name_phase(states: &States, name: &Name) -> Option<bool>
     ensures { result ≡ spec.name_phase states.now name.now }
 {
@@ -186,9 +196,10 @@ fn phase_of(states: &States, expr: &Expr) -> Option<bool>
     }
 }
 
+/// An output pin that is the state or its complement.
 #[tactic(auto, unfolding(crate::specs::Flops::flop_out))]
 fn flop_out(alloc: Global, states: &States, out: &OutPin) -> Result<FlopOut, Misfit>
-    ensures { Gives result (spec.flop_out states.now out.now) }
+    ensures { Gives Fails (λ x. x) result (spec.flop_out states.now out.now) }
 {
     let Some(expr) = &out.func else {
         return Err(Misfit::Other);
@@ -200,8 +211,10 @@ fn flop_out(alloc: Global, states: &States, out: &OutPin) -> Result<FlopOut, Mis
     Ok(FlopOut { name, inverted })
 }
 
+/// The output pins, where each is the state or its complement.
+#[tactic(auto, using(texts::proofs::EachLemmas::each_none, texts::proofs::EachLemmas::each_more, texts::proofs::EachLemmas::each_bad))]
 fn flop_outs(alloc: Global, states: &States, outs: &[OutPin]) -> Result<Seq<FlopOut>, Misfit>
-    ensures { Gives result (spec.flop_outs states.now outs.now) }
+    ensures { Gives Fails (λ x. x) result (spec.flop_outs states.now outs.now) }
 {
     let mut found = Seq::new(alloc);
     for out in outs {
@@ -211,18 +224,21 @@ fn flop_outs(alloc: Global, states: &States, outs: &[OutPin]) -> Result<Seq<Flop
     Ok(found)
 }
 
-/// The flop that a group `ff` makes of a cell's pins.
-#[tactic(auto, unfolding(crate::specs::Flops::flop_of))]
-pub fn flop_of(alloc: Global, inputs: &[Name], outs: &[OutPin], ff: &Part) -> Result<Flop, Misfit>
-    ensures { Gives result (spec.flop_of inputs.now outs.now ff.now) }
+/// The flop on this clock whose other input pins are these.
+#[tactic(auto, unfolding(crate::specs::Flops::flop_on))]
+fn flop_on(
+    alloc: Global,
+    clock: Name,
+    pins: &NameTable,
+    states: &States,
+    outs: &[OutPin],
+    attributes: &[Attribute],
+) -> Result<Flop, Misfit>
+    ensures { Gives Fails (λ x. x) result (spec.flop_on clock pins.now states.now outs.now attributes.now) }
 {
-    let attributes = ff.attributes.as_slice();
-    let states = states_of(alloc, ff.names.as_slice())?;
-    let clock = clock_of(alloc, inputs, attributes)?;
-    let data = data_inputs(alloc, &clock, inputs)?;
-    let next = next_of(alloc, &data, &states, attributes)?;
-    let resets = resets_of(alloc, &data, attributes)?;
-    let outs = flop_outs(alloc, &states, outs)?;
+    let next = next_of(alloc, pins, states, attributes)?;
+    let resets = resets_of(alloc, pins, attributes)?;
+    let outs = flop_outs(alloc, states, outs)?;
     Ok(Flop {
         clock,
         next,
@@ -231,4 +247,16 @@ pub fn flop_of(alloc: Global, inputs: &[Name], outs: &[OutPin], ff: &Part) -> Re
         both: resets.both,
         outs,
     })
+}
+
+/// The flop that a group `ff` makes of a cell's pins.
+#[tactic(auto, unfolding(crate::specs::Flops::flop_of))]
+pub fn flop_of(alloc: Global, inputs: &[Name], outs: &[OutPin], ff: &Part) -> Result<Flop, Misfit>
+    ensures { Gives Fails (λ x. x) result (spec.flop_of inputs.now outs.now ff.now) }
+{
+    let attributes = ff.attributes.as_slice();
+    let states = states_of(alloc, ff.names.as_slice())?;
+    let clock = clock_of(alloc, inputs, attributes)?;
+    let pins = data_inputs(alloc, &clock, inputs)?;
+    flop_on(alloc, clock, &pins, &states, outs, attributes)
 }

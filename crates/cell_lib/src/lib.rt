@@ -1,29 +1,24 @@
 //! Cells of a library: what each computes from its input pins, as a Liberty file says it.
 //!
 //! A cell is combinational, a rising-edge flop, or not modelled (`Other`), by rules that are total: a cell that can't be
-//! modelled never refuses its text, and is refused only where a design uses it. Read `libraries.rt` first, the values
-//! that the crates above see, and then `read_lib`, which reads a text. `builtin` gives the cells that the program knows
-//! without a file, and `Library::find` looks one up by its name.
+//! modelled never refuses its text, and is refused only where a design uses it. `read_lib` is the call to read first. The
+//! values that it makes, and the cells that are known without a file, are those of `cell_types`.
 #![tactic(auto)]
 
 mod broken;
-mod builtin_cells;
-mod builtin_flops;
-mod builtin_parts;
 mod cells;
 mod combs;
 mod faults;
 mod flops;
-mod libraries;
 mod misfits;
 mod pins;
 mod readers;
+mod scopes;
 mod shapes;
 #[cfg(test)]
 mod tests;
 mod values;
 
-pub use builtin_cells::builtin;
+pub use cell_types::{Cell, CellKind, CombOut, Flop, FlopOut, Library, builtin};
 pub use faults::LibFault;
-pub use libraries::{Cell, CellKind, CombOut, Flop, FlopOut, Library};
 pub use readers::read_lib;

@@ -16,7 +16,7 @@ pub enum Role {
     Input,
     Power,
     /// Whatever has a name of its own in a cell: pins, power pins, and the state and its complement.
-    Every,
+    Any,
 }
 
 /// An output pin and its function, where one is given.
@@ -26,6 +26,7 @@ pub struct OutPin {
     pub func: Option<Expr>,
 }
 
+/// Whether the group is of input pins.
 fn is_input(part: &Part) -> bool
     ensures { result ≡ spec.is_input part.now }
 {
@@ -37,6 +38,7 @@ fn is_input(part: &Part) -> bool
         )
 }
 
+/// Whether the group is of output pins.
 fn is_output(part: &Part) -> bool
     ensures { result ≡ spec.is_output part.now }
 {
@@ -48,6 +50,7 @@ fn is_output(part: &Part) -> bool
         )
 }
 
+/// Whether the group, if it is of pins, is of inputs or of outputs.
 fn is_directed(part: &Part) -> bool
     ensures { result ≡ spec.is_directed part.now }
 {
@@ -61,8 +64,9 @@ pub fn are_directed(parts: &[Part]) -> bool
     parts.iter().all(is_directed)
 }
 
-fn is_bank(kind: PartKind) -> bool
-    ensures { result ≡ spec.is_bank kind }
+/// Whether a cell with such a group is not modelled, and its functions are not read.
+fn is_unmodelled_group(kind: PartKind) -> bool
+    ensures { result ≡ spec.is_unmodelled_group kind }
 {
     matches!(
         kind,
@@ -75,15 +79,16 @@ fn is_bank(kind: PartKind) -> bool
     )
 }
 
-/// Whether a group stands there with which a cell is not modelled and its functions are not read.
-pub fn has_bank(parts: &[Part]) -> bool
-    ensures { result ≡ spec.has_bank parts.now }
+/// Whether a group stands there with which a cell is not modelled, and its functions are not read.
+pub fn has_unmodelled_group(parts: &[Part]) -> bool
+    ensures { result ≡ spec.has_unmodelled_group parts.now }
 {
-    parts.iter().any(|part| is_bank(part.kind))
+    parts.iter().any(|part| is_unmodelled_group(part.kind))
 }
 
-fn is_foreign(kind: AttributeKind) -> bool
-    ensures { result ≡ spec.is_foreign kind }
+/// Whether a cell with such an attribute is not modelled.
+fn is_unmodelled_attribute(kind: AttributeKind) -> bool
+    ensures { result ≡ spec.is_unmodelled_attribute kind }
 {
     matches!(
         kind,
@@ -93,41 +98,41 @@ fn is_foreign(kind: AttributeKind) -> bool
     )
 }
 
-fn has_foreign(attributes: &[Attribute]) -> bool
-    ensures { result ≡ spec.has_foreign attributes.now }
+/// Whether such an attribute stands among these.
+fn has_unmodelled_attribute(attributes: &[Attribute]) -> bool
+    ensures { result ≡ spec.has_unmodelled_attribute attributes.now }
 {
-    attributes.iter().any(|a| is_foreign(a.kind))
+    attributes.iter().any(|a| is_unmodelled_attribute(a.kind))
 }
 
-fn has_foreign_part(parts: &[Part]) -> bool
-    ensures { result ≡ spec.has_foreign_part parts.now }
+/// Whether such an attribute stands in one of the groups.
+fn has_unmodelled_part(parts: &[Part]) -> bool
+    ensures { result ≡ spec.has_unmodelled_part parts.now }
 {
-    parts
-        .iter()
-        .any(|part| has_foreign(part.attributes.as_slice()))
+    parts.iter().any(|part| has_unmodelled_attribute(part.attributes.as_slice()))
 }
 
-/// Whether no group and no attribute stands there with which a cell is not modelled.
-pub fn is_native(group: &CellGroup) -> bool
-    ensures { result ≡ spec.is_native group.now }
+/// Whether each group and attribute of the cell can be modelled.
+pub fn can_be_modelled(group: &CellGroup) -> bool
+    ensures { result ≡ spec.can_be_modelled group.now }
 {
     let parts = group.parts.as_slice();
-    let is_banked = has_bank(parts);
-    let is_strange = has_foreign(group.attributes.as_slice()) || has_foreign_part(parts);
-    !is_banked && !is_strange
+    let has_attribute = has_unmodelled_attribute(group.attributes.as_slice());
+    !has_unmodelled_group(parts) && !(has_attribute || has_unmodelled_part(parts))
 }
 
-fn bears(role: Role, part: &Part) -> bool
-    ensures { result ≡ spec.bears role part.now }
+/// Whether the names of the group are meant.
+fn has_role(role: Role, part: &Part) -> bool
+    ensures { result ≡ spec.has_role role part.now }
 {
     match role {
         Role::Input => is_input(part),
         Role::Power => matches!(part.kind, PartKind::PgPin),
-        Role::Every => matches!(part.kind, PartKind::Pin | PartKind::PgPin | PartKind::Ff),
+        Role::Any => matches!(part.kind, PartKind::Pin | PartKind::PgPin | PartKind::Ff),
     }
 }
 
-// Appends copies of names.
+/// Appends copies of names.
 fn push_names(alloc: Global, found: &mut Seq<Name>, names: &[Name]) -> Result<(), AllocError>
     ensures { OnOk result (found.new ≡ found.old ++ names.now) }
 {
@@ -143,14 +148,14 @@ pub fn names_of(alloc: Global, parts: &[Part], role: Role) -> Result<Seq<Name>, 
 {
     let mut found = Seq::new(alloc);
     for part in parts {
-        if bears(role, part) {
+        if has_role(role, part) {
             push_names(alloc, &mut found, part.names.as_slice())?;
         }
     }
     Ok(found)
 }
 
-// Appends the output pins that a group names.
+/// Appends the output pins that a group names.
 fn push_outs(alloc: Global, found: &mut Seq<OutPin>, part: &Part) -> Result<(), AllocError>
     ensures { OnOk result (found.new ≡ found.old ++ spec.outs_in part.now) }
 {
@@ -181,7 +186,7 @@ pub fn outs_of(alloc: Global, parts: &[Part]) -> Result<Seq<OutPin>, AllocError>
 pub fn names_differ(alloc: Global, parts: &[Part]) -> Result<bool, AllocError>
     ensures { IfOk result (λ b. b ≡ spec.names_differ parts.now) }
 {
-    let names = names_of(alloc, parts, Role::Every)?;
+    let names = names_of(alloc, parts, Role::Any)?;
     let mut table = NameTable::new(alloc);
     let differ = table.add_all(alloc, names.as_slice())?;
     Ok(differ)

@@ -1,7 +1,7 @@
 //! The call that reads a library.
 ghost use Rattle.std.specs.Prelude.{◌≡◌, IfOk, MatchOption, true};
 ghost use Rattle.texts.specs.Names.{are_distinct};
-ghost use Rattle.cell_lib.specs.Libraries.{IsLawful};
+ghost use Rattle.cell_types.specs.Libraries.{IsLawful};
 ghost use Rattle.cell_lib.specs.Texts.{Reads, StandsTwice, names};
 
 use crate::broken::broken_in;

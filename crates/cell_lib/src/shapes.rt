@@ -1,28 +1,30 @@
 //! What the pins of a cell, and an `ff`, make of it.
-ghost use Rattle.std.specs.Prelude.{◌≡◌, IfOk};
+ghost use Rattle.std.specs.Prelude.{◌≡◌, IfOk, Some};
 ghost use Rattle.std.specs.Option.{option_copied};
 ghost use Rattle.texts.specs.Names.{each_once};
 ghost use Rattle.cell_lib.specs.Pins as pins_spec;
 ghost use Rattle.cell_lib.specs.Flops as flops_spec;
+ghost use Rattle.cell_lib.specs.Combs.{comb_outs};
 ghost use Rattle.cell_lib.specs.Cells as spec;
 
-use crate::CellKind;
 use crate::combs::comb_outs;
 use crate::flops::{data_inputs, flop_of};
 use crate::misfits::Misfit;
-use crate::pins::{OutPin, Role, are_directed, is_native, names_differ, names_of, outs_of};
+use crate::pins::{OutPin, Role, are_directed, can_be_modelled, names_differ, names_of, outs_of};
+use crate::{CellKind, Flop};
 use lib_words::{CellGroup, Part, PartKind};
-use sdcv_base::Name;
+use sdcv_base::{Name, Seq};
 use std::alloc::{AllocError, Global};
 use texts::NameTable;
 
 /// A cell's input pins, and what it is.
 #[derive(Drop)]
 pub struct Shape {
-    pub inputs: NameTable,
+    pub inputs: Seq<Name>,
     pub kind: CellKind,
 }
 
+/// Each of these names once.
 fn table(alloc: Global, names: &[Name]) -> Result<NameTable, AllocError>
     ensures { IfOk result (λ t. t ≡ each_once names.now) }
 {
@@ -31,33 +33,51 @@ fn table(alloc: Global, names: &[Name]) -> Result<NameTable, AllocError>
     Ok(table)
 }
 
+/// A cell with these input pins.
+fn shape_with(alloc: Global, inputs: &NameTable, kind: CellKind) -> Result<Shape, AllocError>
+    ensures { IfOk result (λ s. s ≡ record { inputs = inputs.now; kind = kind }) }
+{
+    let inputs = Seq::from_vec(inputs.names(alloc)?);
+    Ok(Shape { inputs, kind })
+}
+
+/// A cell that is not modelled.
 fn other_shape(alloc: Global, inputs: &[Name]) -> Result<Shape, AllocError>
     ensures { IfOk result (λ s. s ≡ spec.other_shape inputs.now) }
 {
     let inputs = table(alloc, inputs)?;
-    Ok(Shape {
-        inputs,
-        kind: CellKind::Other,
-    })
+    shape_with(alloc, &inputs, CellKind::Other)
 }
 
-fn comb_shape(alloc: Global, inputs: &[Name], outs: &[OutPin]) -> Result<Shape, AllocError>
-    ensures { IfOk result (λ s. s ≡ spec.comb_shape inputs.now outs.now) }
+/// What a cell without an `ff` is.
+fn comb_kind(alloc: Global, inputs: &NameTable, outs: &[OutPin]) -> Result<CellKind, AllocError>
+    ensures { IfOk result (λ k. k ≡ spec.comb_kind (comb_outs inputs.now outs.now)) }
 {
-    let inputs = table(alloc, inputs)?;
-    match comb_outs(alloc, &inputs, outs) {
-        Ok(outs) => Ok(Shape {
-            inputs,
-            kind: CellKind::Comb(outs),
-        }),
-        Err(Misfit::Other) => Ok(Shape {
-            inputs,
-            kind: CellKind::Other,
-        }),
+    match comb_outs(alloc, inputs, outs) {
+        Ok(outs) => Ok(CellKind::Comb(outs)),
+        Err(Misfit::Other) => Ok(CellKind::Other),
         Err(Misfit::Memory) => Err(AllocError),
     }
 }
 
+/// A cell without an `ff`.
+fn comb_shape(alloc: Global, inputs: &[Name], outs: &[OutPin]) -> Result<Shape, AllocError>
+    ensures { IfOk result (λ s. s ≡ spec.comb_shape inputs.now outs.now) }
+{
+    let inputs = table(alloc, inputs)?;
+    let kind = comb_kind(alloc, &inputs, outs)?;
+    shape_with(alloc, &inputs, kind)
+}
+
+/// A cell that is this flop: its clock is not among the inputs.
+fn clocked_shape(alloc: Global, inputs: &[Name], flop: Flop) -> Result<Shape, AllocError>
+    ensures { IfOk result (λ s. s ≡ spec.flop_shape inputs.now (Some flop)) }
+{
+    let inputs = data_inputs(alloc, &flop.clock, inputs)?;
+    shape_with(alloc, &inputs, CellKind::Flop(flop))
+}
+
+/// A cell with an `ff`.
 fn flop_shape(
     alloc: Global,
     inputs: &[Name],
@@ -67,18 +87,13 @@ fn flop_shape(
     ensures { IfOk result (λ s. s ≡ spec.flop_shape inputs.now (flops_spec.flop_of inputs.now outs.now ff.now)) }
 {
     match flop_of(alloc, inputs, outs, ff) {
-        Ok(flop) => {
-            let inputs = data_inputs(alloc, &flop.clock, inputs)?;
-            Ok(Shape {
-                inputs,
-                kind: CellKind::Flop(flop),
-            })
-        }
+        Ok(flop) => clocked_shape(alloc, inputs, flop),
         Err(Misfit::Other) => other_shape(alloc, inputs),
         Err(Misfit::Memory) => Err(AllocError),
     }
 }
 
+/// How many groups `ff` there are.
 fn ff_count(parts: &[Part]) -> usize
     ensures { result ≡ spec.ff_count parts.now }
 {
@@ -88,18 +103,21 @@ fn ff_count(parts: &[Part]) -> usize
         .count()
 }
 
+/// The first group `ff`.
 fn first_ff(parts: &[Part]) -> Option<&Part>
     ensures { option_copied result ≡ spec.first_ff parts.now }
 {
     parts.iter().find(|part| matches!(part.kind, PartKind::Ff))
 }
 
-#[tactic(auto, unfolding(crate::specs::Cells::is_plain))]
-fn is_plain(alloc: Global, group: &CellGroup) -> Result<bool, AllocError>
-    ensures { IfOk result (λ b. b ≡ spec.is_plain group.now) }
+/// Whether the cell is modelled: each group and attribute can be, each pin is an input or an output, names differ, and
+/// there is one `ff` at most.
+#[tactic(auto, unfolding(crate::specs::Cells::is_modelled))]
+fn is_modelled(alloc: Global, group: &CellGroup) -> Result<bool, AllocError>
+    ensures { IfOk result (λ b. b ≡ spec.is_modelled group.now) }
 {
     let parts = group.parts.as_slice();
-    if !is_native(group) {
+    if !can_be_modelled(group) {
         return Ok(false);
     }
     if !are_directed(parts) {
@@ -111,7 +129,8 @@ fn is_plain(alloc: Global, group: &CellGroup) -> Result<bool, AllocError>
     names_differ(alloc, parts)
 }
 
-fn plain_shape(alloc: Global, parts: &[Part], inputs: &[Name]) -> Result<Shape, AllocError>
+/// What pins, and an `ff` where there is one, make of a cell that is modelled.
+fn modelled_shape(alloc: Global, parts: &[Part], inputs: &[Name]) -> Result<Shape, AllocError>
     ensures { IfOk result (λ s. s ≡ spec.shape_by inputs.now (pins_spec.outs_of parts.now) (spec.first_ff parts.now)) }
 {
     let outs = outs_of(alloc, parts)?;
@@ -128,8 +147,8 @@ pub fn shape_of(alloc: Global, group: &CellGroup) -> Result<Shape, AllocError>
 {
     let parts = group.parts.as_slice();
     let inputs = names_of(alloc, parts, Role::Input)?;
-    if is_plain(alloc, group)? {
-        plain_shape(alloc, parts, inputs.as_slice())
+    if is_modelled(alloc, group)? {
+        modelled_shape(alloc, parts, inputs.as_slice())
     } else {
         other_shape(alloc, inputs.as_slice())
     }

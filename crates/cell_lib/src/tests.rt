@@ -1,44 +1,8 @@
-use crate::{CellKind, CombOut, Flop, builtin, read_lib};
+use crate::{CellKind, CombOut, Flop, LibFault, read_lib};
 use net_model::{Func, Node};
 use sdcv_base::Name;
 use std::alloc::Global;
-use std::test::{self, Fail};
-
-// Places in the table: TIE0 first, SDFFC last of 24.
-#[test]
-fn built_in_cells_are_found_by_name(rt: HostRuntime) -> Result<(), test::Fail> {
-    let library = builtin(rt.alloc())?;
-    let cases: [(&[u8], Option<usize>); 5] = [
-        (b"TIE0", Some(0)),
-        (b"AND2", Some(4)),
-        (b"SDFFC", Some(23)),
-        (b"SDFF", None),
-        (b"", None),
-    ];
-    for (name, want) in cases {
-        assert_eq!(rt; library.find(name), want);
-    }
-    Ok(())
-}
-
-// The table has 24 cells: each is a flop on the clock pin CK, or has the one output Y.
-#[test]
-fn each_built_in_cell_has_one_of_two_shapes(rt: HostRuntime) -> Result<(), test::Fail> {
-    let library = builtin(rt.alloc())?;
-    let cells = library.cells.as_slice();
-    assert_eq!(rt; cells.len(), 24);
-    for cell in cells {
-        match &cell.kind {
-            CellKind::Comb(outs) => assert_eq!(rt; outs.len(), 1),
-            CellKind::Flop(flop) => {
-                assert!(rt; flop.clock.as_bytes() == b"CK".as_slice());
-                assert!(rt; !flop.both);
-            }
-            CellKind::Other => assert!(rt; false),
-        }
-    }
-    Ok(())
-}
+use std::test::Fail;
 
 // A function with its places as numbers.
 fn show_func(out: &mut String, func: &Func) -> Result<(), Fail> {
@@ -235,7 +199,7 @@ fn flops_keep_their_rules(rt: HostRuntime) -> Result<(), Fail> {
     Ok(())
 }
 
-const REFUSED: [(&str, &str); 4] = [
+const REFUSED: &[(&str, &str)] = &[
     (
         "library (l) { cell (X) { pin (Y) { direction : output; function : \"A +\"; } } }",
         "byte 67: no Boolean function",
@@ -257,7 +221,7 @@ const REFUSED: [(&str, &str); 4] = [
 // Offsets counted by hand; the empty text between quotes is no function, though a later value counts.
 #[test]
 fn texts_are_refused_with_their_cause(rt: HostRuntime) -> Result<(), Fail> {
-    for (text, want) in &REFUSED {
+    for (text, want) in REFUSED {
         match read_lib(rt.alloc(), text.as_bytes()) {
             Ok(_) => assert!(rt; false, "{text}"),
             Err(fault) => {
@@ -266,5 +230,14 @@ fn texts_are_refused_with_their_cause(rt: HostRuntime) -> Result<(), Fail> {
             }
         }
     }
+    Ok(())
+}
+
+// The others stand in the table of refused texts.
+#[test]
+fn want_of_memory_is_shown(rt: HostRuntime) -> Result<(), Fail> {
+    let fault = LibFault::Memory;
+    let shown = format!(in rt.alloc(); "{fault}")?;
+    assert_eq!(rt; shown.as_str(), "out of memory");
     Ok(())
 }

@@ -1,4 +1,4 @@
-pub mod Eaching
+pub mod FailLemmas
 pub mod Adding
 pub mod Placing
 pub mod Inverted

@@ -11,10 +11,12 @@ use Rattle.net_model.specs.Netlist.{reg_nets, gate_nets}
 use Rattle.net_model.specs.declared.netlist.Gate.{Gate}
 use Rattle.net_model.specs.declared.netlist.Reg.{Reg}
 use Rattle.net_model.specs.declared.netlist.RegOut.{RegOut}
-use Rattle.flat_link.specs.Each.{each}
+use Rattle.texts.specs.Reads.{each}
 use Rattle.flat_link.specs.Numbering.{is_one_of, are_new, driven, are_below, numbered_gate, numbered_out, numbered_reg}
-use Rattle.flat_link.proofs.Inverted.{bind_inverted, if_inverted, some_same, each_length, each_inverted, each_nil, each_both, each_cons}
-use Rattle.flat_link.proofs.Eaching.{each_none}
+use Rattle.texts.proofs.EachLemmas.{each_length, each_inverted, each_nil, each_both, each_cons}
+use Rattle.texts.proofs.ReadLemmas.{bind_gave}
+use Rattle.flat_link.proofs.Inverted.{if_inverted, some_same}
+use Rattle.texts.proofs.EachLemmas.{each_none}
 use Rattle.flat_link.proofs.Ranges.{from, each_from}
 
 -- a net that is not among these is none of them
@@ -70,8 +72,8 @@ pub record GateNumbered (drivers : List ℕ) (g h : Gate) : Type 0 where
 pub gate_is : (drivers : List ℕ) (g h : Gate) → numbered_gate drivers g ≡ Some h → GateNumbered drivers g h
 unfolding numbered_gate
 gate_is drivers g h e =
-    let (ins, read, e1) = bind_inverted (each (driven drivers) g.ins) _ h e in
-    let (out, drives, e2) = bind_inverted (driven drivers g.out) _ h e1 in
+    let (ins, read, e1) = bind_gave (each (driven drivers) g.ins) _ h e in
+    let (out, drives, e2) = bind_gave (driven drivers g.out) _ h e1 in
     let (below, made) = if_inverted (are_below out ins) _ h e2 in
     subst (GateNumbered drivers g) made (record { func = refl; count = each_length (driven drivers) g.ins ins read; before = all_below out ins below; out = drives })
 
@@ -89,15 +91,15 @@ unfolding numbered_out
 outs_are drivers [] ps e = each_none (driven drivers) ∙ ap (λ l. Some (map (λ (o : RegOut). o.net) l)) (each_nil (numbered_out drivers) ps e)
 outs_are drivers (o ∷ os) ps e =
     let (p, rest, first, more, made) = each_inverted (numbered_out drivers) o os ps e in
-    let (net, drives, is) = bind_inverted (driven drivers o.net) _ p first in
+    let (net, drives, is) = bind_gave (driven drivers o.net) _ p first in
     each_cons (driven drivers) o.net (map (λ (o : RegOut). o.net) os) p.net (map (λ (o : RegOut). o.net) rest) (drives ∙ ap (λ (q : RegOut). Some q.net) (some_same _ p is)) (outs_are drivers os rest more)
     ∙ ap (λ l. Some (map (λ (o : RegOut). o.net) l)) made
 
 pub reg_is : (drivers : List ℕ) (r q : Reg) → numbered_reg drivers r ≡ Some q → RegNumbered drivers r q
 unfolding numbered_reg
 reg_is drivers r q e =
-    let (ins, read, e1) = bind_inverted (each (driven drivers) r.ins) _ q e in
-    let (outs, drives, e2) = bind_inverted (each (numbered_out drivers) r.outs) _ q e1 in
+    let (ins, read, e1) = bind_gave (each (driven drivers) r.ins) _ q e in
+    let (outs, drives, e2) = bind_gave (each (numbered_out drivers) r.outs) _ q e1 in
     subst (RegNumbered drivers r) (some_same _ q e2) (record { next = refl; clear = refl; preset = refl; count = each_length (driven drivers) r.ins ins read; ins = read; outs = outs_are drivers r.outs outs drives })
 
 pub gates_are : (drivers : List ℕ) (gs hs : List Gate) → each (numbered_gate drivers) gs ≡ Some hs → each (driven drivers) (gate_nets gs) ≡ Some (gate_nets hs)

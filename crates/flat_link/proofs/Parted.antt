@@ -11,16 +11,18 @@ use Rattle.net_model.specs.declared.netlist.Reg.{Reg}
 use Rattle.verilog_net.specs.declared.sources.Conn.{Conn}
 use Rattle.verilog_net.specs.declared.sources.Item.{Item}
 use Rattle.verilog_net.specs.declared.sources.Item.TheVariants as item
-use Rattle.cell_lib.specs.declared.libraries.Cell.{Cell}
-use Rattle.cell_lib.specs.declared.libraries.CombOut.{CombOut}
-use Rattle.cell_lib.specs.declared.libraries.Flop.{Flop}
-use Rattle.cell_lib.specs.declared.libraries.CellKind.{CellKind}
-use Rattle.cell_lib.specs.declared.libraries.CellKind.TheVariants as kind
-use Rattle.cell_lib.specs.Libraries.{IsLawfulCell, IsLawfulKind, IsLawfulFlop, place_of_cell}
+use Rattle.cell_types.specs.declared.libraries.Cell.{Cell}
+use Rattle.cell_types.specs.declared.libraries.CombOut.{CombOut}
+use Rattle.cell_types.specs.declared.libraries.Flop.{Flop}
+use Rattle.cell_types.specs.declared.libraries.CellKind.{CellKind}
+use Rattle.cell_types.specs.declared.libraries.CellKind.TheVariants as kind
+use Rattle.cell_types.specs.Libraries.{IsLawfulCell, IsLawfulKind, IsLawfulFlop, place_of_cell}
 use Rattle.flat_link.specs.declared.parts.Parts.{Parts}
-use Rattle.flat_link.specs.Each.{each}
+use Rattle.texts.specs.Reads.{each}
 use Rattle.flat_link.specs.Parts.{net_of_pin, gate_of, reg_out_of, with_comb, with_flop, with_item, cell_named, parts_from, no_parts}
-use Rattle.flat_link.proofs.Inverted.{bind_inverted, if_else_inverted, some_same, each_length, each_all}
+use Rattle.texts.proofs.EachLemmas.{each_length, each_all}
+use Rattle.texts.proofs.ReadLemmas.{bind_gave}
+use Rattle.flat_link.proofs.Inverted.{if_else_inverted, some_same}
 
 -- the function reads pins of the gate
 abbrev pub IsGateOver : Gate → Type 0
@@ -39,7 +41,7 @@ pub record ArePartsOver (parts : Parts) : Type 0 where
 
 gate_is_over : (conns : List Conn) (ins : List ℕ) (o : CombOut) (g : Gate) → IsOver (length ins) o.func → gate_of conns ins o ≡ Some g → IsGateOver g
 gate_is_over conns ins o g over e =
-    let (net, found, made) = bind_inverted (net_of_pin conns o.name) _ g e in
+    let (net, found, made) = bind_gave (net_of_pin conns o.name) _ g e in
     subst IsGateOver (some_same _ g made) over
 
 comb_over : (parts more : Parts) (conns : List Conn) (inputs : List (List ℕ)) (outs : List CombOut) → All (λ (o : CombOut). IsOver (length inputs) o.func) outs
@@ -47,8 +49,8 @@ comb_over : (parts more : Parts) (conns : List Conn) (inputs : List (List ℕ)) 
 unfolding with_comb
 comb_over parts more conns inputs outs lawful over e =
     let (counts, e1) = if_else_inverted (length conns == length inputs + length outs) _ more e in
-    let (ins, read, e2) = bind_inverted (each (net_of_pin conns) inputs) _ more e1 in
-    let (gates, driven, e3) = bind_inverted (each (gate_of conns ins) outs) _ more e2 in
+    let (ins, read, e2) = bind_gave (each (net_of_pin conns) inputs) _ more e1 in
+    let (gates, driven, e3) = bind_gave (each (gate_of conns ins) outs) _ more e2 in
     let len = each_length (net_of_pin conns) inputs ins read in
     let here : All (λ (o : CombOut). IsOver (length ins) o.func) outs = subst (λ n. All (λ (o : CombOut). IsOver n o.func) outs) (sym len) lawful in
     let new = each_all (λ (o : CombOut). IsOver (length ins) o.func) IsGateOver (gate_of conns ins) (gate_is_over conns ins) outs gates here driven in
@@ -59,9 +61,9 @@ flop_over : (parts more : Parts) (name : List ℕ) (conns : List Conn) (inputs :
 unfolding with_flop
 flop_over parts more name conns inputs flop lawful over e =
     let (counts, e1) = if_else_inverted (length conns == length inputs + length flop.outs + 1) _ more e in
-    let (ins, read, e2) = bind_inverted (each (net_of_pin conns) inputs) _ more e1 in
-    let (outs, driven, e3) = bind_inverted (each (reg_out_of conns) flop.outs) _ more e2 in
-    let (clock, clocked, e4) = bind_inverted (net_of_pin conns flop.clock) _ more e3 in
+    let (ins, read, e2) = bind_gave (each (net_of_pin conns) inputs) _ more e1 in
+    let (outs, driven, e3) = bind_gave (each (reg_out_of conns) flop.outs) _ more e2 in
+    let (clock, clocked, e4) = bind_gave (net_of_pin conns flop.clock) _ more e3 in
     let len : length ins ≡ length inputs = each_length (net_of_pin conns) inputs ins read in
     let reg : Reg = record { next = flop.next; clear = flop.clear; preset = flop.preset; both = flop.both; ins = ins; outs = outs } in
     let reg_over : IsRegOver reg = record {
@@ -83,8 +85,8 @@ kind_over parts more name conns inputs kind.Other lawful over e = absurd (grind 
 
 item_over : (cells : List Cell) (parts more : Parts) (i : Item) → All IsLawfulCell cells → ArePartsOver parts → with_item cells parts i ≡ Some more → ArePartsOver more
 item_over cells parts more (item.Inst cell name conns) lawful over e =
-    let (c, named, e1) = bind_inverted (cell_named cells cell) _ more e in
-    let (place, placed, at) = bind_inverted (place_of_cell cells cell) _ c named in
+    let (c, named, e1) = bind_gave (cell_named cells cell) _ more e in
+    let (place, placed, at) = bind_gave (place_of_cell cells cell) _ c named in
     kind_over parts more name conns c.inputs c.kind (All-at IsLawfulCell cells place c at lawful) over e1
 item_over cells parts more (item.Prim k name outs ins) lawful over e = absurd (grind arith)
 item_over cells parts more (item.Copy to from) lawful over e = absurd (grind arith)
@@ -93,7 +95,7 @@ pub parts_over : (cells : List Cell) (parts more : Parts) (items : List Item) �
 unfolding parts_from
 parts_over cells parts more [] lawful over e = subst ArePartsOver (some_same parts more e) over
 parts_over cells parts more (i ∷ items) lawful over e =
-    let (next, placed, rest) = bind_inverted (with_item cells parts i) _ more e in
+    let (next, placed, rest) = bind_gave (with_item cells parts i) _ more e in
     parts_over cells next more items lawful (item_over cells parts next i lawful over placed) rest
 
 pub none_over : ArePartsOver no_parts

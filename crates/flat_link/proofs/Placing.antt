@@ -3,7 +3,7 @@ use Rattle.std.proofs.Common.{◌≡◌, ℕ, ◌+◌, ◌<◌, ◌≤◌, List,
 use Rattle.std.specs.Prelude.{Some, None}
 use Rattle.std.proofs.lemmas.List.{drop_more, drop_all}
 use Rattle.verilog_net.specs.declared.sources.Item.{Item}
-use Rattle.cell_lib.specs.declared.libraries.Cell.{Cell}
+use Rattle.cell_types.specs.declared.libraries.Cell.{Cell}
 use Rattle.flat_link.specs.declared.parts.Parts.{Parts}
 use Rattle.flat_link.specs.Parts.{parts_from, with_item}
 

@@ -4,8 +4,8 @@ use Rattle.std.proofs.lemmas.Bool.{cases_eq}
 use Rattle.std.specs.Prelude.{Option, Some, Contains, count_by}
 use Rattle.net_model.proofs.Order.{count_cons, counted}
 use Rattle.net_model.proofs.Unique.{counted_contains}
-use Rattle.flat_link.specs.Each.{each}
-use Rattle.flat_link.proofs.Inverted.{each_cons}
+use Rattle.texts.specs.Reads.{each}
+use Rattle.texts.proofs.EachLemmas.{each_cons}
 
 -- n numbers from a first one on
 pub from : ℕ → ℕ → List ℕ

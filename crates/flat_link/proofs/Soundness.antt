@@ -14,17 +14,20 @@ use Rattle.net_model.specs.declared.netlist.Design.{Design}
 use Rattle.net_model.specs.declared.netlist.Gate.{Gate}
 use Rattle.net_model.specs.declared.netlist.Reg.{Reg}
 use Rattle.verilog_net.specs.declared.sources.Module.{Module}
-use Rattle.cell_lib.specs.declared.libraries.Cell.{Cell}
-use Rattle.cell_lib.specs.Libraries.{IsLawfulCell}
+use Rattle.cell_types.specs.declared.libraries.Cell.{Cell}
+use Rattle.cell_types.specs.Libraries.{IsLawfulCell}
 use Rattle.flat_link.specs.declared.parts.Parts.{Parts}
 use Rattle.flat_link.specs.declared.flats.Flat.{Flat}
 use Rattle.flat_link.specs.declared.flats.FlatFault.{FlatFault}
-use Rattle.flat_link.specs.Each.{each, Gives}
+use Rattle.texts.specs.Reads.{each, Gives}
+use Rattle.flat_link.specs.Fails.{Fails}
 use Rattle.flat_link.specs.Ports as ports
 use Rattle.flat_link.specs.Parts.{parts_from, no_parts}
 use Rattle.flat_link.specs.Numbering.{drivers_of, are_new, driven, numbered_gate, numbered_reg}
 use Rattle.flat_link.specs.Flats.{are_gates_small, are_regs_small, is_small, good_drivers, design_of, small, module_design, flat_of_module}
-use Rattle.flat_link.proofs.Inverted.{bind_inverted, if_inverted, some_same, each_length, each_all, each_both}
+use Rattle.texts.proofs.EachLemmas.{each_length, each_all, each_both}
+use Rattle.texts.proofs.ReadLemmas.{bind_gave}
+use Rattle.flat_link.proofs.Inverted.{if_inverted, some_same}
 use Rattle.flat_link.proofs.Ranges.{from, length-from, get_or-from, count_from, contains_from, take_from}
 use Rattle.flat_link.proofs.Parted.{IsGateOver, IsRegOver, ArePartsOver, parts_over, none_over}
 use Rattle.flat_link.proofs.Numbered.{all_places, driven_below, gate_is, reg_is, gates_are, regs_are}
@@ -168,10 +171,10 @@ unfolding design_of
 parts_design_is_sound inputs outs parts d over new e fits =
     let drivers : List ℕ = drivers_of inputs parts in
     let n : ℕ = length drivers in
-    let (ins, read_ins, e1) = bind_inverted (each (driven drivers) inputs) _ d e in
-    let (gates, made_gates, e2) = bind_inverted (each (numbered_gate drivers) parts.gates) _ d e1 in
-    let (regs, made_regs, e3) = bind_inverted (each (numbered_reg drivers) parts.regs) _ d e2 in
-    let (os, read_outs, e4) = bind_inverted (each (driven drivers) outs) _ d e3 in
+    let (ins, read_ins, e1) = bind_gave (each (driven drivers) inputs) _ d e in
+    let (gates, made_gates, e2) = bind_gave (each (numbered_gate drivers) parts.gates) _ d e1 in
+    let (regs, made_regs, e3) = bind_gave (each (numbered_reg drivers) parts.regs) _ d e2 in
+    let (os, read_outs, e4) = bind_gave (each (driven drivers) outs) _ d e3 in
     let is : made n gates regs ins os ≡ d = some_same _ d e4 in
     let sources = each_both (driven drivers) inputs (flat_map reg_nets parts.regs) ins (flat_map reg_nets regs) read_ins (regs_are drivers parts.regs regs made_regs) in
     let every = each_both (driven drivers) (inputs ++ flat_map reg_nets parts.regs) (gate_nets parts.gates) (ins ++ flat_map reg_nets regs) (gate_nets gates) sources (gates_are drivers parts.gates gates made_gates) in
@@ -186,8 +189,8 @@ module_is_sound : (m : Module) (clock : ℕ) (parts : Parts) (d : Design) → Ar
 unfolding module_design good_drivers small
 module_is_sound m clock parts d over e =
     let inputs : List ℕ = ports.data_inputs m.ports clock in
-    let (drivers, good, e1) = bind_inverted (good_drivers clock inputs parts) _ d e in
-    let (whole, made_whole, e2) = bind_inverted (design_of inputs (ports.outputs m.ports) drivers parts) _ d e1 in
+    let (drivers, good, e1) = bind_gave (good_drivers clock inputs parts) _ d e in
+    let (whole, made_whole, e2) = bind_gave (design_of inputs (ports.outputs m.ports) drivers parts) _ d e1 in
     let (fits, same) = if_inverted (is_small whole) whole d e2 in
     let (tests, is) = if_inverted _ (drivers_of inputs parts) drivers good in
     let (new, others) = and_parts (are_new [] (drivers_of inputs parts)) _ tests in
@@ -197,16 +200,16 @@ pub flat_is_sound : (cells : List Cell) (clock : List ℕ) (m : Module) (flat : 
     → IsSound flat.design × (length flat.regs ≡ length flat.design.regs)
 unfolding flat_of_module
 flat_is_sound cells clock m flat lawful e =
-    let (net, clocked, e1) = bind_inverted (ports.clock_net m.ports clock) _ flat e in
-    let (parts, placed, e2) = bind_inverted (parts_from cells no_parts m.items) _ flat e1 in
-    let (d, linked, e3) = bind_inverted (module_design m net parts) _ flat e2 in
+    let (net, clocked, e1) = bind_gave (ports.clock_net m.ports clock) _ flat e in
+    let (parts, placed, e2) = bind_gave (parts_from cells no_parts m.items) _ flat e1 in
+    let (d, linked, e3) = bind_gave (module_design m net parts) _ flat e2 in
     let is = some_same _ flat e3 in
     let over = parts_over cells no_parts parts m.items lawful none_over placed in
     let (sound, names) = module_is_sound m net parts d over linked in
     (subst (λ (f : Flat). IsSound f.design) is sound, subst (λ (f : Flat). length f.regs ≡ length f.design.regs) is names)
 
 -- the same of what the call answers
-pub answer_is_sound : (cells : List Cell) (clock : List ℕ) (m : Module) (r : Result Flat FlatFault) → All IsLawfulCell cells → Gives (λ flat. flat) r (flat_of_module cells clock m)
+pub answer_is_sound : (cells : List Cell) (clock : List ℕ) (m : Module) (r : Result Flat FlatFault) → All IsLawfulCell cells → Gives Fails (λ flat. flat) r (flat_of_module cells clock m)
     → IfOk r (λ flat. IsSound flat.design) × IfOk r (λ flat. length flat.regs ≡ length flat.design.regs)
 answer_is_sound cells clock m (Ok flat) lawful gives = flat_is_sound cells clock m flat lawful gives
 answer_is_sound cells clock m (Err e) lawful gives = (tt, tt)

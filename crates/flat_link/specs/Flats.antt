@@ -10,11 +10,11 @@ use Rattle.net_model.specs.declared.netlist.Gate.{Gate}
 use Rattle.net_model.specs.declared.netlist.Reg.{Reg}
 use Rattle.verilog_net.specs.declared.sources.Source.{Source}
 use Rattle.verilog_net.specs.declared.sources.Module.{Module}
-use Rattle.cell_lib.specs.declared.libraries.Library.{Library}
-use Rattle.cell_lib.specs.declared.libraries.Cell.{Cell}
+use Rattle.cell_types.specs.declared.libraries.Library.{Library}
+use Rattle.cell_types.specs.declared.libraries.Cell.{Cell}
 use Rattle.flat_link.specs.declared.flats.Flat.{Flat}
 use Rattle.flat_link.specs.declared.parts.Parts.{Parts}
-use Rattle.flat_link.specs.Each.{each, ◌>>=◌}
+use Rattle.texts.specs.Reads.{each, ◌>>=◌}
 use Rattle.flat_link.specs.Ports as ports
 use Rattle.flat_link.specs.Parts.{parts_from, no_parts}
 use Rattle.flat_link.specs.Numbering.{drivers_of, is_one_of, are_new, driven, numbered_gate, numbered_reg}

@@ -1,4 +1,4 @@
-pub mod Each
+pub mod Fails
 pub mod Flats
 pub mod Numbering
 pub mod Parts

@@ -6,7 +6,7 @@ use Rattle.net_model.specs.declared.netlist.Gate.{Gate}
 use Rattle.net_model.specs.declared.netlist.Reg.{Reg}
 use Rattle.net_model.specs.declared.netlist.RegOut.{RegOut}
 use Rattle.flat_link.specs.declared.parts.Parts.{Parts}
-use Rattle.flat_link.specs.Each.{each, ◌>>=◌}
+use Rattle.texts.specs.Reads.{each, ◌>>=◌}
 
 -- the nets that are driven, one entry for each driver
 abbrev pub drivers_of : List ℕ → Parts → List ℕ

@@ -8,14 +8,14 @@ use Rattle.verilog_net.specs.declared.sources.Wire.TheVariants as wire
 use Rattle.verilog_net.specs.declared.sources.Conn.{Conn}
 use Rattle.verilog_net.specs.declared.sources.Item.{Item}
 use Rattle.verilog_net.specs.declared.sources.Item.TheVariants as item
-use Rattle.cell_lib.specs.declared.libraries.Cell.{Cell}
-use Rattle.cell_lib.specs.declared.libraries.CombOut.{CombOut}
-use Rattle.cell_lib.specs.declared.libraries.Flop.{Flop}
-use Rattle.cell_lib.specs.declared.libraries.FlopOut.{FlopOut}
-use Rattle.cell_lib.specs.declared.libraries.CellKind.TheVariants as kind
-use Rattle.cell_lib.specs.Libraries.{place_of_cell}
+use Rattle.cell_types.specs.declared.libraries.Cell.{Cell}
+use Rattle.cell_types.specs.declared.libraries.CombOut.{CombOut}
+use Rattle.cell_types.specs.declared.libraries.Flop.{Flop}
+use Rattle.cell_types.specs.declared.libraries.FlopOut.{FlopOut}
+use Rattle.cell_types.specs.declared.libraries.CellKind.TheVariants as kind
+use Rattle.cell_types.specs.Libraries.{place_of_cell}
 use Rattle.flat_link.specs.declared.parts.Parts.{Parts}
-use Rattle.flat_link.specs.Each.{each, ◌>>=◌}
+use Rattle.texts.specs.Reads.{each, ◌>>=◌}
 
 -- the net of a connection that is one wire
 abbrev pub one_net : Option (List Wire) → Option ℕ

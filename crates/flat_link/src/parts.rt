@@ -1,12 +1,13 @@
 //! The gates and registers of a netlist of library cells.
-#![tactic(auto, using(crate::proofs::Eaching::each_none, crate::proofs::Eaching::each_more, crate::proofs::Eaching::each_bad))]
+#![tactic(auto, using(texts::proofs::EachLemmas::each_none, texts::proofs::EachLemmas::each_more, texts::proofs::EachLemmas::each_bad))]
 
 ghost use Rattle.std.specs.Prelude.{◌≡◌, ◌==◌, ◌+◌, ◌++◌, IfOk, OnOk, Some, None, slice_get};
-ghost use Rattle.flat_link.specs.Each.{Gives, each};
+ghost use Rattle.texts.specs.Reads.{Gives, each};
+ghost use Rattle.flat_link.specs.Fails.{Fails};
 ghost use Rattle.flat_link.specs.Parts as spec;
 
 use crate::FlatFault;
-use cell_lib::{Cell, CellKind, CombOut, Flop, FlopOut, Library};
+use cell_types::{Cell, CellKind, CombOut, Flop, FlopOut, Library};
 use net_model::{Func, Gate, Reg, RegOut};
 use sdcv_base::{Name, Seq};
 use std::alloc::{AllocError, Global};
@@ -26,7 +27,7 @@ pub(crate) struct Parts {
 
 /// The parts of the items.
 pub(crate) fn parts_of(alloc: Global, library: &Library, items: &[Item]) -> Result<Parts, FlatFault>
-    ensures { Gives (λ parts. parts) result (spec.parts_from library.now.cells spec.no_parts items.now) }
+    ensures { Gives Fails (λ parts. parts) result (spec.parts_from library.now.cells spec.no_parts items.now) }
 {
     let mut parts = Parts {
         gates: Seq::new(alloc),
@@ -40,13 +41,14 @@ pub(crate) fn parts_of(alloc: Global, library: &Library, items: &[Item]) -> Resu
     Ok(parts)
 }
 
+/// Adds the parts of an item, which is an instance of a library cell.
 fn push_item(
     alloc: Global,
     library: &Library,
     parts: &mut Parts,
     item: &Item,
 ) -> Result<(), FlatFault>
-    ensures { Gives (λ _. parts.new) result (spec.with_item library.now.cells parts.old item.now) }
+    ensures { Gives Fails (λ _. parts.new) result (spec.with_item library.now.cells parts.old item.now) }
 {
     match item {
         Item::Inst { cell, name, conns } => match library.find(cell.as_bytes()) {
@@ -64,6 +66,7 @@ fn push_item(
     }
 }
 
+/// Adds the parts of an instance of this cell.
 fn push_cell(
     alloc: Global,
     parts: &mut Parts,
@@ -71,7 +74,7 @@ fn push_cell(
     conns: &[Conn],
     cell: &Cell,
 ) -> Result<(), FlatFault>
-    ensures { Gives (λ _. parts.new) result (spec.with_cell parts.old name.now conns.now cell.now) }
+    ensures { Gives Fails (λ _. parts.new) result (spec.with_cell parts.old name.now conns.now cell.now) }
 {
     let inputs = cell.inputs.as_slice();
     match &cell.kind {
@@ -81,7 +84,8 @@ fn push_cell(
     }
 }
 
-#[tactic(auto, using(crate::proofs::Eaching::each_none), unfolding(crate::specs::Parts::with_comb))]
+/// Adds a gate for each output of a combinational cell.
+#[tactic(auto, using(texts::proofs::EachLemmas::each_none), unfolding(crate::specs::Parts::with_comb))]
 fn push_gates(
     alloc: Global,
     parts: &mut Parts,
@@ -89,7 +93,7 @@ fn push_gates(
     inputs: &[Name],
     outs: &[CombOut],
 ) -> Result<(), FlatFault>
-    ensures { Gives (λ _. parts.new) result (spec.with_comb parts.old conns.now inputs.now outs.now) }
+    ensures { Gives Fails (λ _. parts.new) result (spec.with_comb parts.old conns.now inputs.now outs.now) }
 {
     if conns.len() != inputs.len() + outs.len() {
         return Err(FlatFault::NotFlat);
@@ -100,6 +104,7 @@ fn push_gates(
     Ok(())
 }
 
+/// Appends gates, which are not copied.
 fn push_all(alloc: Global, gates: &mut Seq<Gate>, more: Seq<Gate>) -> Result<(), AllocError>
     ensures { OnOk result (gates.new ≡ gates.old ++ more) }
 {
@@ -110,13 +115,14 @@ fn push_all(alloc: Global, gates: &mut Seq<Gate>, more: Seq<Gate>) -> Result<(),
     Ok(())
 }
 
+/// A gate for each output.
 fn gates_of(
     alloc: Global,
     conns: &[Conn],
     ins: &Seq<usize>,
     outs: &[CombOut],
 ) -> Result<Seq<Gate>, FlatFault>
-    ensures { Gives (λ gates. gates) result (each (spec.gate_of conns.now ins.now) outs.now) }
+    ensures { Gives Fails (λ gates. gates) result (each (spec.gate_of conns.now ins.now) outs.now) }
 {
     let mut gates = Seq::new(alloc);
     for out in outs {
@@ -125,13 +131,14 @@ fn gates_of(
     Ok(gates)
 }
 
+/// The gate of an output.
 fn gate_of(
     alloc: Global,
     conns: &[Conn],
     ins: &Seq<usize>,
     out: &CombOut,
 ) -> Result<Gate, FlatFault>
-    ensures { Gives (λ gate. gate) result (spec.gate_of conns.now ins.now out.now) }
+    ensures { Gives Fails (λ gate. gate) result (spec.gate_of conns.now ins.now out.now) }
 {
     match net_of_pin(conns, &out.name) {
         Some(net) => Ok(Gate {
@@ -143,7 +150,8 @@ fn gate_of(
     }
 }
 
-#[tactic(auto, using(crate::proofs::Eaching::each_none), unfolding(crate::specs::Parts::with_flop))]
+/// Adds the register that a flop is.
+#[tactic(auto, using(texts::proofs::EachLemmas::each_none), unfolding(crate::specs::Parts::with_flop))]
 fn push_reg(
     alloc: Global,
     parts: &mut Parts,
@@ -152,7 +160,7 @@ fn push_reg(
     inputs: &[Name],
     flop: &Flop,
 ) -> Result<(), FlatFault>
-    ensures { Gives (λ _. parts.new) result (spec.with_flop parts.old name.now conns.now inputs.now flop.now) }
+    ensures { Gives Fails (λ _. parts.new) result (spec.with_flop parts.old name.now conns.now inputs.now flop.now) }
 {
     if !has_pins(conns.len(), inputs.len(), flop.outs.len()) {
         return Err(FlatFault::NotFlat);
@@ -170,13 +178,14 @@ fn push_reg(
     }
 }
 
-// One connection for each input and output, and one for the clock.
+/// One connection for each input and output, and one for the clock.
 fn has_pins(conns: usize, inputs: usize, outs: usize) -> bool
     ensures { result ≡ (conns == inputs + outs + 1) }
 {
     conns > inputs && conns - inputs - 1 == outs
 }
 
+/// The register that a flop is, over these nets.
 fn reg_of(alloc: Global, flop: &Flop, ins: Seq<usize>, outs: Seq<RegOut>) -> Result<Reg, AllocError>
     ensures { IfOk result (λ reg. reg ≡ record { next = flop.now.next; clear = flop.now.clear; preset = flop.now.preset; both = flop.now.both; ins = ins; outs = outs }) }
 {
@@ -190,6 +199,7 @@ fn reg_of(alloc: Global, flop: &Flop, ins: Seq<usize>, outs: Seq<RegOut>) -> Res
     })
 }
 
+/// An equal function, where there is one.
 pub(crate) fn copy_if_any(alloc: Global, func: &Option<Func>) -> Result<Option<Func>, AllocError>
     ensures { IfOk result (λ copied. copied ≡ func.now) }
 {
@@ -199,8 +209,9 @@ pub(crate) fn copy_if_any(alloc: Global, func: &Option<Func>) -> Result<Option<F
     }
 }
 
+/// The output nets of a flop.
 fn reg_outs(alloc: Global, conns: &[Conn], outs: &[FlopOut]) -> Result<Seq<RegOut>, FlatFault>
-    ensures { Gives (λ found. found) result (each (spec.reg_out_of conns.now) outs.now) }
+    ensures { Gives Fails (λ found. found) result (each (spec.reg_out_of conns.now) outs.now) }
 {
     let mut found = Seq::new(alloc);
     for out in outs {
@@ -215,8 +226,9 @@ fn reg_outs(alloc: Global, conns: &[Conn], outs: &[FlopOut]) -> Result<Seq<RegOu
     Ok(found)
 }
 
+/// The nets that pins are connected to.
 fn nets_of_pins(alloc: Global, conns: &[Conn], pins: &[Name]) -> Result<Seq<usize>, FlatFault>
-    ensures { Gives (λ nets. nets) result (each (spec.net_of_pin conns.now) pins.now) }
+    ensures { Gives Fails (λ nets. nets) result (each (spec.net_of_pin conns.now) pins.now) }
 {
     let mut nets = Seq::new(alloc);
     for pin in pins {
@@ -228,7 +240,7 @@ fn nets_of_pins(alloc: Global, conns: &[Conn], pins: &[Name]) -> Result<Seq<usiz
     Ok(nets)
 }
 
-// The net that a pin is connected to.
+/// The net that a pin is connected to.
 #[tactic(auto, unfolding(crate::specs::Parts::net_of_pin))]
 fn net_of_pin(conns: &[Conn], pin: &Name) -> Option<usize>
     ensures { result ≡ spec.net_of_pin conns.now pin.now }
@@ -241,6 +253,7 @@ fn net_of_pin(conns: &[Conn], pin: &Name) -> Option<usize>
     None
 }
 
+/// The net of a connection that is one wire.
 fn one_net(wires: &Option<Seq<Wire>>) -> Option<usize>
     ensures { result ≡ spec.one_net wires.now }
 {

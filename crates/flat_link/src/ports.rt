@@ -18,6 +18,7 @@ pub(crate) fn clock_net(ports: &[Port], name: &Name) -> Option<usize>
     None
 }
 
+/// The one net of a port with one bit.
 fn one_of(nets: &[usize]) -> Option<usize>
     ensures { result ≡ spec.one_of nets.now }
 {
@@ -27,6 +28,7 @@ fn one_of(nets: &[usize]) -> Option<usize>
     }
 }
 
+/// Whether the port is an input.
 fn is_input(dir: Dir) -> bool
     ensures { result ≡ spec.is_input dir }
 {
@@ -53,6 +55,7 @@ pub(crate) fn data_inputs(
     Ok(nets)
 }
 
+/// Appends the nets but for the clock.
 fn push_others(nets: &mut Vec<usize>, bits: &[usize], clock: usize) -> Result<(), AllocError>
     ensures { OnOk result (nets.new.items ≡ nets.old.items ++ filter (λ net. not (net == clock)) bits.now) }
 {

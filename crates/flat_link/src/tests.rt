@@ -1,5 +1,5 @@
 use crate::{Flat, FlatFault, flat_link};
-use cell_lib::builtin;
+use cell_types::builtin;
 use net_model::Design;
 use sdcv_base::{Name, Seq};
 use std::alloc::{AllocError, Global};
@@ -13,15 +13,9 @@ struct Inst(
     &'static [(&'static [u8], usize)],
 );
 
-fn one<T: Drop>(alloc: Global, item: T) -> Result<Seq<T>, AllocError> {
-    let mut items = Seq::new(alloc);
-    items.push(item)?;
-    Ok(items)
-}
-
 fn port(alloc: Global, name: &[u8], dir: Dir, net: usize) -> Result<Port, AllocError> {
     let name = Name::new(alloc, name)?;
-    let bits = one(alloc, net)?;
+    let bits = Seq::one(alloc, net)?;
     Ok(Port {
         name,
         dir,
@@ -32,7 +26,7 @@ fn port(alloc: Global, name: &[u8], dir: Dir, net: usize) -> Result<Port, AllocE
 
 fn conn(alloc: Global, pin: &[u8], net: usize) -> Result<Conn, AllocError> {
     let pin = Name::new(alloc, pin)?;
-    let wires = Some(one(alloc, Wire::Net(net))?);
+    let wires = Some(Seq::one(alloc, Wire::Net(net))?);
     Ok(Conn { pin, wires })
 }
 
@@ -86,7 +80,7 @@ fn module(alloc: Global, insts: &[Inst]) -> Result<Module, AllocError> {
 }
 
 fn source(alloc: Global, insts: &[Inst]) -> Result<Source, AllocError> {
-    let modules = one(alloc, module(alloc, insts)?)?;
+    let modules = Seq::one(alloc, module(alloc, insts)?)?;
     Ok(Source { modules })
 }
 
@@ -165,4 +159,17 @@ fn other_forms_are_refused(rt: HostRuntime) {
     for (place, (insts, clock)) in REFUSED.iter().enumerate() {
         assert!(rt; is_refused(rt.alloc(), insts, clock), "case {place}");
     }
+}
+
+// What developers see of each fault.
+#[test]
+fn faults_are_shown(rt: HostRuntime) -> Result<(), AllocError> {
+    for (fault, want) in [
+        (FlatFault::NotFlat, "the netlist is not flat"),
+        (FlatFault::Memory, "out of memory"),
+    ] {
+        let shown = format!(in rt.alloc(); "{fault}")?;
+        assert_eq!(rt; shown.as_str(), want);
+    }
+    Ok(())
 }

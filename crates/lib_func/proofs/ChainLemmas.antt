@@ -6,9 +6,9 @@ use Rattle.lib_func.specs.declared.functions.Stop.{Stop}
 use Rattle.lib_func.specs.declared.functions.Stop.TheVariants as stop
 use Rattle.lib_func.specs.declared.operators.Level.{Level}
 use Rattle.lib_func.specs.declared.operators.Level.TheVariants.{Or}
-use Rattle.lib_func.specs.Gives.{Fails}
+use Rattle.lib_func.specs.Fails.{Fails}
 use Rattle.lib_func.specs.Trees.{Tree, NotTree, negated}
-use Rattle.lib_func.specs.Blanks.{after_blanks}
+use Rattle.lib_words.specs.Blanks.{after_space}
 use Rattle.lib_func.specs.Operators.{after_operator, join}
 use Rattle.lib_func.specs.Functions.{chain_from, chain_of, chain_at, function_in}
 
@@ -57,11 +57,11 @@ unfolding function_in
 function_none s e = rw e refl
 
 -- only white space follows the function
-pub function_ends : (s : List ℕ) (f : Tree) (r : List ℕ) → chain_at (length s) Or s ≡ Some (f, r) → length (after_blanks r) ≡ 0 → function_in (length s) s ≡ Some f
+pub function_ends : (s : List ℕ) (f : Tree) (r : List ℕ) → chain_at (length s) Or s ≡ Some (f, r) → length (after_space r) ≡ 0 → function_in (length s) s ≡ Some f
 unfolding function_in
 function_ends s f r e ended = rw (e, ended) refl
 
 -- something else follows it
-pub function_trails : (s : List ℕ) (f : Tree) (r : List ℕ) → chain_at (length s) Or s ≡ Some (f, r) → 0 < length (after_blanks r) → function_in (length s) s ≡ None
+pub function_trails : (s : List ℕ) (f : Tree) (r : List ℕ) → chain_at (length s) Or s ≡ Some (f, r) → 0 < length (after_space r) → function_in (length s) s ≡ None
 unfolding function_in
-function_trails s f r e more = let differs : (length (after_blanks r) == 0) ≡ false = grind (arith, nat_tests) in rw (e, differs) refl
+function_trails s f r e more = let differs : (length (after_space r) == 0) ≡ false = grind (arith, nat_tests) in rw (e, differs) refl

@@ -1,3 +1,2 @@
-pub mod BlankLemmas
 pub mod ChainLemmas
-pub mod ScopeLemmas
+pub mod MarkLemmas

@@ -6,7 +6,9 @@ use Rattle.texts.specs.Reads.{Read, ◌>>=◌}
 use Rattle.lib_func.specs.declared.operators.Level.{Level}
 use Rattle.lib_func.specs.declared.operators.Level.TheVariants.{Or, And, Xor}
 use Rattle.lib_func.specs.Trees.{Tree, ZeroTree, OneTree, NameTree, negated}
-use Rattle.lib_func.specs.Blanks.{first, after_blanks, marks}
+use Rattle.texts.specs.Fronts.{first}
+use Rattle.lib_words.specs.Blanks.{after_space}
+use Rattle.lib_func.specs.Marks.{marks}
 use Rattle.lib_func.specs.Operators.{after_operator, join}
 
 -- the rest of a chain of operands, of fewer than n, after those found; an operand has a byte at least
@@ -31,13 +33,13 @@ leaf_at s =
 
 -- the closing parenthesis
 unfoldable pub closed : Tree × List ℕ → Read Tree
-closed p = if first (after_blanks p.1) == 41 then Some (p.0, drop 1 (after_blanks p.1)) else None
+closed p = if first (after_space p.1) == 41 then Some (p.0, drop 1 (after_space p.1)) else None
 
 -- what may stand in parentheses is given
 module _ (inner : List ℕ → Read Tree) where
   -- a constant, a name, or what stands in parentheses
   unfoldable pub atom_in : List ℕ → Read Tree
-  atom_in s = let t = after_blanks s in if first t == 40 then inner (drop 1 t) >>= closed else leaf_at t
+  atom_in s = let t = after_space s in if first t == 40 then inner (drop 1 t) >>= closed else leaf_at t
 
   -- any number of `!` before an atom, and of `'` after it
   unfoldable pub inverted_in : List ℕ → Read Tree
@@ -70,7 +72,7 @@ chain_at depth level s = chain_of (operand_at depth level) level s
 
 -- the function that a whole text is, with parentheses that nest at most so deep
 unfoldable pub function_in : ℕ → List ℕ → Option Tree
-function_in depth s = chain_at depth Or s >>= λ p. if length (after_blanks p.1) == 0 then Some p.0 else None
+function_in depth s = chain_at depth Or s >>= λ p. if length (after_space p.1) == 0 then Some p.0 else None
 
 -- the function that a whole text is: no text has more parentheses than bytes
 abbrev pub function_of : List ℕ → Option Tree

@@ -1,8 +1,7 @@
-pub mod Blanks
 pub mod Code
+pub mod Fails
 pub mod Functions
-pub mod Gives
+pub mod Marks
 pub mod Operators
-pub mod Scopes
 pub mod Shapes
 pub mod Trees

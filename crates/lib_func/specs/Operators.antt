@@ -4,7 +4,8 @@ use Rattle.texts.specs.Bytes.{is_letter}
 use Rattle.lib_func.specs.declared.operators.Level.{Level}
 use Rattle.lib_func.specs.declared.operators.Level.TheVariants.{Or, And, Xor}
 use Rattle.lib_func.specs.Trees.{Tree, AndTree, OrTree, XorTree}
-use Rattle.lib_func.specs.Blanks.{first, after_blanks}
+use Rattle.texts.specs.Fronts.{first}
+use Rattle.lib_words.specs.Blanks.{after_space}
 
 -- a letter or `_`, `!`, `(`, `0` or `1`
 abbrev pub begins_operand : ℕ → Bool
@@ -20,9 +21,9 @@ is_and b = b == 42 || b == 38
 
 -- what follows the operator, where a further operand comes; two operands side by side are an and
 unfoldable pub after_operator : Level → List ℕ → Option (List ℕ)
-after_operator Or s = let t = after_blanks s in if is_or (first t) then Some (drop 1 t) else None
-after_operator And s = let t = after_blanks s in if is_and (first t) then Some (drop 1 t) else if begins_operand (first t) then Some t else None
-after_operator Xor s = let t = after_blanks s in if first t == 94 then Some (drop 1 t) else None
+after_operator Or s = let t = after_space s in if is_or (first t) then Some (drop 1 t) else None
+after_operator And s = let t = after_space s in if is_and (first t) then Some (drop 1 t) else if begins_operand (first t) then Some t else None
+after_operator Xor s = let t = after_space s in if first t == 94 then Some (drop 1 t) else None
 
 -- two operands with the operator of a level
 abbrev pub join : Level → Tree → Tree → Tree

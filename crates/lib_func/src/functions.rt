@@ -1,13 +1,14 @@
 //! Functions by their grammar.
 ghost use Rattle.std.specs.Prelude.{◌≡◌, ◌<◌, length, OnOk, IfOk, slice_index};
 ghost use Rattle.sdcv_base.specs.Cursors.{rest};
-ghost use Rattle.lib_func.specs.Gives.{Gives};
+ghost use Rattle.texts.specs.Reads.{Gives};
+ghost use Rattle.lib_func.specs.Fails.{Fails};
 ghost use Rattle.lib_func.specs.Functions as spec;
 ghost use Rattle.lib_func.specs.Functions.{within};
 ghost use Rattle.lib_func.specs.declared.functions.Stop.TheVariants as stop;
 
-use crate::blanks::{count_marks, skip_blanks};
 use crate::exprs::{Expr, Term};
+use crate::marks::{count_marks, skip_blanks};
 use crate::operators::{Level, joined, try_operator};
 use sdcv_base::{Cursor, Name};
 use std::alloc::{AllocError, AllocFailed, Global};
@@ -51,7 +52,7 @@ pub fn read_function(alloc: Global, text: &[u8]) -> Result<Option<Expr>, AllocEr
 }
 
 fn whole(alloc: Global, text: &[u8]) -> Result<Expr, Stop>
-    ensures { Gives (λ e. e) result (spec.function_of text.now) }
+    ensures { Gives Fails (λ e. e) result (spec.function_of text.now) }
 {
     let mut c = Cursor::new(text);
     let found = chain(alloc, &mut c, Level::Or, text.len())?;
@@ -65,7 +66,7 @@ fn whole(alloc: Global, text: &[u8]) -> Result<Expr, Stop>
 /// Operands with the level's operators between them.
 #[cycle(chain)]
 fn chain(alloc: Global, c: &mut Cursor<'_>, level: Level, depth: usize) -> Result<Expr, Stop>
-    ensures value { Gives (λ e. (e, rest c.new)) result (spec.chain_at depth level (rest c.old)) }
+    ensures value { Gives Fails (λ e. (e, rest c.new)) result (spec.chain_at depth level (rest c.old)) }
     ensures shorter { OnOk result (length (rest c.new) < length (rest c.old)) }
 {
     let mut found = operand(alloc, c, level, depth)?;
@@ -80,7 +81,7 @@ fn chain(alloc: Global, c: &mut Cursor<'_>, level: Level, depth: usize) -> Resul
 
 #[cycle(chain)]
 fn operand(alloc: Global, c: &mut Cursor<'_>, level: Level, depth: usize) -> Result<Expr, Stop>
-    ensures value { Gives (λ e. (e, rest c.new)) result (spec.operand_at depth level (rest c.old)) }
+    ensures value { Gives Fails (λ e. (e, rest c.new)) result (spec.operand_at depth level (rest c.old)) }
     ensures shorter { OnOk result (length (rest c.new) < length (rest c.old)) }
 {
     match level {
@@ -94,7 +95,7 @@ fn operand(alloc: Global, c: &mut Cursor<'_>, level: Level, depth: usize) -> Res
 #[cycle(chain)]
 #[tactic(auto, unfolding(crate::specs::Functions::inverted_in))]
 fn inverted(alloc: Global, c: &mut Cursor<'_>, depth: usize) -> Result<Expr, Stop>
-    ensures value { Gives (λ e. (e, rest c.new)) result (spec.inverted_in (within depth) (rest c.old)) }
+    ensures value { Gives Fails (λ e. (e, rest c.new)) result (spec.inverted_in (within depth) (rest c.old)) }
     ensures shorter { OnOk result (length (rest c.new) < length (rest c.old)) }
 {
     let before = count_marks(c, b'!');
@@ -107,7 +108,7 @@ fn inverted(alloc: Global, c: &mut Cursor<'_>, depth: usize) -> Result<Expr, Sto
 #[cycle(chain)]
 #[tactic(auto, unfolding(crate::specs::Functions::atom_in, crate::specs::Functions::within))]
 fn atom(alloc: Global, c: &mut Cursor<'_>, depth: usize) -> Result<Expr, Stop>
-    ensures value { Gives (λ e. (e, rest c.new)) result (spec.atom_in (within depth) (rest c.old)) }
+    ensures value { Gives Fails (λ e. (e, rest c.new)) result (spec.atom_in (within depth) (rest c.old)) }
     ensures shorter { OnOk result (length (rest c.new) < length (rest c.old)) }
 {
     let byte = skip_blanks(c);
@@ -126,7 +127,7 @@ fn atom(alloc: Global, c: &mut Cursor<'_>, depth: usize) -> Result<Expr, Stop>
 #[tactic(auto, unfolding(crate::specs::Functions::leaf_at))]
 fn leaf(alloc: Global, c: &mut Cursor<'_>, byte: u8) -> Result<Expr, Stop>
     requires { (byte ≡ slice_index (rest c.old) 0) × (0 < byte → 0 < length (rest c.old)) }
-    ensures value { Gives (λ e. (e, rest c.new)) result (spec.leaf_at (rest c.old)) }
+    ensures value { Gives Fails (λ e. (e, rest c.new)) result (spec.leaf_at (rest c.old)) }
     ensures shorter { OnOk result (length (rest c.new) < length (rest c.old)) }
 {
     if byte == b'0' {
@@ -151,7 +152,7 @@ fn leaf(alloc: Global, c: &mut Cursor<'_>, byte: u8) -> Result<Expr, Stop>
 /// The closing parenthesis after an expression.
 #[tactic(auto, unfolding(crate::specs::Functions::closed))]
 fn close(c: &mut Cursor<'_>, found: Expr) -> Result<Expr, Stop>
-    ensures value { Gives (λ e. (e, rest c.new)) result (spec.closed (found, rest c.old)) }
+    ensures value { Gives Fails (λ e. (e, rest c.new)) result (spec.closed (found, rest c.old)) }
     ensures shorter { OnOk result (length (rest c.new) < length (rest c.old)) }
 {
     if skip_blanks(c) != b')' {

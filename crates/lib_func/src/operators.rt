@@ -4,8 +4,8 @@ ghost use Rattle.sdcv_base.specs.Cursors.{rest};
 ghost use Rattle.texts.specs.Reads.{Passes};
 ghost use Rattle.lib_func.specs.Operators as spec;
 
-use crate::blanks::skip_blanks;
 use crate::exprs::{Expr, Term};
+use crate::marks::skip_blanks;
 use sdcv_base::Cursor;
 use std::alloc::{AllocError, Global};
 use texts::is_letter;

@@ -1,25 +1,19 @@
--- One turn of each loop over what may be passed over.
-use Rattle.std.proofs.Common.{◌≡◌, ℕ, zero, suc, ◌+◌, ◌<◌, true, false, List, [], ◌∷◌, length, drop, Some, None, refl, arith, ◌==◌}
+-- One turn of the loops over white space, and over white space and comments.
+use Rattle.std.proofs.Common.{◌≡◌, ℕ, zero, suc, ◌+◌, ◌<◌, true, false, List, [], ◌∷◌, drop, refl, arith, ◌==◌}
 use Rattle.std.proofs.lemmas.Bool.Decides.{nat_tests}
-use Rattle.lib_words.specs.Blanks.{has_two, comment_end_from, blank_len, skipped}
+use Rattle.lib_words.specs.Blanks.{is_blank, after_space, blank_len, skipped}
 
--- a comment ends here
-pub comment_end_here : (i : ℕ) (s : List ℕ) → 0 < length s → has_two 42 47 s ≡ true → comment_end_from i s ≡ Some (i + 2)
-unfolding comment_end_from
-comment_end_here i [] some e = absurd (omega arith)
-comment_end_here i (b ∷ s) some e = rw e refl
+-- no white space comes
+pub space_stop : (s : List ℕ) → is_blank s ≡ false → after_space s ≡ s
+unfolding after_space
+space_stop [] e = refl
+space_stop (b ∷ s) e = rw e refl
 
--- it does not
-pub comment_end_later : (i : ℕ) (s : List ℕ) → 0 < length s → has_two 42 47 s ≡ false → comment_end_from i s ≡ comment_end_from (i + 1) (drop 1 s)
-unfolding comment_end_from
-comment_end_later i [] some e = absurd (omega arith)
-comment_end_later i (b ∷ s) some e = rw e refl
-
--- the text has ended
-pub comment_end_none : (i : ℕ) (s : List ℕ) → length s ≡ 0 → comment_end_from i s ≡ None
-unfolding comment_end_from
-comment_end_none i [] e = refl
-comment_end_none i (b ∷ s) e = absurd (omega arith)
+-- one byte of white space comes
+pub space_more : (s : List ℕ) → is_blank s ≡ true → after_space s ≡ after_space (drop 1 s)
+unfolding after_space
+space_more [] e = refl
+space_more (b ∷ s) e = rw e refl
 
 -- nothing stands here that may be passed over
 pub skipped_stop : (m : ℕ) (s : List ℕ) → blank_len s ≡ 0 → skipped m s ≡ s

@@ -10,7 +10,8 @@ use Rattle.lib_words.specs.declared.groups.Part.{Part}
 use Rattle.lib_words.specs.declared.groups.CellGroup.{CellGroup}
 use Rattle.lib_words.specs.Kinds.{part_kind, attribute_kind}
 use Rattle.lib_words.specs.Blanks.{after_blanks}
-use Rattle.lib_words.specs.Reads.{After, Rule, ◌>>=◌, refused}
+use Rattle.texts.specs.Rules.{◌>>=◌}
+use Rattle.lib_words.specs.Reads.{After, Rule, refused}
 use Rattle.lib_words.specs.Tokens.{is_next, after_mark, mark_at, name_at}
 use Rattle.lib_words.specs.Runs.{argument_at, value_at}
 use Rattle.lib_words.specs.Lists.{list_at}

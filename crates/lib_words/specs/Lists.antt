@@ -1,6 +1,7 @@
 -- Lists of items up to a closing mark.
 use Rattle.std.specs.Prelude.{ℕ, zero, suc, if◌then◌else◌, length, Ok}
-use Rattle.lib_words.specs.Reads.{Rule, ◌>>=◌, refused}
+use Rattle.texts.specs.Rules.{◌>>=◌}
+use Rattle.lib_words.specs.Reads.{Rule, refused}
 use Rattle.lib_words.specs.Tokens.{is_next, after_mark}
 
 -- what is gathered up to the closing mark, where each item adds to what was gathered before it; any number of marks of

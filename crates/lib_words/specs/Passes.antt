@@ -2,7 +2,8 @@
 use Rattle.std.specs.Prelude.{ℕ, zero, suc, ◌+◌, ◌-◌, nat_lt, if◌then◌else◌, List, length, Ok}
 use Rattle.lib_words.specs.Marks.{colon, comma, left_brace, left_paren, right_brace, right_paren, semicolon}
 use Rattle.lib_words.specs.declared.passes.Passed.{Passed}
-use Rattle.lib_words.specs.Reads.{After, Rule, ◌>>=◌, refused}
+use Rattle.texts.specs.Rules.{◌>>=◌}
+use Rattle.lib_words.specs.Reads.{After, Rule, refused}
 use Rattle.lib_words.specs.Tokens.{is_next, after_mark, mark_at, name_at}
 use Rattle.lib_words.specs.Runs.{argument_at, value_at}
 use Rattle.lib_words.specs.Lists.{list_at}

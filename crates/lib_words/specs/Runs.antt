@@ -4,8 +4,9 @@ use Rattle.std.specs.Char.{is_ascii_whitespace}
 use Rattle.std.specs.List.{prefix_len, suffix_len}
 use Rattle.lib_words.specs.Marks.{comma, left_paren, newline, quote, right_brace, right_paren, semicolon}
 use Rattle.lib_words.specs.declared.groups.Value.{Value}
-use Rattle.lib_words.specs.Blanks.{first, is_line_break, opens_comment, after_blanks}
-use Rattle.lib_words.specs.Reads.{Rule, ◌>>=◌, offset_of, refused}
+use Rattle.lib_words.specs.Blanks.{is_blank, is_line_break, opens_comment, after_blanks}
+use Rattle.texts.specs.Rules.{◌>>=◌, offset_of}
+use Rattle.lib_words.specs.Reads.{Rule, refused}
 use Rattle.lib_words.specs.Tokens.{is_next, quoted_at}
 
 -- a run of n bytes, less a backslash at its end that stands directly before a newline
@@ -25,7 +26,7 @@ run_at total s = if opens_comment s || run_len s == 0 then refused total s else 
 
 -- white space, a comment, `,` or `)` comes next
 abbrev pub is_parted : List ℕ → Bool
-is_parted s = (((is_ascii_whitespace (first s) || is_next comma s) || is_next right_paren s) || is_line_break s) || opens_comment s
+is_parted s = ((is_blank s || is_next comma s) || is_next right_paren s) || opens_comment s
 
 -- a quoted text or a run
 abbrev pub word_at : Rule (List ℕ)

@@ -3,7 +3,8 @@ use Rattle.std.specs.Prelude.{ℕ, ◌+◌, Bool, not, ◌==◌, if◌then◌els
 use Rattle.std.specs.List.{prefix_len}
 use Rattle.texts.specs.Bytes.{is_word}
 use Rattle.lib_words.specs.Marks.{quote}
-use Rattle.lib_words.specs.Blanks.{first, after_blanks}
+use Rattle.texts.specs.Fronts.{first}
+use Rattle.lib_words.specs.Blanks.{after_blanks}
 use Rattle.lib_words.specs.Reads.{After, Rule, refused}
 
 -- this mark, which is not 0, comes next

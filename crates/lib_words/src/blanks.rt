@@ -1,61 +1,40 @@
-//! White space and comments.
-ghost use Rattle.std.specs.Prelude.{◌≡◌, ◌≤◌, length, slice_index, IfSome, ◌+◌};
-ghost use Rattle.std.specs.List.{prefix_len};
-ghost use Rattle.std.specs.Char.{is_ascii_whitespace};
+//! White space, and white space and comments.
+ghost use Rattle.std.specs.Prelude.{◌≡◌, ◌≤◌, length};
 ghost use Rattle.sdcv_base.specs.Cursors.{rest, text_of};
 ghost use Rattle.lib_words.specs.Blanks as spec;
 
 use sdcv_base::Cursor;
-use texts::after;
+use texts::{after, byte_at, closed_by, has_two};
 
-/// The byte at a place of a text, and 0 past its end.
-pub fn byte_at(text: &[u8], place: usize) -> u8
-    ensures { result ≡ slice_index text.now place }
+/// Whether white space comes next: space, tab, newline, carriage return, form feed, or a backslash directly before a
+/// newline.
+pub fn is_blank(text: &[u8]) -> bool
+    ensures { result ≡ spec.is_blank text.now }
 {
-    text.get(place).copied().unwrap_or(0)
+    byte_at(text, 0).is_ascii_whitespace() || has_two(text, b'\\', b'\n')
 }
 
-/// Whether a text begins with these two bytes.
-pub fn has_two(text: &[u8], a: u8, b: u8) -> bool
-    ensures { result ≡ spec.has_two a b text.now }
+/// Passes white space, and no comment.
+pub fn skip_space(c: &mut Cursor<'_>)
+    ensures rest { rest c.new ≡ spec.after_space (rest c.old) }
+    ensures text { text_of c.new ≡ text_of c.old }
+    ensures within { length (rest c.new) ≤ length (rest c.old) }
 {
-    byte_at(text, 0) == a && byte_at(text, 1) == b
-}
-
-/// How many bytes stand up to and with the first `*/`.
-fn comment_end(text: &[u8]) -> Option<usize>
-    ensures value { result ≡ spec.comment_end text.now }
-    ensures within { IfSome result (λ n. n ≤ length text.now) }
-{
-    for i in 0..text.len() {
-        if has_two(after(text, i), b'*', b'/') {
-            return Some(i + 2);
-        }
+    'space: while is_blank(c.rest()) {
+        c.bump();
     }
-    None
 }
 
-fn space_len(text: &[u8]) -> usize
-    ensures value { result ≡ prefix_len is_ascii_whitespace text.now }
-    ensures within { result ≤ length text.now }
-{
-    text.iter()
-        .take_while(|byte| byte.is_ascii_whitespace())
-        .count()
-}
-
-/// The length of the white space or comment at the front, and 0 where none stands there.
+/// The length of a byte of white space or of the comment at the front, and 0 where neither stands there.
 #[tactic(auto, unfolding(crate::specs::Blanks::blank_len))]
 fn blank_len(text: &[u8]) -> usize
     ensures value { result ≡ spec.blank_len text.now }
     ensures within { result ≤ length text.now }
 {
-    if byte_at(text, 0).is_ascii_whitespace() {
-        space_len(text)
-    } else if has_two(text, b'\\', b'\n') {
-        2
+    if is_blank(text) {
+        1
     } else if has_two(text, b'/', b'*') {
-        match comment_end(after(text, 2)) {
+        match closed_by(after(text, 2), b'*', b'/') {
             Some(len) => len + 2,
             None => 0,
         }
@@ -65,7 +44,7 @@ fn blank_len(text: &[u8]) -> usize
 }
 
 /// Passes white space and comments.
-pub fn skip_blanks(c: &mut Cursor<'_>)
+pub(crate) fn skip_blanks(c: &mut Cursor<'_>)
     ensures rest { rest c.new ≡ spec.after_blanks (rest c.old) }
     ensures text { text_of c.new ≡ text_of c.old }
     ensures within { length (rest c.new) ≤ length (rest c.old) }

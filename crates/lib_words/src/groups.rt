@@ -4,7 +4,7 @@ use crate::kinds::{AttributeKind, PartKind};
 use sdcv_base::{Name, Seq};
 
 /// The value of a simple attribute: the bytes between the quotes, or an unquoted run without the white space at its ends.
-#[derive(Debug, Drop)]
+#[derive(Drop)]
 pub struct Value {
     pub text: Name,
     /// Where the first of these bytes stands in the whole text, from 0. In a quoted value it follows the quote.
@@ -12,14 +12,14 @@ pub struct Value {
     pub is_quoted: bool,
 }
 
-#[derive(Debug, Drop)]
+#[derive(Drop)]
 pub struct Attribute {
     pub kind: AttributeKind,
     pub value: Value,
 }
 
 /// A group that stands directly in a cell: its arguments, and its direct simple attributes that count, as in the text.
-#[derive(Debug, Drop)]
+#[derive(Drop)]
 pub struct Part {
     pub kind: PartKind,
     pub names: Seq<Name>,
@@ -27,7 +27,7 @@ pub struct Part {
 }
 
 /// A `cell` group: its only argument, and what stands directly in it and counts, as in the text.
-#[derive(Debug, Drop)]
+#[derive(Drop)]
 pub struct CellGroup {
     pub name: Name,
     pub attributes: Seq<Attribute>,

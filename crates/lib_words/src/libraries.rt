@@ -1,7 +1,8 @@
 //! The library that a text is.
 ghost use Rattle.std.specs.Prelude.{◌≡◌, ◌<◌, ◌≤◌, length, OnOk};
 ghost use Rattle.sdcv_base.specs.Cursors.{rest, text_of};
-ghost use Rattle.lib_words.specs.Reads.{Gives, Reads};
+ghost use Rattle.texts.specs.Rules.{Gives, Reads};
+ghost use Rattle.lib_words.specs.Reads.{Fails};
 ghost use Rattle.lib_words.specs.Groups as spec;
 
 use crate::blanks::skip_blanks;
@@ -29,7 +30,7 @@ impl Gather for Seq<Name> {
 /// Takes arguments in parentheses.
 #[tactic(auto, unfolding(crate::specs::Groups::names_at))]
 fn take_names(alloc: Global, c: &mut Cursor<'_>) -> Result<Seq<Name>, GroupFault>
-    ensures value { Reads c.old c.new (λ n. n) result spec.names_at }
+    ensures value { Reads c.old c.new Fails (λ n. n) result spec.names_at }
     ensures text { text_of c.new ≡ text_of c.old }
     ensures shorter { OnOk result (length (rest c.new) < length (rest c.old)) }
 {
@@ -68,7 +69,7 @@ fn take_attribute(
     c: &mut Cursor<'_>,
     kind: AttributeKind,
 ) -> Result<Attribute, GroupFault>
-    ensures value { Reads c.old c.new (λ a. a) result (spec.attribute_at kind) }
+    ensures value { Reads c.old c.new Fails (λ a. a) result (spec.attribute_at kind) }
     ensures text { text_of c.new ≡ text_of c.old }
     ensures shorter { OnOk result (length (rest c.new) < length (rest c.old)) }
 {
@@ -102,7 +103,7 @@ fn take_part(
     kind: PartKind,
     room: usize,
 ) -> Result<Option<Part>, GroupFault>
-    ensures value { Reads c.old c.new (λ p. p) result (spec.part_at kind room) }
+    ensures value { Reads c.old c.new Fails (λ p. p) result (spec.part_at kind room) }
     ensures text { text_of c.new ≡ text_of c.old }
     ensures shorter { OnOk result (length (rest c.new) < length (rest c.old)) }
 {
@@ -157,7 +158,7 @@ fn take_cell(
     c: &mut Cursor<'_>,
     room: usize,
 ) -> Result<Option<CellGroup>, GroupFault>
-    ensures value { Reads c.old c.new (λ p. p) result (spec.cell_at room) }
+    ensures value { Reads c.old c.new Fails (λ p. p) result (spec.cell_at room) }
     ensures text { text_of c.new ≡ text_of c.old }
     ensures shorter { OnOk result (length (rest c.new) < length (rest c.old)) }
 {
@@ -202,7 +203,7 @@ fn take_library(
     c: &mut Cursor<'_>,
     room: usize,
 ) -> Result<Seq<CellGroup>, GroupFault>
-    ensures value { Reads c.old c.new (λ p. p) result (spec.library_at room) }
+    ensures value { Reads c.old c.new Fails (λ p. p) result (spec.library_at room) }
     ensures text { text_of c.new ≡ text_of c.old }
 {
     let start = refused(c);
@@ -220,7 +221,7 @@ fn take_library(
 /// Passes the end of the text, and one `;` before it.
 #[tactic(auto, unfolding(crate::specs::Groups::ended_at))]
 fn pass_end(c: &mut Cursor<'_>) -> Result<(), GroupFault>
-    ensures value { Gives (length (text_of c.old)) (λ _. rest c.new) result (spec.ended_at (length (text_of c.old)) (rest c.old)) }
+    ensures value { Gives (Fails (length (text_of c.old))) (λ _. rest c.new) result (spec.ended_at (length (text_of c.old)) (rest c.old)) }
     ensures text { text_of c.new ≡ text_of c.old }
 {
     let _ = try_mark(c, b';');
@@ -235,7 +236,7 @@ fn pass_end(c: &mut Cursor<'_>) -> Result<(), GroupFault>
 /// library, with the place at which it stops being one.
 #[tactic(auto, unfolding(crate::specs::Groups::cells_of))]
 pub fn read_cells(alloc: Global, text: &[u8]) -> Result<Seq<CellGroup>, GroupFault>
-    ensures { Gives (length text.now) (λ cells. cells) result (spec.cells_of text.now) }
+    ensures { Gives (Fails (length text.now)) (λ cells. cells) result (spec.cells_of text.now) }
 {
     let mut c = Cursor::new(text);
     skip_blanks(&mut c);

@@ -1,7 +1,8 @@
 //! Lists of items up to a closing mark.
 ghost use Rattle.std.specs.Prelude.{◌≡◌, ◌<◌, ℕ, length, OnOk};
 ghost use Rattle.sdcv_base.specs.Cursors.{rest, text_of};
-ghost use Rattle.lib_words.specs.Reads.{Reads, Rule};
+ghost use Rattle.texts.specs.Rules.{Reads};
+ghost use Rattle.lib_words.specs.Reads.{Fails, Rule};
 ghost use Rattle.lib_words.specs.Lists as spec;
 
 use crate::faults::GroupFault;
@@ -15,7 +16,7 @@ pub trait Gather: Drop {
     ghost adds: { ℕ → Self → Rule Self };
 
     fn add(&mut self, alloc: Global, c: &mut Cursor<'_>, room: usize) -> Result<(), GroupFault>
-        ensures value { Reads c.old c.new (λ _. self.new) result (adds room self.old) }
+        ensures value { Reads c.old c.new Fails (λ _. self.new) result (adds room self.old) }
         ensures text { text_of c.new ≡ text_of c.old }
         ensures shorter { OnOk result (length (rest c.new) < length (rest c.old)) };
 }
@@ -31,7 +32,7 @@ pub fn list<G: Gather>(
 ) -> Result<(), GroupFault>
     requires close { 0 < close }
     requires between { 0 < between }
-    ensures value { Reads c.old c.new (λ _. found.new) result (spec.list_at close between (G.adds room) found.old) }
+    ensures value { Reads c.old c.new Fails (λ _. found.new) result (spec.list_at close between (G.adds room) found.old) }
     ensures text { text_of c.new ≡ text_of c.old }
     ensures shorter { OnOk result (length (rest c.new) < length (rest c.old)) }
 {

@@ -1,7 +1,8 @@
 //! Statements that are passed over.
 ghost use Rattle.std.specs.Prelude.{◌≡◌, ◌<◌, ◌≤◌, length, OnOk};
 ghost use Rattle.sdcv_base.specs.Cursors.{rest, text_of};
-ghost use Rattle.lib_words.specs.Reads.{Gives, Reads};
+ghost use Rattle.texts.specs.Rules.{Gives, Reads};
+ghost use Rattle.lib_words.specs.Reads.{Fails};
 ghost use Rattle.lib_words.specs.Passes as spec;
 
 use crate::faults::GroupFault;
@@ -27,7 +28,7 @@ impl Gather for Passed {
 /// Passes arguments in parentheses.
 #[tactic(auto, unfolding(crate::specs::Passes::after_arguments))]
 pub fn pass_arguments(alloc: Global, c: &mut Cursor<'_>) -> Result<(), GroupFault>
-    ensures value { Gives (length (text_of c.old)) (λ _. rest c.new) result (spec.after_arguments (length (text_of c.old)) (rest c.old)) }
+    ensures value { Gives (Fails (length (text_of c.old))) (λ _. rest c.new) result (spec.after_arguments (length (text_of c.old)) (rest c.old)) }
     ensures text { text_of c.new ≡ text_of c.old }
     ensures shorter { OnOk result (length (rest c.new) < length (rest c.old)) }
 {
@@ -38,7 +39,7 @@ pub fn pass_arguments(alloc: Global, c: &mut Cursor<'_>) -> Result<(), GroupFaul
 /// Passes the `{` of a group, where `opened` groups are open of the `room` that may be.
 #[tactic(auto, unfolding(crate::specs::Passes::enter_at))]
 pub fn enter(c: &mut Cursor<'_>, room: usize, opened: usize) -> Result<(), GroupFault>
-    ensures value { Gives (length (text_of c.old)) (λ _. rest c.new) result (spec.enter_at room opened (length (text_of c.old)) (rest c.old)) }
+    ensures value { Gives (Fails (length (text_of c.old))) (λ _. rest c.new) result (spec.enter_at room opened (length (text_of c.old)) (rest c.old)) }
     ensures text { text_of c.new ≡ text_of c.old }
     ensures shorter { OnOk result (length (rest c.new) < length (rest c.old)) }
     ensures below { OnOk result (opened < room) }
@@ -52,7 +53,7 @@ pub fn enter(c: &mut Cursor<'_>, room: usize, opened: usize) -> Result<(), Group
 /// How many groups are open after a place where a `{` may stand.
 #[tactic(auto, unfolding(crate::specs::Passes::opened_at))]
 fn pass_opening(c: &mut Cursor<'_>, room: usize, opened: usize) -> Result<usize, GroupFault>
-    ensures value { Reads c.old c.new (λ n. n) result (spec.opened_at room opened) }
+    ensures value { Reads c.old c.new Fails (λ n. n) result (spec.opened_at room opened) }
     ensures text { text_of c.new ≡ text_of c.old }
     ensures within { OnOk result (length (rest c.new) ≤ length (rest c.old)) }
 {
@@ -71,7 +72,7 @@ fn pass_tail(
     room: usize,
     opened: usize,
 ) -> Result<usize, GroupFault>
-    ensures value { Reads c.old c.new (λ n. n) result (spec.tail_at room opened) }
+    ensures value { Reads c.old c.new Fails (λ n. n) result (spec.tail_at room opened) }
     ensures text { text_of c.new ≡ text_of c.old }
     ensures shorter { OnOk result (length (rest c.new) < length (rest c.old)) }
 {
@@ -92,7 +93,7 @@ fn pass_step(
     opened: usize,
 ) -> Result<usize, GroupFault>
     requires { 0 < opened }
-    ensures value { Reads c.old c.new (λ n. n) result (spec.step_at room opened) }
+    ensures value { Reads c.old c.new Fails (λ n. n) result (spec.step_at room opened) }
     ensures text { text_of c.new ≡ text_of c.old }
     ensures shorter { OnOk result (length (rest c.new) < length (rest c.old)) }
 {
@@ -108,7 +109,7 @@ fn pass_step(
 
 /// Passes what follows a statement's name, with all groups in it: at most `room` may be open, one inside the other.
 pub fn pass_statement(alloc: Global, c: &mut Cursor<'_>, room: usize) -> Result<(), GroupFault>
-    ensures value { Gives (length (text_of c.old)) (λ _. rest c.new) result (spec.passed_at room (length (text_of c.old)) (rest c.old)) }
+    ensures value { Gives (Fails (length (text_of c.old))) (λ _. rest c.new) result (spec.passed_at room (length (text_of c.old)) (rest c.old)) }
     ensures text { text_of c.new ≡ text_of c.old }
     ensures shorter { OnOk result (length (rest c.new) < length (rest c.old)) }
 {

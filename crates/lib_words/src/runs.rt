@@ -2,17 +2,18 @@
 ghost use Rattle.std.specs.Prelude.{◌≡◌, ◌<◌, ◌≤◌, length, OnOk, IfOk};
 ghost use Rattle.std.specs.List.{prefix_len};
 ghost use Rattle.sdcv_base.specs.Cursors.{rest, text_of};
-ghost use Rattle.lib_words.specs.Reads.{Reads};
+ghost use Rattle.texts.specs.Rules.{Reads};
+ghost use Rattle.lib_words.specs.Reads.{Fails};
 ghost use Rattle.lib_words.specs.Runs as spec;
 ghost use Rattle.lib_words.specs.Founds.{value_of};
 
-use crate::blanks::{byte_at, has_two, skip_blanks};
+use crate::blanks::{is_blank, skip_blanks};
 use crate::faults::GroupFault;
 use crate::groups::Value;
 use crate::tokens::{is_next, refused, take_quoted};
 use sdcv_base::{Cursor, Name};
 use std::alloc::{AllocError, Global};
-use texts::{after, upto};
+use texts::{after, byte_at, has_two, upto};
 
 /// A value that still lies in the text.
 #[derive(Clone, Copy)]
@@ -66,7 +67,7 @@ fn run_bytes(text: &[u8]) -> usize
 /// Takes a run, and nothing after it.
 #[tactic(auto, unfolding(crate::specs::Runs::run_at))]
 fn take_run<'a>(c: &mut Cursor<'a>) -> Result<&'a [u8], GroupFault>
-    ensures value { Reads c.old c.new (λ n. n.now) result spec.run_at }
+    ensures value { Reads c.old c.new Fails (λ n. n.now) result spec.run_at }
     ensures text { text_of c.new ≡ text_of c.old }
     ensures shorter { OnOk result (length (rest c.new) < length (rest c.old)) }
 {
@@ -80,7 +81,7 @@ fn take_run<'a>(c: &mut Cursor<'a>) -> Result<&'a [u8], GroupFault>
 }
 
 fn take_word<'a>(c: &mut Cursor<'a>) -> Result<&'a [u8], GroupFault>
-    ensures value { Reads c.old c.new (λ n. n.now) result spec.word_at }
+    ensures value { Reads c.old c.new Fails (λ n. n.now) result spec.word_at }
     ensures text { text_of c.new ≡ text_of c.old }
     ensures shorter { OnOk result (length (rest c.new) < length (rest c.old)) }
 {
@@ -96,17 +97,13 @@ fn is_parted(text: &[u8]) -> bool
     ensures { result ≡ spec.is_parted text.now }
 {
     let byte = byte_at(text, 0);
-    byte.is_ascii_whitespace()
-        || byte == b','
-        || byte == b')'
-        || has_two(text, b'\\', b'\n')
-        || has_two(text, b'/', b'*')
+    is_blank(text) || byte == b',' || byte == b')' || has_two(text, b'/', b'*')
 }
 
 /// Takes an argument, and the white space and comments after it.
 #[tactic(auto, unfolding(crate::specs::Runs::argument_at))]
 pub fn take_argument<'a>(c: &mut Cursor<'a>) -> Result<&'a [u8], GroupFault>
-    ensures value { Reads c.old c.new (λ n. n.now) result spec.argument_at }
+    ensures value { Reads c.old c.new Fails (λ n. n.now) result spec.argument_at }
     ensures text { text_of c.new ≡ text_of c.old }
     ensures shorter { OnOk result (length (rest c.new) < length (rest c.old)) }
 {
@@ -151,7 +148,7 @@ fn value_len(text: &[u8]) -> usize
 /// Takes the value of a simple attribute, and the white space and comments after it.
 #[tactic(auto, unfolding(crate::specs::Runs::value_at))]
 pub fn take_value<'a>(c: &mut Cursor<'a>) -> Result<Found<'a>, GroupFault>
-    ensures value { Reads c.old c.new value_of result spec.value_at }
+    ensures value { Reads c.old c.new Fails value_of result spec.value_at }
     ensures text { text_of c.new ≡ text_of c.old }
     ensures within { OnOk result (length (rest c.new) ≤ length (rest c.old)) }
 {
@@ -164,7 +161,7 @@ pub fn take_value<'a>(c: &mut Cursor<'a>) -> Result<Found<'a>, GroupFault>
 
 fn quoted_value<'a>(c: &mut Cursor<'a>) -> Result<Found<'a>, GroupFault>
     requires { 0 < length (rest c.old) }
-    ensures value { Reads c.old c.new value_of result spec.quoted_value }
+    ensures value { Reads c.old c.new Fails value_of result spec.quoted_value }
     ensures text { text_of c.new ≡ text_of c.old }
     ensures within { OnOk result (length (rest c.new) ≤ length (rest c.old)) }
 {
@@ -180,7 +177,7 @@ fn quoted_value<'a>(c: &mut Cursor<'a>) -> Result<Found<'a>, GroupFault>
 }
 
 fn bare_value<'a>(c: &mut Cursor<'a>) -> Result<Found<'a>, GroupFault>
-    ensures value { Reads c.old c.new value_of result spec.bare_value }
+    ensures value { Reads c.old c.new Fails value_of result spec.bare_value }
     ensures text { text_of c.new ≡ text_of c.old }
     ensures within { OnOk result (length (rest c.new) ≤ length (rest c.old)) }
 {

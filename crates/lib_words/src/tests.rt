@@ -113,10 +113,7 @@ library ("typical") {
 "#;
 
 // Read by hand: the library's cells, of each the parts and attributes that count.
-#[test]
-fn a_vendors_library_has_its_cells(rt: HostRuntime) -> Result<(), Fail> {
-    let found = listing(rt.alloc(), VENDOR.as_bytes(), false)?;
-    let want = r#"
+const VENDOR_CELLS: &str = r#"
 cell NAND2X1;
 PgPin VDD;
 Pin A; Direction input;
@@ -132,89 +129,113 @@ LatchBank M MN 2;
 FfBank N NN 2; ClockedOnAlso "C'"; Preset "0";
 Bus W;
 Bundle V; Direction inout;"#;
-    assert_eq!(rt; found.as_str(), want);
+
+#[test]
+fn a_vendors_library_has_its_cells(rt: HostRuntime) -> Result<(), Fail> {
+    let found = listing(rt.alloc(), VENDOR.as_bytes(), false)?;
+    assert_eq!(rt; found.as_str(), VENDOR_CELLS);
     Ok(())
 }
 
 // Offsets counted by hand: a quoted value's is that of the byte after the quote.
+const OFFSETS: &[(&str, &str)] = &[
+    ("library(){}", ""),
+    (" library (l) { ; } ; /* */\n", ""),
+    ("library(l){cell(X){}}", "\ncell X;"),
+    ("library(l){cell(X){clear:A}}", "\ncell X; Clear 25 A;"),
+    (
+        "library (l) { cell (X) { pin (Y) { direction : output; function : \"A +\"; } } }",
+        "\ncell X;\nPin Y; Direction 47 output; Function 67 \"A +\";",
+    ),
+    (
+        "library(l){cell(X){clear:\"\"}}",
+        "\ncell X; Clear 26 \"\";",
+    ),
+    ("library(l){cell(X){clear:;}}", "\ncell X; Clear 25 ;"),
+    (
+        "library(l){cell(X){clear: A /* B */ \n}}",
+        "\ncell X; Clear 26 A /* B */;",
+    ),
+    (
+        "library(l){cell(X){clear/**/:/**/A\\\n}}",
+        "\ncell X; Clear 33 A;",
+    ),
+    (
+        "library(l){\r\ncell(X){\r\nclear : \\\n\"A;}\";\r\n}\r\n}\r\n",
+        "\ncell X; Clear 34 \"A;}\";",
+    ),
+    (
+        "library(l){cell(X){clear:A;clear:\"B\"clear:C}}",
+        "\ncell X; Clear 25 A; Clear 34 \"B\"; Clear 42 C;",
+    ),
+    (
+        "library(l){cell(X){pin(\"A B\",C\\\nD,E/*F*/ G){}}}",
+        "\ncell X;\nPin A B C D E/*F*/ G;",
+    ),
+    (
+        "library(l){cell(X);cell:X;pin(X){};cell(Y){pin(X);ff:X}}",
+        "\ncell Y;",
+    ),
+];
+
 #[test]
 fn values_have_their_offsets(rt: HostRuntime) -> Result<(), Fail> {
-    for (text, want) in [
-        ("library(){}", ""),
-        (" library (l) { ; } ; /* */\n", ""),
-        ("library(l){cell(X){}}", "\ncell X;"),
-        ("library(l){cell(X){clear:A}}", "\ncell X; Clear 25 A;"),
-        (
-            "library (l) { cell (X) { pin (Y) { direction : output; function : \"A +\"; } } }",
-            "\ncell X;\nPin Y; Direction 47 output; Function 67 \"A +\";",
-        ),
-        (
-            "library(l){cell(X){clear:\"\"}}",
-            "\ncell X; Clear 26 \"\";",
-        ),
-        ("library(l){cell(X){clear:;}}", "\ncell X; Clear 25 ;"),
-        (
-            "library(l){cell(X){clear: A /* B */ \n}}",
-            "\ncell X; Clear 26 A /* B */;",
-        ),
-        (
-            "library(l){cell(X){clear/**/:/**/A\\\n}}",
-            "\ncell X; Clear 33 A;",
-        ),
-        (
-            "library(l){\r\ncell(X){\r\nclear : \\\n\"A;}\";\r\n}\r\n}\r\n",
-            "\ncell X; Clear 34 \"A;}\";",
-        ),
-        (
-            "library(l){cell(X){clear:A;clear:\"B\"clear:C}}",
-            "\ncell X; Clear 25 A; Clear 34 \"B\"; Clear 42 C;",
-        ),
-        (
-            "library(l){cell(X){pin(\"A B\",C\\\nD,E/*F*/ G){}}}",
-            "\ncell X;\nPin A B C D E/*F*/ G;",
-        ),
-        (
-            "library(l){cell(X);cell:X;pin(X){};cell(Y){pin(X);ff:X}}",
-            "\ncell Y;",
-        ),
-    ] {
+    for (text, want) in OFFSETS {
         let found = listing(rt.alloc(), text.as_bytes(), true)?;
-        assert_eq!(rt; found.as_str(), want, "{text}");
+        assert_eq!(rt; found.as_str(), *want, "{text}");
     }
     Ok(())
 }
 
 // The places at which these texts stop being a library, by hand.
+const REFUSED: &[(&str, usize)] = &[
+    ("", 0),
+    ("/* library(l){}", 0),
+    ("lib(l){}", 0),
+    ("library{}", 7),
+    ("library(l)", 10),
+    ("library(l){", 11),
+    ("library(l){cell(X){pin(A){}}", 28),
+    ("library(l){cell(X{}}", 20),
+    ("library(l){cell(X)}}", 19),
+    ("library(l){cell(X){}};;", 22),
+    ("library(l){} x", 13),
+    ("library(l){cell(){}}", 17),
+    ("library(l){cell(X,Y){}}", 20),
+    ("library(l){a:\"b}", 13),
+    ("library(l){a(\"b)}", 13),
+    ("library(l){a(\"b\"c)}", 16),
+    ("library(l){a((b))}", 13),
+    ("library(l){a b;}", 13),
+    ("library(l){a:/*b}", 13),
+    ("library(l){a(){b(){c}}}", 20),
+    ("library(l){:}", 11),
+    ("library(l){a:b c:d}}", 19),
+];
+
 #[test]
 fn a_broken_text_is_refused_at_its_place(rt: HostRuntime) -> Result<(), Fail> {
-    for (text, want) in [
-        ("", 0),
-        ("/* library(l){}", 0),
-        ("lib(l){}", 0),
-        ("library{}", 7),
-        ("library(l)", 10),
-        ("library(l){", 11),
-        ("library(l){cell(X){pin(A){}}", 28),
-        ("library(l){cell(X{}}", 20),
-        ("library(l){cell(X)}}", 19),
-        ("library(l){cell(X){}};;", 22),
-        ("library(l){} x", 13),
-        ("library(l){cell(){}}", 17),
-        ("library(l){cell(X,Y){}}", 20),
-        ("library(l){a:\"b}", 13),
-        ("library(l){a(\"b)}", 13),
-        ("library(l){a(\"b\"c)}", 16),
-        ("library(l){a((b))}", 13),
-        ("library(l){a b;}", 13),
-        ("library(l){a:/*b}", 13),
-        ("library(l){a(){b(){c}}}", 20),
-        ("library(l){:}", 11),
-        ("library(l){a:b c:d}}", 19),
-    ] {
+    for (text, want) in REFUSED {
         match read_cells(rt.alloc(), text.as_bytes()) {
-            Err(GroupFault::Syntax(place)) => assert_eq!(rt; place, want, "{text}"),
+            Err(GroupFault::Syntax(place)) => assert_eq!(rt; place, *want, "{text}"),
             _ => assert!(rt; false, "{text} is no library"),
         }
+    }
+    Ok(())
+}
+
+// What developers see of each fault.
+#[test]
+fn faults_are_shown(rt: HostRuntime) -> Result<(), Fail> {
+    for (fault, want) in [
+        (
+            GroupFault::Syntax(7),
+            "byte 7: no Liberty group goes on like this",
+        ),
+        (GroupFault::Memory, "out of memory"),
+    ] {
+        let shown = format!(in rt.alloc(); "{fault}")?;
+        assert_eq!(rt; shown.as_str(), want);
     }
     Ok(())
 }

@@ -3,13 +3,14 @@ ghost use Rattle.std.specs.Prelude.{◌≡◌, ◌<◌, ◌≤◌, length, drop,
 ghost use Rattle.std.specs.List.{prefix_len};
 ghost use Rattle.sdcv_base.specs.Cursors.{rest, text_of};
 ghost use Rattle.lib_words.specs.declared.faults.GroupFault.TheVariants as fault;
-ghost use Rattle.lib_words.specs.Reads.{Gives, Reads, offset_of};
+ghost use Rattle.texts.specs.Rules.{Gives, Reads, offset_of};
+ghost use Rattle.lib_words.specs.Reads.{Fails};
 ghost use Rattle.lib_words.specs.Tokens as spec;
 
-use crate::blanks::{byte_at, skip_blanks};
+use crate::blanks::skip_blanks;
 use crate::faults::GroupFault;
 use sdcv_base::Cursor;
-use texts::{after, upto, word_len};
+use texts::{after, byte_at, upto, word_len};
 
 /// The text breaks the grammar here.
 pub fn refused(c: &Cursor<'_>) -> GroupFault
@@ -58,7 +59,7 @@ pub fn try_mark(c: &mut Cursor<'_>, mark: u8) -> bool
 #[tactic(auto, unfolding(crate::specs::Tokens::mark_at))]
 pub fn expect_mark(c: &mut Cursor<'_>, mark: u8) -> Result<(), GroupFault>
     requires { 0 < mark }
-    ensures value { Gives (length (text_of c.old)) (λ _. rest c.new) result (spec.mark_at mark (length (text_of c.old)) (rest c.old)) }
+    ensures value { Gives (Fails (length (text_of c.old))) (λ _. rest c.new) result (spec.mark_at mark (length (text_of c.old)) (rest c.old)) }
     ensures text { text_of c.new ≡ text_of c.old }
     ensures shorter { OnOk result (length (rest c.new) < length (rest c.old)) }
 {
@@ -72,7 +73,7 @@ pub fn expect_mark(c: &mut Cursor<'_>, mark: u8) -> Result<(), GroupFault>
 /// Takes a name, and the white space and comments after it.
 #[tactic(auto, unfolding(crate::specs::Tokens::name_at))]
 pub fn take_name<'a>(c: &mut Cursor<'a>) -> Result<&'a [u8], GroupFault>
-    ensures value { Reads c.old c.new (λ n. n.now) result spec.name_at }
+    ensures value { Reads c.old c.new Fails (λ n. n.now) result spec.name_at }
     ensures text { text_of c.new ≡ text_of c.old }
     ensures shorter { OnOk result (length (rest c.new) < length (rest c.old)) }
 {
@@ -97,7 +98,7 @@ fn quoted_len(text: &[u8]) -> usize
 #[tactic(auto, unfolding(crate::specs::Tokens::quoted_at))]
 pub fn take_quoted<'a>(c: &mut Cursor<'a>) -> Result<&'a [u8], GroupFault>
     requires { 0 < length (rest c.old) }
-    ensures value { Reads c.old c.new (λ n. n.now) result spec.quoted_at }
+    ensures value { Reads c.old c.new Fails (λ n. n.now) result spec.quoted_at }
     ensures text { text_of c.new ≡ text_of c.old }
     ensures shorter { OnOk result (length (rest c.new) < length (rest c.old)) }
 {

@@ -1,8 +1,8 @@
 -- The library of the built-in cells.
 use Rattle.std.proofs.Common.{◌≡◌, List, ap}
-use Rattle.cell_lib.specs.declared.libraries.Cell.{Cell}
-use Rattle.cell_lib.specs.declared.libraries.Library.{Library}
-use Rattle.cell_lib.specs.Builtin.{builtin_cells}
+use Rattle.cell_types.specs.declared.libraries.Cell.{Cell}
+use Rattle.cell_types.specs.declared.libraries.Library.{Library}
+use Rattle.cell_types.specs.Builtin.{builtin_cells}
 use Rattle.sdcv_top.specs.Due.{builtin_library}
 
 -- a library with the built-in cells is the built-in library

@@ -5,8 +5,8 @@ use Rattle.verilog_net.specs.declared.sources.Source.{Source}
 use Rattle.verilog_net.specs.Sources.{source_of}
 use Rattle.sdc_text.specs.declared.scripts.Script.{Script}
 use Rattle.sdc_text.specs.Scripts.{Names, script_of, asks}
-use Rattle.cell_lib.specs.declared.libraries.Library.{Library}
-use Rattle.cell_lib.specs.Builtin.{builtin_cells}
+use Rattle.cell_types.specs.declared.libraries.Library.{Library}
+use Rattle.cell_types.specs.Builtin.{builtin_cells}
 use Rattle.flat_link.specs.declared.flats.Flat.{Flat}
 use Rattle.flat_link.specs.Flats.{flat_of}
 use Rattle.net_model.specs.declared.netlist.Design.{Design}

@@ -10,7 +10,7 @@ ghost use Rattle.sdcv_top.specs.Plans.{Finds};
 use crate::pairs::{Pair, Register};
 use crate::plans::Stop;
 use crate::refusals::{Early, early_line};
-use cell_lib::builtin;
+use cell_types::builtin;
 use flat_link::{Flat, FlatFault, flat_link};
 use sdc_text::{Script, first_form};
 use sdcv_base::Name;

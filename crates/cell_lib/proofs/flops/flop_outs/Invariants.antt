@@ -1,7 +1,7 @@
-use Rattle.std.proofs.Common.{◌≡◌, drop}
-use Rattle.cell_lib.specs.Fits.{each_from}
-use Rattle.cell_lib.specs.Flops.{flop_out, flop_outs}
+use Rattle.std.proofs.Common.{◌≡◌, Some, take}
+use Rattle.texts.specs.Reads.{each}
+use Rattle.cell_lib.specs.Flops.{flop_out}
 use Rattle.cell_lib.proofs.flops.flop_outs.Given as goal
 
 abbrev pub invariant-loop-out : goal.invariant-loop-out
-invariant-loop-out l = flop_outs l.states l.outs ≡ each_from (flop_out l.states) l.found (drop l.out-index l.outs)
+invariant-loop-out l = each (flop_out l.states) (take l.out-index l.outs) ≡ Some l.found

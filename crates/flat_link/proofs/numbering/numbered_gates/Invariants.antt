@@ -1,6 +1,6 @@
 use Rattle.std.proofs.Common.{◌≡◌, take}
 use Rattle.std.specs.Prelude.{Some}
-use Rattle.flat_link.specs.Each.{each}
+use Rattle.texts.specs.Reads.{each}
 use Rattle.flat_link.specs.Numbering.{numbered_gate}
 use Rattle.flat_link.proofs.numbering.numbered_gates.Given as goal
 

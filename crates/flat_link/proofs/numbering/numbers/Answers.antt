@@ -1,6 +1,7 @@
 use Rattle.std.proofs.Common.{arith}
 use Rattle.std.proofs.lemmas.Result.{err_from_is_err_and}
-use Rattle.flat_link.proofs.Eaching.{each_more_at, each_bad_at, fails_through}
+use Rattle.texts.proofs.EachLemmas.{each_more_at, each_bad_at}
+use Rattle.flat_link.proofs.FailLemmas.{fails_through}
 use Rattle.flat_link.specs.Numbering.{driven}
 use Rattle.flat_link.proofs.numbering.numbers.Goals as goal
 

@@ -1,6 +1,6 @@
 use Rattle.std.proofs.Common.{◌∙◌, sym}
 use Rattle.std.proofs.lemmas.Result.{err_from_is_err_and}
-use Rattle.flat_link.proofs.Eaching.{fails_through}
+use Rattle.flat_link.proofs.FailLemmas.{fails_through}
 use Rattle.flat_link.proofs.Placing.{parts_more, parts_bad, parts_all}
 use Rattle.flat_link.proofs.parts.parts_of.Goals as goal
 

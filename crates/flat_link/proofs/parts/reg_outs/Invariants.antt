@@ -1,6 +1,6 @@
 use Rattle.std.proofs.Common.{◌≡◌, take}
 use Rattle.std.specs.Prelude.{Some}
-use Rattle.flat_link.specs.Each.{each}
+use Rattle.texts.specs.Reads.{each}
 use Rattle.flat_link.specs.Parts.{reg_out_of}
 use Rattle.flat_link.proofs.parts.reg_outs.Given as goal
 

@@ -1,7 +1,7 @@
 use Rattle.std.proofs.Common.{◌≡◌, ◌<◌, length, ap}
 use Rattle.std.proofs.lemmas.Result.{err_from_is_err_and}
 use Rattle.sdcv_base.specs.Cursors.{rest}
-use Rattle.lib_func.specs.Blanks.{after_blanks}
+use Rattle.lib_words.specs.Blanks.{after_space}
 use Rattle.lib_func.proofs.ChainLemmas.{function_none, function_ends, function_trails, fails_through}
 use Rattle.lib_func.proofs.functions.whole.Goals as goal
 
@@ -12,10 +12,10 @@ returns-in_err-found c =
 
 pub returns-in-None : goal.returns-in-None
 returns-in-None c =
-    let ended : length (after_blanks (rest c.chain.new.c)) ≡ 0 = rw (← c.skip_blanks.ensures.rest) (ap length c.in-None.ensures) in
+    let ended : length (after_space (rest c.chain.new.c)) ≡ 0 = rw (← c.skip_blanks.ensures.rest) (ap length c.in-None.ensures) in
     function_ends c.args.text.now _ _ (rw c.new-c.ensures.rest at c.in_ok-found.ensures.value) ended
 
 pub returns-in-Some : goal.returns-in-Some
 returns-in-Some c =
-    let more : 0 < length (after_blanks (rest c.chain.new.c)) = rw (← c.skip_blanks.ensures.rest) c.in-Some.ensures.0 in
+    let more : 0 < length (after_space (rest c.chain.new.c)) = rw (← c.skip_blanks.ensures.rest) c.in-Some.ensures.0 in
     function_trails c.args.text.now _ _ (rw c.new-c.ensures.rest at c.in_ok-found.ensures.value) more

@@ -1,6 +1,6 @@
 use Rattle.std.proofs.Common.{None, Some, refl, ap, sym, subst, ◌∙◌, ◌≡◌}
 use Rattle.std.specs.Option.{option_map}
-use Rattle.cell_lib.specs.declared.libraries.Library.{Library}
+use Rattle.cell_types.specs.declared.libraries.Library.{Library}
 use Rattle.sdc_text.specs.Scripts.{asks, names_of}
 use Rattle.flat_link.specs.Flats.{flat_of}
 use Rattle.sdcv_top.specs.declared.refusals.Early.TheVariants as early

@@ -2,7 +2,7 @@ use Rattle.std.proofs.Common.{◌<◌, ◌∙◌, ◌+◌, List, ℕ, length, dr
 use Rattle.std.proofs.lemmas.Result.{err_from_is_err_and}
 use Rattle.flat_link.specs.Numbering.{are_new}
 use Rattle.flat_link.proofs.Adding.{added_is, refused_is, new_more, new_bad, grown_by, new_all, all_added}
-use Rattle.flat_link.proofs.Eaching.{fails_through}
+use Rattle.flat_link.proofs.FailLemmas.{fails_through}
 use Rattle.flat_link.proofs.drivers.Drivers.add_all.Goals as goal
 
 pub loop-net-preserved : goal.loop-net-preserved

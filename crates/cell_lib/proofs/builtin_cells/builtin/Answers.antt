@@ -1,5 +1,0 @@
-use Rattle.cell_lib.proofs.Lawful.{builtin_is_lawful}
-use Rattle.cell_lib.proofs.builtin_cells.builtin.Goals as goal
-
-pub returns-clause-lawful : goal.returns-clause-lawful
-returns-clause-lawful c = rw c.in_ok-cells.ensures builtin_is_lawful

@@ -1,0 +1,69 @@
+//! What each cell of a library computes.
+ghost use Rattle.std.specs.Prelude.{◌≡◌};
+ghost use Rattle.cell_types.specs.Libraries.{place_of_cell};
+
+use net_model::Func;
+use sdcv_base::{Name, Seq};
+
+/// An output pin of a combinational cell. The places of `func` are the cell's `inputs`.
+#[derive(Drop)]
+pub struct CombOut {
+    pub name: Name,
+    pub func: Func,
+}
+
+/// An output pin of a flop: the state, or its complement where it is inverted.
+#[derive(Drop)]
+pub struct FlopOut {
+    pub name: Name,
+    pub inverted: bool,
+}
+
+/// A rising-edge flop (Liberty, group `ff`).
+///
+/// The places of `next`, `clear` and `preset` are the cell's `inputs`, which leave out the clock; in `next`
+/// the place after the last input is the state itself. `both` is the state where `clear` and `preset` are both 1.
+#[derive(Drop)]
+pub struct Flop {
+    pub clock: Name,
+    pub next: Func,
+    pub clear: Option<Func>,
+    pub preset: Option<Func>,
+    pub both: bool,
+    pub outs: Seq<FlopOut>,
+}
+
+/// What a cell is. `Other` can't be modelled, and is refused only where a design uses it.
+#[derive(Drop)]
+pub enum CellKind {
+    Comb(Seq<CombOut>),
+    Flop(Flop),
+    Other,
+}
+
+/// A cell with its input pins in order, without the clock of a flop, and its power pins.
+#[derive(Drop)]
+pub struct Cell {
+    pub name: Name,
+    pub inputs: Seq<Name>,
+    pub power: Seq<Name>,
+    pub kind: CellKind,
+}
+
+/// The cells of a library, in the order of its text.
+#[derive(Drop)]
+pub struct Library {
+    pub cells: Seq<Cell>,
+}
+
+impl Library {
+    /// The place of the first cell of that name, from 0; `None` exactly where there is none.
+    pub fn find(&self, name: &[u8]) -> Option<usize>
+        ensures { result ≡ place_of_cell self.now.cells name.now }
+    {
+        self.cells
+            .as_slice()
+            .iter()
+            .position(|cell| cell.name.as_bytes() == name)
+    }
+}
