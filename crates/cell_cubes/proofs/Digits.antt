@@ -1,5 +1,6 @@
 -- One more digit, and one more row.
-use Rattle.std.proofs.Common.{drop, false, ◌≡◌, ℕ, zero, suc, ◌+◌, ◌-◌, ◌/◌, ◌%◌, ◌<◌, ◌≤◌, Bool, List, [], ◌∷◌, ◌++◌, map, length, take, cond, refl, ap, sym, ◌∙◌, arith, inl, inr, add-one, append_assoc}
+use Rattle.std.proofs.Common.{drop, false, ◌≡◌, ℕ, zero, suc, ◌+◌, ◌-◌, ◌/◌, ◌%◌, ◌<◌, ◌≤◌, Bool, List, [], ◌∷◌, ◌++◌, map, length, take, cond, refl}
+use Rattle.std.proofs.Common.{ap, sym, ◌∙◌, arith, inl, inr, add-one, append_assoc}
 use Rattle.std.specs.Prelude.{◌==◌, nat_eq, slice_index_or}
 use Rattle.net_model.specs.declared.terns.Tern.{Tern}
 use Rattle.std.proofs.lemmas.Bool.{cond-false, ne_eqb, eq-eqb, cases_eq}
@@ -23,7 +24,9 @@ begins (y ∷ ys) (suc k) z x rest e =
     (more.0, ap (λ n. drop n (y ∷ ys)) next ∙ more.1)
 
 -- a digit is read, and the digits of the rest are the others
-pub row_more : (places number k rest : ℕ) → k < places → row_bits (places - k) rest ≡ drop k (row_bits places number) → (slice_index_or (row_bits places number) k false ≡ (rest % 2 == 1)) × (row_bits (places - (k + 1)) (rest / 2) ≡ drop (k + 1) (row_bits places number))
+pub row_more : (places number k rest : ℕ) → k < places → row_bits (places - k) rest ≡ drop k (row_bits places number)
+    → (slice_index_or (row_bits places number) k false ≡ (rest % 2 == 1))
+    × (row_bits (places - (k + 1)) (rest / 2) ≡ drop (k + 1) (row_bits places number))
 row_more places number k rest lt e =
     let left : places - k ≡ suc (places - (k + 1)) = omega arith in
     let split : drop k (row_bits places number) ≡ (rest % 2 == 1) ∷ row_bits (places - (k + 1)) (rest / 2) = sym e ∙ ap (λ n. row_bits n rest) left in
@@ -35,15 +38,18 @@ length-row zero w = refl
 length-row (suc places) w = omega (arith, length-row places (w / 2))
 
 -- a function on the places of a row
-pub row_value : (f : Form) (places w : ℕ) (args : ℕ → Bool) → places ≤ 7 → IsOver places f → ((i : ℕ) → i < 7 → args i ≡ slice_index_or (row_bits places w) i false) → value f args ≡ on_list (value f) (row_bits places w)
+pub row_value : (f : Form) (places w : ℕ) (args : ℕ → Bool) → places ≤ 7 → IsOver places f
+    → ((i : ℕ) → i < 7 → args i ≡ slice_index_or (row_bits places w) i false) → value f args ≡ on_list (value f) (row_bits places w)
 row_value f places w args few over same = value_agrees f places args (λ i. slice_index_or (row_bits places w) i false) over (λ i lt. same i (omega arith))
 
 -- the digits that are read, and those of the rest, are the number's
-pub terns_more : (fixed whole : List Tern) (left rest : ℕ) → 0 < left → fixed ++ cube_terns left rest ≡ whole → (fixed ++ digit_tern (rest % 3) ∷ []) ++ cube_terns (left - 1) (rest / 3) ≡ whole
+pub terns_more : (fixed whole : List Tern) (left rest : ℕ) → 0 < left → fixed ++ cube_terns left rest ≡ whole → (fixed ++ digit_tern (rest % 3) ∷ [])
+    ++ cube_terns (left - 1) (rest / 3) ≡ whole
 terns_more fixed whole zero rest h e = absurd (omega arith)
 terns_more fixed whole (suc left) rest h e =
     let less : suc left - 1 ≡ left = omega arith in
-    ap (λ n. (fixed ++ digit_tern (rest % 3) ∷ []) ++ cube_terns n (rest / 3)) less ∙ append_assoc fixed (digit_tern (rest % 3) ∷ []) (cube_terns left (rest / 3)) ∙ e
+    ap (λ n. (fixed ++ digit_tern (rest % 3) ∷ []) ++ cube_terns n (rest / 3)) less ∙ append_assoc fixed (digit_tern (rest % 3) ∷ [])
+    (cube_terns left (rest / 3)) ∙ e
 
 map_push : {X A : Type 0} (f : X → A) (xs : List X) (x : X) → map f (xs ++ x ∷ []) ≡ map f xs ++ f x ∷ []
 map_push f [] x = refl
@@ -60,11 +66,14 @@ suc_eq j i =
       | inr apart ↦ ne_eqb (suc j) (suc i) (λ e. apart (omega arith)) ∙ sym (ne_eqb j i apart)
     ]
 
-cons_at : {X : Type 0} (x : X) (xs : List X) (i j : ℕ) (z : X) → ((k : ℕ) → slice_index_or (take (i + 1) xs) k z ≡ cond (nat_eq k i) (slice_index_or xs i z) (slice_index_or (take i xs) k z)) → slice_index_or (x ∷ take (i + 1) xs) j z ≡ cond (nat_eq j (suc i)) (slice_index_or xs i z) (slice_index_or (x ∷ take i xs) j z)
+cons_at : {X : Type 0} (x : X) (xs : List X) (i j : ℕ) (z : X) → ((k : ℕ) → slice_index_or (take (i + 1) xs) k z ≡ cond (nat_eq k i)
+    (slice_index_or xs i z) (slice_index_or (take i xs) k z)) → slice_index_or (x ∷ take (i + 1) xs) j z ≡ cond (nat_eq j (suc i))
+    (slice_index_or xs i z) (slice_index_or (x ∷ take i xs) j z)
 cons_at x xs i zero z later = sym (cond-false (nat_eq 0 (suc i)) (slice_index_or xs i z) x (ne_eqb 0 (suc i) (λ e. omega arith)))
 cons_at x xs i (suc j) z later = later j ∙ sym (ap (λ (b : Bool). cond b (slice_index_or xs i z) (slice_index_or (take i xs) j z)) (suc_eq j i))
 
-pub take_at : {X : Type 0} (xs : List X) (i j : ℕ) (z : X) → i < length xs → slice_index_or (take (i + 1) xs) j z ≡ cond (nat_eq j i) (slice_index_or xs i z) (slice_index_or (take i xs) j z)
+pub take_at : {X : Type 0} (xs : List X) (i j : ℕ) (z : X) → i < length xs → slice_index_or (take (i + 1) xs) j z ≡ cond (nat_eq j i)
+    (slice_index_or xs i z) (slice_index_or (take i xs) j z)
 take_at [] i j z lt = absurd (omega arith)
 take_at (x ∷ xs) zero zero z lt = refl
 take_at (x ∷ xs) zero (suc j) z lt = sym (cond-false (nat_eq (suc j) 0) x z (ne_eqb (suc j) 0 (λ e. omega arith)))
@@ -77,17 +86,23 @@ append_nil : (xs : List Cube) → xs ++ [] ≡ xs
 append_nil [] = refl
 append_nil (x ∷ xs) = ap (λ ys. x ∷ ys) (append_nil xs)
 
-known_more : (cell : (ℕ → Bool) → Bool) (places : ℕ) (ws : List ℕ) (w : ℕ) → constant_from cell places (ws ++ w ∷ []) ≡ constant_from cell places ws ++ known_cube (cube_terns places w) (cell_value cell (λ i. slice_index_or (cube_terns places w) i Zero))
+known_more : (cell : (ℕ → Bool) → Bool) (places : ℕ) (ws : List ℕ) (w : ℕ) → constant_from cell places (ws ++ w ∷ []) ≡ constant_from cell places ws
+    ++ known_cube (cube_terns places w) (cell_value cell (λ i. slice_index_or (cube_terns places w) i Zero))
 known_more cell places [] w = append_nil (known_cube (cube_terns places w) (cell_value cell (λ i. slice_index_or (cube_terns places w) i Zero)))
 known_more cell places (x ∷ ws) w =
     let first = known_cube (cube_terns places x) (cell_value cell (λ i. slice_index_or (cube_terns places x) i Zero)) in
-    ap (λ ys. first ++ ys) (known_more cell places ws w) ∙ sym (append_assoc first (constant_from cell places ws) (known_cube (cube_terns places w) (cell_value cell (λ i. slice_index_or (cube_terns places w) i Zero))))
+    ap (λ ys. first ++ ys) (known_more cell places ws w) ∙ sym (append_assoc first (constant_from cell places ws)
+    (known_cube (cube_terns places w) (cell_value cell (λ i. slice_index_or (cube_terns places w) i Zero))))
 
 -- one more number
-pub cubes_more : (f : Form) (places w : ℕ) (found next : List Cube) (fixed : List Tern) (args : ℕ → Tern) (value_is : Tern) → places ≤ 7 → IsOver places f → fixed ≡ cube_terns places w → ((i : ℕ) → i < 7 → args i ≡ slice_index_or fixed i Zero) → value_is ≡ tern_value f args → found ≡ constant_from (value f) places (below w) → next ≡ found ++ known_cube fixed value_is → next ≡ constant_from (value f) places (below (w + 1))
+pub cubes_more : (f : Form) (places w : ℕ) (found next : List Cube) (fixed : List Tern) (args : ℕ → Tern) (value_is : Tern) → places ≤ 7
+    → IsOver places f → fixed ≡ cube_terns places w → ((i : ℕ) → i < 7 → args i ≡ slice_index_or fixed i Zero) → value_is ≡ tern_value f args
+    → found ≡ constant_from (value f) places (below w) → next ≡ found ++ known_cube fixed value_is → next ≡ constant_from (value f) places
+    (below (w + 1))
 cubes_more f places w found next fixed args value_is few over terns same is done step =
     let reads : ℕ → Tern = λ i. slice_index_or (cube_terns places w) i Zero in
-    let read : value_is ≡ tern_value f reads = is ∙ tern_agrees f 7 args reads (IsOver-weaker places 7 f few over) (λ i lt. same i lt ∙ ap (λ ts. slice_index_or ts i Zero) terns) in
+    let read : value_is ≡ tern_value f reads = is ∙ tern_agrees f 7 args reads (IsOver-weaker places 7 f few over)
+    (λ i lt. same i lt ∙ ap (λ ts. slice_index_or ts i Zero) terns) in
     step ∙ ap (λ cs. cs ++ known_cube fixed value_is) done ∙ ap (λ ts. constant_from (value f) places (below w) ++ known_cube ts value_is) terns
     ∙ ap (λ t. constant_from (value f) places (below w) ++ known_cube (cube_terns places w) t) read
     ∙ sym (known_more (value f) places (below w) w) ∙ sym (ap (λ n. constant_from (value f) places (below n)) (add-one w))

@@ -1,5 +1,6 @@
 -- The functions of a cell that was read are over its inputs.
-use Rattle.std.proofs.Common.{◌≡◌, ℕ, ◌+◌, Bool, true, false, List, [], ◌∷◌, ◌++◌, length, map, All, Option, Some, None, is_some, ◌&&◌, IfSome, refl, sym, subst}
+use Rattle.std.proofs.Common.{◌≡◌, ℕ, ◌+◌, Bool, true, false, List, [], ◌∷◌, ◌++◌, length, map, All, Option, Some, None, is_some, ◌&&◌, IfSome, refl}
+use Rattle.std.proofs.Common.{sym, subst}
 use Rattle.std.proofs.lemmas.List.Elements.{All-cons, All-nil, All-append}
 use Rattle.texts.specs.Names.{is_among, each_once}
 use Rattle.net_model.specs.Form.{Form, ZeroForm, OneForm, NotForm, AndForm, OrForm, XorForm, IsOver}
@@ -29,19 +30,23 @@ use Rattle.texts.proofs.EachLemmas.{each_holds}
 use Rattle.cell_lib.proofs.Inversions.{map_gave, some_holds}
 
 -- a name's meaning is in reach
-none_means : (inputs : List (List ℕ)) (names : Option States) (n : List ℕ) → is_among n inputs ≡ false → IfSome (meaning inputs names n) (IsOver (reach inputs names))
+none_means : (inputs : List (List ℕ)) (names : Option States) (n : List ℕ) → is_among n inputs ≡ false → IfSome (meaning inputs names n)
+    (IsOver (reach inputs names))
 none_means inputs None n absent = rw absent tt
 none_means inputs (Some states) n absent = state_in_reach inputs (Some states) states n refl absent
 
-means_cases : (inputs : List (List ℕ)) (names : Option States) (n : List ℕ) (b : Bool) → is_among n inputs ≡ b → IfSome (meaning inputs names n) (IsOver (reach inputs names))
+means_cases : (inputs : List (List ℕ)) (names : Option States) (n : List ℕ) (b : Bool) → is_among n inputs ≡ b → IfSome (meaning inputs names n)
+    (IsOver (reach inputs names))
 means_cases inputs names n true there = rw there (place_in_reach inputs names n there)
 means_cases inputs names n false absent = none_means inputs names n absent
 
 -- so is the meaning of an expression
-pub resolved_over : (inputs : List (List ℕ)) (names : Option States) (t : Tree) (f : Form) → resolved (meaning inputs names) t ≡ Some f → IsOver (reach inputs names) f
+pub resolved_over : (inputs : List (List ℕ)) (names : Option States) (t : Tree) (f : Form) → resolved (meaning inputs names) t ≡ Some f
+    → IsOver (reach inputs names) f
 resolved_over inputs names ZeroTree f e = let same : ZeroForm ≡ f = cc in subst (IsOver (reach inputs names)) same tt
 resolved_over inputs names OneTree f e = let same : OneForm ≡ f = cc in subst (IsOver (reach inputs names)) same tt
-resolved_over inputs names (NameTree n) f e = some_holds (IsOver (reach inputs names)) (meaning inputs names n) f e (means_cases inputs names n (is_among n inputs) refl)
+resolved_over inputs names (NameTree n) f e = some_holds (IsOver (reach inputs names)) (meaning inputs names n) f e
+    (means_cases inputs names n (is_among n inputs) refl)
 resolved_over inputs names (NotTree t) f e =
     let (x, xs, e1) = bind_gave (resolved (meaning inputs names) t) _ f e in
     let same : NotForm x ≡ f = cc in
@@ -69,7 +74,8 @@ comb_out_over inputs o x e =
     let (f, fs, e2) = map_gave (λ (f : Form). record { name = o.name; func = f }) (resolved (meaning inputs None) t) x e1 in
     subst (λ (y : CombOut). IsOver (length inputs) y.func) e2 (resolved_over inputs None t f fs)
 
-comb_kind_over : (inputs : List (List ℕ)) (o : Option (List CombOut)) → ((ys : List CombOut) → o ≡ Some ys → All (λ (y : CombOut). IsOver (length inputs) y.func) ys) → IsLawfulKind (length inputs) (comb_kind o)
+comb_kind_over : (inputs : List (List ℕ)) (o : Option (List CombOut))
+    → ((ys : List CombOut) → o ≡ Some ys → All (λ (y : CombOut). IsOver (length inputs) y.func) ys) → IsLawfulKind (length inputs) (comb_kind o)
 comb_kind_over inputs None all = tt
 comb_kind_over inputs (Some ys) all = all ys refl
 
@@ -84,7 +90,8 @@ reset_over inputs (Some t) r e =
     let (f, fs, e1) = map_gave (λ (f : Form). Some f) (resolved (meaning inputs None) t) r e in
     subst (IsOptionOver (length inputs)) e1 (resolved_over inputs None t f fs)
 
-next_over : (inputs : List (List ℕ)) (states : States) (attributes : List Attribute) (f : Form) → next_of inputs states attributes ≡ Some f → IsOver (length inputs + 1) f
+next_over : (inputs : List (List ℕ)) (states : States) (attributes : List Attribute) (f : Form) → next_of inputs states attributes ≡ Some f
+    → IsOver (length inputs + 1) f
 unfolding next_of
 next_over inputs states attributes f e =
     let (t, ts, e1) = bind_gave (expr_of attribute.NextState attributes) _ f e in
@@ -102,7 +109,11 @@ resets_over inputs attributes r e =
     let (both, boths, e3) = bind_gave (both_of (is_some clear && is_some preset) attributes) _ r e2 in
     let made : Resets = record { clear = clear; preset = preset; both = both } in
     let same : made ≡ r = cc in
-    let over : ResetsOver (length inputs) made = record { clear = reset_over inputs (expr_of attribute.Clear attributes) clear clears; preset = reset_over inputs (expr_of attribute.Preset attributes) preset presets } in
+    let over : ResetsOver (length inputs) made = record {
+      clear = reset_over inputs (expr_of attribute.Clear attributes) clear clears;
+      preset =
+          reset_over inputs (expr_of attribute.Preset attributes) preset presets;
+    } in
     subst (ResetsOver (length inputs)) same over
 
 flop_on_over : (clock : List ℕ) (pins : List (List ℕ)) (states : States) (outs : List OutPin) (attributes : List Attribute) (flop : Flop)
@@ -118,7 +129,8 @@ flop_on_over clock pins states outs attributes flop e =
     let lawful : IsLawfulFlop (length pins) made = record { next = next_over pins states attributes next e_next; clear = over.clear; preset = over.preset } in
     subst (λ (f : Flop). (f.clock ≡ clock) × IsLawfulFlop (length pins) f) same (refl, lawful)
 
-flop_over : (inputs : List (List ℕ)) (outs : List OutPin) (ff : Part) (flop : Flop) → flop_of inputs outs ff ≡ Some flop → IsLawfulFlop (length (data_inputs flop.clock inputs)) flop
+flop_over : (inputs : List (List ℕ)) (outs : List OutPin) (ff : Part) (flop : Flop) → flop_of inputs outs ff ≡ Some flop
+    → IsLawfulFlop (length (data_inputs flop.clock inputs)) flop
 unfolding flop_of
 flop_over inputs outs ff flop e =
     let (states, e_states, e1) = bind_gave (states_of ff.names) _ flop e in
@@ -129,7 +141,8 @@ flop_over inputs outs ff flop e =
 IsLawfulShape : Shape → Type 0
 IsLawfulShape s = IsLawfulKind (length s.inputs) s.kind
 
-flop_lawful : (inputs : List (List ℕ)) (o : Option Flop) → ((flop : Flop) → o ≡ Some flop → IsLawfulFlop (length (data_inputs flop.clock inputs)) flop) → IsLawfulShape (flop_shape inputs o)
+flop_lawful : (inputs : List (List ℕ)) (o : Option Flop) → ((flop : Flop) → o ≡ Some flop → IsLawfulFlop (length (data_inputs flop.clock inputs))
+    flop) → IsLawfulShape (flop_shape inputs o)
 unfolding IsLawfulShape
 flop_lawful inputs None over = tt
 flop_lawful inputs (Some flop) over = over flop refl

@@ -1,5 +1,6 @@
 -- From the groups of a text to its library.
-use Rattle.std.proofs.Common.{◌≡◌, ℕ, ◌+◌, ◌<◌, ◌≤◌, Bool, true, false, not, List, [], ◌∷◌, ◌++◌, length, map, take, drop, get_or, slice_get, Option, Some, None, is_some, Ok, Err, refl, sym, ap, ◌∙◌, subst}
+use Rattle.std.proofs.Common.{◌≡◌, ℕ, ◌+◌, ◌<◌, ◌≤◌, Bool, true, false, not, List, [], ◌∷◌, ◌++◌, length, map, take, drop, get_or, slice_get, Option}
+use Rattle.std.proofs.Common.{Some, None, is_some, Ok, Err, refl, sym, ap, ◌∙◌, subst}
 use Rattle.std.specs.List.{IsDistinct, AllByRecursion}
 use Rattle.std.specs.Str.{bytes_eq}
 use Rattle.std.proofs.Math.ListN.{drop_of_length-le}
@@ -34,11 +35,13 @@ module _ {A B : Type 0} (f : A → Option B) (xs : List A) (i : ℕ) (x : A) (lt
   first_miss e = rw (split_at xs i x lt here, e) refl
 
 -- the first item that gives something, and one that gives nothing, by a test
-pub first_found : {A B : Type 0} (f : A → Option B) (xs : List A) (i : ℕ) (x : A) → i < length xs → x ≡ get_or xs i x → (o : Option B) → f x ≡ o → is_some o ≡ true → first_of f (drop i xs) ≡ o
+pub first_found : {A B : Type 0} (f : A → Option B) (xs : List A) (i : ℕ) (x : A) → i < length xs → x ≡ get_or xs i x → (o : Option B) → f x ≡ o
+    → is_some o ≡ true → first_of f (drop i xs) ≡ o
 first_found f xs i x lt here None e there = absurd cc
 first_found f xs i x lt here (Some y) e there = first_hit f xs i x lt here y e
 
-pub first_missed : {A B : Type 0} (f : A → Option B) (xs : List A) (i : ℕ) (x : A) → i < length xs → x ≡ get_or xs i x → (o : Option B) → f x ≡ o → is_some o ≡ false → first_of f (drop i xs) ≡ first_of f (drop (i + 1) xs)
+pub first_missed : {A B : Type 0} (f : A → Option B) (xs : List A) (i : ℕ) (x : A) → i < length xs → x ≡ get_or xs i x → (o : Option B) → f x ≡ o
+    → is_some o ≡ false → first_of f (drop i xs) ≡ first_of f (drop (i + 1) xs)
 first_missed f xs i x lt here None e absent = first_miss f xs i x lt here e
 first_missed f xs i x lt here (Some y) e absent = absurd cc
 
@@ -93,14 +96,17 @@ distinct_by_test (x ∷ xs) e =
     (all_differ x xs (not-true (is_among x xs) new), distinct_by_test xs rest)
 
 -- the names of the groups up to one, and its own
-pub names_more : (groups : List CellGroup) (i : ℕ) (g : CellGroup) → i < length groups → g ≡ get_or groups i g → names (take (i + 1) groups) ≡ names (take i groups) ++ g.name ∷ []
+pub names_more : (groups : List CellGroup) (i : ℕ) (g : CellGroup) → i < length groups → g ≡ get_or groups i g → names (take (i + 1) groups) ≡ names
+    (take i groups) ++ g.name ∷ []
 names_more groups i g lt here = map_more (λ (g : CellGroup). g.name) groups i g lt ∙ ap (λ (h : CellGroup). names (take i groups) ++ h.name ∷ []) (sym here)
 
 name_at : (groups : List CellGroup) (i : ℕ) (g : CellGroup) → i < length groups → g ≡ get_or groups i g → slice_get (names groups) i ≡ Some g.name
-name_at groups i g lt here = slice_get-map (λ (g : CellGroup). g.name) groups i ∙ rw (slice_get-get_or groups i g lt) (ap (λ (h : CellGroup). Some h.name) (sym here))
+name_at groups i g lt here = slice_get-map (λ (g : CellGroup). g.name) groups i ∙ rw (slice_get-get_or groups i g lt)
+    (ap (λ (h : CellGroup). Some h.name) (sym here))
 
 -- a name that is among those before it stands twice
-pub twice_at : (groups : List CellGroup) (i : ℕ) (g : CellGroup) → i < length groups → g ≡ get_or groups i g → is_among g.name (names (take i groups)) ≡ true → StandsTwice g.name (names groups)
+pub twice_at : (groups : List CellGroup) (i : ℕ) (g : CellGroup) → i < length groups → g ≡ get_or groups i g
+    → is_among g.name (names (take i groups)) ≡ true → StandsTwice g.name (names groups)
 twice_at groups i g lt here among = (i, name_at groups i g lt here, rw (take-map (λ (g : CellGroup). g.name) i groups) among)
 
 -- names that differ, with a new one

@@ -1,5 +1,6 @@
 -- The library that a text is, and why a text is none.
-use Rattle.std.specs.Prelude.{◌≡◌, ℕ, Bool, true, false, ◌&&◌, ◌≤◌, if◌then◌else◌, List, [], ◌∷◌, length, map, take, slice_get, Option, Some, None, is_none, Result, Ok, Err}
+use Rattle.std.specs.Prelude.{◌≡◌, ℕ, Bool, true, false, ◌&&◌, ◌≤◌, if◌then◌else◌, List, [], ◌∷◌, length, map, take, slice_get, Option, Some, None}
+use Rattle.std.specs.Prelude.{is_none, Result, Ok, Err}
 use Rattle.std.specs.Option.{option_or}
 use Rattle.texts.specs.Names.{is_among, are_distinct}
 use Rattle.lib_func.specs.Functions.{function_of}

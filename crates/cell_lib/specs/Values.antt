@@ -6,7 +6,8 @@ use Rattle.texts.specs.Reads.{◌>>=◌}
 use Rattle.lib_func.specs.Trees.{Tree}
 use Rattle.lib_func.specs.Functions.{function_of}
 use Rattle.lib_words.specs.declared.kinds.AttributeKind.{AttributeKind}
-use Rattle.lib_words.specs.declared.kinds.AttributeKind.TheVariants.{Direction, Function, ThreeState, ClockedOn, ClockedOnAlso, NextState, Clear, Preset, ClearPresetVar1, ClockGatingIntegratedCell}
+use Rattle.lib_words.specs.declared.kinds.AttributeKind.TheVariants.{Direction, Function, ThreeState, ClockedOn, ClockedOnAlso, NextState, Clear}
+use Rattle.lib_words.specs.declared.kinds.AttributeKind.TheVariants.{Preset, ClearPresetVar1, ClockGatingIntegratedCell}
 use Rattle.lib_words.specs.declared.groups.Attribute.{Attribute}
 use Rattle.lib_words.specs.declared.groups.Value.{Value}
 

@@ -66,7 +66,8 @@ answered d q sound (inr asks) =
     })
 
 -- the cycles that are read back are those of the query
-cycles_of : (d : Design) (q : Query) (problem : Problem) (values : List Bool) (run : List Cycle) → IsAnswered d q → IsProblemFor q problem → IsReadBack d problem.frames values problem.live problem.cycles run → AreCyclesOf q run
+cycles_of : (d : Design) (q : Query) (problem : Problem) (values : List Bool) (run : List Cycle) → IsAnswered d q → IsProblemFor q problem
+    → IsReadBack d problem.frames values problem.live problem.cycles run → AreCyclesOf q run
 cycles_of d q problem values run asked is done =
     record {
       linked = subst (λ (e : Design). IsLinked e run) (sym asked.design) done.linked;
@@ -77,17 +78,23 @@ cycles_of d q problem values run asked is done =
     }
 
 -- they answer it, and agree with the model
-pub run_answers : (d : Design) (q : Query) (problem : Problem) (model : Model) (run : List Cycle) → IsSound d → IsClaimQuery d q ⊎ IsClauseQuery d q → IsProblemFor q problem → IsModel problem.formula model → IsReadBack d problem.frames model.values problem.live problem.cycles run → IsAnswer q run × AgreesWith d problem.frames (by_number problem.frames (value_in model.values)) run
+pub run_answers : (d : Design) (q : Query) (problem : Problem) (model : Model) (run : List Cycle) → IsSound d → IsClaimQuery d q ⊎ IsClauseQuery d q
+    → IsProblemFor q problem → IsModel problem.formula model → IsReadBack d problem.frames model.values problem.live problem.cycles run
+    → IsAnswer q run × AgreesWith d problem.frames (by_number problem.frames (value_in model.values)) run
 run_answers d q problem model run sound asks is holds done =
     let asked = answered d q sound asks in
     let v = value_in model.values in
     let free : HasFreeBits q.design problem.frames (by_number problem.frames (value_in model.values)) run =
-    subst (λ (e : Design). HasFreeBits e problem.frames (by_number problem.frames (value_in model.values)) run) (sym asked.design) (run_free d problem.frames model.values problem.live problem.cycles run done) in
-    let found = asked.law problem.frames problem.formula.vars problem.formula.clauses v run is.clauses (codes_true v problem.formula.clauses holds.1) (cycles_of d q problem model.values run asked is done) free in
+    subst (λ (e : Design). HasFreeBits e problem.frames (by_number problem.frames (value_in model.values)) run) (sym asked.design)
+    (run_free d problem.frames model.values problem.live problem.cycles run done) in
+    let found = asked.law problem.frames problem.formula.vars problem.formula.clauses v run is.clauses (codes_true v problem.formula.clauses holds.1)
+    (cycles_of d q problem model.values run asked is done) free in
     (found.0, subst (λ (e : Design). AgreesWith e problem.frames (by_number problem.frames (value_in model.values)) run) asked.design found.1)
 
 -- where hazards count, and the layers of its cycles have the rails of the model
-pub run_rails : (d : Design) (q : Query) (problem : Problem) (model : Model) (run : List Cycle) → IsSound d → (asks : IsClaimQuery d q) → asks.claim.hazard ≡ true → IsProblemFor q problem → IsModel problem.formula model → IsReadBack d problem.frames model.values problem.live problem.cycles run → HasRails d asks.claim problem.frames (by_number problem.frames (value_in model.values)) run
+pub run_rails : (d : Design) (q : Query) (problem : Problem) (model : Model) (run : List Cycle) → IsSound d → (asks : IsClaimQuery d q)
+    → asks.claim.hazard ≡ true → IsProblemFor q problem → IsModel problem.formula model → IsReadBack d problem.frames model.values problem.live
+    problem.cycles run → HasRails d asks.claim problem.frames (by_number problem.frames (value_in model.values)) run
 run_rails d q problem model run sound asks hazard is holds done =
     let asked = answered d q sound (inl asks) in
     let v = value_in model.values in
@@ -95,9 +102,11 @@ run_rails d q problem model run sound asks hazard is holds done =
     subst (NumberedHaveRails Rows asks.claim) (sym asks.is) (numbered_rails Rows asks.claim (claim_query d asks.claim asks.phase asks.depth asks.inv)
     (claim_rails Rows d asks.claim asks.phase asks.depth asks.inv sound asks.fits hazard)) in
     let free : HasFreeBits q.design problem.frames (by_number problem.frames (value_in model.values)) run =
-    subst (λ (e : Design). HasFreeBits e problem.frames (by_number problem.frames (value_in model.values)) run) (sym asked.design) (run_free d problem.frames model.values problem.live problem.cycles run done) in
+    subst (λ (e : Design). HasFreeBits e problem.frames (by_number problem.frames (value_in model.values)) run) (sym asked.design)
+    (run_free d problem.frames model.values problem.live problem.cycles run done) in
     subst (λ (e : Design). HasRails e asks.claim problem.frames (by_number problem.frames (value_in model.values)) run) asked.design
-    (law problem.frames problem.formula.vars problem.formula.clauses v run is.clauses (codes_true v problem.formula.clauses holds.1) (cycles_of d q problem model.values run asked is done) free)
+    (law problem.frames problem.formula.vars problem.formula.clauses v run is.clauses (codes_true v problem.formula.clauses holds.1)
+    (cycles_of d q problem model.values run asked is done) free)
 
 -- a problem that was made has a cycle
 pub made_some : (d : Design) (problem : Problem) → IsSound d → IsMadeFor d problem → 0 < problem.cycles

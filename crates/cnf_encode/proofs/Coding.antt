@@ -30,7 +30,8 @@ number_to (j ∷ js) k has = by_test (same_key j k) refl has (number_to js k)
     by_test false e (inr later) rest = omega (arith, rest later)
 
 -- the number that a look-up of a key of the list gives
-pub number_is : (keys : List Key) (k : Key) (number : ℕ) → Contains keys k → number_if_any keys k ≡ Some number → (number ≡ number_of keys k) × (1 ≤ number) × (number ≤ length keys)
+pub number_is : (keys : List Key) (k : Key) (number : ℕ) → Contains keys k → number_if_any keys k ≡ Some number → (number ≡ number_of keys k)
+    × (1 ≤ number) × (number ≤ length keys)
 number_is keys k number has found = by_test (has_key keys k) (has_key-Contains keys k has) found
   where
     by_test : (b : Bool) → b ≡ true → cond b (Some (number_of keys k)) None ≡ Some number → (number ≡ number_of keys k) × (1 ≤ number) × (number ≤ length keys)

@@ -1,5 +1,6 @@
 -- Values of variables that make each clause true are a model of the formula.
-use Rattle.std.proofs.Common.{◌≡◌, ℕ, zero, suc, ◌+◌, ◌-◌, ◌/◌, ◌%◌, ◌<◌, ◌≤◌, Bool, true, false, not, cond, List, [], ◌∷◌, length, Some, refl, subst, ap, sym, ◌∙◌, arith}
+use Rattle.std.proofs.Common.{◌≡◌, ℕ, zero, suc, ◌+◌, ◌-◌, ◌/◌, ◌%◌, ◌<◌, ◌≤◌, Bool, true, false, not, cond, List, [], ◌∷◌, length, Some, refl, subst}
+use Rattle.std.proofs.Common.{ap, sym, ◌∙◌, arith}
 use Rattle.std.specs.Prelude.{All, slice_get, slice_index_or, ◌||◌, ◌==◌}
 use Rattle.std.specs.List.{list_any}
 use Rattle.proof_log.specs.Literals.{lit_true, InVars}
@@ -36,17 +37,22 @@ lit_listed v vars l within =
     let to : l / 2 ≤ vars = omega (arith, within.1) in
     ap (λ (b : Bool). cond (l % 2 == 0) b (not b)) (sym (listed_value v vars (l / 2) from to))
 
-clause_listed : (v : ℕ → Bool) (vars : ℕ) (clause : List ℕ) → All (InVars vars) clause → list_any (code_true v) clause ≡ clause_true (value_in (values_from v 1 vars)) clause
+clause_listed : (v : ℕ → Bool) (vars : ℕ) (clause : List ℕ) → All (InVars vars) clause → list_any (code_true v) clause ≡ clause_true
+    (value_in (values_from v 1 vars)) clause
 clause_listed v vars [] within = refl
 clause_listed v vars (l ∷ ls) within =
-    ap (λ (b : Bool). b || list_any (code_true v) ls) (lit_listed v vars l (All-head (InVars vars) l ls within)) ∙ ap (λ (b : Bool). lit_true (value_in (values_from v 1 vars)) l || b) (clause_listed v vars ls (All-tail (InVars vars) l ls within))
+    ap (λ (b : Bool). b || list_any (code_true v) ls) (lit_listed v vars l (All-head (InVars vars) l ls within))
+    ∙ ap (λ (b : Bool). lit_true (value_in (values_from v 1 vars)) l || b) (clause_listed v vars ls (All-tail (InVars vars) l ls within))
 
-clauses_listed : (v : ℕ → Bool) (vars : ℕ) (clauses : List (List ℕ)) → All (λ c. All (InVars vars) c) clauses → AllCodesTrue v clauses → (k : ℕ) → k < length clauses → (c : List ℕ) → slice_get clauses k ≡ Some c → clause_true (value_in (values_from v 1 vars)) c ≡ true
+clauses_listed : (v : ℕ → Bool) (vars : ℕ) (clauses : List (List ℕ)) → All (λ c. All (InVars vars) c) clauses → AllCodesTrue v clauses → (k : ℕ)
+    → k < length clauses → (c : List ℕ) → slice_get clauses k ≡ Some c → clause_true (value_in (values_from v 1 vars)) c ≡ true
 clauses_listed v vars [] within all k lt c at = absurd (omega arith)
 clauses_listed v vars (d ∷ ds) within all zero lt c at =
     let is : d ≡ c = cc in
-    subst (λ x. clause_true (value_in (values_from v 1 vars)) x ≡ true) is (sym (clause_listed v vars d (All-head (λ x. All (InVars vars) x) d ds within)) ∙ all.0)
-clauses_listed v vars (d ∷ ds) within all (suc k) lt c at = clauses_listed v vars ds (All-tail (λ x. All (InVars vars) x) d ds within) all.1 k (omega (arith, lt)) c at
+    subst (λ x. clause_true (value_in (values_from v 1 vars)) x ≡ true) is
+    (sym (clause_listed v vars d (All-head (λ x. All (InVars vars) x) d ds within)) ∙ all.0)
+clauses_listed v vars (d ∷ ds) within all (suc k) lt c at = clauses_listed v vars ds (All-tail (λ x. All (InVars vars) x) d ds within) all.1 k
+    (omega (arith, lt)) c at
 
 -- so they are a model, which has these values
 pub model_listed : (formula : Formula) (v : ℕ → Bool) → IsFormula formula → AllCodesTrue v formula.clauses

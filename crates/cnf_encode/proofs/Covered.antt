@@ -1,5 +1,6 @@
 -- Going through the places that keys are about is as good as going through all places.
-use Rattle.std.proofs.Common.{◌≡◌, ℕ, zero, suc, ◌+◌, ◌<◌, ◌≤◌, Bool, true, false, List, [], ◌∷◌, ◌++◌, length, Some, arith, inl, inr, ◌⊎◌, refl, ap, sym, ◌∙◌, subst, get_or}
+use Rattle.std.proofs.Common.{◌≡◌, ℕ, zero, suc, ◌+◌, ◌<◌, ◌≤◌, Bool, true, false, List, [], ◌∷◌, ◌++◌, length, Some, arith, inl, inr, ◌⊎◌, refl, ap}
+use Rattle.std.proofs.Common.{sym, ◌∙◌, subst, get_or}
 use Rattle.std.specs.Prelude.{slice_get, flat_map}
 use Rattle.std.specs.List.{range_with_len, AllPairs}
 use Rattle.std.proofs.lemmas.Bool.{cases_eq}
@@ -35,18 +36,21 @@ not_before s (x ∷ xs) k up (inl here) = let low : s ≤ x = up.0 in omega arit
 not_before s (x ∷ xs) k up (inr later) = let low : s ≤ x = up.0 in let more = not_before (x + 1) xs k up.1 later in omega arith
 
 -- the numbers from s on, one by one
-through : {X : Type 0} (f : ℕ → List X) (n s : ℕ) (xs : List ℕ) → Rises s xs → ((k : ℕ) → In k xs → k < s + n) → ((k : ℕ) → s ≤ k → k < s + n → In k xs ⊎ (f k ≡ [])) → flat_map f xs ≡ flat_map f (range_with_len s n)
+through : {X : Type 0} (f : ℕ → List X) (n s : ℕ) (xs : List ℕ) → Rises s xs → ((k : ℕ) → In k xs → k < s + n)
+    → ((k : ℕ) → s ≤ k → k < s + n → In k xs ⊎ (f k ≡ [])) → flat_map f xs ≡ flat_map f (range_with_len s n)
 unfolding Rises
 through f zero s [] up low has = refl
 through f zero s (x ∷ xs) up low has = let a = low x (inl refl) in let b : s ≤ x = up.0 in absurd (omega arith)
 through f (suc n) s [] up low has =
     elim (has s (omega arith) (omega arith)) [
       | inl in_none ↦ absurd in_none
-      | inr none ↦ sym (ap (λ ys. ys ++ flat_map f (range_with_len (s + 1) n)) none ∙ sym (through f n (s + 1) [] tt (λ k in_none. absurd in_none) (λ k a b. has k (omega arith) (omega arith))))
+      | inr none ↦ sym (ap (λ ys. ys ++ flat_map f (range_with_len (s + 1) n)) none
+          ∙ sym (through f n (s + 1) [] tt (λ k in_none. absurd in_none) (λ k a b. has k (omega arith) (omega arith))))
     ]
 through f (suc n) s (x ∷ xs) up low has = elim (cases_eq x s) [
   | inl same ↦
-      ap (λ k. f k ++ flat_map f xs) same ∙ ap (λ ys. f s ++ ys) (through f n (s + 1) xs (subst (λ m. Rises (m + 1) xs) same up.1) (λ k later. let b = low k (inr later) in omega arith) (λ k a b.
+      ap (λ k. f k ++ flat_map f xs) same ∙ ap (λ ys. f s ++ ys) (through f n (s + 1) xs (subst (λ m. Rises (m + 1) xs) same up.1)
+      (λ k later. let b = low k (inr later) in omega arith) (λ k a b.
       elim (has k (omega arith) (omega arith)) [
         | inl in_all ↦ elim in_all [ inl here ↦ absurd (omega arith) | inr later ↦ inl later ]
         | inr none ↦ inr none
@@ -75,9 +79,12 @@ true_or_false true = inl refl
 true_or_false false = inr refl
 
 -- where all but such places give nothing, the places give what all do
-pub covered : {X : Type 0} (keys : List Key) (c : ℕ) (points places : List ℕ) (f : ℕ → List X) → Covers keys c points places → ((k p : ℕ) → slice_get points k ≡ Some p → has_point keys c p ≡ false → f k ≡ []) → flat_map f places ≡ flat_map f (below (length points))
+pub covered : {X : Type 0} (keys : List Key) (c : ℕ) (points places : List ℕ) (f : ℕ → List X) → Covers keys c points places
+    → ((k p : ℕ) → slice_get points k ≡ Some p → has_point keys c p ≡ false → f k ≡ []) → flat_map f places ≡ flat_map f (below (length points))
 covered {X} keys c points places f covers none =
-    through f (length points) 0 places (Rises-from_pairs 0 places (AllPairs-from_increasing places covers.ascending) (λ k has. omega arith)) (λ k has. let lt = All-contains (λ m. m < length points) places k covers.below (Contains-from_In places k has) in omega arith) (λ k a b. at_place k (omega arith))
+    through f (length points) 0 places (Rises-from_pairs 0 places (AllPairs-from_increasing places covers.ascending) (λ k has. omega arith))
+    (λ k has. let lt = All-contains (λ m. m < length points) places k covers.below (Contains-from_In places k has) in omega arith)
+    (λ k a b. at_place k (omega arith))
     ∙ sym (ap (flat_map f) (below_is (length points)))
   where
     at_place : (k : ℕ) → k < length points → In k places ⊎ (f k ≡ [])

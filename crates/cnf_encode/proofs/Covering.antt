@@ -1,5 +1,6 @@
 -- Definitions of the places that the keys of a cycle are about, in place of those of all places.
-use Rattle.std.proofs.Common.{◌≡◌, eq-eqb, option_map, nat_lt, ℕ, zero, suc, ◌+◌, ◌<◌, ◌≤◌, Bool, true, false, not, cond, Option, None, Some, List, [], ◌∷◌, ◌++◌, map, length, take, refl, ap, sym, ◌∙◌, subst, arith}
+use Rattle.std.proofs.Common.{◌≡◌, eq-eqb, option_map, nat_lt, ℕ, zero, suc, ◌+◌, ◌<◌, ◌≤◌, Bool, true, false, not, cond, Option, None, Some, List}
+use Rattle.std.proofs.Common.{[], ◌∷◌, ◌++◌, map, length, take, refl, ap, sym, ◌∙◌, subst, arith}
 use Rattle.std.specs.Prelude.{flat_map, slice_get, slice_index, if◌then◌else◌, ◌||◌, ◌&&◌, ◌==◌}
 use Rattle.std.specs.List.{list_any}
 use Rattle.std.proofs.lemmas.List.{append-nil, take_all, length-map}
@@ -38,7 +39,8 @@ at_place f xs k = of_item f k (slice_get xs k)
 pub at_place_is : {X A : Type 0} (f : ℕ → X → List A) (xs : List X) (k : ℕ) (x : X) → slice_get xs k ≡ Some x → at_place f xs k ≡ f k x
 at_place_is f xs k x at = ap (of_item f k) at
 
-places_to : {X A : Type 0} (f : ℕ → X → List A) (xs : List X) (n : ℕ) → n ≤ length xs → flat_map (at_place f xs) (below n) ≡ flat_map (λ (ys : List A). ys) (numbered f 0 (take n xs))
+places_to : {X A : Type 0} (f : ℕ → X → List A) (xs : List X) (n : ℕ) → n ≤ length xs → flat_map (at_place f xs) (below n) ≡ flat_map
+    (λ (ys : List A). ys) (numbered f 0 (take n xs))
 places_to f xs zero le = refl
 places_to {X} {A} f xs (suc n) le =
     let id : List A → List A = λ ys. ys in
@@ -47,10 +49,12 @@ places_to {X} {A} f xs (suc n) le =
     flat-push (at_place f xs) (below n) n
     ∙ ap (λ (ys : List A). ys ++ at_place f xs n) (places_to f xs n (omega arith))
     ∙ ap (λ (ys : List A). flat_map id (numbered f 0 (take n xs)) ++ ys) (at_place_is f xs n item.0 item.1)
-    ∙ sym (ap (λ (ys : List X). flat_map id (numbered f 0 ys)) next ∙ ap (flat_map id) (numbered-take f xs n item.0 item.1) ∙ flat-push id (numbered f 0 (take n xs)) (f n item.0))
+    ∙ sym (ap (λ (ys : List X). flat_map id (numbered f 0 ys)) next ∙ ap (flat_map id) (numbered-take f xs n item.0 item.1)
+    ∙ flat-push id (numbered f 0 (take n xs)) (f n item.0))
 
 -- all places, one by one
-pub all_places : {X A : Type 0} (f : ℕ → X → List A) (xs : List X) → flat_map (at_place f xs) (below (length xs)) ≡ flat_map (λ (ys : List A). ys) (numbered f 0 xs)
+pub all_places : {X A : Type 0} (f : ℕ → X → List A) (xs : List X) → flat_map (at_place f xs) (below (length xs)) ≡ flat_map (λ (ys : List A). ys)
+    (numbered f 0 xs)
 all_places {X} {A} f xs =
     places_to f xs (length xs) (omega arith) ∙ ap (λ (ys : List X). flat_map (λ (ys : List A). ys) (numbered f 0 ys)) (take_all (length xs) xs (omega arith))
 
@@ -67,15 +71,20 @@ flat-flat g f [] = refl
 flat-flat {X} {Y} {Z} g f (x ∷ xs) = flat_map-append g (f x) (flat_map f xs) ∙ ap (λ (zs : List Z). flat_map g (f x) ++ zs) (flat-flat g f xs)
 
 -- one place more
-pub Lists-flat_more : {keys : List Key} (f : ℕ → List Definition) (places : List ℕ) (j k : ℕ) {old mid new : List (List ℕ)} → slice_get places j ≡ Some k → Lists keys (flat_map f (take j places)) old mid → Lists keys (f k) mid new → Lists keys (flat_map f (take (j + 1) places)) old new
+pub Lists-flat_more : {keys : List Key} (f : ℕ → List Definition) (places : List ℕ) (j k : ℕ) {old mid new : List (List ℕ)}
+    → slice_get places j ≡ Some k → Lists keys (flat_map f (take j places)) old mid → Lists keys (f k) mid new
+    → Lists keys (flat_map f (take (j + 1) places)) old new
 Lists-flat_more f places j k at before here =
     Lists-same (sym (ap (flat_map f) (take_at places j k at).0 ∙ flat-push f (take j places) k)) (Lists-append before here)
 
 -- the definitions of other places are of keys that aren't needed
-pub Lists-covered : (keys : List Key) (c : ℕ) (points places : List ℕ) (f : ℕ → List Definition) (n : ℕ) {old new : List (List ℕ)} → Covers keys c points places → ((k p : ℕ) → slice_get points k ≡ Some p → has_point keys c p ≡ false → flat_map (listed keys) (f k) ≡ []) → length places ≤ n → Lists keys (flat_map f (take n places)) old new → Lists keys (flat_map f (below (length points))) old new
+pub Lists-covered : (keys : List Key) (c : ℕ) (points places : List ℕ) (f : ℕ → List Definition) (n : ℕ) {old new : List (List ℕ)}
+    → Covers keys c points places → ((k p : ℕ) → slice_get points k ≡ Some p → has_point keys c p ≡ false → flat_map (listed keys) (f k) ≡ [])
+    → length places ≤ n → Lists keys (flat_map f (take n places)) old new → Lists keys (flat_map f (below (length points))) old new
 Lists-covered keys c points places f n {old} {new} covers absent all lists =
     let whole : Lists keys (flat_map f places) old new = Lists-same (ap (flat_map f) (take_all n places all)) lists in
-    let same = flat-flat (listed keys) f places ∙ covered keys c points places (λ k. flat_map (listed keys) (f k)) covers absent ∙ sym (flat-flat (listed keys) f (below (length points))) in
+    let same = flat-flat (listed keys) f places ∙ covered keys c points places (λ k. flat_map (listed keys) (f k)) covers absent
+    ∙ sym (flat-flat (listed keys) f (below (length points))) in
     record { adds = rw (sym same) whole.adds }
 
 or_right : (x y : Bool) → (x || y) ≡ false → y ≡ false
@@ -94,7 +103,8 @@ no_key (j ∷ js) c p layer rail none =
         let is = same_key-true (key c layer rail p) j same in
         let cycle : (j.cycle == c) ≡ true = eq-eqb j.cycle c (sym (ap (λ (k : Key). k.cycle) is)) in
         let point : (j.point == p) ≡ true = eq-eqb j.point p (sym (ap (λ (k : Key). k.point) is)) in
-        let hit : has_point (j ∷ js) c p ≡ true = ap (λ (b : Bool). (b && (j.point == p)) || has_point js c p) cycle ∙ ap (λ (b : Bool). b || has_point js c p) point in
+        let hit : has_point (j ∷ js) c p ≡ true = ap (λ (b : Bool). (b && (j.point == p)) || has_point js c p) cycle
+        ∙ ap (λ (b : Bool). b || has_point js c p) point in
         absurd cc
 
 -- a definition of keys that aren't needed has no clause in the formula
@@ -103,14 +113,17 @@ one_left_out keys def out outs none =
     append-nil (listed keys def)
     ∙ ap (λ (os : List Key). cond (list_any (has_key keys) os) def.clauses []) outs ∙ ap (λ (b : Bool). cond (b || false) def.clauses []) none
 
-two_left_out : (keys : List Key) (def : Definition) (high low : Key) → def.outs ≡ high ∷ low ∷ [] → has_key keys high ≡ false → has_key keys low ≡ false → flat_map (listed keys) (def ∷ []) ≡ []
+two_left_out : (keys : List Key) (def : Definition) (high low : Key) → def.outs ≡ high ∷ low ∷ [] → has_key keys high ≡ false
+    → has_key keys low ≡ false → flat_map (listed keys) (def ∷ []) ≡ []
 two_left_out keys def high low outs no_high no_low =
     append-nil (listed keys def)
     ∙ ap (λ (os : List Key). cond (list_any (has_key keys) os) def.clauses []) outs
     ∙ ap (λ (b : Bool). cond (b || (has_key keys low || false)) def.clauses []) no_high ∙ ap (λ (b : Bool). cond (b || false) def.clauses []) no_low
 
 -- what is made of items whose points none of the keys is about
-items_left_out : {X : Type 0} (keys : List Key) (c : ℕ) (point : X → ℕ) (f : ℕ → X → List Definition) (xs : List X) → ((k : ℕ) (x : X) → has_point keys c (point x) ≡ false → flat_map (listed keys) (f k x) ≡ []) → (k p : ℕ) → slice_get (map point xs) k ≡ Some p → has_point keys c p ≡ false → flat_map (listed keys) (at_place f xs k) ≡ []
+items_left_out : {X : Type 0} (keys : List Key) (c : ℕ) (point : X → ℕ) (f : ℕ → X → List Definition) (xs : List X)
+    → ((k : ℕ) (x : X) → has_point keys c (point x) ≡ false → flat_map (listed keys) (f k x) ≡ []) → (k p : ℕ) → slice_get (map point xs) k ≡ Some p
+    → has_point keys c p ≡ false → flat_map (listed keys) (at_place f xs k) ≡ []
 items_left_out {X} keys c point f xs none k p at miss = by (slice_get xs k) (sym (slice_get-map point xs k) ∙ at)
   where
     by : (o : Option X) → option_map point o ≡ Some p → flat_map (listed keys) (of_item f k o) ≡ []
@@ -121,7 +134,9 @@ items_left_out {X} keys c point f xs none k p at miss = by (slice_get xs k) (sym
 abbrev pub gate_defs : Design → ℕ → ℕ → Gate → List Definition
 gate_defs d c k g = gate_definition Rows d c g ∷ []
 
-pub Lists-gates : (d : Design) (keys : List Key) (c : ℕ) (places : List ℕ) (n : ℕ) {old new : List (List ℕ)} → Covers keys c (gate_points d) places → length places ≤ n → Lists keys (flat_map (at_place (gate_defs d c) d.gates) (take n places)) old new → Lists keys (map (gate_definition Rows d c) d.gates) old new
+pub Lists-gates : (d : Design) (keys : List Key) (c : ℕ) (places : List ℕ) (n : ℕ) {old new : List (List ℕ)} → Covers keys c (gate_points d) places
+    → length places ≤ n → Lists keys (flat_map (at_place (gate_defs d c) d.gates) (take n places)) old new
+    → Lists keys (map (gate_definition Rows d c) d.gates) old new
 Lists-gates d keys c places n covers all lists =
     Lists-same
     (ap (λ (m : ℕ). flat_map (at_place (gate_defs d c) d.gates) (below m)) (length-map d.gates (λ (g : Gate). g.out))
@@ -132,16 +147,22 @@ Lists-gates d keys c places n covers all lists =
     all lists)
 
 -- and in a layer
-layer_left_out : (d : Design) (claim : Claim) (moved : List (List Bool)) (keys : List Key) (c l k : ℕ) (g : Gate) → has_point keys c g.out ≡ false → flat_map (listed keys) (layer_gate Rows d claim moved c l k g) ≡ []
+layer_left_out : (d : Design) (claim : Claim) (moved : List (List Bool)) (keys : List Key) (c l k : ℕ) (g : Gate) → has_point keys c g.out ≡ false
+    → flat_map (listed keys) (layer_gate Rows d claim moved c l k g) ≡ []
 layer_left_out d claim moved keys c l k g miss = by (has_own claim moved l g.out) claim.hazard
   where
-    by : (own hazard : Bool) → flat_map (listed keys) (cond (not own) [] (cond hazard (rails_gate Rows d claim moved c (suc l) k g ∷ []) (plain_gate Rows d claim moved c (suc l) k g ∷ []))) ≡ []
+    by : (own hazard : Bool) → flat_map (listed keys) (cond (not own) []
+        (cond hazard (rails_gate Rows d claim moved c (suc l) k g ∷ []) (plain_gate Rows d claim moved c (suc l) k g ∷ []))) ≡ []
     by false hazard = refl
     by true true =
-        two_left_out keys (rails_gate Rows d claim moved c (suc l) k g) (key c (suc l) 0 g.out) (key c (suc l) 1 g.out) refl (no_key keys c g.out (suc l) 0 miss) (no_key keys c g.out (suc l) 1 miss)
+        two_left_out keys (rails_gate Rows d claim moved c (suc l) k g) (key c (suc l) 0 g.out) (key c (suc l) 1 g.out) refl
+        (no_key keys c g.out (suc l) 0 miss) (no_key keys c g.out (suc l) 1 miss)
     by true false = one_left_out keys (plain_gate Rows d claim moved c (suc l) k g) (key c (suc l) 0 g.out) refl (no_key keys c g.out (suc l) 0 miss)
 
-pub Lists-layer_gates : (d : Design) (claim : Claim) (moved : List (List Bool)) (keys : List Key) (c l : ℕ) (places : List ℕ) (n : ℕ) {old new : List (List ℕ)} → Covers keys c (gate_points d) places → length places ≤ n → Lists keys (flat_map (at_place (layer_gate Rows d claim moved c l) d.gates) (take n places)) old new → Lists keys (flat_map (λ (defs : List Definition). defs) (numbered (layer_gate Rows d claim moved c l) 0 d.gates)) old new
+pub Lists-layer_gates : (d : Design) (claim : Claim) (moved : List (List Bool)) (keys : List Key) (c l : ℕ) (places : List ℕ)
+    (n : ℕ) {old new : List (List ℕ)} → Covers keys c (gate_points d) places → length places ≤ n
+    → Lists keys (flat_map (at_place (layer_gate Rows d claim moved c l) d.gates) (take n places)) old new
+    → Lists keys (flat_map (λ (defs : List Definition). defs) (numbered (layer_gate Rows d claim moved c l) 0 d.gates)) old new
 Lists-layer_gates d claim moved keys c l places n covers all lists =
     Lists-same
     (ap (λ (m : ℕ). flat_map (at_place (layer_gate Rows d claim moved c l) d.gates) (below m)) (length-map d.gates (λ (g : Gate). g.out))
@@ -154,7 +175,8 @@ Lists-layer_gates d claim moved keys c l places n covers all lists =
 abbrev pub bit_defs : Design → ℕ → ℕ → Reg → List Definition
 bit_defs d c r reg = bit_definition Rows d c r reg ∷ []
 
-bits_left_out : (d : Design) (keys : List Key) (c k p : ℕ) → slice_get (bit_points d) k ≡ Some p → has_point keys (c + 1) p ≡ false → flat_map (listed keys) (at_place (bit_defs d c) d.regs k) ≡ []
+bits_left_out : (d : Design) (keys : List Key) (c k p : ℕ) → slice_get (bit_points d) k ≡ Some p → has_point keys (c + 1) p ≡ false
+    → flat_map (listed keys) (at_place (bit_defs d c) d.regs k) ≡ []
 bits_left_out d keys c k p at miss = by (slice_get d.regs k)
   where
     by : (reg : Option Reg) → flat_map (listed keys) (of_item (bit_defs d c) k reg) ≡ []
@@ -167,7 +189,9 @@ bits_left_out d keys c k p at miss = by (slice_get d.regs k)
 pub length-bit_points : (d : Design) → length (bit_points d) ≡ length d.regs
 length-bit_points d = length-map (below (length d.regs)) (λ r. d.nets + r) ∙ length-below (length d.regs)
 
-pub Lists-bits : (d : Design) (keys : List Key) (c : ℕ) (places : List ℕ) (n : ℕ) {old new : List (List ℕ)} → Covers keys (c + 1) (bit_points d) places → length places ≤ n → Lists keys (flat_map (at_place (bit_defs d c) d.regs) (take n places)) old new → Lists keys (numbered (bit_definition Rows d c) 0 d.regs) old new
+pub Lists-bits : (d : Design) (keys : List Key) (c : ℕ) (places : List ℕ) (n : ℕ) {old new : List (List ℕ)}
+    → Covers keys (c + 1) (bit_points d) places → length places ≤ n → Lists keys (flat_map (at_place (bit_defs d c) d.regs) (take n places)) old new
+    → Lists keys (numbered (bit_definition Rows d c) 0 d.regs) old new
 Lists-bits d keys c places n covers all lists =
     Lists-same
     (ap (λ (m : ℕ). flat_map (at_place (bit_defs d c) d.regs) (below m)) (length-bit_points d)
@@ -179,15 +203,19 @@ unit_left_out : (keys : List Key) (o : Option Bool) (flip : Bool) (out : Key) �
 unit_left_out keys None flip out miss = refl
 unit_left_out keys (Some v) flip out miss = one_left_out keys (unit (if flip then not v else v) out) out refl miss
 
-inputs_left_out : (d : Design) (keys : List Key) (live c k p : ℕ) → slice_get d.inputs k ≡ Some p → has_point keys c p ≡ false → flat_map (listed keys) (input_definition d live c k) ≡ []
+inputs_left_out : (d : Design) (keys : List Key) (live c k p : ℕ) → slice_get d.inputs k ≡ Some p → has_point keys c p ≡ false
+    → flat_map (listed keys) (input_definition d live c k) ≡ []
 inputs_left_out d keys live c k p at miss =
     let out = key c 0 0 (slice_index d.inputs k) in
     let none : has_key keys out ≡ false = ap (λ (n : ℕ). has_key keys (key c 0 0 n)) (get_or_from_slice_get d.inputs k p 0 at) ∙ no_key keys c p 0 0 miss in
     flat_map-append (listed keys) (unit_if (set_in d.fixed k) false out) (unit_if (set_in d.resets k) (not (nat_lt c live)) out)
-    ∙ ap (λ (cs : List (List KeyLit)). cs ++ flat_map (listed keys) (unit_if (set_in d.resets k) (not (nat_lt c live)) out)) (unit_left_out keys (set_in d.fixed k) false out none)
+    ∙ ap (λ (cs : List (List KeyLit)). cs ++ flat_map (listed keys) (unit_if (set_in d.resets k) (not (nat_lt c live)) out))
+    (unit_left_out keys (set_in d.fixed k) false out none)
     ∙ unit_left_out keys (set_in d.resets k) (not (nat_lt c live)) out none
 
-pub Lists-inputs : (d : Design) (keys : List Key) (live c : ℕ) (places : List ℕ) (n : ℕ) {old new : List (List ℕ)} → Covers keys c d.inputs places → length places ≤ n → Lists keys (flat_map (input_definition d live c) (take n places)) old new → Lists keys (flat_map (input_definition d live c) (below (length d.inputs))) old new
+pub Lists-inputs : (d : Design) (keys : List Key) (live c : ℕ) (places : List ℕ) (n : ℕ) {old new : List (List ℕ)} → Covers keys c d.inputs places
+    → length places ≤ n → Lists keys (flat_map (input_definition d live c) (take n places)) old new
+    → Lists keys (flat_map (input_definition d live c) (below (length d.inputs))) old new
 Lists-inputs d keys live c places n covers all lists =
     Lists-covered keys c d.inputs places (input_definition d live c) n covers (inputs_left_out d keys live c) all lists
 
@@ -196,14 +224,18 @@ pub place_below : (keys : List Key) (c : ℕ) (points places : List ℕ) (j k : 
 place_below keys c points places j k covers at = All-at (λ m. m < length points) places j k at covers.below
 
 -- the places of a cycle
-pub row_covers : (keys : List Key) (points : List ℕ) (n c : ℕ) (rows : List (List ℕ)) (row : List ℕ) → AreRows keys points n rows → c < n → slice_get rows c ≡ Some row → Covers keys c points row
+pub row_covers : (keys : List Key) (points : List ℕ) (n c : ℕ) (rows : List (List ℕ)) (row : List ℕ) → AreRows keys points n rows → c < n
+    → slice_get rows c ≡ Some row → Covers keys c points row
 row_covers keys points n c rows row are lt at = subst (Covers keys c points) (get_or_from_slice_get rows c row [] at) (are.each c lt)
 
-pub input_places : (d : Design) (keys : List Key) (c : ℕ) (cone : Cone) (row : List ℕ) → IsConeFor d keys c cone → slice_get cone.inputs c ≡ Some row → Covers keys c d.inputs row
+pub input_places : (d : Design) (keys : List Key) (c : ℕ) (cone : Cone) (row : List ℕ) → IsConeFor d keys c cone → slice_get cone.inputs c ≡ Some row
+    → Covers keys c d.inputs row
 input_places d keys c cone row is at = row_covers keys d.inputs (is.cycles + 1) c cone.inputs row is.of.inputs (omega (arith, is.lt)) at
 
-pub gate_places : (d : Design) (keys : List Key) (c : ℕ) (cone : Cone) (row : List ℕ) → IsConeFor d keys c cone → slice_get cone.gates c ≡ Some row → Covers keys c (gate_points d) row
+pub gate_places : (d : Design) (keys : List Key) (c : ℕ) (cone : Cone) (row : List ℕ) → IsConeFor d keys c cone → slice_get cone.gates c ≡ Some row
+    → Covers keys c (gate_points d) row
 gate_places d keys c cone row is at = row_covers keys (gate_points d) (is.cycles + 1) c cone.gates row is.of.gates (omega (arith, is.lt)) at
 
-pub bit_places : (d : Design) (keys : List Key) (c : ℕ) (cone : Cone) (row : List ℕ) → IsConeFor d keys c cone → slice_get cone.bits (c + 1) ≡ Some row → Covers keys (c + 1) (bit_points d) row
+pub bit_places : (d : Design) (keys : List Key) (c : ℕ) (cone : Cone) (row : List ℕ) → IsConeFor d keys c cone
+    → slice_get cone.bits (c + 1) ≡ Some row → Covers keys (c + 1) (bit_points d) row
 bit_places d keys c cone row is at = row_covers keys (bit_points d) (is.cycles + 1) (c + 1) cone.bits row is.of.bits (omega (arith, is.lt)) at

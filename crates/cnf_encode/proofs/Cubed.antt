@@ -1,5 +1,6 @@
 -- Cubes in the order of a list: how many places they have, which keys stand in their clauses, and one cube more.
-use Rattle.std.proofs.Common.{◌≡◌, ℕ, zero, suc, ◌+◌, ◌/◌, ◌^◌, ◌<◌, Bool, true, false, not, List, [], ◌∷◌, ◌++◌, map, length, get_or, take, refl, ap, sym, ◌∙◌, subst, arith}
+use Rattle.std.proofs.Common.{◌≡◌, ℕ, zero, suc, ◌+◌, ◌/◌, ◌^◌, ◌<◌, Bool, true, false, not, List, [], ◌∷◌, ◌++◌, map, length, get_or, take, refl, ap}
+use Rattle.std.proofs.Common.{sym, ◌∙◌, subst, arith}
 use Rattle.std.specs.Prelude.{All, slice_index_or}
 use Rattle.std.proofs.lemmas.List.{length-map, get_or-map, map_more}
 use Rattle.std.proofs.lemmas.List.Elements.{All-nil, All-cons}
@@ -25,7 +26,8 @@ length-terns (suc places) w = omega (arith, length-terns places (w / 3))
 abbrev HasPlaces : ℕ → Cube → Type 0
 HasPlaces places cube = length cube.fixed ≡ places
 
-known_places : (places : ℕ) (terns : List Tern) (t : Tern) (rest : List Cube) → length terns ≡ places → All (HasPlaces places) rest → All (HasPlaces places) (known_cube terns t ++ rest)
+known_places : (places : ℕ) (terns : List Tern) (t : Tern) (rest : List Cube) → length terns ≡ places → All (HasPlaces places) rest
+    → All (HasPlaces places) (known_cube terns t ++ rest)
 known_places places terns Zero rest long all = All-cons (HasPlaces places) (record { fixed = terns; value = false }) rest long all
 known_places places terns One rest long all = All-cons (HasPlaces places) (record { fixed = terns; value = true }) rest long all
 known_places places terns Unknown rest long all = all
@@ -33,33 +35,43 @@ known_places places terns Unknown rest long all = all
 constant_places : (cell : (ℕ → Bool) → Bool) (places : ℕ) (ws : List ℕ) → All (HasPlaces places) (constant_from cell places ws)
 constant_places cell places [] = All-nil (HasPlaces places)
 constant_places cell places (w ∷ ws) =
-    known_places places (cube_terns places w) (cell_value cell (λ i. slice_index_or (cube_terns places w) i Zero)) (constant_from cell places ws) (length-terns places w) (constant_places cell places ws)
+    known_places places (cube_terns places w) (cell_value cell (λ i. slice_index_or (cube_terns places w) i Zero)) (constant_from cell places ws)
+    (length-terns places w) (constant_places cell places ws)
 
 -- each cube has all places
-pub cube_places : (cell : (ℕ → Bool) → Bool) (places : ℕ) (cubes : List Cube) (i : ℕ) (cube : Cube) → cubes ≡ constant_cubes cell places → i < length cubes → cube ≡ get_or cubes i cube → length cube.fixed ≡ places
+pub cube_places : (cell : (ℕ → Bool) → Bool) (places : ℕ) (cubes : List Cube) (i : ℕ) (cube : Cube) → cubes ≡ constant_cubes cell places
+    → i < length cubes → cube ≡ get_or cubes i cube → length cube.fixed ≡ places
 cube_places cell places cubes i cube are lt at =
-    let all : All (HasPlaces places) cubes = subst (All (HasPlaces places)) (sym are) (constant_places cell places (below (3 ^ places))) in subst (HasPlaces places) (sym at) (all i cube lt)
+    let all : All (HasPlaces places) cubes = subst (All (HasPlaces places)) (sym are) (constant_places cell places (below (3 ^ places))) in
+    subst (HasPlaces places) (sym at) (all i cube lt)
 
 -- the keys of a cube's clause
-pub cube_keys : (keys : List Key) (clause : Cube → List KeyLit) (cubes : List Cube) (i : ℕ) (cube : Cube) → i < length cubes → cube ≡ get_or cubes i cube → HasKeys keys (map clause cubes) → All (HasKey keys) (clause cube)
+pub cube_keys : (keys : List Key) (clause : Cube → List KeyLit) (cubes : List Cube) (i : ℕ) (cube : Cube) → i < length cubes
+    → cube ≡ get_or cubes i cube → HasKeys keys (map clause cubes) → All (HasKey keys) (clause cube)
 cube_keys keys clause cubes i cube lt at has =
     let inside : i < length (map clause cubes) = omega (arith, length-map cubes clause) in
     subst (All (HasKey keys)) (get_or-map clause cubes i cube [] lt ∙ ap clause (sym at)) (has i [] inside)
 
 -- one cube more
-pub cubes_more : (keys : List Key) (clause : Cube → List KeyLit) (cubes : List Cube) (i : ℕ) (cube : Cube) (codes : List ℕ) (old mid new : List (List ℕ)) → i < length cubes → cube ≡ get_or cubes i cube → Adds keys (map clause (take i cubes)) old mid → codes ≡ map (code_of keys) (clause cube) → AddsNormals (codes ∷ []) mid new → Adds keys (map clause (take (i + 1) cubes)) old new
+pub cubes_more : (keys : List Key) (clause : Cube → List KeyLit) (cubes : List Cube) (i : ℕ) (cube : Cube) (codes : List ℕ)
+    (old mid new : List (List ℕ)) → i < length cubes → cube ≡ get_or cubes i cube → Adds keys (map clause (take i cubes)) old mid
+    → codes ≡ map (code_of keys) (clause cube) → AddsNormals (codes ∷ []) mid new → Adds keys (map clause (take (i + 1) cubes)) old new
 cubes_more keys clause cubes i cube codes old mid new lt at before is adds =
     let more : map clause (take (i + 1) cubes) ≡ map clause (take i cubes) ++ clause cube ∷ [] =
     map_more clause cubes i cube lt ∙ ap (λ (x : Cube). map clause (take i cubes) ++ clause x ∷ []) (sym at) in
     subst (λ cs. Adds keys cs old new) (sym more)
     (Adds-append keys (map clause (take i cubes)) (clause cube ∷ []) old mid new before (subst (λ (c : List ℕ). AddsNormals (c ∷ []) mid new) is adds))
 
-pub must_out : (keys : List Key) (hs ls : List KeyLit) (high low : KeyLit) (cubes : List Cube) (i : ℕ) (cube : Cube) → i < length cubes → cube ≡ get_or cubes i cube → HasKeys keys (map (must_clause hs ls high low) cubes) → HasKey keys (opposite (may_be (not cube.value) high low))
+pub must_out : (keys : List Key) (hs ls : List KeyLit) (high low : KeyLit) (cubes : List Cube) (i : ℕ) (cube : Cube) → i < length cubes
+    → cube ≡ get_or cubes i cube → HasKeys keys (map (must_clause hs ls high low) cubes) → HasKey keys (opposite (may_be (not cube.value) high low))
 must_out keys hs ls high low cubes i cube lt at has =
     last_key keys (escapes hs ls cube.fixed) (opposite (may_be (not cube.value) high low)) (cube_keys keys (must_clause hs ls high low) cubes i cube lt at has)
 
 -- the codes that a cube is given by
-pub must_cube : (keys : List Key) (hs ls : List KeyLit) (high low : KeyLit) (cube : Cube) (zeros ones : List ℕ) (fixed : List Tern) (last : ℕ) → zeros ≡ map (code_of keys) hs → ones ≡ map (code_of keys) ls → fixed ≡ cube.fixed → last ≡ code_of keys (opposite (may_be (not cube.value) high low)) → chosen zeros ones fixed ++ last ∷ [] ≡ map (code_of keys) (must_clause hs ls high low cube)
+pub must_cube : (keys : List Key) (hs ls : List KeyLit) (high low : KeyLit) (cube : Cube) (zeros ones : List ℕ) (fixed : List Tern) (last : ℕ)
+    → zeros ≡ map (code_of keys) hs → ones ≡ map (code_of keys) ls → fixed ≡ cube.fixed
+    → last ≡ code_of keys (opposite (may_be (not cube.value) high low)) → chosen zeros ones fixed ++ last ∷ [] ≡ map (code_of keys)
+    (must_clause hs ls high low cube)
 must_cube keys hs ls high low cube zeros ones fixed last zeros_are ones_are same is =
     ap (λ (ts : List Tern). chosen zeros ones ts ++ last ∷ []) same ∙ ap (λ (os : List ℕ). chosen zeros os cube.fixed ++ last ∷ []) ones_are
     ∙ ap (λ (zs : List ℕ). chosen zs (map (code_of keys) ls) cube.fixed ++ last ∷ []) zeros_are

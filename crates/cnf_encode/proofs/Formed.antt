@@ -1,5 +1,6 @@
 -- Normal forms of clauses over listed keys are a formula, and clauses of equal functions are equal.
-use Rattle.std.proofs.Common.{◌≡◌, ℕ, suc, ◌+◌, ◌*◌, ◌/◌, ◌<◌, ◌≤◌, Bool, true, false, eqb, cond, List, [], ◌∷◌, map, length, get_or, ap, sym, ◌∙◌, subst, arith, inl, inr}
+use Rattle.std.proofs.Common.{◌≡◌, ℕ, suc, ◌+◌, ◌*◌, ◌/◌, ◌<◌, ◌≤◌, Bool, true, false, eqb, cond, List, [], ◌∷◌, map, length, get_or, ap, sym, ◌∙◌}
+use Rattle.std.proofs.Common.{subst, arith, inl, inr}
 use Rattle.std.specs.Prelude.{All}
 use Rattle.std.specs.List.{AllByRecursion}
 use Rattle.std.proofs.lemmas.Bool.{or_cases, eqb-true}
@@ -60,12 +61,14 @@ codes_in keys (l ∷ ls) q has in_codes =
       | inr later ↦ codes_in keys ls q (All-tail (HasKey keys) l ls has) later
     ]
 
-normal_in : (keys : List Key) (ls : List KeyLit) (clause : List ℕ) → All (HasKey keys) ls → IsNormalOf (map (code_of keys) ls) clause → All (InVars (length keys)) clause
+normal_in : (keys : List Key) (ls : List KeyLit) (clause : List ℕ) → All (HasKey keys) ls → IsNormalOf (map (code_of keys) ls) clause
+    → All (InVars (length keys)) clause
 normal_in keys ls clause has normal =
     All-from_members (InVars (length keys)) clause (λ q set. codes_in keys ls q has (sym (normal.same q) ∙ is_code-is_set clause q ∙ set))
 
 -- each is in normal form, over as many variables as there are keys
-pub normals_formed : (keys : List Key) (all : List (List KeyLit)) (clauses : List (List ℕ)) → HasKeys keys all → AreNormalsOf (coded keys all) clauses → All IsNormal clauses × All (λ c. All (InVars (length keys)) c) clauses
+pub normals_formed : (keys : List Key) (all : List (List KeyLit)) (clauses : List (List ℕ)) → HasKeys keys all → AreNormalsOf (coded keys all) clauses
+    → All IsNormal clauses × All (λ c. All (InVars (length keys)) c) clauses
 normals_formed keys [] [] has are = (All-nil IsNormal, All-nil (All (InVars (length keys))))
 normals_formed keys [] (d ∷ ds) has are = absurd are
 normals_formed keys (c ∷ cs) [] has are = (All-nil IsNormal, All-nil (All (InVars (length keys))))
@@ -77,10 +80,12 @@ normals_formed keys (c ∷ cs) (d ∷ ds) has (inr taken) =
     )
 
 -- the clauses of functions that are equal at each argument
-pub plain_same : (coding : Coding) (cell other : (ℕ → Bool) → Bool) (reads : List KeyLit) (out : Key) → ((pins : ℕ → Bool) → cell pins ≡ other pins) → plain coding cell reads out ≡ plain coding other reads out
+pub plain_same : (coding : Coding) (cell other : (ℕ → Bool) → Bool) (reads : List KeyLit) (out : Key) → ((pins : ℕ → Bool) → cell pins ≡ other pins)
+    → plain coding cell reads out ≡ plain coding other reads out
 plain_same coding cell other reads out same =
     let equal : cell ≡ other = λ i pins. same pins i in ap (λ (f : (ℕ → Bool) → Bool). plain coding f reads out) equal
 
-pub rails_same : (coding : Coding) (cell other : (ℕ → Bool) → Bool) (hs ls : List KeyLit) (high low : Key) → ((pins : ℕ → Bool) → cell pins ≡ other pins) → rails coding cell hs ls high low ≡ rails coding other hs ls high low
+pub rails_same : (coding : Coding) (cell other : (ℕ → Bool) → Bool) (hs ls : List KeyLit) (high low : Key)
+    → ((pins : ℕ → Bool) → cell pins ≡ other pins) → rails coding cell hs ls high low ≡ rails coding other hs ls high low
 rails_same coding cell other hs ls high low same =
     let equal : cell ≡ other = λ i pins. same pins i in ap (λ (f : (ℕ → Bool) → Bool). rails coding f hs ls high low) equal

@@ -57,7 +57,8 @@ number_found keys k n found = by_test (has_key keys k) refl found where
     none_some : None ≡ Some n → ⊥
     none_some e = cc
 
-pub value_found : (keys : List Key) (values : List Bool) (k : Key) (n : ℕ) (v : Bool) → IsNumber keys k n → slice_get values (n - 1) ≡ Some v → v ≡ value_or_zero keys values k
+pub value_found : (keys : List Key) (values : List Bool) (k : Key) (n : ℕ) (v : Bool) → IsNumber keys k n → slice_get values (n - 1) ≡ Some v
+    → v ≡ value_or_zero keys values k
 value_found keys values k n v number at =
     sym (ap (λ (b : Bool). cond b (slice_index_or values (number_of keys k - 1) false) false) number.has
     ∙ (ap (λ (i : ℕ). slice_index_or values (i - 1) false) (sym number.is) ∙ get_or_from_slice_get values (n - 1) v false at))

@@ -24,7 +24,8 @@ use Rattle.query_model.specs.Defined.{gate_reads, plain_gate, rails_gate}
 use Rattle.cnf_encode.proofs.Captures.{plain_equal, rails_equal}
 
 -- as many literals as pins
-pub length-gate_reads : (d : Design) (claim : Claim) (moved : List (List Bool)) (c layer rail k : ℕ) (g : Gate) → length (gate_reads d claim moved c layer rail k g) ≡ length g.ins
+pub length-gate_reads : (d : Design) (claim : Claim) (moved : List (List Bool)) (c layer rail k : ℕ) (g : Gate)
+    → length (gate_reads d claim moved c layer rail k g) ≡ length g.ins
 length-gate_reads d claim moved c layer rail k g = length-numbered (λ i n. read_pin d claim moved c layer rail (GateIn k i) n) 0 g.ins
 
 pub gate_few : (d : Design) (g : Gate) (reads : List KeyLit) → IsGateInRange d g → length reads ≡ length g.ins → length reads ≤ 7
@@ -33,25 +34,37 @@ gate_few d g reads range count = omega (arith, range.few)
 pub gate_over : (d : Design) (g : Gate) (reads : List KeyLit) → IsGateInRange d g → length reads ≡ length g.ins → IsOver (length reads) g.func
 gate_over d g reads range count = subst (λ n. IsOver n g.func) (sym count) range.func
 
-pub plain_gate_is : (d : Design) (claim : Claim) (moved : List (List Bool)) (c layer k : ℕ) (g : Gate) (reads : List KeyLit) (out : Key) → reads ≡ gate_reads d claim moved c layer 0 k g → out ≡ key c layer 0 g.out → plain Rows (value g.func) reads out ≡ plain_gate Rows d claim moved c layer k g
+pub plain_gate_is : (d : Design) (claim : Claim) (moved : List (List Bool)) (c layer k : ℕ) (g : Gate) (reads : List KeyLit) (out : Key)
+    → reads ≡ gate_reads d claim moved c layer 0 k g → out ≡ key c layer 0 g.out → plain Rows (value g.func) reads out ≡ plain_gate Rows d claim moved
+    c layer k g
 plain_gate_is d claim moved c layer k g reads out reads_are out_is =
     plain_equal (value g.func) (value g.func) reads (gate_reads d claim moved c layer 0 k g) out (key c layer 0 g.out) (λ pins. refl) reads_are out_is
 
-pub rails_gate_is : (d : Design) (claim : Claim) (moved : List (List Bool)) (c layer k : ℕ) (g : Gate) (hs ls : List KeyLit) (high low : Key) → hs ≡ gate_reads d claim moved c layer 0 k g → ls ≡ gate_reads d claim moved c layer 1 k g → high ≡ key c layer 0 g.out → low ≡ key c layer 1 g.out → rails Rows (value g.func) hs ls high low ≡ rails_gate Rows d claim moved c layer k g
+pub rails_gate_is : (d : Design) (claim : Claim) (moved : List (List Bool)) (c layer k : ℕ) (g : Gate) (hs ls : List KeyLit) (high low : Key)
+    → hs ≡ gate_reads d claim moved c layer 0 k g → ls ≡ gate_reads d claim moved c layer 1 k g → high ≡ key c layer 0 g.out
+    → low ≡ key c layer 1 g.out → rails Rows (value g.func) hs ls high low ≡ rails_gate Rows d claim moved c layer k g
 rails_gate_is d claim moved c layer k g hs ls high low hs_are ls_are high_is low_is =
-    rails_equal (value g.func) (value g.func) hs (gate_reads d claim moved c layer 0 k g) ls (gate_reads d claim moved c layer 1 k g) high (key c layer 0 g.out) low (key c layer 1 g.out) (λ pins. refl) hs_are ls_are high_is low_is
+    rails_equal (value g.func) (value g.func) hs (gate_reads d claim moved c layer 0 k g) ls (gate_reads d claim moved c layer 1 k g) high
+    (key c layer 0 g.out) low (key c layer 1 g.out) (λ pins. refl) hs_are ls_are high_is low_is
 
 -- the definition of a net after l through sets
-by_own : (d : Design) (claim : Claim) (moved : List (List Bool)) (c l k : ℕ) (g : Gate) (own hazard : Bool) → has_own claim moved l g.out ≡ own → claim.hazard ≡ hazard → layer_gate Rows d claim moved c l k g ≡ cond (not own) [] (cond hazard (rails_gate Rows d claim moved c (l + 1) k g ∷ []) (plain_gate Rows d claim moved c (l + 1) k g ∷ []))
+by_own : (d : Design) (claim : Claim) (moved : List (List Bool)) (c l k : ℕ) (g : Gate) (own hazard : Bool) → has_own claim moved l g.out ≡ own
+    → claim.hazard ≡ hazard → layer_gate Rows d claim moved c l k g ≡ cond (not own) []
+    (cond hazard (rails_gate Rows d claim moved c (l + 1) k g ∷ []) (plain_gate Rows d claim moved c (l + 1) k g ∷ []))
 by_own d claim moved c l k g own hazard own_is hazard_is =
-    ap (λ (b : Bool). cond (not b) [] (cond claim.hazard (rails_gate Rows d claim moved c (suc l) k g ∷ []) (plain_gate Rows d claim moved c (suc l) k g ∷ []))) own_is
-    ∙ ap (λ (b : Bool). cond (not own) [] (cond b (rails_gate Rows d claim moved c (suc l) k g ∷ []) (plain_gate Rows d claim moved c (suc l) k g ∷ []))) hazard_is
-    ∙ ap (λ (n : ℕ). cond (not own) [] (cond hazard (rails_gate Rows d claim moved c n k g ∷ []) (plain_gate Rows d claim moved c n k g ∷ []))) (sym (add-one l))
+    ap (λ (b : Bool). cond (not b) [] (cond claim.hazard (rails_gate Rows d claim moved c (suc l) k g ∷ [])
+    (plain_gate Rows d claim moved c (suc l) k g ∷ []))) own_is
+    ∙ ap (λ (b : Bool). cond (not own) [] (cond b (rails_gate Rows d claim moved c (suc l) k g ∷ [])
+    (plain_gate Rows d claim moved c (suc l) k g ∷ []))) hazard_is
+    ∙ ap (λ (n : ℕ). cond (not own) [] (cond hazard (rails_gate Rows d claim moved c n k g ∷ []) (plain_gate Rows d claim moved c n k g ∷ [])))
+    (sym (add-one l))
 
-pub layer_rails : (d : Design) (claim : Claim) (moved : List (List Bool)) (c l k : ℕ) (g : Gate) → has_own claim moved l g.out ≡ true → claim.hazard ≡ true → layer_gate Rows d claim moved c l k g ≡ rails_gate Rows d claim moved c (l + 1) k g ∷ []
+pub layer_rails : (d : Design) (claim : Claim) (moved : List (List Bool)) (c l k : ℕ) (g : Gate) → has_own claim moved l g.out ≡ true
+    → claim.hazard ≡ true → layer_gate Rows d claim moved c l k g ≡ rails_gate Rows d claim moved c (l + 1) k g ∷ []
 layer_rails d claim moved c l k g own hazard = by_own d claim moved c l k g true true own hazard
 
-pub layer_plain : (d : Design) (claim : Claim) (moved : List (List Bool)) (c l k : ℕ) (g : Gate) → has_own claim moved l g.out ≡ true → claim.hazard ≡ false → layer_gate Rows d claim moved c l k g ≡ plain_gate Rows d claim moved c (l + 1) k g ∷ []
+pub layer_plain : (d : Design) (claim : Claim) (moved : List (List Bool)) (c l k : ℕ) (g : Gate) → has_own claim moved l g.out ≡ true
+    → claim.hazard ≡ false → layer_gate Rows d claim moved c l k g ≡ plain_gate Rows d claim moved c (l + 1) k g ∷ []
 layer_plain d claim moved c l k g own hazard = by_own d claim moved c l k g true false own hazard
 
 -- the marked numbers, by one more number
@@ -69,9 +82,12 @@ mark_is marks n b at = get_or_from_slice_get marks n b false at
 
 filter_same : {X : Type 0} (p q : X → Bool) → ((x : X) → p x ≡ q x) → (xs : List X) → filter p xs ≡ filter q xs
 filter_same p q same [] = refl
-filter_same {X} p q same (x ∷ xs) = ap (λ (b : Bool). cond b (x ∷ filter p xs) (filter p xs)) (same x) ∙ ap (λ (ys : List X). cond (q x) (x ∷ ys) ys) (filter_same p q same xs)
+filter_same {X} p q same (x ∷ xs) = ap (λ (b : Bool). cond b (x ∷ filter p xs) (filter p xs)) (same x) ∙ ap (λ (ys : List X). cond (q x) (x ∷ ys) ys)
+    (filter_same p q same xs)
 
 -- the marked nets are those of the start
-pub starts_are : (d : Design) (claim : Claim) (tables : Tables) (nets : List ℕ) → AreTables d claim tables → nets ≡ filter (is_marked tables.starts) (below (length tables.starts)) → nets ≡ filter (is_start_net d claim) (below d.nets)
+pub starts_are : (d : Design) (claim : Claim) (tables : Tables) (nets : List ℕ) → AreTables d claim tables → nets ≡ filter (is_marked tables.starts)
+    (below (length tables.starts)) → nets ≡ filter (is_start_net d claim) (below d.nets)
 starts_are d claim tables nets are is =
-    is ∙ ap (λ (n : ℕ). filter (is_marked tables.starts) (below n)) are.starts_len ∙ filter_same (is_marked tables.starts) (is_start_net d claim) are.starts (below d.nets)
+    is ∙ ap (λ (n : ℕ). filter (is_marked tables.starts) (below n)) are.starts_len ∙ filter_same (is_marked tables.starts)
+    (is_start_net d claim) are.starts (below d.nets)

@@ -15,14 +15,17 @@ use Rattle.cnf_encode.specs.Coded.{HasKeys, Adds}
 use Rattle.cnf_encode.specs.Listed.{IsClosed, Lists}
 use Rattle.cnf_encode.proofs.Normals.{Adds-append}
 
-pub Lists-append : {keys : List Key} {a b : List Definition} {old mid new : List (List ℕ)} → Lists keys a old mid → Lists keys b mid new → Lists keys (a ++ b) old new
+pub Lists-append : {keys : List Key} {a b : List Definition} {old mid new : List (List ℕ)} → Lists keys a old mid → Lists keys b mid new
+    → Lists keys (a ++ b) old new
 Lists-append {keys} {a} {b} {old} {mid} {new} first second =
     record {
-      adds = subst (λ cs. Adds keys cs old new) (sym (flat_map-append (listed keys) a b)) (Adds-append keys (flat_map (listed keys) a) (flat_map (listed keys) b) old mid new first.adds second.adds);
+      adds = subst (λ cs. Adds keys cs old new) (sym (flat_map-append (listed keys) a b))
+          (Adds-append keys (flat_map (listed keys) a) (flat_map (listed keys) b) old mid new first.adds second.adds);
     }
 
 -- a definition of one of the keys
-pub Lists-needed : (keys : List Key) (def : Definition) (old new : List (List ℕ)) → list_any (has_key keys) def.outs ≡ true → Adds keys def.clauses old new → Lists keys (def ∷ []) old new
+pub Lists-needed : (keys : List Key) (def : Definition) (old new : List (List ℕ)) → list_any (has_key keys) def.outs ≡ true
+    → Adds keys def.clauses old new → Lists keys (def ∷ []) old new
 Lists-needed keys def old new hit adds =
     let whole : listed keys def ++ [] ≡ def.clauses = append-nil (listed keys def) ∙ ap (λ (b : Bool). cond b def.clauses []) hit in
     record { adds = subst (λ cs. Adds keys cs old new) (sym whole) adds }
@@ -32,7 +35,8 @@ pub Lists-same : {keys : List Key} {a b : List Definition} {old new : List (List
 Lists-same {keys} {a} {b} {old} {new} same lists = subst (λ (defs : List Definition). Lists keys defs old new) same lists
 
 -- some of the definitions
-pub Closed-some : {keys : List Key} {all : List Definition} (some : List Definition) → ((def : Definition) → In def some → In def all) → IsClosed keys all → IsClosed keys some
+pub Closed-some : {keys : List Key} {all : List Definition} (some : List Definition) → ((def : Definition) → In def some → In def all)
+    → IsClosed keys all → IsClosed keys some
 Closed-some {keys} {all} some within closed =
     record { mentioned = λ def has hit. closed.mentioned def (Contains-from_In all def (within def (In-from_Contains some def has))) hit }
 
@@ -49,8 +53,10 @@ Closed-same {keys} same closed = subst (λ (defs : List Definition). IsClosed ke
 pub Closed-clauses : {keys : List Key} (def : Definition) → IsClosed keys (def ∷ []) → list_any (has_key keys) def.outs ≡ true → HasKeys keys def.clauses
 Closed-clauses def closed hit = closed.mentioned def (Contains-from_In (def ∷ []) def (inl refl)) hit
 
-pub Closed-map : {keys : List Key} {X : Type 0} (f : X → Definition) (xs : List X) (i : ℕ) (x : X) → slice_get xs i ≡ Some x → IsClosed keys (map f xs) → IsClosed keys (f x ∷ [])
-Closed-map f xs i x at closed = Closed-some (f x ∷ []) (λ def has. elim has [ inl here ↦ subst (λ e. In e (map f xs)) here (In-map f x xs (in_place x xs i at)) | inr none ↦ absurd none ]) closed
+pub Closed-map : {keys : List Key} {X : Type 0} (f : X → Definition) (xs : List X) (i : ℕ) (x : X) → slice_get xs i ≡ Some x
+    → IsClosed keys (map f xs) → IsClosed keys (f x ∷ [])
+Closed-map f xs i x at closed = Closed-some (f x ∷ []) (λ def has. elim has
+    [ inl here ↦ subst (λ e. In e (map f xs)) here (In-map f x xs (in_place x xs i at)) | inr none ↦ absurd none ]) closed
 
 pub Closed-flat : {keys : List Key} {X : Type 0} (f : X → List Definition) (xs : List X) (x : X) → In x xs → IsClosed keys (flat_map f xs) → IsClosed keys (f x)
 Closed-flat f xs x has closed = Closed-some (f x) (λ def there. In-flat f def x xs has there) closed
@@ -60,16 +66,25 @@ Closed-below f n i lt closed = Closed-flat f (below n) i (In-below n i lt) close
 
 pub Closed-map_below : {keys : List Key} (f : ℕ → Definition) (n i : ℕ) → i < n → IsClosed keys (map f (below n)) → IsClosed keys (f i ∷ [])
 Closed-map_below f n i lt closed =
-    Closed-some (f i ∷ []) (λ def has. elim has [ inl here ↦ subst (λ e. In e (map f (below n))) here (In-map f i (below n) (In-below n i lt)) | inr none ↦ absurd none ]) closed
+    Closed-some (f i ∷ []) (λ def has. elim has [
+      | inl here ↦ subst (λ e. In e (map f (below n))) here (In-map f i (below n) (In-below n i lt))
+      | inr none ↦ absurd none
+    ]) closed
 
 number_in : {X A : Type 0} (f : ℕ → X → A) (xs : List X) (i : ℕ) (x : X) → slice_get xs i ≡ Some x → In (f i x) (numbered f 0 xs)
 number_in f xs i x at = let place : 0 + i ≡ i = omega arith in subst (λ (n : ℕ). In (f n x) (numbered f 0 xs)) place (in_numbered f 0 xs i x at)
 
-pub Closed-numbered : {keys : List Key} {X : Type 0} (f : ℕ → X → Definition) (xs : List X) (i : ℕ) (x : X) → slice_get xs i ≡ Some x → IsClosed keys (numbered f 0 xs) → IsClosed keys (f i x ∷ [])
+pub Closed-numbered : {keys : List Key} {X : Type 0} (f : ℕ → X → Definition) (xs : List X) (i : ℕ) (x : X) → slice_get xs i ≡ Some x
+    → IsClosed keys (numbered f 0 xs) → IsClosed keys (f i x ∷ [])
 Closed-numbered f xs i x at closed =
-    Closed-some (f i x ∷ []) (λ def has. elim has [ inl here ↦ subst (λ e. In e (numbered f 0 xs)) here (number_in f xs i x at) | inr none ↦ absurd none ]) closed
+    Closed-some (f i x ∷ []) (λ def has. elim has [
+      | inl here ↦ subst (λ e. In e (numbered f 0 xs)) here (number_in f xs i x at)
+      | inr none ↦
+          absurd none
+    ]) closed
 
-pub Closed-flat_numbered : {keys : List Key} {X : Type 0} (f : ℕ → X → List Definition) (xs : List X) (i : ℕ) (x : X) → slice_get xs i ≡ Some x → IsClosed keys (flat_map (λ (defs : List Definition). defs) (numbered f 0 xs)) → IsClosed keys (f i x)
+pub Closed-flat_numbered : {keys : List Key} {X : Type 0} (f : ℕ → X → List Definition) (xs : List X) (i : ℕ) (x : X) → slice_get xs i ≡ Some x
+    → IsClosed keys (flat_map (λ (defs : List Definition). defs) (numbered f 0 xs)) → IsClosed keys (f i x)
 Closed-flat_numbered f xs i x at closed = Closed-flat (λ (defs : List Definition). defs) (numbered f 0 xs) (f i x) (number_in f xs i x at) closed
 
 pub flat-push : {X A : Type 0} (f : X → List A) (xs : List X) (x : X) → flat_map f (xs ++ x ∷ []) ≡ flat_map f xs ++ f x
@@ -78,11 +93,13 @@ flat-push f xs x = flat_map-append f xs (x ∷ []) ∙ ap (λ ys. flat_map f xs 
 below-more : (n : ℕ) → below (n + 1) ≡ below n ++ n ∷ []
 below-more n = ap below (add-one n)
 
-pub Lists-below_more : {keys : List Key} (f : ℕ → List Definition) (i : ℕ) {old mid new : List (List ℕ)} → Lists keys (flat_map f (below i)) old mid → Lists keys (f i) mid new → Lists keys (flat_map f (below (i + 1))) old new
+pub Lists-below_more : {keys : List Key} (f : ℕ → List Definition) (i : ℕ) {old mid new : List (List ℕ)} → Lists keys (flat_map f (below i)) old mid
+    → Lists keys (f i) mid new → Lists keys (flat_map f (below (i + 1))) old new
 Lists-below_more f i before here =
     Lists-same (sym (ap (flat_map f) (below-more i) ∙ flat-push f (below i) i)) (Lists-append before here)
 
-pub Lists-map_below_more : {keys : List Key} (f : ℕ → Definition) (i : ℕ) {old mid new : List (List ℕ)} → Lists keys (map f (below i)) old mid → Lists keys (f i ∷ []) mid new → Lists keys (map f (below (i + 1))) old new
+pub Lists-map_below_more : {keys : List Key} (f : ℕ → Definition) (i : ℕ) {old mid new : List (List ℕ)} → Lists keys (map f (below i)) old mid
+    → Lists keys (f i ∷ []) mid new → Lists keys (map f (below (i + 1))) old new
 Lists-map_below_more f i before here =
     Lists-same (sym (ap (map f) (below-more i) ∙ map-append f (below i) (i ∷ []))) (Lists-append before here)
 

@@ -26,7 +26,9 @@ pub record IsMade (q : Query) (moved : List (List Bool)) (problem : Problem) : T
   pub few : length problem.frames < 2 ^ 31
   pub normals : AreNormalsOf (coded problem.frames (formula_over (definitions Rows q moved) (asked_clauses q) problem.frames)) problem.formula.clauses
 
-pub normals_made : (q : Query) (moved : List (List Bool)) (keys : List Key) (defined clauses : List (List ℕ)) → Lists keys (definitions Rows q moved) [] defined → Adds keys (asked_clauses q) defined clauses → AreNormalsOf (coded keys (formula_over (definitions Rows q moved) (asked_clauses q) keys)) clauses
+pub normals_made : (q : Query) (moved : List (List Bool)) (keys : List Key) (defined clauses : List (List ℕ))
+    → Lists keys (definitions Rows q moved) [] defined → Adds keys (asked_clauses q) defined clauses
+    → AreNormalsOf (coded keys (formula_over (definitions Rows q moved) (asked_clauses q) keys)) clauses
 normals_made q moved keys defined clauses lists adds =
     Adds-append keys (flat_map (listed keys) (definitions Rows q moved)) (asked_clauses q) [] defined clauses lists.adds adds [] tt
 
@@ -45,7 +47,8 @@ made_exact q moved problem made =
 
 pub made_normal : (q : Query) (moved : List (List Bool)) (problem : Problem) → IsMade q moved problem → IsFormula problem.formula
 made_normal q moved problem made =
-    let formed = normals_formed problem.frames (formula_over (definitions Rows q moved) (asked_clauses q) problem.frames) problem.formula.clauses (formula_keys (definitions Rows q moved) (asked_clauses q) problem.frames made.are_needed) made.normals in
+    let formed = normals_formed problem.frames (formula_over (definitions Rows q moved) (asked_clauses q) problem.frames) problem.formula.clauses
+    (formula_keys (definitions Rows q moved) (asked_clauses q) problem.frames made.are_needed) made.normals in
     record {
       few = omega (arith, made.few, made.vars);
       normal = formed.0;

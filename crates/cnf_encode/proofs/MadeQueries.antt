@@ -45,7 +45,10 @@ pub record IsOf (problem : Problem) (keys : List Key) (live cycles : ℕ) (claus
   pub few : length keys < 2 ^ 31
 
 -- a query with as many cycles, whose definitions and whose asked clauses were added
-pub made : (q : Query) (moved : List (List Bool)) (problem : Problem) (keys : List Key) (asked : List (List KeyLit)) (none defined clauses : List (List ℕ)) → AreMovedFor q.design q.question moved → IsOf problem keys q.live q.cycles clauses → AreNeeded (definitions Rows q moved) asked keys → asked ≡ asked_clauses q → none ≡ [] → Lists keys (definitions Rows q moved) none defined → Adds keys asked defined clauses → IsMade q moved problem
+pub made : (q : Query) (moved : List (List Bool)) (problem : Problem) (keys : List Key) (asked : List (List KeyLit))
+    (none defined clauses : List (List ℕ)) → AreMovedFor q.design q.question moved → IsOf problem keys q.live q.cycles clauses
+    → AreNeeded (definitions Rows q moved) asked keys → asked ≡ asked_clauses q → none ≡ [] → Lists keys (definitions Rows q moved) none defined
+    → Adds keys asked defined clauses → IsMade q moved problem
 made q moved problem keys asked none defined clauses are_moved of needed asked_are empty lists adds =
     let defs : List Definition = definitions Rows q moved in
     let needed_are : AreNeeded defs (asked_clauses q) keys = subst (λ (cs : List (List KeyLit)). AreNeeded defs cs keys) asked_are needed in
@@ -65,7 +68,8 @@ made q moved problem keys asked none defined clauses are_moved of needed asked_a
     }
 
 -- values of keys that are the same agree with the same cycles
-agrees_too : (d : Design) (keys : List Key) (v w : Key → Bool) (run : List Cycle) → ((k : Key) → Contains keys k → w k ≡ v k) → AgreesWith d keys v run → AgreesWith d keys w run
+agrees_too : (d : Design) (keys : List Key) (v w : Key → Bool) (run : List Cycle) → ((k : Key) → Contains keys k → w k ≡ v k)
+    → AgreesWith d keys v run → AgreesWith d keys w run
 agrees_too d keys v w run same agrees =
     record {
       nets = λ t c n at low has. same (key t 0 0 n) has ∙ agrees.nets t c n at low has;
@@ -85,12 +89,18 @@ complete q moved problem law is run answer =
           (λ k has. made.2 (number_of keys k) (number_from keys k) (rw is.vars (number_to keys k (In-from_Contains keys k has)))) found.2,
     )
 
-pub claim_complete : (d : Design) (claim : Claim) (phase : Phase) (depth : ℕ) (inv : List InvClause) (moved : List (List Bool)) (problem : Problem) → IsSound d → Fits d claim → All (NamesRegs d) inv → IsMade (claim_query d claim phase depth inv) moved problem → IsCompleteFor (claim_query d claim phase depth inv) problem
+pub claim_complete : (d : Design) (claim : Claim) (phase : Phase) (depth : ℕ) (inv : List InvClause) (moved : List (List Bool)) (problem : Problem)
+    → IsSound d → Fits d claim → All (NamesRegs d) inv → IsMade (claim_query d claim phase depth inv) moved problem
+    → IsCompleteFor (claim_query d claim phase depth inv) problem
 claim_complete d claim phase depth inv moved problem sound fits names is =
     complete (claim_query d claim phase depth inv) moved problem
-    (numbered_answers Rows (claim_query d claim phase depth inv) (claim_answers Rows d claim phase depth inv sound fits (λ i has. All-contains (NamesRegs d) inv i names has))) is
+    (numbered_answers Rows (claim_query d claim phase depth inv) (claim_answers Rows d claim phase depth inv sound fits
+    (λ i has. All-contains (NamesRegs d) inv i names has))) is
 
-pub clause_complete : (d : Design) (inv : List InvClause) (clause : InvClause) (phase : Phase) (depth : ℕ) (moved : List (List Bool)) (problem : Problem) → IsSound d → NamesRegs d clause → All (NamesRegs d) inv → IsMade (clause_query d inv clause phase depth) moved problem → IsCompleteFor (clause_query d inv clause phase depth) problem
+pub clause_complete : (d : Design) (inv : List InvClause) (clause : InvClause) (phase : Phase) (depth : ℕ) (moved : List (List Bool))
+    (problem : Problem) → IsSound d → NamesRegs d clause → All (NamesRegs d) inv → IsMade (clause_query d inv clause phase depth) moved problem
+    → IsCompleteFor (clause_query d inv clause phase depth) problem
 clause_complete d inv clause phase depth moved problem sound name names is =
     complete (clause_query d inv clause phase depth) moved problem
-    (numbered_answers Rows (clause_query d inv clause phase depth) (clause_answers Rows d inv clause phase depth sound name (λ i has. All-contains (NamesRegs d) inv i names has))) is
+    (numbered_answers Rows (clause_query d inv clause phase depth) (clause_answers Rows d inv clause phase depth sound name
+    (λ i has. All-contains (NamesRegs d) inv i names has))) is

@@ -51,7 +51,8 @@ asked_keys defs asked keys needed =
     all_in (All (HasKey keys)) asked (λ c in_asked. all_in (HasKey keys) c (λ l in_c. needed.all l.key (Asked l.key (mentioned asked c l in_asked in_c))))
 
 -- and the formula
-pub formula_keys : (defs : List Definition) (asked : List (List KeyLit)) (keys : List Key) → AreNeeded defs asked keys → HasKeys keys (formula_over defs asked keys)
+pub formula_keys : (defs : List Definition) (asked : List (List KeyLit)) (keys : List Key) → AreNeeded defs asked keys
+    → HasKeys keys (formula_over defs asked keys)
 formula_keys defs asked keys needed =
     all_in (All (HasKey keys)) (formula_over defs asked keys)
     (λ c in_formula.
@@ -61,7 +62,9 @@ formula_keys defs asked keys needed =
       | inr in_asked ↦ All-contains (All (HasKey keys)) asked c (asked_keys defs asked keys needed) (Contains-from_In asked c in_asked)
     ])
   where
-    of_listed : (def : Definition) (c : List KeyLit) → In def defs → (b : Bool) → list_any (has_key keys) def.outs ≡ b → In c (cond b def.clauses []) → All (HasKey keys) c
+    of_listed : (def : Definition) (c : List KeyLit) → In def defs → (b : Bool) → list_any (has_key keys) def.outs ≡ b → In c (cond b def.clauses [])
+        → All (HasKey keys) c
     of_listed def c in_defs true hit has =
-        All-contains (All (HasKey keys)) def.clauses c ((closed_from defs asked keys needed).mentioned def (Contains-from_In defs def in_defs) hit) (Contains-from_In def.clauses c has)
+        All-contains (All (HasKey keys)) def.clauses c ((closed_from defs asked keys needed).mentioned def (Contains-from_In defs def in_defs) hit)
+        (Contains-from_In def.clauses c has)
     of_listed def c in_defs false miss has = absurd has

@@ -48,7 +48,8 @@ left_out (l ∷ rest) (c ∷ cs) lits has (inl out) = inl (out.0, left_out rest 
 left_out (l ∷ rest) (c ∷ cs) lits has (inr taken) = inr (taken.0, left_out rest cs lits has taken.1)
 
 -- one more clause with its normal form
-pub added : (all clauses : List (List ℕ)) (lits clause : List ℕ) → IsNormalOf lits clause → AreNormalsOf all clauses → AreNormalsOf (all ++ lits ∷ []) (clauses ++ clause ∷ [])
+pub added : (all clauses : List (List ℕ)) (lits clause : List ℕ) → IsNormalOf lits clause → AreNormalsOf all clauses → AreNormalsOf (all ++ lits ∷ [])
+    (clauses ++ clause ∷ [])
 added [] [] lits clause normal are = inr (normal, tt)
 added [] (c ∷ cs) lits clause normal are = absurd are
 added (l ∷ rest) [] lits clause normal are = inl (are.0, added rest [] lits clause normal are.1)
@@ -64,6 +65,8 @@ coded-append keys [] b = refl
 coded-append keys (c ∷ a) b = ap (λ cs. map (code_of keys) c ∷ cs) (coded-append keys a b)
 
 -- these were added, and then those
-pub Adds-append : (keys : List Key) (a b : List (List KeyLit)) (old mid new : List (List ℕ)) → Adds keys a old mid → Adds keys b mid new → Adds keys (a ++ b) old new
+pub Adds-append : (keys : List Key) (a b : List (List KeyLit)) (old mid new : List (List ℕ)) → Adds keys a old mid → Adds keys b mid new
+    → Adds keys (a ++ b) old new
 Adds-append keys a b old mid new first then before are =
-    subst (λ all. AreNormalsOf all new) (append_assoc before (coded keys a) (coded keys b) ∙ ap (λ more. before ++ more) (sym (coded-append keys a b))) (then (before ++ coded keys a) (first before are))
+    subst (λ all. AreNormalsOf all new) (append_assoc before (coded keys a) (coded keys b) ∙ ap (λ more. before ++ more)
+    (sym (coded-append keys a b))) (then (before ++ coded keys a) (first before are))

@@ -1,5 +1,6 @@
 -- The table of the places of points, point by point.
-use Rattle.std.proofs.Common.{◌≡◌, ℕ, ◌+◌, ◌<◌, ◌≤◌, List, length, set, Option, Some, None, sym, ◌∙◌, ap, arith, inl, inr, get_or-set_other, get_or-set_same, length-set, subst, below_more}
+use Rattle.std.proofs.Common.{◌≡◌, ℕ, ◌+◌, ◌<◌, ◌≤◌, List, length, set, Option, Some, None, sym, ◌∙◌, ap, arith, inl, inr, get_or-set_other}
+use Rattle.std.proofs.Common.{get_or-set_same, length-set, subst, below_more}
 use Rattle.std.specs.Prelude.{slice_get}
 use Rattle.std.proofs.lemmas.Bool.{cases_eq}
 use Rattle.std.proofs.lemmas.Option.{slice_get_within}
@@ -12,7 +13,8 @@ pub record PlacesDone (points : List ℕ) (size k : ℕ) (table : List (Option �
   pub only : (p j : ℕ) → place_of table p ≡ Some j → slice_get points j ≡ Some p
 
 -- one more point
-pub places_more : (points : List ℕ) (size k p : ℕ) (table : List (Option ℕ)) → StandOnce points → p < size → slice_get points k ≡ Some p → PlacesDone points size k table → PlacesDone points size (k + 1) (set table p (Some k))
+pub places_more : (points : List ℕ) (size k p : ℕ) (table : List (Option ℕ)) → StandOnce points → p < size → slice_get points k ≡ Some p
+    → PlacesDone points size k table → PlacesDone points size (k + 1) (set table p (Some k))
 places_more points size k p table once low at done =
     record {
       len = length-set table p (Some k) ∙ done.len;
@@ -24,7 +26,8 @@ places_more points size k p table once low at done =
           subst (λ (n : ℕ). place_of (set table p (Some k)) n ≡ Some k) same (get_or-set_same table p (Some k) None (omega (arith, done.len))));
       only = λ q j found. elim (cases_eq q p) [
         | inl same ↦
-            let now : place_of (set table p (Some k)) q ≡ Some k = subst (λ (n : ℕ). place_of (set table p (Some k)) n ≡ Some k) (sym same) (get_or-set_same table p (Some k) None (omega (arith, done.len))) in
+            let now : place_of (set table p (Some k)) q ≡ Some k = subst (λ (n : ℕ). place_of (set table p (Some k)) n ≡ Some k) (sym same)
+            (get_or-set_same table p (Some k) None (omega (arith, done.len))) in
             let e : k ≡ j = cc in
             cc
         | inr other ↦ done.only q j (sym (get_or-set_other table p q (Some k) None other) ∙ found)

@@ -1,5 +1,6 @@
 -- Rows of places, key by key.
-use Rattle.std.proofs.Common.{◌≡◌, ℕ, suc, ◌+◌, ◌<◌, Bool, true, false, List, [], ◌∷◌, ◌++◌, length, map, set, take, Option, Some, None, refl, sym, ◌∙◌, ap, arith, inl, inr, ◌⊎◌, get_or-set_other, get_or-set_same, length-set, below_more, subst, get_or}
+use Rattle.std.proofs.Common.{◌≡◌, ℕ, suc, ◌+◌, ◌<◌, Bool, true, false, List, [], ◌∷◌, ◌++◌, length, map, set, take, Option, Some, None, refl, sym}
+use Rattle.std.proofs.Common.{◌∙◌, ap, arith, inl, inr, ◌⊎◌, get_or-set_other, get_or-set_same, length-set, below_more, subst, get_or}
 use Rattle.std.specs.Prelude.{slice_get, Contains, ◌==◌, ◌&&◌, ◌||◌}
 use Rattle.std.proofs.lemmas.Bool.{cases_eq, cases_lt, eqb-true, and_parts}
 use Rattle.std.proofs.lemmas.Option.{slice_get_within, slice_get-get_or, get_or_from_slice_get}
@@ -14,16 +15,22 @@ abbrev row : List (List ℕ) → ℕ → List ℕ
 row rows c = get_or rows c []
 
 -- a row is as before, or it is the one that has grown
-row-grown : (rows : List (List ℕ)) (c place e : ℕ) → (row (set rows c (row rows c ++ place ∷ [])) e ≡ row rows e) ⊎ ((e ≡ c) × (row (set rows c (row rows c ++ place ∷ [])) e ≡ row rows e ++ place ∷ []))
+row-grown : (rows : List (List ℕ)) (c place e : ℕ) → (row (set rows c (row rows c ++ place ∷ [])) e ≡ row rows e) ⊎
+    ((e ≡ c) × (row (set rows c (row rows c ++ place ∷ [])) e ≡ row rows e ++ place ∷ []))
 row-grown rows c place e = elim (cases_eq e c) [
   | inr other ↦ inl (get_or-set_other rows c e (row rows c ++ place ∷ []) [] other)
   | inl same ↦ elim (cases_lt c (length rows)) [
-    | inl low ↦ inr (same, subst (λ (n : ℕ). row (set rows c (row rows c ++ place ∷ [])) n ≡ row rows n ++ place ∷ []) (sym same) (get_or-set_same rows c (row rows c ++ place ∷ []) [] low))
+    | inl low ↦ inr (
+      same,
+      subst (λ (n : ℕ). row (set rows c (row rows c ++ place ∷ [])) n ≡ row rows n ++ place ∷ []) (sym same)
+          (get_or-set_same rows c (row rows c ++ place ∷ []) [] low),
+    )
     | inr past ↦ inl (ap (λ (rs : List (List ℕ)). row rs e) (set_past rows c (row rows c ++ place ∷ []) past))
   ]
 ]
 
-grown : (keys : List Key) (k : Key) (table : List (Option ℕ)) (cycles : ℕ) (rows : List (List ℕ)) (place : ℕ) → place_of table k.point ≡ Some place → ArePushed keys table cycles rows → ArePushed (keys ++ k ∷ []) table cycles (set rows k.cycle (row rows k.cycle ++ place ∷ []))
+grown : (keys : List Key) (k : Key) (table : List (Option ℕ)) (cycles : ℕ) (rows : List (List ℕ)) (place : ℕ) → place_of table k.point ≡ Some place
+    → ArePushed keys table cycles rows → ArePushed (keys ++ k ∷ []) table cycles (set rows k.cycle (row rows k.cycle ++ place ∷ []))
 grown keys k table cycles rows place at done =
     record {
       count = length-set rows k.cycle (row rows k.cycle ++ place ∷ []) ∙ done.count;
@@ -54,11 +61,13 @@ grown keys k table cycles rows place at done =
         let cycle : j.cycle ≡ k.cycle = ap (λ (x : Key). x.cycle) same in
         let point : place_of table j.point ≡ place_of table k.point = ap (λ (x : Key). place_of table x.point) same in
         let e : place ≡ other = cc in
-        let now : row after k.cycle ≡ row rows k.cycle ++ place ∷ [] = get_or-set_same rows k.cycle (row rows k.cycle ++ place ∷ []) [] (omega (arith, done.count)) in
+        let now : row after k.cycle ≡ row rows k.cycle ++ place ∷ [] = get_or-set_same rows k.cycle (row rows k.cycle ++ place ∷ []) []
+        (omega (arith, done.count)) in
         subst (λ (c : ℕ). Contains (row after c) other) (sym cycle)
         (subst (λ (n : ℕ). Contains (row after k.cycle) n) e (subst (λ (ns : List ℕ). Contains ns place) (sym now) (Contains-push (row rows k.cycle) place)))
 
-pushed : (keys : List Key) (k : Key) (table : List (Option ℕ)) (cycles : ℕ) (rows : List (List ℕ)) (o : Option ℕ) → place_of table k.point ≡ o → ArePushed keys table cycles rows → ArePushed (keys ++ k ∷ []) table cycles (with_place rows k.cycle o)
+pushed : (keys : List Key) (k : Key) (table : List (Option ℕ)) (cycles : ℕ) (rows : List (List ℕ)) (o : Option ℕ) → place_of table k.point ≡ o
+    → ArePushed keys table cycles rows → ArePushed (keys ++ k ∷ []) table cycles (with_place rows k.cycle o)
 pushed keys k table cycles rows (Some place) at done = grown keys k table cycles rows place at done
 pushed keys k table cycles rows None at done =
     record {
@@ -71,16 +80,21 @@ pushed keys k table cycles rows None at done =
     }
 
 -- the row of a cycle, with a place pushed
-pub pushed_at : {V : Type 0} (items : V → List ℕ) (rows : List V) (c place : ℕ) (o : Option ℕ) (before after : V) → c < length rows → before ≡ get_or rows c before → items after ≡ items before ++ place ∷ [] → o ≡ Some place → map items (set rows c after) ≡ with_place (map items rows) c o
+pub pushed_at : {V : Type 0} (items : V → List ℕ) (rows : List V) (c place : ℕ) (o : Option ℕ) (before after : V) → c < length rows
+    → before ≡ get_or rows c before → items after ≡ items before ++ place ∷ [] → o ≡ Some place → map items (set rows c after) ≡ with_place
+    (map items rows) c o
 pushed_at items rows c place o before after low at grows is =
     let there : get_or (map items rows) c [] ≡ items before = get_or-map items rows c before [] low ∙ ap items (sym at) in
     rw is (map-set items rows c after ∙ ap (λ (ns : List ℕ). set (map items rows) c ns) (grows ∙ ap (λ (ns : List ℕ). ns ++ place ∷ []) (sym there)))
 
 -- one more key
-pub pushed_more : (keys : List Key) (n : ℕ) (k : Key) (table : List (Option ℕ)) (cycles : ℕ) (rows : List (List ℕ)) → slice_get keys n ≡ Some k → ArePushed (take n keys) table cycles rows → ArePushed (take (n + 1) keys) table cycles (with_place rows k.cycle (place_of table k.point))
+pub pushed_more : (keys : List Key) (n : ℕ) (k : Key) (table : List (Option ℕ)) (cycles : ℕ) (rows : List (List ℕ)) → slice_get keys n ≡ Some k
+    → ArePushed (take n keys) table cycles rows → ArePushed (take (n + 1) keys) table cycles (with_place rows k.cycle (place_of table k.point))
 pushed_more keys n k table cycles rows at done =
-    let e : take (n + 1) keys ≡ take n keys ++ k ∷ [] = take_more keys n k (slice_get_within keys n k at) ∙ ap (λ (x : Key). take n keys ++ x ∷ []) (get_or_from_slice_get keys n k k at) in
-    subst (λ (ks : List Key). ArePushed ks table cycles (with_place rows k.cycle (place_of table k.point))) (sym e) (pushed (take n keys) k table cycles rows (place_of table k.point) refl done)
+    let e : take (n + 1) keys ≡ take n keys ++ k ∷ [] = take_more keys n k (slice_get_within keys n k at) ∙ ap (λ (x : Key). take n keys ++ x ∷ [])
+    (get_or_from_slice_get keys n k k at) in
+    subst (λ (ks : List Key). ArePushed ks table cycles (with_place rows k.cycle (place_of table k.point))) (sym e)
+    (pushed (take n keys) k table cycles rows (place_of table k.point) refl done)
 
 -- the key of a number from 1 on, by its place
 pub numbered_at : (keys : List Key) (n : ℕ) → key_of keys (n + 1) ≡ slice_get keys n
@@ -91,7 +105,8 @@ numbered_there [] n lt none = omega arith
 numbered_there (k ∷ keys) n lt none = let at = slice_get-get_or (k ∷ keys) n k lt in let e = numbered_at (k ∷ keys) n in cc
 
 -- one more row in order
-pub ordered_more : (found rows : List (List ℕ)) (n : ℕ) (next : List ℕ) → length rows ≡ n → IsInOrder (row found n) next → ((c : ℕ) → c < n → IsInOrder (row found c) (row rows c)) → (c : ℕ) → c < n + 1 → IsInOrder (row found c) (row (rows ++ next ∷ []) c)
+pub ordered_more : (found rows : List (List ℕ)) (n : ℕ) (next : List ℕ) → length rows ≡ n → IsInOrder (row found n) next
+    → ((c : ℕ) → c < n → IsInOrder (row found c) (row rows c)) → (c : ℕ) → c < n + 1 → IsInOrder (row found c) (row (rows ++ next ∷ []) c)
 ordered_more found rows n next len order done =
     below_more (λ c. IsInOrder (row found c) (row (rows ++ next ∷ []) c)) n
     (λ c lt. subst (λ (ns : List ℕ). IsInOrder (row found c) ns) (sym (get_or_append_left rows (next ∷ []) [] c (omega (arith, len)))) (done c lt))
@@ -114,7 +129,8 @@ key_about (k ∷ keys) c p has = elim (either ((k.cycle == c) && (k.point == p))
     either false b e = inr e
 
 -- the rows, each in order, are what the keys are about
-pub rows_cover : (keys : List Key) (points : List ℕ) (size cycles : ℕ) (table : List (Option ℕ)) (found rows : List (List ℕ)) → ArePlaces points size table → ArePushed keys table cycles found → AreInOrder found rows → AreRows keys points cycles rows
+pub rows_cover : (keys : List Key) (points : List ℕ) (size cycles : ℕ) (table : List (Option ℕ)) (found rows : List (List ℕ))
+    → ArePlaces points size table → ArePushed keys table cycles found → AreInOrder found rows → AreRows keys points cycles rows
 rows_cover keys points size cycles table found rows places pushed_all ordered =
     record {
       count = ordered.count ∙ pushed_all.count;

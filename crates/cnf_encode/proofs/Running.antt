@@ -1,5 +1,6 @@
 -- The cycles that are read back: those that the stimulus of a model stands for.
-use Rattle.std.proofs.Common.{◌≡◌, ℕ, zero, suc, ◌+◌, ◌<◌, Bool, List, [], ◌∷◌, ◌++◌, length, length-append, get_or, option_map, Some, refl, ap, sym, ◌∙◌, arith, ◌⊎◌, inl, inr, subst}
+use Rattle.std.proofs.Common.{◌≡◌, ℕ, zero, suc, ◌+◌, ◌<◌, Bool, List, [], ◌∷◌, ◌++◌, length, length-append, get_or, option_map, Some, refl, ap, sym}
+use Rattle.std.proofs.Common.{◌∙◌, arith, ◌⊎◌, inl, inr, subst}
 use Rattle.std.specs.Prelude.{All, map, slice_get, nat_lt}
 use Rattle.std.proofs.lemmas.List.{length-map}
 use Rattle.std.proofs.lemmas.Option.{slice_get_within, slice_get-get_or, slice_get-map, same_Some}
@@ -31,7 +32,8 @@ pub record InputsSoFar (d : Design) (keys : List Key) (values : List Bool) (live
   pub count : length rows ≡ t
   pub each : (k : ℕ) (ins : List Bool) → slice_get rows k ≡ Some ins → AreInputsAt d keys values live k ins
 
-pub inputs_more : (d : Design) (keys : List Key) (values : List Bool) (live : ℕ) (rows : List (List Bool)) (t : ℕ) (ins : List Bool) → AreInputsAt d keys values live t ins
+pub inputs_more : (d : Design) (keys : List Key) (values : List Bool) (live : ℕ) (rows : List (List Bool)) (t : ℕ) (ins : List Bool)
+    → AreInputsAt d keys values live t ins
     → InputsSoFar d keys values live rows t → InputsSoFar d keys values live (rows ++ ins ∷ []) (t + 1)
 inputs_more d keys values live rows t ins is done =
     record {
@@ -46,7 +48,8 @@ inputs_more d keys values live rows t ins is done =
     }
 
 -- linked cycles can be made of it
-pub linkable : (d : Design) (keys : List Key) (values : List Bool) (live cycles : ℕ) (s : Stimulus) → 0 < cycles → IsStimulusOf d keys values live cycles s → IsLinkable d s
+pub linkable : (d : Design) (keys : List Key) (values : List Bool) (live cycles : ℕ) (s : Stimulus) → 0 < cycles
+    → IsStimulusOf d keys values live cycles s → IsLinkable d s
 linkable d keys values live cycles s some is =
     record {
       state = is.state.count;
@@ -66,7 +69,8 @@ pub record IsReadBack (d : Design) (keys : List Key) (values : List Bool) (live 
 abbrev ins_of : Cycle → List Bool
 ins_of c = c.ins
 
-pub is_read_back : (d : Design) (keys : List Key) (values : List Bool) (live cycles : ℕ) (s : Stimulus) (run : List Cycle) → IsStimulusOf d keys values live cycles s
+pub is_read_back : (d : Design) (keys : List Key) (values : List Bool) (live cycles : ℕ) (s : Stimulus) (run : List Cycle)
+    → IsStimulusOf d keys values live cycles s
     → IsLinked d run → StandsFor s run → IsReadBack d keys values live cycles run
 is_read_back d keys values live cycles s run is linked stands =
     record {
@@ -77,7 +81,8 @@ is_read_back d keys values live cycles s run is linked stands =
           is.inputs k c.ins (ap (λ (rows : List (List Bool)). slice_get rows k) (sym stands.inputs) ∙ (slice_get-map ins_of run k ∙ ap (option_map ins_of) at));
     }
 
-pub run_resets : (d : Design) (keys : List Key) (values : List Bool) (live cycles : ℕ) (run : List Cycle) → IsReadBack d keys values live cycles run → (k : ℕ) (c : Cycle)
+pub run_resets : (d : Design) (keys : List Key) (values : List Bool) (live cycles : ℕ) (run : List Cycle) → IsReadBack d keys values live cycles run
+    → (k : ℕ) (c : Cycle)
     → slice_get run k ≡ Some c → HasResets d (nat_lt k live) c
 run_resets d keys values live cycles run is k c at = (is.inputs k c at).lawful.resets
 
@@ -90,7 +95,8 @@ run_free d keys values live cycles run is =
       inputs = λ k c i at low fixed reset has. sym ((is.inputs k c at).free i low fixed reset ∙ value_listed keys values (input_key d k i) has);
     }
 
-pub run_zeros : (d : Design) (keys : List Key) (values : List Bool) (live cycles : ℕ) (run : List Cycle) → IsReadBack d keys values live cycles run → HasZeros d keys run
+pub run_zeros : (d : Design) (keys : List Key) (values : List Bool) (live cycles : ℕ) (run : List Cycle) → IsReadBack d keys values live cycles run
+    → HasZeros d keys run
 run_zeros d keys values live cycles run is =
     record {
       bits = λ c r at low none. (is.first c at).each r low ∙ value_not keys values (bit_key d 0 r) none;

@@ -73,8 +73,14 @@ below_at n j lt =
 -- of register bits
 pub bit_at_place : (d : Design) (j p : ℕ) → slice_get (bit_points d) j ≡ Some p → (p ≡ d.nets + j) × (j < length d.regs)
 bit_at_place d j p at =
-    let lt : j < length d.regs = omega (arith, slice_get_within (bit_points d) j p at, length-map (below (length d.regs)) (λ r. d.nets + r), length-below (length d.regs)) in
-    let is : slice_get (bit_points d) j ≡ Some (d.nets + j) = slice_get-map (λ r. d.nets + r) (below (length d.regs)) j ∙ ap (option_map (λ r. d.nets + r)) (below_at (length d.regs) j lt) in
+    let lt : j < length d.regs = omega (
+      arith,
+      slice_get_within (bit_points d) j p at,
+      length-map (below (length d.regs)) (λ r. d.nets + r),
+      length-below (length d.regs),
+    ) in
+    let is : slice_get (bit_points d) j ≡ Some (d.nets + j) = slice_get-map (λ r. d.nets + r) (below (length d.regs)) j
+    ∙ ap (option_map (λ r. d.nets + r)) (below_at (length d.regs) j lt) in
     (cc, lt)
 
 pub bits_once : (d : Design) → StandOnce (bit_points d)

@@ -50,7 +50,8 @@ barred-chosen (h ∷ hs) (l ∷ ls) (Unknown ∷ ts) = barred-chosen hs ls ts
 
 code-opposite : (keys : List Key) (l : KeyLit) → code_of keys (opposite l) ≡ negated (code_of keys l)
 code-opposite keys l = by_sign l.positive where
-  by_sign : (b : Bool) → cond (not b) (2 * number_of keys l.key) (2 * number_of keys l.key + 1) ≡ negated (cond b (2 * number_of keys l.key) (2 * number_of keys l.key + 1))
+  by_sign : (b : Bool) → cond (not b) (2 * number_of keys l.key) (2 * number_of keys l.key + 1) ≡ negated
+      (cond b (2 * number_of keys l.key) (2 * number_of keys l.key + 1))
   by_sign true = sym (negated_even (2 * number_of keys l.key) (omega arith))
   by_sign false =
       let odd : (2 * number_of keys l.key + 1) % 2 ≡ 0 → ⊥ = λ e. omega arith in
@@ -63,7 +64,8 @@ codes-opposite keys (l ∷ ls) =
     ap (λ xs. code_of keys (opposite l) ∷ xs) (codes-opposite keys ls) ∙ ap (λ (x : ℕ). x ∷ map negated (map (code_of keys) ls)) (code-opposite keys l)
 
 -- the codes of a row's clause
-pub cube_codes : (keys : List Key) (reads : List KeyLit) (out : Key) (cube : Cube) → map (code_of keys) (cube_clause reads (lit true out) cube) ≡ chosen (map (code_of keys) reads) (map negated (map (code_of keys) reads)) cube.fixed ++ code_of keys (lit cube.value out) ∷ []
+pub cube_codes : (keys : List Key) (reads : List KeyLit) (out : Key) (cube : Cube) → map (code_of keys) (cube_clause reads (lit true out) cube) ≡
+    chosen (map (code_of keys) reads) (map negated (map (code_of keys) reads)) cube.fixed ++ code_of keys (lit cube.value out) ∷ []
 cube_codes keys reads out cube =
     map-append (code_of keys) (outside reads cube.fixed) (flipped (not cube.value) (lit true out))
     ∙ ap (λ (xs : List ℕ). xs ++ code_of keys (flipped (not cube.value) (lit true out)) ∷ []) front
@@ -78,7 +80,8 @@ cube_codes keys reads out cube =
         ap (map (code_of keys)) (outside-chosen reads cube.fixed) ∙ map-chosen (code_of keys) reads (map opposite reads) cube.fixed
         ∙ ap (λ (os : List ℕ). chosen (map (code_of keys) reads) os cube.fixed) (codes-opposite keys reads)
 
-pub may_codes : (keys : List Key) (hs ls : List KeyLit) (high low : KeyLit) (cube : Cube) → map (code_of keys) (may_clause hs ls high low cube) ≡ chosen (map negated (map (code_of keys) ls)) (map negated (map (code_of keys) hs)) cube.fixed ++ code_of keys (may_be cube.value high low) ∷ []
+pub may_codes : (keys : List Key) (hs ls : List KeyLit) (high low : KeyLit) (cube : Cube) → map (code_of keys) (may_clause hs ls high low cube) ≡
+    chosen (map negated (map (code_of keys) ls)) (map negated (map (code_of keys) hs)) cube.fixed ++ code_of keys (may_be cube.value high low) ∷ []
 may_codes keys hs ls high low cube =
     map-append (code_of keys) (barred hs ls cube.fixed) (may_be cube.value high low)
     ∙ ap (λ (xs : List ℕ). xs ++ code_of keys (may_be cube.value high low) ∷ [])
@@ -86,7 +89,8 @@ may_codes keys hs ls high low cube =
     ∙ ap (λ (zs : List ℕ). chosen zs (map (code_of keys) (map opposite hs)) cube.fixed) (codes-opposite keys ls)
     ∙ ap (λ (os : List ℕ). chosen (map negated (map (code_of keys) ls)) os cube.fixed) (codes-opposite keys hs))
 
-pub must_codes : (keys : List Key) (hs ls : List KeyLit) (high low : KeyLit) (cube : Cube) → map (code_of keys) (must_clause hs ls high low cube) ≡ chosen (map (code_of keys) hs) (map (code_of keys) ls) cube.fixed ++ code_of keys (opposite (may_be (not cube.value) high low)) ∷ []
+pub must_codes : (keys : List Key) (hs ls : List KeyLit) (high low : KeyLit) (cube : Cube) → map (code_of keys) (must_clause hs ls high low cube) ≡
+    chosen (map (code_of keys) hs) (map (code_of keys) ls) cube.fixed ++ code_of keys (opposite (may_be (not cube.value) high low)) ∷ []
 must_codes keys hs ls high low cube =
     map-append (code_of keys) (escapes hs ls cube.fixed) (opposite (may_be (not cube.value) high low))
     ∙ ap (λ (xs : List ℕ). xs ++ code_of keys (opposite (may_be (not cube.value) high low)) ∷ [])

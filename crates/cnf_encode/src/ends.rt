@@ -148,7 +148,8 @@ fn list_late_reg(
     requires tables { AreTables design.now claim.now tables.now }
     requires place { r < length design.now.regs }
     requires closed { IsClosed frames.now (late_reg Rows design.now claim.now tables.now.moved cycle r (slice_get design.now.regs r)) }
-    ensures { OnOk result (Lists frames.now (late_reg Rows design.now claim.now tables.now.moved cycle r (slice_get design.now.regs r)) clauses.old clauses.new) }
+    ensures { OnOk result (Lists frames.now (late_reg Rows design.now claim.now tables.now.moved cycle r (slice_get design.now.regs r)) clauses.old
+        clauses.new) }
 {
     let reg = design.regs.item(r);
     if claim.hazard {

@@ -79,7 +79,8 @@ fn push_key(
     key: &Key,
     rows: &mut Vec<Vec<usize>>,
 ) -> Result<(), AllocError>
-    ensures { OnOk result (map (λ r. r.items) rows.new.items ≡ with_place (map (λ r. r.items) rows.old.items) key.now.cycle (place_of places.now key.now.point)) }
+    ensures { OnOk result (map (λ r. r.items) rows.new.items ≡ with_place (map (λ r. r.items) rows.old.items) key.now.cycle
+        (place_of places.now key.now.point)) }
 {
     if key.point < places.len() && key.cycle < rows.len() {
         if let Some(place) = places.at(key.point) {

@@ -77,13 +77,16 @@ flop_over parts more name conns inputs flop lawful over e =
       names = length-append parts.names (name ∷ []) ∙ ap (λ n. n + 1) over.names ∙ sym (length-append parts.regs (reg ∷ []));
     })
 
-kind_over : (parts more : Parts) (name : List ℕ) (conns : List Conn) (inputs : List (List ℕ)) (k : CellKind) → IsLawfulKind (length inputs) k → ArePartsOver parts
-    → (elim k [ kind.Comb outs ↦ with_comb parts conns inputs outs | kind.Flop flop ↦ with_flop parts name conns inputs flop | kind.Other ↦ None ]) ≡ Some more → ArePartsOver more
+kind_over : (parts more : Parts) (name : List ℕ) (conns : List Conn) (inputs : List (List ℕ)) (k : CellKind) → IsLawfulKind (length inputs) k
+    → ArePartsOver parts
+    → (elim k [ kind.Comb outs ↦ with_comb parts conns inputs outs | kind.Flop flop ↦ with_flop parts name conns inputs flop | kind.Other ↦ None ]) ≡
+    Some more → ArePartsOver more
 kind_over parts more name conns inputs (kind.Comb outs) lawful over e = comb_over parts more conns inputs outs lawful over e
 kind_over parts more name conns inputs (kind.Flop flop) lawful over e = flop_over parts more name conns inputs flop lawful over e
 kind_over parts more name conns inputs kind.Other lawful over e = absurd (grind arith)
 
-item_over : (cells : List Cell) (parts more : Parts) (i : Item) → All IsLawfulCell cells → ArePartsOver parts → with_item cells parts i ≡ Some more → ArePartsOver more
+item_over : (cells : List Cell) (parts more : Parts) (i : Item) → All IsLawfulCell cells → ArePartsOver parts → with_item cells parts i ≡ Some more
+    → ArePartsOver more
 item_over cells parts more (item.Inst cell name conns) lawful over e =
     let (c, named, e1) = bind_gave (cell_named cells cell) _ more e in
     let (place, placed, at) = bind_gave (place_of_cell cells cell) _ c named in
@@ -91,7 +94,8 @@ item_over cells parts more (item.Inst cell name conns) lawful over e =
 item_over cells parts more (item.Prim k name outs ins) lawful over e = absurd (grind arith)
 item_over cells parts more (item.Copy to from) lawful over e = absurd (grind arith)
 
-pub parts_over : (cells : List Cell) (parts more : Parts) (items : List Item) → All IsLawfulCell cells → ArePartsOver parts → parts_from cells parts items ≡ Some more → ArePartsOver more
+pub parts_over : (cells : List Cell) (parts more : Parts) (items : List Item) → All IsLawfulCell cells → ArePartsOver parts
+    → parts_from cells parts items ≡ Some more → ArePartsOver more
 unfolding parts_from
 parts_over cells parts more [] lawful over e = subst ArePartsOver (some_same parts more e) over
 parts_over cells parts more (i ∷ items) lawful over e =

@@ -57,7 +57,8 @@ take_from a zero (suc k) le = absurd (omega arith)
 take_from a (suc n) (suc k) le = ap (λ l. a ∷ l) (take_from (a + 1) n k (omega arith))
 
 -- numbers that are given in order
-pub each_from : (give : ℕ → Option ℕ) (xs : List ℕ) (a : ℕ) → ((i : ℕ) → i < length xs → give (get_or xs i 0) ≡ Some (a + i)) → each give xs ≡ Some (from a (length xs))
+pub each_from : (give : ℕ → Option ℕ) (xs : List ℕ) (a : ℕ) → ((i : ℕ) → i < length xs → give (get_or xs i 0) ≡ Some (a + i))
+    → each give xs ≡ Some (from a (length xs))
 unfolding each from
 each_from give [] a gives = refl
 each_from give (x ∷ xs) a gives =

@@ -1,5 +1,6 @@
 -- A flat design is sound.
-use Rattle.std.proofs.Common.{arith, ◌≡◌, ℕ, ◌+◌, ◌<◌, ◌≤◌, ◌==◌, nat_le, true, List, [], ◌∷◌, ◌++◌, length, take, get_or, All, sym, ap, ◌∙◌, subst, length-append}
+use Rattle.std.proofs.Common.{arith, ◌≡◌, ℕ, ◌+◌, ◌<◌, ◌≤◌, ◌==◌, nat_le, true, List, [], ◌∷◌, ◌++◌, length, take, get_or, All, sym, ap, ◌∙◌, subst}
+use Rattle.std.proofs.Common.{length-append}
 use Rattle.std.specs.Prelude.{Some, Contains, count_by, flat_map, Result, Ok, Err, IfOk}
 use Rattle.std.proofs.lemmas.Bool.{and_parts}
 use Rattle.std.proofs.lemmas.Bool.Decides.{nat_tests}
@@ -112,7 +113,8 @@ sizes d e =
     }
 
 -- the nets that are driven before gate k are the first numbers
-before_gate : (d : Design) (n k : ℕ) → driven_nets d ≡ from 0 n → length (source_nets d) + k ≤ n → source_nets d ++ gate_nets (take k d.gates) ≡ from 0 (length (source_nets d) + k)
+before_gate : (d : Design) (n k : ℕ) → driven_nets d ≡ from 0 n → length (source_nets d) + k ≤ n → source_nets d
+    ++ gate_nets (take k d.gates) ≡ from 0 (length (source_nets d) + k)
 before_gate d n k all within =
     ap (λ l. source_nets d ++ l) (sym (take-map (λ (g : Gate). g.out) k d.gates)) ∙ sym (take-append-add (source_nets d) (gate_nets d.gates) k)
     ∙ ap (take (length (source_nets d) + k)) all ∙ take_from 0 n (length (source_nets d) + k) within
@@ -121,21 +123,25 @@ in_order : (d : Design) (n : ℕ) → driven_nets d ≡ from 0 n → All (GateKn
 in_order d n all known k g at =
     let s : ℕ = length (source_nets d) in
     let here : k < length d.gates = slice_get_within d.gates k g at in
-    let count : s + length d.gates ≡ n = ap (λ m. s + m) (sym (length-map d.gates (λ (g : Gate). g.out))) ∙ sym (length-append (source_nets d) (gate_nets d.gates)) ∙ ap length all ∙ length-from 0 n in
+    let count : s + length d.gates ≡ n = ap (λ m. s + m) (sym (length-map d.gates (λ (g : Gate). g.out)))
+    ∙ sym (length-append (source_nets d) (gate_nets d.gates)) ∙ ap length all ∙ length-from 0 n in
     let out : g.out ≡ s + k =
-    sym (ap (λ (h : Gate). h.out) (get_or_from_slice_get d.gates k g g at)) ∙ sym (get_or-map (λ (h : Gate). h.out) d.gates k g 0 here) ∙ sym (get_or-append-add (source_nets d) (gate_nets d.gates) k 0)
+    sym (ap (λ (h : Gate). h.out) (get_or_from_slice_get d.gates k g g at)) ∙ sym (get_or-map (λ (h : Gate). h.out) d.gates k g 0 here)
+    ∙ sym (get_or-append-add (source_nets d) (gate_nets d.gates) k 0)
     ∙ ap (λ l. get_or l (s + k) 0) all ∙ get_or-from 0 n (s + k) 0 (omega (arith, here, count)) ∙ omega arith in
     let knows = All-at (GateKnown n) d.gates k g at known in
     λ i d0 lt.
     let below : get_or g.ins i d0 < s + k = omega (arith, knows.before i d0 lt, out) in
-    subst (λ l. Contains l (get_or g.ins i d0)) (sym (before_gate d n k all (omega (arith, here, count)))) (contains_from 0 (s + k) (get_or g.ins i d0) (omega arith) (omega (arith, below)))
+    subst (λ l. Contains l (get_or g.ins i d0)) (sym (before_gate d n k all (omega (arith, here, count))))
+    (contains_from 0 (s + k) (get_or g.ins i d0) (omega arith) (omega (arith, below)))
 
 -- a design without fixed inputs and resets
 abbrev made : ℕ → List Gate → List Reg → List ℕ → List ℕ → Design
 made n gates regs inputs outs = record { nets = n; gates = gates; regs = regs; inputs = inputs; outputs = outs; fixed = []; resets = []; reset_len = 0 }
 
 made_is_sound : (n : ℕ) (gates : List Gate) (regs : List Reg) (inputs outs : List ℕ) → driven_nets (made n gates regs inputs outs) ≡ from 0 n
-    → All (GateKnown n) gates → All (RegKnown n) regs → AllBelow n inputs → AllBelow n outs → is_small (made n gates regs inputs outs) ≡ true → IsSound (made n gates regs inputs outs)
+    → All (GateKnown n) gates → All (RegKnown n) regs → AllBelow n inputs → AllBelow n outs → is_small (made n gates regs inputs outs) ≡ true
+    → IsSound (made n gates regs inputs outs)
 made_is_sound n gates regs inputs outs all known_gates known_regs known_inputs known_outs fits =
     let d : Design = made n gates regs inputs outs in
     let size = sizes d fits in
@@ -176,16 +182,20 @@ parts_design_is_sound inputs outs parts d over new e fits =
     let (regs, made_regs, e3) = bind_gave (each (numbered_reg drivers) parts.regs) _ d e2 in
     let (os, read_outs, e4) = bind_gave (each (driven drivers) outs) _ d e3 in
     let is : made n gates regs ins os ≡ d = some_same _ d e4 in
-    let sources = each_both (driven drivers) inputs (flat_map reg_nets parts.regs) ins (flat_map reg_nets regs) read_ins (regs_are drivers parts.regs regs made_regs) in
-    let every = each_both (driven drivers) (inputs ++ flat_map reg_nets parts.regs) (gate_nets parts.gates) (ins ++ flat_map reg_nets regs) (gate_nets gates) sources (gates_are drivers parts.gates gates made_gates) in
+    let sources = each_both (driven drivers) inputs (flat_map reg_nets parts.regs) ins (flat_map reg_nets regs) read_ins
+    (regs_are drivers parts.regs regs made_regs) in
+    let every = each_both (driven drivers) (inputs ++ flat_map reg_nets parts.regs) (gate_nets parts.gates) (ins ++ flat_map reg_nets regs)
+    (gate_nets gates) sources (gates_are drivers parts.gates gates made_gates) in
     let all : driven_nets (made n gates regs ins os) ≡ from 0 n = some_same _ _ (sym every ∙ all_places drivers new) in
     let known_gates = each_all IsGateOver (GateKnown n) (numbered_gate drivers) (gate_known drivers) parts.gates gates over.gates made_gates in
     let known_regs = each_all IsRegOver (RegKnown n) (numbered_reg drivers) (reg_known drivers) parts.regs regs over.regs made_regs in
     let names : length parts.names ≡ length regs = over.names ∙ sym (each_length (numbered_reg drivers) parts.regs regs made_regs) in
-    let sound = made_is_sound n gates regs ins os all known_gates known_regs (numbers_below drivers inputs ins read_ins) (numbers_below drivers outs os read_outs) (ap is_small is ∙ fits) in
+    let sound = made_is_sound n gates regs ins os all known_gates known_regs (numbers_below drivers inputs ins read_ins)
+    (numbers_below drivers outs os read_outs) (ap is_small is ∙ fits) in
     (subst IsSound is sound, names ∙ ap (λ (d : Design). length d.regs) is)
 
-module_is_sound : (m : Module) (clock : ℕ) (parts : Parts) (d : Design) → ArePartsOver parts → module_design m clock parts ≡ Some d → IsSound d × (length parts.names ≡ length d.regs)
+module_is_sound : (m : Module) (clock : ℕ) (parts : Parts) (d : Design) → ArePartsOver parts → module_design m clock parts ≡ Some d → IsSound d
+    × (length parts.names ≡ length d.regs)
 unfolding module_design good_drivers small
 module_is_sound m clock parts d over e =
     let inputs : List ℕ = ports.data_inputs m.ports clock in
@@ -194,7 +204,8 @@ module_is_sound m clock parts d over e =
     let (fits, same) = if_inverted (is_small whole) whole d e2 in
     let (tests, is) = if_inverted _ (drivers_of inputs parts) drivers good in
     let (new, others) = and_parts (are_new [] (drivers_of inputs parts)) _ tests in
-    parts_design_is_sound inputs (ports.outputs m.ports) parts d over new (ap (λ l. design_of inputs (ports.outputs m.ports) l parts) is ∙ made_whole ∙ ap Some same) (sym (ap is_small same) ∙ fits)
+    parts_design_is_sound inputs (ports.outputs m.ports) parts d over new (ap (λ l. design_of inputs (ports.outputs m.ports) l parts) is ∙ made_whole
+    ∙ ap Some same) (sym (ap is_small same) ∙ fits)
 
 pub flat_is_sound : (cells : List Cell) (clock : List ℕ) (m : Module) (flat : Flat) → All IsLawfulCell cells → flat_of_module cells clock m ≡ Some flat
     → IsSound flat.design × (length flat.regs ≡ length flat.design.regs)
@@ -209,7 +220,8 @@ flat_is_sound cells clock m flat lawful e =
     (subst (λ (f : Flat). IsSound f.design) is sound, subst (λ (f : Flat). length f.regs ≡ length f.design.regs) is names)
 
 -- the same of what the call answers
-pub answer_is_sound : (cells : List Cell) (clock : List ℕ) (m : Module) (r : Result Flat FlatFault) → All IsLawfulCell cells → Gives Fails (λ flat. flat) r (flat_of_module cells clock m)
+pub answer_is_sound : (cells : List Cell) (clock : List ℕ) (m : Module) (r : Result Flat FlatFault) → All IsLawfulCell cells
+    → Gives Fails (λ flat. flat) r (flat_of_module cells clock m)
     → IfOk r (λ flat. IsSound flat.design) × IfOk r (λ flat. length flat.regs ≡ length flat.design.regs)
 answer_is_sound cells clock m (Ok flat) lawful gives = flat_is_sound cells clock m flat lawful gives
 answer_is_sound cells clock m (Err e) lawful gives = (tt, tt)

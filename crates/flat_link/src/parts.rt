@@ -187,7 +187,15 @@ fn has_pins(conns: usize, inputs: usize, outs: usize) -> bool
 
 /// The register that a flop is, over these nets.
 fn reg_of(alloc: Global, flop: &Flop, ins: Seq<usize>, outs: Seq<RegOut>) -> Result<Reg, AllocError>
-    ensures { IfOk result (λ reg. reg ≡ record { next = flop.now.next; clear = flop.now.clear; preset = flop.now.preset; both = flop.now.both; ins = ins; outs = outs }) }
+    ensures { IfOk result (λ reg. reg ≡ record {
+      next = flop.now.next;
+      clear = flop.now.clear;
+      preset = flop.now.preset;
+      both = flop.now.both;
+      ins =
+          ins;
+      outs = outs;
+    }) }
 {
     Ok(Reg {
         next: flop.next.copy(alloc)?,

@@ -19,11 +19,13 @@ with_clauses-append keys [] ys = refl
 with_clauses-append keys (x ∷ xs) ys = with_clauses-append (with_keys keys x) xs ys
 
 -- one more literal
-pub with_keys-take : (keys : List Key) (ls : List KeyLit) (i : ℕ) (l : KeyLit) → slice_get ls i ≡ Some l → with_keys keys (take (i + 1) ls) ≡ with_key (with_keys keys (take i ls)) l.key
+pub with_keys-take : (keys : List Key) (ls : List KeyLit) (i : ℕ) (l : KeyLit) → slice_get ls i ≡ Some l → with_keys keys (take (i + 1) ls) ≡ with_key
+    (with_keys keys (take i ls)) l.key
 with_keys-take keys ls i l at = ap (with_keys keys) ((take_at ls i l at).0) ∙ with_keys-append keys (take i ls) (l ∷ [])
 
 -- one more clause
-pub with_clauses-take : (keys : List Key) (cs : List (List KeyLit)) (i : ℕ) (c : List KeyLit) → slice_get cs i ≡ Some c → with_clauses keys (take (i + 1) cs) ≡ with_keys (with_clauses keys (take i cs)) c
+pub with_clauses-take : (keys : List Key) (cs : List (List KeyLit)) (i : ℕ) (c : List KeyLit) → slice_get cs i ≡ Some c
+    → with_clauses keys (take (i + 1) cs) ≡ with_keys (with_clauses keys (take i cs)) c
 with_clauses-take keys cs i c at = ap (with_clauses keys) ((take_at cs i c at).0) ∙ with_clauses-append keys (take i cs) (c ∷ [])
 
 slice_get-left : {X : Type 0} (xs ys : List X) (i : ℕ) (x : X) → slice_get xs i ≡ Some x → slice_get (xs ++ ys) i ≡ Some x
@@ -111,7 +113,8 @@ new_clauses keys [] c l has has_l = absurd has
 new_clauses keys (b ∷ cs) c l (inl here) has_l = old_clauses (with_keys keys b) cs l.key (new_keys keys b l (subst (In l) (sym here) has_l))
 new_clauses keys (b ∷ cs) c l (inr later) has_l = new_clauses (with_keys keys b) cs c l later has_l
 
-pub from_clauses : (keys : List Key) (cs : List (List KeyLit)) (x : Key) → In x (with_clauses keys cs) → In x keys ⊎ ((c : List KeyLit) × In c cs × ((l : KeyLit) × In l c × (l.key ≡ x)))
+pub from_clauses : (keys : List Key) (cs : List (List KeyLit)) (x : Key) → In x (with_clauses keys cs)
+    → In x keys ⊎ ((c : List KeyLit) × In c cs × ((l : KeyLit) × In l c × (l.key ≡ x)))
 from_clauses keys [] x has = inl has
 from_clauses keys (b ∷ cs) x has = by (from_clauses (with_keys keys b) cs x has)
   where
@@ -119,6 +122,7 @@ from_clauses keys (b ∷ cs) x has = by (from_clauses (with_keys keys b) cs x ha
     first (inl old) = inl old
     first (inr new) = inr (b, inl refl, new)
 
-    by : In x (with_keys keys b) ⊎ ((c : List KeyLit) × In c cs × ((l : KeyLit) × In l c × (l.key ≡ x))) → In x keys ⊎ ((c : List KeyLit) × In c (b ∷ cs) × ((l : KeyLit) × In l c × (l.key ≡ x)))
+    by : In x (with_keys keys b) ⊎ ((c : List KeyLit) × In c cs × ((l : KeyLit) × In l c × (l.key ≡ x)))
+        → In x keys ⊎ ((c : List KeyLit) × In c (b ∷ cs) × ((l : KeyLit) × In l c × (l.key ≡ x)))
     by (inl before) = first (from_keys keys b x before)
     by (inr (c, has_c, mention)) = inr (c, inr has_c, mention)

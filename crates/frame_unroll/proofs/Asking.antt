@@ -1,5 +1,6 @@
 -- What a query asks, a cycle at a time.
-use Rattle.std.proofs.Common.{◌≡◌, ℕ, zero, suc, ◌+◌, ◌*◌, ◌≤◌, ◌<◌, Bool, true, false, List, [], ◌∷◌, ◌++◌, length, take, flat_map, Some, refl, ap, ◌∙◌, arith, length-append}
+use Rattle.std.proofs.Common.{◌≡◌, ℕ, zero, suc, ◌+◌, ◌*◌, ◌≤◌, ◌<◌, Bool, true, false, List, [], ◌∷◌, ◌++◌, length, take, flat_map, Some, refl, ap}
+use Rattle.std.proofs.Common.{◌∙◌, arith, length-append}
 use Rattle.std.proofs.lemmas.Grind.{flat_map-append}
 use Rattle.std.specs.Prelude.{slice_get}
 use Rattle.sdcv_base.specs.Kinds.{judged_count}
@@ -50,7 +51,14 @@ at_few false d claim t r e = rw e (plain_few claim.kind claim.through d (t + r) 
 pub below_few : (d : Design) (claim : Claim) (t n : ℕ) → length (flat_map (alternatives_at d claim t) (below n)) ≤ 2 * n
 below_few d claim t zero = omega arith
 below_few d claim t (suc n) =
-    omega (arith, ap length (flat_map-append (alternatives_at d claim t) (below n) (n ∷ [])), length-append (flat_map (alternatives_at d claim t) (below n)) (alternatives_at d claim t n ++ []), ap length (append_nil (alternatives_at d claim t n)), at_few claim.hazard d claim t n refl, below_few d claim t n)
+    omega (
+      arith,
+      ap length (flat_map-append (alternatives_at d claim t) (below n) (n ∷ [])),
+      length-append (flat_map (alternatives_at d claim t) (below n)) (alternatives_at d claim t n ++ []),
+      ap length (append_nil (alternatives_at d claim t n)),
+      at_few claim.hazard d claim t n refl,
+      below_few d claim t n,
+    )
 
 some_at : {X : Type 0} (xs : List X) (i : ℕ) → i < length xs → (x : X) × (slice_get xs i ≡ Some x)
 some_at [] i lt = absurd (omega (arith, lt))
@@ -58,12 +66,15 @@ some_at (x ∷ xs) zero lt = (x, refl)
 some_at (x ∷ xs) (suc i) lt = some_at xs i (omega (arith, lt))
 
 -- one alternative more
-pub some_chosen-take : (d : Design) (t : ℕ) (found : List (List KeyLit)) (a : ℕ) → a < length found → some_chosen d t (take (a + 1) found) ≡ some_chosen d t (take a found) ++ lit true (bad_key d t a) ∷ []
+pub some_chosen-take : (d : Design) (t : ℕ) (found : List (List KeyLit)) (a : ℕ) → a < length found
+    → some_chosen d t (take (a + 1) found) ≡ some_chosen d t (take a found) ++ lit true (bad_key d t a) ∷ []
 some_chosen-take d t found a lt =
     let at = some_at found a lt in
     numbered-take (λ b (conditions : List KeyLit). lit true (bad_key d t b)) found a at.0 at.1
 
-pub all_chosen-take : (d : Design) (t : ℕ) (found : List (List KeyLit)) (a : ℕ) (conditions : List KeyLit) → slice_get found a ≡ Some conditions → all_chosen d t (take (a + 1) found) ≡ all_chosen d t (take a found) ++ chosen_clauses d t a conditions
+pub all_chosen-take : (d : Design) (t : ℕ) (found : List (List KeyLit)) (a : ℕ) (conditions : List KeyLit) → slice_get found a ≡ Some conditions
+    → all_chosen d t (take (a + 1) found) ≡ all_chosen d t (take a found) ++ chosen_clauses d t a conditions
 all_chosen-take d t found a conditions at =
-    ap (flat_map (λ x. x)) (numbered-take (chosen_clauses d t) found a conditions at) ∙ flat_map-append (λ x. x) (numbered (chosen_clauses d t) 0 (take a found)) (chosen_clauses d t a conditions ∷ [])
+    ap (flat_map (λ x. x)) (numbered-take (chosen_clauses d t) found a conditions at) ∙ flat_map-append (λ x. x)
+    (numbered (chosen_clauses d t) 0 (take a found)) (chosen_clauses d t a conditions ∷ [])
     ∙ ap (λ xs. all_chosen d t (take a found) ++ xs) (append_nil (chosen_clauses d t a conditions))

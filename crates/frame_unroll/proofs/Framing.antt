@@ -1,5 +1,6 @@
 -- A key's number is its place in a list, and 1 more.
-use Rattle.std.proofs.Common.{◌≡◌, ℕ, zero, suc, ◌+◌, ◌-◌, Bool, true, false, not, cond, List, [], ◌∷◌, length, slice_get, Some, None, refl, ap, sym, subst, ◌∙◌, arith, nat_lt, nat_eq}
+use Rattle.std.proofs.Common.{◌≡◌, ℕ, zero, suc, ◌+◌, ◌-◌, Bool, true, false, not, cond, List, [], ◌∷◌, length, slice_get, Some, None, refl, ap, sym}
+use Rattle.std.proofs.Common.{subst, ◌∙◌, arith, nat_lt, nat_eq}
 use Rattle.std.specs.Prelude.{◌&&◌, ◌||◌, position}
 use Rattle.std.specs.List.{position_or_len, AllByRecursion, IsDistinct}
 use Rattle.std.proofs.lemmas.Bool.{or_left, or_right, cond-true, cond-false}
@@ -35,7 +36,8 @@ number_place : (keys : List Key) (k : Key) → number_of keys k ≡ position_or_
 number_place [] k = refl
 number_place (j ∷ js) k = by (same_key j k) (same_key k j) (same_key-turned j k) (number_place js k)
   where
-    by : (x y : Bool) → x ≡ y → number_of js k ≡ position_or_len (same_key k) js + 1 → cond x 1 (number_of js k + 1) ≡ cond (not y) (1 + position_or_len (same_key k) js) 0 + 1
+    by : (x y : Bool) → x ≡ y → number_of js k ≡ position_or_len (same_key k) js + 1 → cond x 1 (number_of js k + 1) ≡ cond (not y)
+        (1 + position_or_len (same_key k) js) 0 + 1
     by true true e rest = refl
     by true false e rest = absurd cc
     by false true e rest = absurd cc
@@ -45,7 +47,8 @@ place_had : (keys : List Key) (k : Key) → has_key keys k ≡ nat_lt (position_
 place_had [] k = refl
 place_had (j ∷ js) k = by (same_key k j) (place_had js k)
   where
-    by : (y : Bool) → has_key js k ≡ nat_lt (position_or_len (same_key k) js) (length js) → (y || has_key js k) ≡ nat_lt (cond (not y) (1 + position_or_len (same_key k) js) 0) (length (j ∷ js))
+    by : (y : Bool) → has_key js k ≡ nat_lt (position_or_len (same_key k) js) (length js) → (y || has_key js k) ≡ nat_lt
+        (cond (not y) (1 + position_or_len (same_key k) js) 0) (length (j ∷ js))
     by true rest = first_less (length js)
     by false rest = rest ∙ later_less (position_or_len (same_key k) js) (length js)
 
@@ -80,7 +83,8 @@ other_key j k (x ∷ xs) (suc i) apart at = other_key j k xs i apart.1 at
 number-first : (j k : Key) (js : List Key) → j ≡ k → number_if_any (j ∷ js) k ≡ Some 1
 number-first j k js same =
     let there : same_key j k ≡ true = ap (same_key j) (sym same) ∙ same_key-refl j in
-    cond-true (same_key k j || has_key js k) _ _ (or_left (same_key k j) (has_key js k) (same_key-turned k j ∙ there)) ∙ ap Some (cond-true (same_key j k) 1 (number_of js k + 1) there)
+    cond-true (same_key k j || has_key js k) _ _ (or_left (same_key k j) (has_key js k) (same_key-turned k j ∙ there))
+    ∙ ap Some (cond-true (same_key j k) 1 (number_of js k + 1) there)
 
 number-later : (j k : Key) (js : List Key) (n : ℕ) → same_key j k ≡ false → number_if_any js k ≡ Some n → number_if_any (j ∷ js) k ≡ Some (n + 1)
 number-later j k js n apart rest = by (has_key js k) refl rest
@@ -88,7 +92,8 @@ number-later j k js n apart rest = by (has_key js k) refl rest
     by : (b : Bool) → has_key js k ≡ b → cond b (Some (number_of js k)) None ≡ Some n → number_if_any (j ∷ js) k ≡ Some (n + 1)
     by true has is =
         let same : number_of js k ≡ n = cc in
-        cond-true (same_key k j || has_key js k) _ _ (or_right (same_key k j) (has_key js k) has) ∙ ap Some (cond-false (same_key j k) 1 (number_of js k + 1) apart ∙ ap (λ (m : ℕ). m + 1) same)
+        cond-true (same_key k j || has_key js k) _ _ (or_right (same_key k j) (has_key js k) has)
+        ∙ ap Some (cond-false (same_key j k) 1 (number_of js k + 1) apart ∙ ap (λ (m : ℕ). m + 1) same)
     by false has is = absurd cc
 
 -- the number of the key at a place, where no key stands twice

@@ -1,5 +1,6 @@
 -- Keys in ascending order, and how many there are.
-use Rattle.std.proofs.Common.{◌≡◌, ℕ, zero, suc, ◌+◌, ◌*◌, ◌^◌, ◌<◌, ◌≤◌, true, false, List, [], ◌∷◌, length, get_or, Some, refl, ap, sym, ◌∙◌, subst, arith, inl, inr, ◌⊎◌, is_lt, nat_cmp}
+use Rattle.std.proofs.Common.{◌≡◌, ℕ, zero, suc, ◌+◌, ◌*◌, ◌^◌, ◌<◌, ◌≤◌, true, false, List, [], ◌∷◌, length, get_or, Some, refl, ap, sym, ◌∙◌, subst}
+use Rattle.std.proofs.Common.{arith, inl, inr, ◌⊎◌, is_lt, nat_cmp}
 use Rattle.std.specs.Prelude.{slice_get, ◌==◌, ◌&&◌}
 use Rattle.std.specs.List.{IsDistinct}
 use Rattle.std.specs.Ordering.{ordering_then, MatchOrdering}
@@ -18,7 +19,8 @@ use Rattle.frame_unroll.specs.Found.{IsSmall, AreSmall}
 
 -- by cycle, layer, rail and point
 abbrev pub key_cmp : Key → Key → Ordering
-key_cmp a b = ordering_then (nat_cmp a.cycle b.cycle) (ordering_then (nat_cmp a.layer b.layer) (ordering_then (nat_cmp a.rail b.rail) (nat_cmp a.point b.point)))
+key_cmp a b = ordering_then (nat_cmp a.cycle b.cycle) (ordering_then (nat_cmp a.layer b.layer)
+    (ordering_then (nat_cmp a.rail b.rail) (nat_cmp a.point b.point)))
 
 not_less : (x y : ℕ) (rest : Ordering) → is_lt (ordering_then (nat_cmp x y) rest) ≡ false → (y < x) ⊎ ((x ≡ y) × (is_lt rest ≡ false))
 not_less x y rest e = by (nat_cmp x y) (ranked x y (nat_cmp x y) refl) e
@@ -64,7 +66,8 @@ key_below a b after apart =
     by_cycle (inr (c, e)) = by_layer (sym c) (not_less b.layer a.layer (ordering_then (nat_cmp b.rail a.rail) (nat_cmp b.point a.point)) e)
 
 -- sorted keys of which no two are the same ascend
-pub ascend_from_sorted : (keys : List Key) → ((i : ℕ) (d : Key) → 0 ≤ i → i + 1 < length keys → is_lt (key_cmp (get_or keys (i + 1) d) (get_or keys i d)) ≡ false) → IsDistinct same_key keys → Ascend keys
+pub ascend_from_sorted : (keys : List Key) → ((i : ℕ) (d : Key) → 0 ≤ i → i + 1 < length keys
+    → is_lt (key_cmp (get_or keys (i + 1) d) (get_or keys i d)) ≡ false) → IsDistinct same_key keys → Ascend keys
 ascend_from_sorted keys sorted distinct i a b at_a at_b =
     let within = slice_get_within keys (i + 1) b at_b in
     let is_a = get_or_from_slice_get keys i a a at_a in

@@ -1,5 +1,6 @@
 -- The nets that are marked so far, and one more.
-use Rattle.std.proofs.Common.{◌≡◌, ℕ, zero, suc, ◌+◌, ◌<◌, Bool, true, false, List, [], ◌∷◌, map, length, take, set, Option, Some, None, refl, ap, sym, ◌∙◌, subst, arith, inl, inr, below_more, get_or-set_other, get_or-set_same, length-set}
+use Rattle.std.proofs.Common.{◌≡◌, ℕ, zero, suc, ◌+◌, ◌<◌, Bool, true, false, List, [], ◌∷◌, map, length, take, set, Option, Some, None, refl, ap}
+use Rattle.std.proofs.Common.{sym, ◌∙◌, subst, arith, inl, inr, below_more, get_or-set_other, get_or-set_same, length-set}
 use Rattle.std.specs.Prelude.{All, Contains, slice_get, slice_index, flat_map, ◌||◌, ◌&&◌, ◌==◌}
 use Rattle.std.proofs.lemmas.Bool.{cases_eq, cases_Bool, both_ways, or_right, and_left, eq-eqb, eqb-true, ne_eqb}
 use Rattle.std.proofs.lemmas.Option.{slice_get_within, get_or_from_slice_get, slice_get-get_or}
@@ -27,23 +28,28 @@ pub or_false : (b : Bool) → (b || false) ≡ b
 or_false true = refl
 or_false false = refl
 
-out_more : (outs : List RegOut) (o n : ℕ) (out : RegOut) → slice_get outs o ≡ Some out → is_out (take (o + 1) outs) n ≡ (is_out (take o outs) n || (out.net == n))
+out_more : (outs : List RegOut) (o n : ℕ) (out : RegOut) → slice_get outs o ≡ Some out → is_out (take (o + 1) outs) n ≡
+    (is_out (take o outs) n || (out.net == n))
 out_more outs o n out at =
     list_any_more (λ (q : RegOut). q.net == n) outs o out (slice_get_within outs o out at)
     ∙ ap (λ (q : RegOut). is_out (take o outs) n || (q.net == n)) (get_or_from_slice_get outs o out out at)
 
 -- one more output net is marked
-pub outs_more : (outs : List RegOut) (before marks : List Bool) (o : ℕ) (out : RegOut) → slice_get outs o ≡ Some out → out.net < length marks → ((n : ℕ) → is_marked marks n ≡ (is_marked before n || is_out (take o outs) n)) → (n : ℕ) → is_marked (set marks out.net true) n ≡ (is_marked before n || is_out (take (o + 1) outs) n)
+pub outs_more : (outs : List RegOut) (before marks : List Bool) (o : ℕ) (out : RegOut) → slice_get outs o ≡ Some out → out.net < length marks
+    → ((n : ℕ) → is_marked marks n ≡ (is_marked before n || is_out (take o outs) n)) → (n : ℕ) → is_marked (set marks out.net true) n ≡
+    (is_marked before n || is_out (take (o + 1) outs) n)
 outs_more outs before marks o out at low done n =
     let more = out_more outs o n out at in
     elim (cases_eq n out.net) [
       | inl here ↦
           let hit : is_out (take (o + 1) outs) n ≡ true = more ∙ or_right (is_out (take o outs) n) (out.net == n) (eq-eqb out.net n (sym here)) in
-          let now : is_marked (set marks out.net true) n ≡ true = subst (λ (m : ℕ). is_marked (set marks out.net true) m ≡ true) (sym here) (get_or-set_same marks out.net true false low) in
+          let now : is_marked (set marks out.net true) n ≡ true = subst (λ (m : ℕ). is_marked (set marks out.net true) m ≡ true) (sym here)
+          (get_or-set_same marks out.net true false low) in
           now ∙ sym (or_right (is_marked before n) (is_out (take (o + 1) outs) n) hit)
       | inr apart ↦
           let miss : (out.net == n) ≡ false = ne_eqb out.net n (λ e. apart (sym e)) in
-          let same : is_out (take (o + 1) outs) n ≡ is_out (take o outs) n = more ∙ (ap (λ (b : Bool). is_out (take o outs) n || b) miss ∙ or_false (is_out (take o outs) n)) in
+          let same : is_out (take (o + 1) outs) n ≡ is_out (take o outs) n = more
+          ∙ (ap (λ (b : Bool). is_out (take o outs) n || b) miss ∙ or_false (is_out (take o outs) n)) in
           get_or-set_other marks out.net n true false apart ∙ (done n ∙ ap (λ (b : Bool). is_marked before n || b) (sym same))
     ]
 
@@ -52,11 +58,13 @@ is_out-nets [] n = refl
 is_out-nets (o ∷ outs) n = ap (λ (b : Bool). (o.net == n) || b) (is_out-nets outs n)
 
 -- the nets of a start that is a register
-pub reg_start : (d : Design) (claim : Claim) (r : ℕ) (reg : Reg) (n : ℕ) → claim.start ≡ RegStart r → slice_get d.regs r ≡ Some reg → is_start_net d claim n ≡ is_out reg.outs n
+pub reg_start : (d : Design) (claim : Claim) (r : ℕ) (reg : Reg) (n : ℕ) → claim.start ≡ RegStart r → slice_get d.regs r ≡ Some reg
+    → is_start_net d claim n ≡ is_out reg.outs n
 reg_start d claim r reg n start at = rw (start, at) (is_out-nets reg.outs n)
 
 -- the net of a start that is an input
-pub input_start : (d : Design) (claim : Claim) (i net n : ℕ) → claim.start ≡ InputStart i → slice_get d.inputs i ≡ Some net → is_start_net d claim n ≡ (net == n)
+pub input_start : (d : Design) (claim : Claim) (i net n : ℕ) → claim.start ≡ InputStart i → slice_get d.inputs i ≡ Some net → is_start_net d claim n ≡
+    (net == n)
 input_start d claim i net n start at =
     let here : slice_index d.inputs i ≡ net = get_or_from_slice_get d.inputs i net 0 at in
     rw (start, here) (or_false (net == n))
@@ -65,7 +73,8 @@ input_start d claim i net n start at =
 pub one_marked : (marks : List Bool) (net n : ℕ) → net < length marks → ((m : ℕ) → is_marked marks m ≡ false) → is_marked (set marks net true) n ≡ (net == n)
 one_marked marks net n low free =
     elim (cases_eq n net) [
-      | inl here ↦ subst (λ (m : ℕ). is_marked (set marks net true) m ≡ (net == m)) (sym here) (get_or-set_same marks net true false low ∙ sym (eq-eqb net net refl))
+      | inl here ↦ subst (λ (m : ℕ). is_marked (set marks net true) m ≡ (net == m)) (sym here)
+          (get_or-set_same marks net true false low ∙ sym (eq-eqb net net refl))
       | inr apart ↦ get_or-set_other marks net n true false apart ∙ (free n ∙ sym (ne_eqb net n (λ e. apart (sym e))))
     ]
 
@@ -109,7 +118,8 @@ pin_in pins i pin at = is_in-Contains pin pins (i, slice_get_within pins i pin a
 pub held_low : (pins : List PinRef) (limit i net : ℕ) → HasNetsBelow limit pins → slice_get pins i ≡ Some (Net net) → net < limit
 held_low pins limit i net low at = low net (i, slice_get_within pins i (Net net) at, get_or_from_slice_get pins i (Net net) (Net net) at)
 
-pub held_more : (pins : List PinRef) (row held : List Bool) (i net : ℕ) (mark : Bool) → net < length row → slice_get pins i ≡ Some (Net net) → slice_get row net ≡ Some mark → HeldDone pins row held i → HeldDone pins row (set held net mark) (i + 1)
+pub held_more : (pins : List PinRef) (row held : List Bool) (i net : ℕ) (mark : Bool) → net < length row → slice_get pins i ≡ Some (Net net)
+    → slice_get row net ≡ Some mark → HeldDone pins row held i → HeldDone pins row (set held net mark) (i + 1)
 held_more pins row held i net mark low at is done =
     let here : is_marked row net ≡ mark = get_or_from_slice_get row net mark false is in
     let now : is_marked (set held net mark) net ≡ is_marked row net = get_or-set_same held net mark false (omega (arith, done.len)) ∙ sym here in
@@ -123,22 +133,26 @@ held_more pins row held i net mark low at is done =
           ])
           (λ n there. subst (λ (m : ℕ). is_marked (set held net mark) m ≡ is_marked row m) (one_net net n (some_same (sym at ∙ there))) now);
       only = λ n e. elim (cases_eq n net) [
-        | inl same ↦ subst (λ (m : ℕ). is_marked (set held net mark) m ≡ true → (is_in (Net m) pins ≡ true) × (is_marked row m ≡ true)) (sym same) (λ f. (pin_in pins i (Net net) at, sym now ∙ f)) e
+        | inl same ↦ subst (λ (m : ℕ). is_marked (set held net mark) m ≡ true → (is_in (Net m) pins ≡ true) × (is_marked row m ≡ true)) (sym same)
+            (λ f. (pin_in pins i (Net net) at, sym now ∙ f)) e
         | inr apart ↦ done.only n (sym (get_or-set_other held net n mark false apart) ∙ e)
       ];
     }
 
 -- a pin that is no net's
-pub held_skip : (pins : List PinRef) (row held : List Bool) (i : ℕ) (pin : PinRef) → slice_get pins i ≡ Some pin → ((n : ℕ) → pin ≡ Net n → ⊥) → HeldDone pins row held i → HeldDone pins row held (i + 1)
+pub held_skip : (pins : List PinRef) (row held : List Bool) (i : ℕ) (pin : PinRef) → slice_get pins i ≡ Some pin → ((n : ℕ) → pin ≡ Net n → ⊥)
+    → HeldDone pins row held i → HeldDone pins row held (i + 1)
 held_skip pins row held i pin at other done =
     record {
       len = done.len;
-      marked = below_more (λ j. (n : ℕ) → slice_get pins j ≡ Some (Net n) → is_marked held n ≡ is_marked row n) i done.marked (λ n there. absurd (other n (some_same (sym at ∙ there))));
+      marked = below_more (λ j. (n : ℕ) → slice_get pins j ≡ Some (Net n) → is_marked held n ≡ is_marked row n) i done.marked
+          (λ n there. absurd (other n (some_same (sym at ∙ there))));
       only = done.only;
     }
 
 -- the nets of all pins
-pub held_all : (pins : List PinRef) (row held : List Bool) (n : ℕ) → HeldDone pins row held (length pins) → is_marked held n ≡ (is_in (Net n) pins && is_marked row n)
+pub held_all : (pins : List PinRef) (row held : List Bool) (n : ℕ) → HeldDone pins row held (length pins)
+    → is_marked held n ≡ (is_in (Net n) pins && is_marked row n)
 held_all pins row held n done =
     elim (cases_Bool (is_in (Net n) pins)) [
       | inl is ↦

@@ -41,13 +41,16 @@ small_within d cycles k sound few is =
     let regs = sound.limits.regs in
     record { cycle = omega (arith, is.cycle, few); layer = is.layer; rail = is.rail; point = omega (arith, is.point, nets, regs) }
 
-needed_if_reached : (defs : List Definition) (asked : List (List KeyLit)) (reads : Key → List KeyLit) → ((k : Key) (l : KeyLit) → In l (reads k) → Uses defs k l.key) → (k : Key) → IsReached reads (with_clauses [] asked) k → IsNeeded defs asked k
+needed_if_reached : (defs : List Definition) (asked : List (List KeyLit)) (reads : Key → List KeyLit)
+    → ((k : Key) (l : KeyLit) → In l (reads k) → Uses defs k l.key) → (k : Key) → IsReached reads (with_clauses [] asked) k → IsNeeded defs asked k
 needed_if_reached defs asked reads used m (Started k has) = Asked k (asked_mention asked k (In-from_Contains (with_clauses [] asked) k has))
 needed_if_reached defs asked reads used m (Read j l from has) =
     let (def, in_defs, in_outs, mention) = used j l (In-from_Contains (reads j) l has) in
     Used def j l.key in_defs in_outs (needed_if_reached defs asked reads used j from) mention
 
-reached_if_needed : (defs : List Definition) (asked : List (List KeyLit)) (reads : Key → List KeyLit) → ((k j : Key) → Uses defs k j → (j ≡ k) ⊎ ((l : KeyLit) × In l (reads k) × (l.key ≡ j))) → (k : Key) → IsNeeded defs asked k → IsReached reads (with_clauses [] asked) k
+reached_if_needed : (defs : List Definition) (asked : List (List KeyLit)) (reads : Key → List KeyLit)
+    → ((k j : Key) → Uses defs k j → (j ≡ k) ⊎ ((l : KeyLit) × In l (reads k) × (l.key ≡ j))) → (k : Key) → IsNeeded defs asked k
+    → IsReached reads (with_clauses [] asked) k
 reached_if_needed defs asked reads read m (Asked k mention) = Started k (Contains-from_In (with_clauses [] asked) k (mention_asked asked k mention))
 reached_if_needed defs asked reads read m (Used def out k in_defs in_outs is mention) =
     by (reached_if_needed defs asked reads read out is) (read out k (def, in_defs, in_outs, mention))
@@ -57,7 +60,10 @@ reached_if_needed defs asked reads read m (Used def out k in_defs in_outs is men
     by from (inr (l, has, is_key)) = subst (IsReached reads (with_clauses [] asked)) is_key (Read out l from (Contains-from_In (reads out) l has))
 
 -- where the definitions use what is read
-pub needed_from_reached : (defs : List Definition) (asked : List (List KeyLit)) (reads : Key → List KeyLit) (found keys : List Key) → ((k : Key) (l : KeyLit) → In l (reads k) → Uses defs k l.key) → ((k j : Key) → Uses defs k j → (j ≡ k) ⊎ ((l : KeyLit) × In l (reads k) × (l.key ≡ j))) → AreReached reads (with_clauses [] asked) found → AreAscending found keys → AreNeeded defs asked keys
+pub needed_from_reached : (defs : List Definition) (asked : List (List KeyLit)) (reads : Key → List KeyLit) (found keys : List Key)
+    → ((k : Key) (l : KeyLit) → In l (reads k) → Uses defs k l.key)
+    → ((k j : Key) → Uses defs k j → (j ≡ k) ⊎ ((l : KeyLit) × In l (reads k) × (l.key ≡ j))) → AreReached reads (with_clauses [] asked) found
+    → AreAscending found keys → AreNeeded defs asked keys
 needed_from_reached defs asked reads found keys used read reached sorted = record {
   ascending = sorted.ascending;
   needed = λ k has. needed_if_reached defs asked reads used k (reached.only k (sorted.only k has));

@@ -19,7 +19,8 @@ take_at (y ∷ ys) (suc i) x at =
     (ap (λ (k : ℕ). take k (y ∷ ys)) e ∙ ap (λ zs. y ∷ zs) rest.0, n ∙ ap suc rest.1)
 
 -- one more item
-pub numbered-take : {X A : Type 0} (f : ℕ → X → A) (xs : List X) (i : ℕ) (x : X) → slice_get xs i ≡ Some x → numbered f 0 (take (i + 1) xs) ≡ numbered f 0 (take i xs) ++ f i x ∷ []
+pub numbered-take : {X A : Type 0} (f : ℕ → X → A) (xs : List X) (i : ℕ) (x : X) → slice_get xs i ≡ Some x
+    → numbered f 0 (take (i + 1) xs) ≡ numbered f 0 (take i xs) ++ f i x ∷ []
 numbered-take f xs i x at =
     let more = take_at xs i x at in
     let place : 0 + length (take i xs) ≡ i = omega (arith, more.1) in

@@ -27,7 +27,8 @@ same_place : (found : List Key) (reads : List KeyLit) (i : ℕ) (x k : Key) → 
 same_place found reads i x k old new = let kept = kept_keys found reads i x old in let e : Some x ≡ Some k = sym kept ∙ new in cc
 
 -- one more key
-pub reaches_more : (reads : Key → List KeyLit) (start found : List Key) (next : ℕ) (key : Key) → slice_get found next ≡ Some key → Reaches reads start found next → Reaches reads start (with_keys found (reads key)) (next + 1)
+pub reaches_more : (reads : Key → List KeyLit) (start found : List Key) (next : ℕ) (key : Key) → slice_get found next ≡ Some key
+    → Reaches reads start found next → Reaches reads start (with_keys found (reads key)) (next + 1)
 reaches_more reads start found next key here so_far = record {
   only = λ k has. from (from_keys found (reads key) k has);
   old = λ k has. old_keys found (reads key) k (so_far.old k has);
@@ -36,27 +37,32 @@ reaches_more reads start found next key here so_far = record {
   where
     from : {k : Key} → In k found ⊎ ((l : KeyLit) × In l (reads key) × (l.key ≡ k)) → IsReached reads start k
     from {k} (inl old) = so_far.only k old
-    from {k} (inr (l, has, is)) = subst (IsReached reads start) is (Read key l (so_far.only key (in_place key found next here)) (Contains-from_In (reads key) l has))
+    from {k} (inr (l, has, is)) = subst (IsReached reads start) is (Read key l (so_far.only key (in_place key found next here))
+        (Contains-from_In (reads key) l has))
 
-    by : (i : ℕ) (k : Key) → i < next + 1 → slice_get (with_keys found (reads key)) i ≡ Some k → (l : KeyLit) → In l (reads k) → (i < next) ⊎ (next ≤ i) → In l.key (with_keys found (reads key))
+    by : (i : ℕ) (k : Key) → i < next + 1 → slice_get (with_keys found (reads key)) i ≡ Some k → (l : KeyLit) → In l (reads k)
+        → (i < next) ⊎ (next ≤ i) → In l.key (with_keys found (reads key))
     by i k lt at l has (inl before) =
         let within = slice_get_within found next key here in
         let x = get_or found i k in
         let old : slice_get found i ≡ Some x = slice_get-get_or found i k (omega arith) in
-        old_keys found (reads key) l.key (so_far.closed i x before old l (subst (λ (y : Key). In l (reads y)) (sym (same_place found (reads key) i x k old at)) has))
+        old_keys found (reads key) l.key (so_far.closed i x before old l
+        (subst (λ (y : Key). In l (reads y)) (sym (same_place found (reads key) i x k old at)) has))
     by i k lt at l has (inr after) =
         let e : next ≡ i = omega arith in
         let old : slice_get found i ≡ Some key = subst (λ (m : ℕ). slice_get found m ≡ Some key) e here in
         new_keys found (reads key) l (subst (λ (y : Key). In l (reads y)) (sym (same_place found (reads key) i key k old at)) has)
 
-all_found : (reads : Key → List KeyLit) (start found : List Key) (next : ℕ) → length found ≤ next → Reaches reads start found next → (k : Key) → IsReached reads start k → In k found
+all_found : (reads : Key → List KeyLit) (start found : List Key) (next : ℕ) → length found ≤ next → Reaches reads start found next → (k : Key)
+    → IsReached reads start k → In k found
 all_found reads start found next last so_far m (Started k has) = so_far.old k (In-from_Contains start k has)
 all_found reads start found next last so_far m (Read j l from has) =
     let place = placed j found (all_found reads start found next last so_far j from) in
     so_far.closed place.0 j (let within = slice_get_within found place.0 j place.1 in omega arith) place.1 l (In-from_Contains (reads j) l has)
 
 -- all keys
-pub reaches_all : (reads : Key → List KeyLit) (start found : List Key) (next : ℕ) → length found ≤ next → Reaches reads start found next → AreReached reads start found
+pub reaches_all : (reads : Key → List KeyLit) (start found : List Key) (next : ℕ) → length found ≤ next → Reaches reads start found next
+    → AreReached reads start found
 reaches_all reads start found next last so_far = record {
   only = λ k has. so_far.only k (In-from_Contains found k has);
   all = λ k is. Contains-from_In found k (all_found reads start found next last so_far k is);

@@ -51,9 +51,11 @@ row_in cell bits =
 abbrev all_bits : Bool → List KeyLit → List Bool
 all_bits b reads = map (λ (l : KeyLit). b) reads
 
-row_of : (cell : (ℕ → Bool) → Bool) (b : Bool) (reads : List KeyLit) → In (record { fixed = map tern_of (all_bits b reads); value = on_list cell (all_bits b reads) }) (row_cubes cell (length reads))
+row_of : (cell : (ℕ → Bool) → Bool) (b : Bool) (reads : List KeyLit)
+    → In (record { fixed = map tern_of (all_bits b reads); value = on_list cell (all_bits b reads) }) (row_cubes cell (length reads))
 row_of cell b reads =
-    subst (λ (n : ℕ). In (record { fixed = map tern_of (all_bits b reads); value = on_list cell (all_bits b reads) }) (row_cubes cell n)) (length-map reads (λ (l : KeyLit). b)) (row_in cell (all_bits b reads))
+    subst (λ (n : ℕ). In (record { fixed = map tern_of (all_bits b reads); value = on_list cell (all_bits b reads) }) (row_cubes cell n))
+    (length-map reads (λ (l : KeyLit). b)) (row_in cell (all_bits b reads))
 
 outside_in : (b : Bool) (reads : List KeyLit) (l : KeyLit) → In l reads → Among (outside reads (map tern_of (all_bits b reads))) l.key
 outside_in b [] l has = absurd has
@@ -115,8 +117,13 @@ plain_read cell reads out = record { given = given; only = only } where
 pub plain_out : (cell : (ℕ → Bool) → Bool) (reads : List KeyLit) (out : Key) → Mentions (plain Rows cell reads out).clauses out
 plain_out cell reads out =
     let row : Cube = record { fixed = map tern_of (all_bits false reads); value = on_list cell (all_bits false reads) } in
-    mention_at (plain Rows cell reads out).clauses (cube_clause reads (lit true out) row) out (In-map (cube_clause reads (lit true out)) row (row_cubes cell (length reads)) (row_of cell false reads))
-    (Among-right (outside reads row.fixed) (flipped (not row.value) (lit true out) ∷ []) out (flipped (not row.value) (lit true out), inl refl, flipped_key (not row.value) (lit true out)))
+    mention_at (plain Rows cell reads out).clauses (cube_clause reads (lit true out) row) out
+    (In-map (cube_clause reads (lit true out)) row (row_cubes cell (length reads)) (row_of cell false reads))
+    (Among-right (outside reads row.fixed) (flipped (not row.value) (lit true out) ∷ []) out (
+      flipped (not row.value) (lit true out),
+      inl refl,
+      flipped_key (not row.value) (lit true out),
+    ))
 
 -- the rails: a row of ones bars each high literal, and a row of zeros each low one
 barred_high : (hs ls : List KeyLit) (l : KeyLit) → length ls ≡ length hs → In l hs → Among (barred hs ls (map tern_of (all_bits true hs))) l.key
@@ -168,7 +175,8 @@ may_be_key false high low j e = inr (inl e)
 abbrev pub rails_reads : List KeyLit → List KeyLit → Key → Key → List KeyLit
 rails_reads hs ls high low = (hs ++ lit true high ∷ []) ++ (ls ++ lit true low ∷ [])
 
-pub rails_read : (cell : (ℕ → Bool) → Bool) (hs ls : List KeyLit) (high low : Key) → length ls ≡ length hs → length hs ≤ 7 → ReadsOnly 7 cell → ReadsOf (rails Rows cell hs ls high low) (rails_reads hs ls high low)
+pub rails_read : (cell : (ℕ → Bool) → Bool) (hs ls : List KeyLit) (high low : Key) → length ls ≡ length hs → length hs ≤ 7 → ReadsOnly 7 cell
+    → ReadsOf (rails Rows cell hs ls high low) (rails_reads hs ls high low)
 rails_read cell hs ls high low same few reads = record { given = given; only = only } where
   rows : List Cube
   rows = row_cubes cell (length hs)
@@ -193,7 +201,8 @@ rails_read cell hs ls high low same few reads = record { given = given; only = o
       let bits = all_bits true hs in
       let long : length (map tern_of bits) ≡ length hs = length-map bits tern_of ∙ length-map hs (λ (l : KeyLit). true) in
       subst (λ (n : ℕ). In (row true) (constant_cubes cell n)) long
-      (constant_in cell (map tern_of bits) (on_list cell bits) (omega (arith, long, few)) reads (λ other inside. ap (on_list cell) (inside_bits other bits inside)))
+      (constant_in cell (map tern_of bits) (on_list cell bits) (omega (arith, long, few)) reads
+      (λ other inside. ap (on_list cell) (inside_bits other bits inside)))
 
   second : In (must (row true)) (map may rows ++ map must cubes)
   second = In-right (must (row true)) (map may rows) (map must cubes) (In-map must (row true) cubes in_cubes)
@@ -207,23 +216,38 @@ rails_read cell hs ls high low same few reads = record { given = given; only = o
   -- the row of ones and its cube speak of one out each
   outs_said : (b : Bool) → value ≡ b → Mentions (rails Rows cell hs ls high low).clauses high × Mentions (rails Rows cell hs ls high low).clauses low
   outs_said true e = (
-    said high (may (row true)) (first true) (Among-right (barred hs ls (row true).fixed) (may_be value (lit true high) (lit true low) ∷ []) high (may_be value (lit true high) (lit true low), inl refl, ap (λ b. (may_be b (lit true high) (lit true low)).key) e)),
-    said low (must (row true)) second (Among-right (escapes hs ls (row true).fixed) (opposite (may_be (not value) (lit true high) (lit true low)) ∷ []) low (opposite (may_be (not value) (lit true high) (lit true low)), inl refl, ap (λ b. (may_be (not b) (lit true high) (lit true low)).key) e)),
+    said high (may (row true)) (first true) (Among-right (barred hs ls (row true).fixed) (may_be value (lit true high) (lit true low) ∷ []) high
+        (may_be value (lit true high) (lit true low), inl refl, ap (λ b. (may_be b (lit true high) (lit true low)).key) e)),
+    said low (must (row true)) second (Among-right (escapes hs ls (row true).fixed) (opposite (may_be (not value) (lit true high) (lit true low))
+        ∷ []) low (
+          opposite (may_be (not value) (lit true high) (lit true low)),
+          inl refl,
+          ap (λ b. (may_be (not b) (lit true high) (lit true low)).key) e,
+        )),
   )
   outs_said false e = (
-    said high (must (row true)) second (Among-right (escapes hs ls (row true).fixed) (opposite (may_be (not value) (lit true high) (lit true low)) ∷ []) high (opposite (may_be (not value) (lit true high) (lit true low)), inl refl, ap (λ b. (may_be (not b) (lit true high) (lit true low)).key) e)),
-    said low (may (row true)) (first true) (Among-right (barred hs ls (row true).fixed) (may_be value (lit true high) (lit true low) ∷ []) low (may_be value (lit true high) (lit true low), inl refl, ap (λ b. (may_be b (lit true high) (lit true low)).key) e)),
+    said high (must (row true)) second (Among-right (escapes hs ls (row true).fixed) (opposite (may_be (not value) (lit true high) (lit true low))
+        ∷ []) high (
+          opposite (may_be (not value) (lit true high) (lit true low)),
+          inl refl,
+          ap (λ b. (may_be (not b) (lit true high) (lit true low)).key) e,
+        )),
+    said low (may (row true)) (first true) (Among-right (barred hs ls (row true).fixed) (may_be value (lit true high) (lit true low) ∷ []) low
+        (may_be value (lit true high) (lit true low), inl refl, ap (λ b. (may_be b (lit true high) (lit true low)).key) e)),
   )
 
   given : (l : KeyLit) → In l (rails_reads hs ls high low) → Mentions (rails Rows cell hs ls high low).clauses l.key
   given l has =
       elim (In-cases l (hs ++ lit true high ∷ []) (ls ++ lit true low ∷ []) has) [
         | inl of_high ↦ elim (from_last hs (lit true high) l of_high) [
-          | inl inside ↦ said l.key (may (row true)) (first true) (Among-left (barred hs ls (row true).fixed) (may_be (row true).value (lit true high) (lit true low) ∷ []) l.key (barred_high hs ls l same inside))
+          | inl inside ↦ said l.key (may (row true)) (first true) (Among-left (barred hs ls (row true).fixed)
+              (may_be (row true).value (lit true high) (lit true low) ∷ []) l.key (barred_high hs ls l same inside))
           | inr out ↦ subst (Mentions (rails Rows cell hs ls high low).clauses) out (outs_said value refl).0
         ]
         | inr of_low ↦ elim (from_last ls (lit true low) l of_low) [
-          | inl inside ↦ said l.key (may (row false)) (first false) (Among-left (barred hs ls (row false).fixed) (may_be (row false).value (lit true high) (lit true low) ∷ []) l.key (barred_low hs ls l same inside))
+          | inl inside ↦ said l.key (may (row false)) (first false)
+              (Among-left (barred hs ls (row false).fixed) (may_be (row false).value (lit true high) (lit true low) ∷ []) l.key
+              (barred_low hs ls l same inside))
           | inr out ↦ subst (Mentions (rails Rows cell hs ls high low).clauses) out (outs_said value refl).1
         ]
       ]
@@ -305,8 +329,15 @@ both_read z x y = record { given = given; only = only } where
   pair_from s w l (inr (inr none)) = absurd none
 
   by_clause : (j : Key) (c : List KeyLit) → In c (both z x y).clauses → Among c j → In j (z ∷ []) ⊎ Among (x ∷ y ∷ []) j
-  by_clause j c (inl e) a = elim (pair_from false x a.0 (subst (In a.0) (sym e) a.1)) [ inl is ↦ of_three z x y j a.0.key a.2 (inl is) | inr is ↦ of_three z x y j a.0.key a.2 (inr (inl is)) ]
-  by_clause j c (inr (inl e)) a = elim (pair_from false y a.0 (subst (In a.0) (sym e) a.1)) [ inl is ↦ of_three z x y j a.0.key a.2 (inl is) | inr is ↦ of_three z x y j a.0.key a.2 (inr (inr is)) ]
+  by_clause j c (inl e) a = elim (pair_from false x a.0 (subst (In a.0) (sym e) a.1)) [
+    | inl is ↦ of_three z x y j a.0.key a.2 (inl is)
+    | inr is ↦
+        of_three z x y j a.0.key a.2 (inr (inl is))
+  ]
+  by_clause j c (inr (inl e)) a = elim (pair_from false y a.0 (subst (In a.0) (sym e) a.1)) [
+    | inl is ↦ of_three z x y j a.0.key a.2 (inl is)
+    | inr is ↦ of_three z x y j a.0.key a.2 (inr (inr is))
+  ]
   by_clause j c (inr (inr (inl e))) a = of_three z x y j a.0.key a.2 (triple_from (lit true z) (opposite x) (opposite y) a.0 (subst (In a.0) (sym e) a.1))
   by_clause j c (inr (inr (inr none))) a = absurd none
 

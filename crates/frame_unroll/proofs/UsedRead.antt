@@ -1,5 +1,6 @@
 -- A used key is one that the key's definition reads, or the key itself.
-use Rattle.std.proofs.Common.{◌≡◌, ℕ, zero, suc, ◌+◌, ◌-◌, ◌<◌, Bool, true, false, not, cond, List, [], ◌∷◌, ◌++◌, length, Option, Some, None, refl, ap, sym, ◌∙◌, arith, inl, inr, ◌⊎◌, subst}
+use Rattle.std.proofs.Common.{◌≡◌, ℕ, zero, suc, ◌+◌, ◌-◌, ◌<◌, Bool, true, false, not, cond, List, [], ◌∷◌, ◌++◌, length, Option, Some, None, refl}
+use Rattle.std.proofs.Common.{ap, sym, ◌∙◌, arith, inl, inr, ◌⊎◌, subst}
 use Rattle.std.specs.Prelude.{slice_get, flat_map, filter, nat_lt, ◌==◌, ◌&&◌}
 use Rattle.std.proofs.lemmas.Bool.{cond-true, cond-false, cases_Bool, lt-ltb, le-ltb, eq-eqb, and_from, or_left, or_right, not_from_true, not_from_false}
 use Rattle.net_model.specs.Form.{value}
@@ -18,19 +19,24 @@ use Rattle.net_model.specs.declared.claims.End.TheVariants.{Reg as RegEnd, Outpu
 use Rattle.query_model.specs.Keys.{key, lit, below}
 use Rattle.query_model.specs.Reads.{is_start_net}
 use Rattle.net_model.specs.Queries.{Query, Violates}
-use Rattle.query_model.specs.Defined.{Definition, numbered, exclusive, base_definitions, unit, has_own, layer_gate, start_units, layer_definitions, late_key, late_reg, end_definition, start_lit, capture_lit, extra, toggle_key, change_key, stale_key, differ_definition, extra_definitions, claim_definitions}
+use Rattle.query_model.specs.Defined.{Definition, numbered, exclusive, base_definitions, unit, has_own, layer_gate, start_units, layer_definitions}
+use Rattle.query_model.specs.Defined.{late_key, late_reg, end_definition, start_lit, capture_lit, extra, toggle_key, change_key, stale_key}
+use Rattle.query_model.specs.Defined.{differ_definition, extra_definitions, claim_definitions}
 use Rattle.query_model.specs.Formula.{Mentions, definitions, cycle_definitions, question_definitions}
 use Rattle.query_model.proofs.Members.{below_less}
 use Rattle.query_model.proofs.Based.{from_numbered}
 use Rattle.query_model.specs.declared.keys.Key.{Key}
 use Rattle.query_model.specs.declared.keys.KeyLit.{KeyLit}
 use Rattle.query_model.specs.declared.keys.Coding.TheVariants.{Rows}
-use Rattle.frame_unroll.specs.Origins.{Uses, gate_of, of_gate, base_origin, extra_origin, end_origin, has_rail, late_origin, layer_origin, claim_origin, reads_of_origin, gate_late, reg_late, late_reads, reads_in_layer, claim_reads}
+use Rattle.frame_unroll.specs.Origins.{Uses, gate_of, of_gate, base_origin, extra_origin, end_origin, has_rail, late_origin, layer_origin}
+use Rattle.frame_unroll.specs.Origins.{claim_origin, reads_of_origin, gate_late, reg_late, late_reads, reads_in_layer, claim_reads}
 use Rattle.frame_unroll.specs.declared.origins.Origin.{Origin}
 use Rattle.frame_unroll.specs.declared.origins.Origin.TheVariants.{Free, Stale}
 use Rattle.frame_unroll.proofs.Saying.{Among, Among-left, Among-right, ReadsOf, plain_read, rails_reads, unit_read, exclusive_read}
 use Rattle.frame_unroll.proofs.Using.{gate_own, base_use}
-use Rattle.frame_unroll.proofs.UsingLate.{zero_more, gate_layer, gate_pins, gate_plain, gate_rails, gate_says, reg_rail, reg_plain, reg_rails, reg_says, from_rails, reg_listed, differ_reads, differ_says, differ_out, stale_definition, earlier, base_level}
+use Rattle.frame_unroll.proofs.UsingLate.{zero_more, gate_layer, gate_pins, gate_plain, gate_rails, gate_says, reg_rail, reg_plain, reg_rails}
+use Rattle.frame_unroll.proofs.UsingLate.{reg_says, from_rails, reg_listed, differ_reads, differ_says, differ_out, stale_definition, earlier}
+use Rattle.frame_unroll.proofs.UsingLate.{base_level}
 
 -- the key itself, or one that its definition reads
 abbrev IsRead : Design → Claim → List (List Bool) → ℕ → Key → Key → Type 0
@@ -41,24 +47,31 @@ single k z (inl here) = here
 single k z (inr none) = absurd none
 
 -- of a net or a bit
-from_base : (d : Design) (claim : Claim) (moved : List (List Bool)) (live cycles c : ℕ) (def : Definition) (k j : Key) → IsSound d → c < cycles → In def (base_definitions Rows d live c) → In k def.outs → Mentions def.clauses j → IsRead d claim moved cycles k j
+from_base : (d : Design) (claim : Claim) (moved : List (List Bool)) (live cycles c : ℕ) (def : Definition) (k j : Key) → IsSound d → c < cycles
+    → In def (base_definitions Rows d live c) → In k def.outs → Mentions def.clauses j → IsRead d claim moved cycles k j
 from_base d claim moved live cycles c def k j sound lt has out m =
     let used = base_use d live cycles c def k j sound lt has out m in
     let origin : claim_origin d claim moved cycles k ≡ base_origin d cycles k =
     ap (layer_origin d claim moved cycles k) used.layer ∙ cond-false (not (k.rail == 0)) Free _ (not_from_true (k.rail == 0) (eq-eqb k.rail 0 used.rail))
     ∙ cond-true (nat_lt k.point (d.nets + length d.regs)) (base_origin d cycles k) _ (lt-ltb k.point (d.nets + length d.regs) used.point) in
     let reads : claim_reads d claim moved cycles k ≡ reads_of_origin d k (base_origin d cycles k) =
-    ap (λ (o : Origin). reads_in_layer d claim moved k k.layer o) origin ∙ ap (λ (n : ℕ). reads_in_layer d claim moved k n (base_origin d cycles k)) used.layer ∙ base_level d claim moved cycles k in
+    ap (λ (o : Origin). reads_in_layer d claim moved k k.layer o) origin ∙ ap (λ (n : ℕ). reads_in_layer d claim moved k n (base_origin d cycles k))
+    used.layer ∙ base_level d claim moved cycles k in
     elim used.only [ inl same ↦ inl same | inr a ↦ inr (subst (λ (ls : List KeyLit). Among ls j) (sym reads) a) ]
 
 -- what a late key reads, where its layer has it
-late_eval : (d : Design) (claim : Claim) (moved : List (List Bool)) (cycles c l rail p : ℕ) → c < cycles → l < length claim.through + 1 → has_rail claim rail ≡ true → claim_reads d claim moved cycles (key c (suc l) rail p) ≡ late_reads d claim moved (key c (suc l) rail p) l (late_origin d claim moved l (key c (suc l) rail p))
+late_eval : (d : Design) (claim : Claim) (moved : List (List Bool)) (cycles c l rail p : ℕ) → c < cycles → l < length claim.through + 1
+    → has_rail claim rail ≡ true → claim_reads d claim moved cycles (key c (suc l) rail p) ≡ late_reads d claim moved (key c (suc l) rail p) l
+    (late_origin d claim moved l (key c (suc l) rail p))
 late_eval d claim moved cycles c l rail p early low on =
     ap (late_reads d claim moved (key c (suc l) rail p) l)
     (cond-true (nat_lt c cycles && (nat_lt l (length claim.through + 1) && has_rail claim rail)) (late_origin d claim moved l (key c (suc l) rail p)) Free
-    (and_from (nat_lt c cycles) (nat_lt l (length claim.through + 1) && has_rail claim rail) (lt-ltb c cycles early) (and_from (nat_lt l (length claim.through + 1)) (has_rail claim rail) (lt-ltb l (length claim.through + 1) low) on)))
+    (and_from (nat_lt c cycles) (nat_lt l (length claim.through + 1) && has_rail claim rail) (lt-ltb c cycles early)
+    (and_from (nat_lt l (length claim.through + 1)) (has_rail claim rail) (lt-ltb l (length claim.through + 1) low) on)))
 
-gate_eval : (d : Design) (claim : Claim) (moved : List (List Bool)) (cycles c l rail i : ℕ) (g : Gate) → IsSound d → c < cycles → l < length claim.through + 1 → has_rail claim rail ≡ true → slice_get d.gates i ≡ Some g → has_own claim moved l g.out ≡ true → claim_reads d claim moved cycles (key c (suc l) rail g.out) ≡ gate_late d claim moved c l i (Some g)
+gate_eval : (d : Design) (claim : Claim) (moved : List (List Bool)) (cycles c l rail i : ℕ) (g : Gate) → IsSound d → c < cycles
+    → l < length claim.through + 1 → has_rail claim rail ≡ true → slice_get d.gates i ≡ Some g → has_own claim moved l g.out ≡ true
+    → claim_reads d claim moved cycles (key c (suc l) rail g.out) ≡ gate_late d claim moved c l i (Some g)
 gate_eval d claim moved cycles c l rail i g sound early low on at own =
     let range = All-at (IsGateInRange d) d.gates i g at sound.in_range.gates in
     late_eval d claim moved cycles c l rail g.out early low on
@@ -67,7 +80,9 @@ gate_eval d claim moved cycles c l rail i g sound early low on at own =
     ∙ cond-true (has_own claim moved l g.out) (of_gate (gate_of d.gates 0 g.out)) Free own ∙ ap of_gate (gate_own d i g sound at))
     ∙ ap (gate_late d claim moved c l i) at
 
-reg_eval : (d : Design) (claim : Claim) (moved : List (List Bool)) (cycles c rail r : ℕ) (reg : Reg) → c < cycles → has_rail claim rail ≡ true → claim.end ≡ RegEnd r → slice_get d.regs r ≡ Some reg → claim_reads d claim moved cycles (late_key d claim c rail) ≡ reg_late d claim moved c r (Some reg)
+reg_eval : (d : Design) (claim : Claim) (moved : List (List Bool)) (cycles c rail r : ℕ) (reg : Reg) → c < cycles → has_rail claim rail ≡ true
+    → claim.end ≡ RegEnd r → slice_get d.regs r ≡ Some reg → claim_reads d claim moved cycles (late_key d claim c rail) ≡ reg_late d claim moved c r
+    (Some reg)
 reg_eval d claim moved cycles c rail r reg early on is at =
     let last : ℕ = length claim.through in
     let p : ℕ = d.nets + length d.regs in
@@ -75,8 +90,11 @@ reg_eval d claim moved cycles c rail r reg early on is at =
     let layer : last + 1 ≡ suc last = omega arith in
     ap (λ (n : ℕ). claim_reads d claim moved cycles (key c n rail p)) layer ∙ late_eval d claim moved cycles c last rail p early (omega arith) on
     ∙ ap (late_reads d claim moved k last)
-    (cond-false (nat_lt p d.nets) _ (cond ((p == d.nets + length d.regs) && (last == length claim.through)) (end_origin claim.end) Free) (le-ltb p d.nets (omega arith))
-    ∙ cond-true ((p == d.nets + length d.regs) && (last == length claim.through)) (end_origin claim.end) Free (and_from (p == d.nets + length d.regs) (last == length claim.through) (eq-eqb p (d.nets + length d.regs) refl) (eq-eqb last (length claim.through) refl))
+    (cond-false (nat_lt p d.nets) _ (cond ((p == d.nets + length d.regs) && (last == length claim.through)) (end_origin claim.end) Free)
+    (le-ltb p d.nets (omega arith))
+    ∙ cond-true ((p == d.nets + length d.regs) && (last == length claim.through)) (end_origin claim.end) Free
+    (and_from (p == d.nets + length d.regs) (last == length claim.through) (eq-eqb p (d.nets + length d.regs) refl)
+    (eq-eqb last (length claim.through) refl))
     ∙ ap end_origin is)
     ∙ ap (reg_late d claim moved c r) at
 
@@ -87,12 +105,16 @@ on_high : (claim : Claim) → claim.hazard ≡ true → has_rail claim 1 ≡ tru
 on_high claim hazard = or_right (1 == 0) (claim.hazard && (1 == 1)) (and_from claim.hazard (1 == 1) hazard (eq-eqb 1 1 refl))
 
 -- a definition of both rails: what it mentions is read, its own keys too
-from_both : (d : Design) (claim : Claim) (moved : List (List Bool)) (cycles : ℕ) (def : Definition) (hs ls : List KeyLit) (high low k j : Key) → def.outs ≡ high ∷ low ∷ [] → ReadsOf def (rails_reads hs ls high low) → ((j : Key) → Among (rails_reads hs ls high low) j → Among (claim_reads d claim moved cycles k) j) → Mentions def.clauses j → IsRead d claim moved cycles k j
+from_both : (d : Design) (claim : Claim) (moved : List (List Bool)) (cycles : ℕ) (def : Definition) (hs ls : List KeyLit) (high low k j : Key)
+    → def.outs ≡ high ∷ low ∷ [] → ReadsOf def (rails_reads hs ls high low)
+    → ((j : Key) → Among (rails_reads hs ls high low) j → Among (claim_reads d claim moved cycles k) j) → Mentions def.clauses j
+    → IsRead d claim moved cycles k j
 from_both d claim moved cycles def hs ls high low k j outs says reads m = inr (reads j (by_part (says.only j m)))
   where
     by_out : In j (high ∷ low ∷ []) → Among (rails_reads hs ls high low) j
     by_out (inl is) = Among-left (hs ++ lit true high ∷ []) (ls ++ lit true low ∷ []) j (Among-right hs (lit true high ∷ []) j (lit true high, inl refl, is))
-    by_out (inr (inl is)) = Among-right (hs ++ lit true high ∷ []) (ls ++ lit true low ∷ []) j (Among-right ls (lit true low ∷ []) j (lit true low, inl refl, is))
+    by_out (inr (inl is)) = Among-right (hs ++ lit true high ∷ []) (ls ++ lit true low ∷ []) j
+        (Among-right ls (lit true low ∷ []) j (lit true low, inl refl, is))
     by_out (inr (inr none)) = absurd none
 
     by_part : In j def.outs ⊎ Among (rails_reads hs ls high low) j → Among (rails_reads hs ls high low) j
@@ -100,7 +122,9 @@ from_both d claim moved cycles def hs ls high low k j outs says reads m = inr (r
     by_part (inr a) = a
 
 -- a definition of one key
-from_one : (d : Design) (claim : Claim) (moved : List (List Bool)) (cycles : ℕ) (def : Definition) (reads : List KeyLit) (out k j : Key) → def.outs ≡ out ∷ [] → ReadsOf def reads → (Among reads j → Among (claim_reads d claim moved cycles out) j) → In k def.outs → Mentions def.clauses j → IsRead d claim moved cycles k j
+from_one : (d : Design) (claim : Claim) (moved : List (List Bool)) (cycles : ℕ) (def : Definition) (reads : List KeyLit) (out k j : Key)
+    → def.outs ≡ out ∷ [] → ReadsOf def reads → (Among reads j → Among (claim_reads d claim moved cycles out) j) → In k def.outs
+    → Mentions def.clauses j → IsRead d claim moved cycles k j
 from_one d claim moved cycles def reads out k j outs says read has m =
     let same : out ≡ k = single k out (subst (In k) outs has) in
     subst (λ (x : Key). IsRead d claim moved cycles x j) same
@@ -110,13 +134,16 @@ from_one d claim moved cycles def reads out k j outs says read has m =
     ])
 
 -- one of two rails' keys
-of_two : (d : Design) (claim : Claim) (moved : List (List Bool)) (cycles : ℕ) (x y k j : Key) → In k (x ∷ y ∷ []) → IsRead d claim moved cycles x j → IsRead d claim moved cycles y j → IsRead d claim moved cycles k j
+of_two : (d : Design) (claim : Claim) (moved : List (List Bool)) (cycles : ℕ) (x y k j : Key) → In k (x ∷ y ∷ []) → IsRead d claim moved cycles x j
+    → IsRead d claim moved cycles y j → IsRead d claim moved cycles k j
 of_two d claim moved cycles x y k j (inl same) a b = subst (λ (z : Key). IsRead d claim moved cycles z j) same a
 of_two d claim moved cycles x y k j (inr (inl same)) a b = subst (λ (z : Key). IsRead d claim moved cycles z j) same b
 of_two d claim moved cycles x y k j (inr (inr none)) a b = absurd none
 
 -- of a gate's net in a layer
-from_gate : (d : Design) (claim : Claim) (moved : List (List Bool)) (cycles c l i : ℕ) (g : Gate) (def : Definition) (k j : Key) → IsSound d → c < cycles → l < length claim.through + 1 → slice_get d.gates i ≡ Some g → In def (layer_gate Rows d claim moved c l i g) → In k def.outs → Mentions def.clauses j → IsRead d claim moved cycles k j
+from_gate : (d : Design) (claim : Claim) (moved : List (List Bool)) (cycles c l i : ℕ) (g : Gate) (def : Definition) (k j : Key) → IsSound d
+    → c < cycles → l < length claim.through + 1 → slice_get d.gates i ≡ Some g → In def (layer_gate Rows d claim moved c l i g) → In k def.outs
+    → Mentions def.clauses j → IsRead d claim moved cycles k j
 from_gate d claim moved cycles c l i g def k j sound early low at has out m =
     elim (cases_Bool (has_own claim moved l g.out)) [
       | inl own ↦ by_mode own claim.hazard refl (subst (In def) (gate_layer d claim moved c l i g own) has)
@@ -132,33 +159,40 @@ from_gate d claim moved cycles c l i g def k j sound early low at has out m =
     f : ℕ → List KeyLit
     f n = pins n ++ lit true (own_key n) ∷ []
 
-    eval : (rail : ℕ) → has_rail claim rail ≡ true → has_own claim moved l g.out ≡ true → claim_reads d claim moved cycles (own_key rail) ≡ gate_late d claim moved c l i (Some g)
+    eval : (rail : ℕ) → has_rail claim rail ≡ true → has_own claim moved l g.out ≡ true → claim_reads d claim moved cycles (own_key rail) ≡ gate_late
+        d claim moved c l i (Some g)
     eval rail on own = gate_eval d claim moved cycles c l rail i g sound early low on at own
 
     of_plain : has_own claim moved l g.out ≡ true → gate_plain d claim moved c l i g ≡ def → IsRead d claim moved cycles k j
     of_plain own is =
         from_one d claim moved cycles (gate_plain d claim moved c l i g) (pins 0) (own_key 0) k j refl (plain_read (value g.func) (pins 0) (own_key 0))
-        (λ a. subst (λ (ls : List KeyLit). Among ls j) (sym (eval 0 (on_low claim) own)) (Among-left (f 0) _ j (Among-left (pins 0) (lit true (own_key 0) ∷ []) j a)))
+        (λ a. subst (λ (ls : List KeyLit). Among ls j) (sym (eval 0 (on_low claim) own))
+        (Among-left (f 0) _ j (Among-left (pins 0) (lit true (own_key 0) ∷ []) j a)))
         (subst (λ (x : Definition). In k x.outs) (sym is) out) (subst (λ (x : Definition). Mentions x.clauses j) (sym is) m)
 
-    on_key : (rail : ℕ) → has_own claim moved l g.out ≡ true → claim.hazard ≡ true → has_rail claim rail ≡ true → Mentions (gate_rails d claim moved c l i g).clauses j → IsRead d claim moved cycles (own_key rail) j
+    on_key : (rail : ℕ) → has_own claim moved l g.out ≡ true → claim.hazard ≡ true → has_rail claim rail ≡ true
+        → Mentions (gate_rails d claim moved c l i g).clauses j → IsRead d claim moved cycles (own_key rail) j
     on_key rail own hazard on said =
-        from_both d claim moved cycles (gate_rails d claim moved c l i g) (pins 0) (pins 1) (own_key 0) (own_key 1) (own_key rail) j refl (gate_says d claim moved c l i g sound at)
+        from_both d claim moved cycles (gate_rails d claim moved c l i g) (pins 0) (pins 1) (own_key 0) (own_key 1) (own_key rail) j refl
+        (gate_says d claim moved c l i g sound at)
         (λ z a. subst (λ (ls : List KeyLit). Among ls z) (sym (eval rail on own)) (subst (λ h. Among (f 0 ++ cond h (f 1) []) z) (sym hazard) a)) said
 
     of_rails : has_own claim moved l g.out ≡ true → claim.hazard ≡ true → gate_rails d claim moved c l i g ≡ def → IsRead d claim moved cycles k j
     of_rails own hazard is =
         let said = subst (λ (x : Definition). Mentions x.clauses j) (sym is) m in
-        of_two d claim moved cycles (own_key 0) (own_key 1) k j (subst (λ (x : Definition). In k x.outs) (sym is) out) (on_key 0 own hazard (on_low claim) said) (on_key 1 own hazard (on_high claim hazard) said)
+        of_two d claim moved cycles (own_key 0) (own_key 1) k j (subst (λ (x : Definition). In k x.outs) (sym is) out)
+        (on_key 0 own hazard (on_low claim) said) (on_key 1 own hazard (on_high claim hazard) said)
 
-    by_mode : has_own claim moved l g.out ≡ true → (h : Bool) → claim.hazard ≡ h → In def (cond h (gate_rails d claim moved c l i g ∷ []) (gate_plain d claim moved c l i g ∷ [])) → IsRead d claim moved cycles k j
+    by_mode : has_own claim moved l g.out ≡ true → (h : Bool) → claim.hazard ≡ h
+        → In def (cond h (gate_rails d claim moved c l i g ∷ []) (gate_plain d claim moved c l i g ∷ [])) → IsRead d claim moved cycles k j
     by_mode own true hazard (inl is) = of_rails own hazard is
     by_mode own true hazard (inr none) = absurd none
     by_mode own false plain_mode (inl is) = of_plain own is
     by_mode own false plain_mode (inr none) = absurd none
 
 -- of a start's net, which is known
-from_start : (d : Design) (claim : Claim) (c l : ℕ) (def : Definition) (k j : Key) → In def (start_units d claim c l) → In k def.outs → Mentions def.clauses j → j ≡ k
+from_start : (d : Design) (claim : Claim) (c l : ℕ) (def : Definition) (k j : Key) → In def (start_units d claim c l) → In k def.outs
+    → Mentions def.clauses j → j ≡ k
 from_start d claim c (suc l) def k j has out m = absurd has
 from_start d claim c zero def k j has out m = by_mode claim.hazard has
   where
@@ -183,7 +217,8 @@ from_start d claim c zero def k j has out m = by_mode claim.hazard has
     by_mode false there = absurd there
 
 -- of the late capture
-from_end : (d : Design) (claim : Claim) (moved : List (List Bool)) (cycles c : ℕ) (def : Definition) (k j : Key) → IsSound d → c < cycles → (e : End) → claim.end ≡ e → In def (end_definition Rows d claim moved c e) → In k def.outs → Mentions def.clauses j → IsRead d claim moved cycles k j
+from_end : (d : Design) (claim : Claim) (moved : List (List Bool)) (cycles c : ℕ) (def : Definition) (k j : Key) → IsSound d → c < cycles → (e : End)
+    → claim.end ≡ e → In def (end_definition Rows d claim moved c e) → In k def.outs → Mentions def.clauses j → IsRead d claim moved cycles k j
 from_end d claim moved cycles c def k j sound early (OutputEnd o) is has out m = absurd has
 from_end d claim moved cycles c def k j sound early (RegEnd r) is has out m = by_reg (slice_get d.regs r) refl has
   where
@@ -192,19 +227,28 @@ from_end d claim moved cycles c def k j sound early (RegEnd r) is has out m = by
 
     of_plain : (reg : Reg) → slice_get d.regs r ≡ Some reg → reg_plain d claim moved c r reg ≡ def → IsRead d claim moved cycles k j
     of_plain reg at same =
-        from_one d claim moved cycles (reg_plain d claim moved c r reg) (reg_rail d claim moved c r reg true 0) (own_key 0) k j refl (plain_read (reg_capture reg) (reg_rail d claim moved c r reg true 0) (own_key 0))
-        (λ a. subst (λ (ls : List KeyLit). Among ls j) (sym (reg_eval d claim moved cycles c 0 r reg early (on_low claim) is at)) (Among-left (reg_listed d claim moved c r reg 0) _ j (Among-left (reg_rail d claim moved c r reg true 0) (lit true (own_key 0) ∷ []) j a)))
+        from_one d claim moved cycles (reg_plain d claim moved c r reg) (reg_rail d claim moved c r reg true 0) (own_key 0) k j refl
+        (plain_read (reg_capture reg) (reg_rail d claim moved c r reg true 0) (own_key 0))
+        (λ a. subst (λ (ls : List KeyLit). Among ls j) (sym (reg_eval d claim moved cycles c 0 r reg early (on_low claim) is at))
+        (Among-left (reg_listed d claim moved c r reg 0) _ j (Among-left (reg_rail d claim moved c r reg true 0) (lit true (own_key 0) ∷ []) j
+        a)))
         (subst (λ (x : Definition). In k x.outs) (sym same) out) (subst (λ (x : Definition). Mentions x.clauses j) (sym same) m)
 
-    on_key : (reg : Reg) (rail : ℕ) → slice_get d.regs r ≡ Some reg → claim.hazard ≡ true → has_rail claim rail ≡ true → Mentions (reg_rails d claim moved c r reg).clauses j → IsRead d claim moved cycles (own_key rail) j
+    on_key : (reg : Reg) (rail : ℕ) → slice_get d.regs r ≡ Some reg → claim.hazard ≡ true → has_rail claim rail ≡ true
+        → Mentions (reg_rails d claim moved c r reg).clauses j → IsRead d claim moved cycles (own_key rail) j
     on_key reg rail at hazard on said =
-        from_both d claim moved cycles (reg_rails d claim moved c r reg) (reg_rail d claim moved c r reg true 0) (reg_rail d claim moved c r reg false 1) (own_key 0) (own_key 1) (own_key rail) j refl (reg_says d claim moved c r reg sound at)
-        (λ z a. subst (λ (ls : List KeyLit). Among ls z) (sym (reg_eval d claim moved cycles c rail r reg early on is at)) (subst (λ h. Among (reg_listed d claim moved c r reg 0 ++ cond h (reg_listed d claim moved c r reg 1) []) z) (sym hazard) (from_rails d claim moved c r reg z a))) said
+        from_both d claim moved cycles (reg_rails d claim moved c r reg) (reg_rail d claim moved c r reg true 0)
+        (reg_rail d claim moved c r reg false 1) (own_key 0) (own_key 1) (own_key rail) j refl (reg_says d claim moved c r reg sound at)
+        (λ z a. subst (λ (ls : List KeyLit). Among ls z) (sym (reg_eval d claim moved cycles c rail r reg early on is at))
+        (subst (λ h. Among (reg_listed d claim moved c r reg 0 ++ cond h (reg_listed d claim moved c r reg 1) []) z) (sym hazard)
+        (from_rails d claim moved c r reg z a))) said
 
-    by_mode : (reg : Reg) → slice_get d.regs r ≡ Some reg → (h : Bool) → claim.hazard ≡ h → In def (cond h (reg_rails d claim moved c r reg ∷ []) (reg_plain d claim moved c r reg ∷ [])) → IsRead d claim moved cycles k j
+    by_mode : (reg : Reg) → slice_get d.regs r ≡ Some reg → (h : Bool) → claim.hazard ≡ h
+        → In def (cond h (reg_rails d claim moved c r reg ∷ []) (reg_plain d claim moved c r reg ∷ [])) → IsRead d claim moved cycles k j
     by_mode reg at true hazard (inl same) =
         let said = subst (λ (x : Definition). Mentions x.clauses j) (sym same) m in
-        of_two d claim moved cycles (own_key 0) (own_key 1) k j (subst (λ (x : Definition). In k x.outs) (sym same) out) (on_key reg 0 at hazard (on_low claim) said) (on_key reg 1 at hazard (on_high claim hazard) said)
+        of_two d claim moved cycles (own_key 0) (own_key 1) k j (subst (λ (x : Definition). In k x.outs) (sym same) out)
+        (on_key reg 0 at hazard (on_low claim) said) (on_key reg 1 at hazard (on_high claim hazard) said)
     by_mode reg at true hazard (inr none) = absurd none
     by_mode reg at false plain_mode (inl same) = of_plain reg at same
     by_mode reg at false plain_mode (inr none) = absurd none
@@ -214,42 +258,59 @@ from_end d claim moved cycles c def k j sound early (RegEnd r) is has out m = by
     by_reg (Some reg) at there = by_mode reg at claim.hazard refl there
 
 -- of the further points
-extra_eval : (d : Design) (claim : Claim) (moved : List (List Bool)) (cycles c n : ℕ) → c < cycles → claim_reads d claim moved cycles (extra d c n) ≡ reads_in_layer d claim moved (extra d c n) 0 (extra_origin claim n)
+extra_eval : (d : Design) (claim : Claim) (moved : List (List Bool)) (cycles c n : ℕ) → c < cycles → claim_reads d claim moved cycles
+    (extra d c n) ≡ reads_in_layer d claim moved (extra d c n) 0 (extra_origin claim n)
 extra_eval d claim moved cycles c n early =
     let p : ℕ = d.nets + length d.regs + n in
     let place : p - (d.nets + length d.regs) ≡ n = omega arith in
     ap (reads_in_layer d claim moved (extra d c n) 0)
-    (cond-false (not (0 == 0)) Free _ (not_from_true (0 == 0) (eq-eqb 0 0 refl)) ∙ cond-false (nat_lt p (d.nets + length d.regs)) _ _ (le-ltb p (d.nets + length d.regs) (omega arith))
+    (cond-false (not (0 == 0)) Free _ (not_from_true (0 == 0) (eq-eqb 0 0 refl)) ∙ cond-false (nat_lt p (d.nets + length d.regs)) _ _
+    (le-ltb p (d.nets + length d.regs) (omega arith))
     ∙ cond-true (nat_lt c cycles) (extra_origin claim (p - (d.nets + length d.regs))) Free (lt-ltb c cycles early) ∙ ap (extra_origin claim) place)
 
-from_extra : (d : Design) (claim : Claim) (moved : List (List Bool)) (cycles c : ℕ) (def : Definition) (k j : Key) → c < cycles → In def (extra_definitions d claim moved c) → In k def.outs → Mentions def.clauses j → IsRead d claim moved cycles k j
+from_extra : (d : Design) (claim : Claim) (moved : List (List Bool)) (cycles c : ℕ) (def : Definition) (k j : Key) → c < cycles
+    → In def (extra_definitions d claim moved c) → In k def.outs → Mentions def.clauses j → IsRead d claim moved cycles k j
 from_extra d claim moved cycles c def k j early has out m = by_place has
   where
-    read_at : (n : ℕ) (reads : List KeyLit) → reads_in_layer d claim moved (extra d c n) 0 (extra_origin claim n) ≡ reads → Among reads j → Among (claim_reads d claim moved cycles (extra d c n)) j
+    read_at : (n : ℕ) (reads : List KeyLit) → reads_in_layer d claim moved (extra d c n) 0 (extra_origin claim n) ≡ reads → Among reads j
+        → Among (claim_reads d claim moved cycles (extra d c n)) j
     read_at n reads same a = subst (λ (ls : List KeyLit). Among ls j) (sym (extra_eval d claim moved cycles c n early ∙ same)) a
 
-    one_of : (n : ℕ) (this : Definition) (reads : List KeyLit) → this.outs ≡ extra d c n ∷ [] → ReadsOf this reads → reads_in_layer d claim moved (extra d c n) 0 (extra_origin claim n) ≡ reads → this ≡ def → IsRead d claim moved cycles k j
+    one_of : (n : ℕ) (this : Definition) (reads : List KeyLit) → this.outs ≡ extra d c n ∷ [] → ReadsOf this reads → reads_in_layer d claim moved
+        (extra d c n) 0 (extra_origin claim n) ≡ reads → this ≡ def → IsRead d claim moved cycles k j
     one_of n this reads outs says same is =
-        from_one d claim moved cycles this reads (extra d c n) k j outs says (read_at n reads same) (subst (λ (x : Definition). In k x.outs) (sym is) out) (subst (λ (x : Definition). Mentions x.clauses j) (sym is) m)
+        from_one d claim moved cycles this reads (extra d c n) k j outs says (read_at n reads same)
+        (subst (λ (x : Definition). In k x.outs) (sym is) out) (subst (λ (x : Definition). Mentions x.clauses j) (sym is) m)
 
     of_stale : (r : ℕ) → r < judged_count claim.kind - 1 → stale_definition d claim c r ≡ def → IsRead d claim moved cycles k j
     of_stale r lt is =
         let place : 2 + (r + 1) ≡ suc (suc (suc r)) = omega arith in
-        let origin : extra_origin claim (2 + (r + 1)) ≡ Stale (r + 1) = ap (extra_origin claim) place ∙ cond-true (nat_lt r (judged_count claim.kind - 1)) (Stale (r + 1)) Free (lt-ltb r (judged_count claim.kind - 1) lt) in
-        let reads : reads_in_layer d claim moved (extra d c (2 + (r + 1))) 0 (extra_origin claim (2 + (r + 1))) ≡ start_lit d claim.start c ∷ start_lit d claim.start (c - r - 2) ∷ [] =
-        ap (reads_in_layer d claim moved (extra d c (2 + (r + 1))) 0) origin ∙ ap (λ (n : ℕ). start_lit d claim.start c ∷ start_lit d claim.start n ∷ []) (earlier c r) in
-        one_of (2 + (r + 1)) (stale_definition d claim c r) (start_lit d claim.start c ∷ start_lit d claim.start (c - r - 2) ∷ []) refl (exclusive_read (stale_key d c (r + 1)) (start_lit d claim.start c) (start_lit d claim.start (c - r - 2))) reads is
+        let origin : extra_origin claim (2 + (r + 1)) ≡ Stale (r + 1) = ap (extra_origin claim) place
+        ∙ cond-true (nat_lt r (judged_count claim.kind - 1)) (Stale (r + 1)) Free (lt-ltb r (judged_count claim.kind - 1) lt) in
+        let reads : reads_in_layer d claim moved (extra d c (2 + (r + 1))) 0 (extra_origin claim (2 + (r + 1))) ≡ start_lit d claim.start c
+        ∷ start_lit d claim.start (c - r - 2) ∷ [] =
+        ap (reads_in_layer d claim moved (extra d c (2 + (r + 1))) 0) origin
+        ∙ ap (λ (n : ℕ). start_lit d claim.start c ∷ start_lit d claim.start n ∷ []) (earlier c r) in
+        one_of (2 + (r + 1)) (stale_definition d claim c r) (start_lit d claim.start c ∷ start_lit d claim.start (c - r - 2) ∷ []) refl
+        (exclusive_read (stale_key d c (r + 1)) (start_lit d claim.start c) (start_lit d claim.start (c - r - 2))) reads is
 
     by_place : In def (extra_definitions d claim moved c) → IsRead d claim moved cycles k j
-    by_place (inl is) = one_of 0 (exclusive (toggle_key d c) (start_lit d claim.start c) (start_lit d claim.start (c - 1))) (start_lit d claim.start c ∷ start_lit d claim.start (c - 1) ∷ []) refl (exclusive_read (toggle_key d c) (start_lit d claim.start c) (start_lit d claim.start (c - 1))) refl is
-    by_place (inr (inl is)) = one_of 1 (exclusive (change_key d c) (capture_lit d claim.end c) (capture_lit d claim.end (c - 1))) (capture_lit d claim.end c ∷ capture_lit d claim.end (c - 1) ∷ []) refl (exclusive_read (change_key d c) (capture_lit d claim.end c) (capture_lit d claim.end (c - 1))) refl is
-    by_place (inr (inr (inl is))) = one_of 2 (differ_definition d claim moved c) (differ_reads d claim moved c) (differ_out d claim moved c) (differ_says d claim moved c) refl is
+    by_place (inl is) = one_of 0 (exclusive (toggle_key d c) (start_lit d claim.start c) (start_lit d claim.start (c - 1)))
+        (start_lit d claim.start c ∷ start_lit d claim.start (c - 1) ∷ []) refl
+        (exclusive_read (toggle_key d c) (start_lit d claim.start c) (start_lit d claim.start (c - 1))) refl is
+    by_place (inr (inl is)) = one_of 1 (exclusive (change_key d c) (capture_lit d claim.end c) (capture_lit d claim.end (c - 1)))
+        (capture_lit d claim.end c ∷ capture_lit d claim.end (c - 1) ∷ []) refl
+        (exclusive_read (change_key d c) (capture_lit d claim.end c) (capture_lit d claim.end (c - 1))) refl is
+    by_place (inr (inr (inl is))) = one_of 2 (differ_definition d claim moved c) (differ_reads d claim moved c) (differ_out d claim moved c)
+        (differ_says d claim moved c) refl is
     by_place (inr (inr (inr later))) =
         let of = from_map (stale_definition d claim c) def (below (judged_count claim.kind - 1)) later in
         of_stale of.0 (below_less (judged_count claim.kind - 1) of.0 of.1) of.2
 
 -- a used key is read
-pub used_read : (q : Query) (claim : Claim) (offset clean : ℕ) (moved : List (List Bool)) → IsSound q.design → Fits q.design claim → q.question ≡ Violates claim offset clean → (k j : Key) → Uses (definitions Rows q moved) k j → (j ≡ k) ⊎ ((l : KeyLit) × In l (claim_reads q.design claim moved q.cycles k) × (l.key ≡ j))
+pub used_read : (q : Query) (claim : Claim) (offset clean : ℕ) (moved : List (List Bool)) → IsSound q.design → Fits q.design claim
+    → q.question ≡ Violates claim offset clean → (k j : Key) → Uses (definitions Rows q moved) k j
+    → (j ≡ k) ⊎ ((l : KeyLit) × In l (claim_reads q.design claim moved q.cycles k) × (l.key ≡ j))
 used_read q claim offset clean moved sound fits asks k j (def, has, outs, m) =
     elim (In-cases def (base_definitions Rows d q.live c) (question_definitions Rows d moved q.question c) at.2) [
       | inl base ↦ from_base d claim moved q.live q.cycles c def k j sound early base out m
@@ -278,13 +339,15 @@ used_read q claim offset clean moved sound fits asks k j (def, has, outs, m) =
           | inr of_gates ↦
               let list = from_flat (λ x. x) def (numbered (layer_gate Rows d claim moved c l) 0 d.gates) of_gates in
               let of = from_numbered (layer_gate Rows d claim moved c l) list.0 0 d.gates list.1 in
-              let is : layer_gate Rows d claim moved c l of.0 of.1 ≡ list.0 = ap (λ (n : ℕ). layer_gate Rows d claim moved c l n of.1) (sym (zero_more of.0)) ∙ of.3 in
+              let is : layer_gate Rows d claim moved c l of.0 of.1 ≡ list.0 = ap (λ (n : ℕ). layer_gate Rows d claim moved c l n of.1)
+              (sym (zero_more of.0)) ∙ of.3 in
               from_gate d claim moved q.cycles c l of.0 of.1 def k j sound early low of.2 (subst (In def) (sym is) list.2) out m
         ]
 
     by_stage : In def (claim_definitions Rows d claim moved c) → IsRead d claim moved q.cycles k j
     by_stage there =
-        elim (In-cases def (flat_map (layer_definitions Rows d claim moved c) (below (length claim.through + 1))) (end_definition Rows d claim moved c claim.end ++ extra_definitions d claim moved c) there) [
+        elim (In-cases def (flat_map (layer_definitions Rows d claim moved c) (below (length claim.through + 1)))
+        (end_definition Rows d claim moved c claim.end ++ extra_definitions d claim moved c) there) [
           | inl of_layers ↦
               let l = from_flat (layer_definitions Rows d claim moved c) def (below (length claim.through + 1)) of_layers in
               by_layer l.0 (below_less (length claim.through + 1) l.0 l.1) l.2

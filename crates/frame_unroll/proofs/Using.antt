@@ -1,5 +1,6 @@
 -- The keys that a key's definition reads are exactly those that its origin says.
-use Rattle.std.proofs.Common.{◌≡◌, ℕ, zero, suc, ◌+◌, ◌-◌, ◌<◌, ◌≤◌, Bool, true, false, not, cond, List, [], ◌∷◌, ◌++◌, map, length, Option, Some, None, refl, ap, sym, ◌∙◌, arith, inl, inr, ◌⊎◌, subst}
+use Rattle.std.proofs.Common.{◌≡◌, ℕ, zero, suc, ◌+◌, ◌-◌, ◌<◌, ◌≤◌, Bool, true, false, not, cond, List, [], ◌∷◌, ◌++◌, map, length, Option, Some}
+use Rattle.std.proofs.Common.{None, refl, ap, sym, ◌∙◌, arith, inl, inr, ◌⊎◌, subst}
 use Rattle.std.specs.Prelude.{slice_get, slice_index, flat_map, nat_lt, ◌==◌, ◌&&◌}
 use Rattle.std.proofs.lemmas.Bool.{cond-true, cond-false, cond_both, cases_order, ltb-true, ltb-false, lt-ltb, le-ltb, eqb-true, eq-eqb, and_parts, and_from}
 use Rattle.std.proofs.lemmas.Option.{slice_get_within}
@@ -16,7 +17,8 @@ use Rattle.net_model.specs.declared.invariants.InvClause.{InvClause}
 use Rattle.query_model.specs.Keys.{key, lit, below}
 use Rattle.query_model.specs.Reads.{bit_key, read_base}
 use Rattle.net_model.specs.Queries.{Query, Breaks}
-use Rattle.query_model.specs.Defined.{Definition, numbered, with_own, gate_definition, bit_definition, base_definitions, input_definition, unit, unit_if, set_in}
+use Rattle.query_model.specs.Defined.{Definition, numbered, with_own, gate_definition, bit_definition, base_definitions, input_definition, unit}
+use Rattle.query_model.specs.Defined.{unit_if, set_in}
 use Rattle.query_model.specs.Formula.{Mentions, definitions, cycle_definitions, question_definitions}
 use Rattle.query_model.proofs.Members.{below_less}
 use Rattle.query_model.proofs.Needs.{base_in}
@@ -35,8 +37,15 @@ key_at k c l r p ec el er ep =
     ap (λ x. key x l r p) ec ∙ ap (λ x. key k.cycle x r p) el ∙ ap (λ x. key k.cycle k.layer x p) er ∙ ap (λ x. key k.cycle k.layer k.rail x) ep
 
 -- a definition of the key reads the literal
-pub use_by : (defs : List Definition) (def : Definition) (reads : List KeyLit) (k j : Key) → In def defs → In k def.outs → ReadsOf def reads → Among reads j → Uses defs k j
-use_by defs def reads k j has out says a = (def, Contains-from_In defs def has, Contains-from_In def.outs k out, subst (Mentions def.clauses) a.2 (says.given a.0 a.1))
+pub use_by : (defs : List Definition) (def : Definition) (reads : List KeyLit) (k j : Key) → In def defs → In k def.outs → ReadsOf def reads
+    → Among reads j → Uses defs k j
+use_by defs def reads k j has out says a = (
+  def,
+  Contains-from_In defs def has,
+  Contains-from_In def.outs k out,
+  subst (Mentions def.clauses) a.2
+      (says.given a.0 a.1),
+)
 
 -- two gates on one net are one
 gates_apart : (d : Design) (i j : ℕ) (g h : Gate) → IsSound d → slice_get d.gates i ≡ Some g → slice_get d.gates j ≡ Some h → h.out ≡ g.out → j < i → ⊥
@@ -59,7 +68,8 @@ gate_found (g ∷ gs) s n i e = by_test (g.out == n) refl (gate_found gs (s + 1)
     Found : List Gate → ℕ → Type 0
     Found hs t = (j : ℕ) × (h : Gate) × (i ≡ t + j) × (slice_get hs j ≡ Some h) × (h.out ≡ n)
 
-    by_test : (b : Bool) → (g.out == n) ≡ b → (gate_of gs (s + 1) n ≡ Some i → Found gs (s + 1)) → cond b (Some s) (gate_of gs (s + 1) n) ≡ Some i → Found (g ∷ gs) s
+    by_test : (b : Bool) → (g.out == n) ≡ b → (gate_of gs (s + 1) n ≡ Some i → Found gs (s + 1)) → cond b (Some s) (gate_of gs (s + 1) n) ≡ Some i
+        → Found (g ∷ gs) s
     by_test true same rest at = let is : s ≡ i = cc in (0, g, omega (arith, is), refl, eqb-true g.out n same)
     by_test false apart rest at = let more = rest at in (suc more.0, more.1, omega (arith, more.2), more.3, more.4)
 
@@ -68,7 +78,8 @@ gate_there [] s n j g at e = absurd cc
 gate_there (h ∷ gs) s n zero g at e =
     let is : h ≡ g = cc in
     (s, cond-true (h.out == n) (Some s) (gate_of gs (s + 1) n) (eq-eqb h.out n (ap (λ (x : Gate). x.out) is ∙ e)))
-gate_there (h ∷ gs) s n (suc j) g at e = cond_both (h.out == n) (Some s) (gate_of gs (s + 1) n) (λ o. (i : ℕ) × (o ≡ Some i)) (λ same. (s, refl)) (λ apart. gate_there gs (s + 1) n j g at e)
+gate_there (h ∷ gs) s n (suc j) g at e = cond_both (h.out == n) (Some s) (gate_of gs (s + 1) n) (λ o. (i : ℕ) × (o ≡ Some i)) (λ same. (s, refl))
+    (λ apart. gate_there gs (s + 1) n j g at e)
 
 -- the gate of its own net
 pub gate_own : (d : Design) (i : ℕ) (g : Gate) → IsSound d → slice_get d.gates i ≡ Some g → gate_of d.gates 0 g.out ≡ Some i
@@ -80,7 +91,8 @@ gate_own d i g sound at =
     there.1 ∙ ap Some e
 
 -- the definitions of a cycle
-base_of : (q : Query) (moved : List (List Bool)) (c : ℕ) (def : Definition) → c < q.cycles → In def (base_definitions Rows q.design q.live c) → In def (definitions Rows q moved)
+base_of : (q : Query) (moved : List (List Bool)) (c : ℕ) (def : Definition) → c < q.cycles → In def (base_definitions Rows q.design q.live c)
+    → In def (definitions Rows q moved)
 base_of q moved c def lt has = base_in Rows q moved c lt def has
 
 zero_more : (r : ℕ) → 0 + r ≡ r
@@ -94,21 +106,26 @@ gate_in d live c i g at =
 bit_in : (d : Design) (live c r : ℕ) (reg : Reg) → slice_get d.regs r ≡ Some reg → In (bit_definition Rows d c r reg) (base_definitions Rows d live c)
 bit_in d live c r reg at =
     In-right (bit_definition Rows d c r reg) (flat_map (input_definition d live c) (below (length d.inputs))) _
-    (In-right (bit_definition Rows d c r reg) (map (gate_definition Rows d c) d.gates) (numbered (bit_definition Rows d c) 0 d.regs) (subst (λ (n : ℕ). In (bit_definition Rows d c n reg) (numbered (bit_definition Rows d c) 0 d.regs)) (zero_more r) (in_numbered (bit_definition Rows d c) 0 d.regs r reg at)))
+    (In-right (bit_definition Rows d c r reg) (map (gate_definition Rows d c) d.gates) (numbered (bit_definition Rows d c) 0 d.regs)
+    (subst (λ (n : ℕ). In (bit_definition Rows d c n reg) (numbered (bit_definition Rows d c) 0 d.regs)) (zero_more r)
+    (in_numbered (bit_definition Rows d c) 0 d.regs r reg at)))
 
 -- a register's bit in the cycle after
 bit_at_next : (d : Design) (k : Key) (c r : ℕ) → c + 1 ≡ k.cycle → 0 ≡ k.layer → 0 ≡ k.rail → d.nets + r ≡ k.point → bit_key d (c + 1) r ≡ k
 bit_at_next d k c r ec el er ep = key_at k (c + 1) 0 0 (d.nets + r) ec el er ep
 
 -- the keys that a net or a bit reads are used
-pub base_used : (q : Query) (moved : List (List Bool)) (k j : Key) → k.layer ≡ 0 → k.rail ≡ 0 → Among (reads_of_origin q.design k (base_origin q.design q.cycles k)) j → Uses (definitions Rows q moved) k j
+pub base_used : (q : Query) (moved : List (List Bool)) (k j : Key) → k.layer ≡ 0 → k.rail ≡ 0
+    → Among (reads_of_origin q.design k (base_origin q.design q.cycles k)) j → Uses (definitions Rows q moved) k j
 base_used q moved k j layer rail =
     cond_both (nat_lt k.point d.nets) (cond (nat_lt k.cycle q.cycles) (of_gate (gate_of d.gates 0 k.point)) Free) bit_origin Goal
-    (λ net. cond_both (nat_lt k.cycle q.cycles) (of_gate (gate_of d.gates 0 k.point)) Free Goal (λ early. of_net (ltb-true k.cycle q.cycles early) (gate_of d.gates 0 k.point) refl) (λ late a. absurd a.1))
+    (λ net. cond_both (nat_lt k.cycle q.cycles) (of_gate (gate_of d.gates 0 k.point)) Free Goal
+    (λ early. of_net (ltb-true k.cycle q.cycles early) (gate_of d.gates 0 k.point) refl) (λ late a. absurd a.1))
     (λ past. cond_both (nat_lt 0 k.cycle && (nat_lt k.cycle (q.cycles + 1) && nat_lt k.point (d.nets + length d.regs))) (OfReg (k.point - d.nets)) Free Goal
     (λ says. let first = and_parts (nat_lt 0 k.cycle) (nat_lt k.cycle (q.cycles + 1) && nat_lt k.point (d.nets + length d.regs)) says in
     let second = and_parts (nat_lt k.cycle (q.cycles + 1)) (nat_lt k.point (d.nets + length d.regs)) first.1 in
-    of_bit (ltb-false k.point d.nets past) (ltb-true 0 k.cycle first.0) (ltb-true k.cycle (q.cycles + 1) second.0) (slice_get d.regs (k.point - d.nets)) refl) (λ no_bit a. absurd a.1))
+    of_bit (ltb-false k.point d.nets past) (ltb-true 0 k.cycle first.0) (ltb-true k.cycle (q.cycles + 1) second.0)
+    (slice_get d.regs (k.point - d.nets)) refl) (λ no_bit a. absurd a.1))
   where
     d : Design
     d = q.design
@@ -119,10 +136,13 @@ base_used q moved k j layer rail =
     bit_origin : Origin
     bit_origin = cond (nat_lt 0 k.cycle && (nat_lt k.cycle (q.cycles + 1) && nat_lt k.point (d.nets + length d.regs))) (OfReg (k.point - d.nets)) Free
 
-    of_gate_at : (i : ℕ) (g : Gate) → k.cycle < q.cycles → slice_get d.gates i ≡ Some g → g.out ≡ k.point → Among (map (read_base d k.cycle) g.ins) j → Uses (definitions Rows q moved) k j
+    of_gate_at : (i : ℕ) (g : Gate) → k.cycle < q.cycles → slice_get d.gates i ≡ Some g → g.out ≡ k.point → Among (map (read_base d k.cycle) g.ins) j
+        → Uses (definitions Rows q moved) k j
     of_gate_at i g lt at out a =
-        use_by (definitions Rows q moved) (gate_definition Rows d k.cycle g) (map (read_base d k.cycle) g.ins) k j (base_of q moved k.cycle (gate_definition Rows d k.cycle g) lt (gate_in d q.live k.cycle i g at))
-        (inl (key_at k k.cycle 0 0 g.out refl (sym layer) (sym rail) out)) (plain_read (value g.func) (map (read_base d k.cycle) g.ins) (key k.cycle 0 0 g.out)) a
+        use_by (definitions Rows q moved) (gate_definition Rows d k.cycle g) (map (read_base d k.cycle) g.ins) k j
+        (base_of q moved k.cycle (gate_definition Rows d k.cycle g) lt (gate_in d q.live k.cycle i g at))
+        (inl (key_at k k.cycle 0 0 g.out refl (sym layer) (sym rail) out))
+        (plain_read (value g.func) (map (read_base d k.cycle) g.ins) (key k.cycle 0 0 g.out)) a
 
     of_net : k.cycle < q.cycles → (o : Option ℕ) → gate_of d.gates 0 k.point ≡ o → Goal (of_gate o)
     of_net lt None at a = absurd a.1
@@ -132,7 +152,8 @@ base_used q moved k j layer rail =
         let there : slice_get d.gates i ≡ Some found.1 = ap (slice_get d.gates) place ∙ found.3 in
         of_gate_at i found.1 lt there found.4 (subst (λ (o : Option Gate). Among (gate_base d k.cycle o) j) there a)
 
-    of_bit : d.nets ≤ k.point → 0 < k.cycle → k.cycle < q.cycles + 1 → (o : Option Reg) → slice_get d.regs (k.point - d.nets) ≡ o → Goal (OfReg (k.point - d.nets))
+    of_bit : d.nets ≤ k.point → 0 < k.cycle → k.cycle < q.cycles + 1 → (o : Option Reg) → slice_get d.regs (k.point - d.nets) ≡ o
+        → Goal (OfReg (k.point - d.nets))
     of_bit past some few None at a = absurd (subst (λ (o : Option Reg). Among (reg_base d (k.cycle - 1) (k.point - d.nets) o) j) at a).1
     of_bit past some few (Some reg) at a =
         let c : ℕ = k.cycle - 1 in
@@ -141,8 +162,10 @@ base_used q moved k j layer rail =
         let next : c + 1 ≡ k.cycle = omega (arith, some) in
         let point : d.nets + r ≡ k.point = omega (arith, past) in
         let lt : c < q.cycles = omega (arith, some, few) in
-        use_by (definitions Rows q moved) (bit_definition Rows d c r reg) reads k j (base_of q moved c (bit_definition Rows d c r reg) lt (bit_in d q.live c r reg at))
-        (inl (bit_at_next d k c r next (sym layer) (sym rail) point)) (plain_read (reg_capture reg) reads (bit_key d (c + 1) r)) (subst (λ (o : Option Reg). Among (reg_base d c r o) j) at a)
+        use_by (definitions Rows q moved) (bit_definition Rows d c r reg) reads k j
+        (base_of q moved c (bit_definition Rows d c r reg) lt (bit_in d q.live c r reg at))
+        (inl (bit_at_next d k c r next (sym layer) (sym rail) point)) (plain_read (reg_capture reg) reads (bit_key d (c + 1) r))
+        (subst (λ (o : Option Reg). Among (reg_base d c r o) j) at a)
 
 -- what a definition of a net or a bit tells of its key
 pub record BaseUse (d : Design) (cycles : ℕ) (k j : Key) : Type 0 where
@@ -151,21 +174,25 @@ pub record BaseUse (d : Design) (cycles : ℕ) (k j : Key) : Type 0 where
   pub point : k.point < d.nets + length d.regs
   pub only : (j ≡ k) ⊎ Among (reads_of_origin d k (base_origin d cycles k)) j
 
-gate_origin : (d : Design) (cycles c i : ℕ) (g : Gate) → IsSound d → c < cycles → slice_get d.gates i ≡ Some g → base_origin d cycles (key c 0 0 g.out) ≡ OfGate i
+gate_origin : (d : Design) (cycles c i : ℕ) (g : Gate) → IsSound d → c < cycles → slice_get d.gates i ≡ Some g
+    → base_origin d cycles (key c 0 0 g.out) ≡ OfGate i
 gate_origin d cycles c i g sound lt at =
     let range = All-at (IsGateInRange d) d.gates i g at sound.in_range.gates in
-    cond-true (nat_lt g.out d.nets) _ _ (lt-ltb g.out d.nets range.out) ∙ cond-true (nat_lt c cycles) _ _ (lt-ltb c cycles lt) ∙ ap of_gate (gate_own d i g sound at)
+    cond-true (nat_lt g.out d.nets) _ _ (lt-ltb g.out d.nets range.out) ∙ cond-true (nat_lt c cycles) _ _ (lt-ltb c cycles lt)
+    ∙ ap of_gate (gate_own d i g sound at)
 
 bit_origin_is : (d : Design) (cycles c r : ℕ) → c < cycles → r < length d.regs → base_origin d cycles (bit_key d (c + 1) r) ≡ OfReg r
 bit_origin_is d cycles c r lt low =
     let place : d.nets + r - d.nets ≡ r = omega arith in
     cond-false (nat_lt (d.nets + r) d.nets) _ _ (le-ltb (d.nets + r) d.nets (omega arith))
     ∙ cond-true (nat_lt 0 (c + 1) && (nat_lt (c + 1) (cycles + 1) && nat_lt (d.nets + r) (d.nets + length d.regs))) _ _
-    (and_from _ _ (lt-ltb 0 (c + 1) (omega arith)) (and_from _ _ (lt-ltb (c + 1) (cycles + 1) (omega (arith, lt))) (lt-ltb (d.nets + r) (d.nets + length d.regs) (omega (arith, low)))))
+    (and_from _ _ (lt-ltb 0 (c + 1) (omega arith)) (and_from _ _ (lt-ltb (c + 1) (cycles + 1) (omega (arith, lt)))
+    (lt-ltb (d.nets + r) (d.nets + length d.regs) (omega (arith, low)))))
     ∙ ap OfReg place
 
 -- a key that defines itself alone
-unit_use : (d : Design) (cycles : ℕ) (v : Bool) (out k j : Key) → out.layer ≡ 0 → out.rail ≡ 0 → out.point < d.nets → out ≡ k → Mentions (unit v out).clauses j → BaseUse d cycles k j
+unit_use : (d : Design) (cycles : ℕ) (v : Bool) (out k j : Key) → out.layer ≡ 0 → out.rail ≡ 0 → out.point < d.nets → out ≡ k
+    → Mentions (unit v out).clauses j → BaseUse d cycles k j
 unit_use d cycles v out k j layer rail low same m =
     record {
       layer = ap (λ (x : Key). x.layer) (sym same) ∙ layer;
@@ -177,7 +204,8 @@ unit_use d cycles v out k j layer rail low same m =
       ];
     }
 
-gate_use : (d : Design) (cycles c i : ℕ) (g : Gate) (k j : Key) → IsSound d → c < cycles → slice_get d.gates i ≡ Some g → key c 0 0 g.out ≡ k → Mentions (gate_definition Rows d c g).clauses j → BaseUse d cycles k j
+gate_use : (d : Design) (cycles c i : ℕ) (g : Gate) (k j : Key) → IsSound d → c < cycles → slice_get d.gates i ≡ Some g → key c 0 0 g.out ≡ k
+    → Mentions (gate_definition Rows d c g).clauses j → BaseUse d cycles k j
 gate_use d cycles c i g k j sound lt at same m = subst (λ (x : Key). BaseUse d cycles x j) same whole
   where
     own : Key
@@ -187,7 +215,8 @@ gate_use d cycles c i g k j sound lt at same m = subst (λ (x : Key). BaseUse d 
     range = All-at (IsGateInRange d) d.gates i g at sound.in_range.gates
 
     read : Among (map (read_base d c) g.ins) j → Among (reads_of_origin d own (base_origin d cycles own)) j
-    read a = subst (λ (o : Origin). Among (reads_of_origin d own o) j) (sym (gate_origin d cycles c i g sound lt at)) (subst (λ (o : Option Gate). Among (gate_base d c o) j) (sym at) a)
+    read a = subst (λ (o : Origin). Among (reads_of_origin d own o) j) (sym (gate_origin d cycles c i g sound lt at))
+        (subst (λ (o : Option Gate). Among (gate_base d c o) j) (sym at) a)
 
     whole : BaseUse d cycles own j
     whole =
@@ -201,7 +230,8 @@ gate_use d cycles c i g k j sound lt at same m = subst (λ (x : Key). BaseUse d 
           ];
         }
 
-bit_use : (d : Design) (cycles c r : ℕ) (reg : Reg) (k j : Key) → c < cycles → slice_get d.regs r ≡ Some reg → bit_key d (c + 1) r ≡ k → Mentions (bit_definition Rows d c r reg).clauses j → BaseUse d cycles k j
+bit_use : (d : Design) (cycles c r : ℕ) (reg : Reg) (k j : Key) → c < cycles → slice_get d.regs r ≡ Some reg → bit_key d (c + 1) r ≡ k
+    → Mentions (bit_definition Rows d c r reg).clauses j → BaseUse d cycles k j
 bit_use d cycles c r reg k j lt at same m = subst (λ (x : Key). BaseUse d cycles x j) same whole
   where
     own : Key
@@ -234,9 +264,11 @@ bit_use d cycles c r reg k j lt at same m = subst (λ (x : Key). BaseUse d cycle
         }
 
 -- the definitions of a cycle define nets and bits alone
-pub base_use : (d : Design) (live cycles c : ℕ) (def : Definition) (k j : Key) → IsSound d → c < cycles → In def (base_definitions Rows d live c) → In k def.outs → Mentions def.clauses j → BaseUse d cycles k j
+pub base_use : (d : Design) (live cycles c : ℕ) (def : Definition) (k j : Key) → IsSound d → c < cycles → In def (base_definitions Rows d live c)
+    → In k def.outs → Mentions def.clauses j → BaseUse d cycles k j
 base_use d live cycles c def k j sound lt has out m =
-    elim (In-cases def (flat_map (input_definition d live c) (below (length d.inputs))) (map (gate_definition Rows d c) d.gates ++ numbered (bit_definition Rows d c) 0 d.regs) has) [
+    elim (In-cases def (flat_map (input_definition d live c) (below (length d.inputs)))
+    (map (gate_definition Rows d c) d.gates ++ numbered (bit_definition Rows d c) 0 d.regs) has) [
       | inl of_input ↦
           let at = from_flat (input_definition d live c) def (below (length d.inputs)) of_input in
           let i = at.0 in
@@ -250,12 +282,14 @@ base_use d live cycles c def k j sound lt has out m =
         | inl of_gates ↦
             let of = from_map (gate_definition Rows d c) def d.gates of_gates in
             let place = placed of.0 d.gates of.1 in
-            gate_use d cycles c place.0 of.0 k j sound lt place.1 (single (key c 0 0 of.0.out) (subst (λ (x : Definition). In k x.outs) (sym of.2) out)) (subst (λ (x : Definition). Mentions x.clauses j) (sym of.2) m)
+            gate_use d cycles c place.0 of.0 k j sound lt place.1 (single (key c 0 0 of.0.out)
+            (subst (λ (x : Definition). In k x.outs) (sym of.2) out)) (subst (λ (x : Definition). Mentions x.clauses j) (sym of.2) m)
         | inr of_regs ↦
             let of = from_numbered (bit_definition Rows d c) def 0 d.regs of_regs in
             let place : 0 + of.0 ≡ of.0 = omega arith in
             let is : bit_definition Rows d c of.0 of.1 ≡ def = ap (λ (n : ℕ). bit_definition Rows d c n of.1) (sym place) ∙ of.3 in
-            bit_use d cycles c of.0 of.1 k j lt of.2 (single (bit_key d (c + 1) of.0) (subst (λ (x : Definition). In k x.outs) (sym is) out)) (subst (λ (x : Definition). Mentions x.clauses j) (sym is) m)
+            bit_use d cycles c of.0 of.1 k j lt of.2 (single (bit_key d (c + 1) of.0) (subst (λ (x : Definition). In k x.outs) (sym is) out))
+            (subst (λ (x : Definition). Mentions x.clauses j) (sym is) m)
       ]
     ]
   where
@@ -264,15 +298,20 @@ base_use d live cycles c def k j sound lt has out m =
     single z (inr none) = absurd none
 
     of_unit : (v : Bool) (n : ℕ) → n < d.nets → unit v (key c 0 0 n) ≡ def → BaseUse d cycles k j
-    of_unit v n low is = unit_use d cycles v (key c 0 0 n) k j refl refl low (single (key c 0 0 n) (subst (λ (x : Definition). In k x.outs) (sym is) out)) (subst (λ (x : Definition). Mentions x.clauses j) (sym is) m)
+    of_unit v n low is = unit_use d cycles v (key c 0 0 n) k j refl refl low
+        (single (key c 0 0 n) (subst (λ (x : Definition). In k x.outs) (sym is) out)) (subst (λ (x : Definition). Mentions x.clauses j) (sym is) m)
 
 -- where a clause over register bits is asked about
-pub clause_reads_used : (q : Query) (clause : InvClause) (moved : List (List Bool)) → q.question ≡ Breaks clause → (k : Key) (l : KeyLit) → In l (clause_reads q.design q.cycles k) → Uses (definitions Rows q moved) k l.key
+pub clause_reads_used : (q : Query) (clause : InvClause) (moved : List (List Bool)) → q.question ≡ Breaks clause → (k : Key) (l : KeyLit)
+    → In l (clause_reads q.design q.cycles k) → Uses (definitions Rows q moved) k l.key
 clause_reads_used q clause moved asks k l has =
-    cond_both ((k.layer == 0) && (k.rail == 0)) (base_origin q.design q.cycles k) Free (λ origin. Among (reads_of_origin q.design k origin) l.key → Uses (definitions Rows q moved) k l.key)
-    (λ both. let parts = and_parts (k.layer == 0) (k.rail == 0) both in base_used q moved k l.key (eqb-true k.layer 0 parts.0) (eqb-true k.rail 0 parts.1)) (λ other a. absurd a.1) (l, has, refl)
+    cond_both ((k.layer == 0) && (k.rail == 0)) (base_origin q.design q.cycles k) Free (λ origin. Among (reads_of_origin q.design k origin) l.key
+    → Uses (definitions Rows q moved) k l.key)
+    (λ both. let parts = and_parts (k.layer == 0) (k.rail == 0) both in base_used q moved k l.key (eqb-true k.layer 0 parts.0)
+    (eqb-true k.rail 0 parts.1)) (λ other a. absurd a.1) (l, has, refl)
 
-pub clause_used_read : (q : Query) (clause : InvClause) (moved : List (List Bool)) → IsSound q.design → q.question ≡ Breaks clause → (k j : Key) → Uses (definitions Rows q moved) k j → (j ≡ k) ⊎ Among (clause_reads q.design q.cycles k) j
+pub clause_used_read : (q : Query) (clause : InvClause) (moved : List (List Bool)) → IsSound q.design → q.question ≡ Breaks clause → (k j : Key)
+    → Uses (definitions Rows q moved) k j → (j ≡ k) ⊎ Among (clause_reads q.design q.cycles k) j
 clause_used_read q clause moved sound asks k j (def, has, out, m) =
     let at = from_flat (cycle_definitions Rows q moved) def (below q.cycles) (In-from_Contains (definitions Rows q moved) def has) in
     let in_base : In def (base_definitions Rows q.design q.live at.0) =
@@ -284,6 +323,8 @@ clause_used_read q clause moved sound asks k j (def, has, out, m) =
     elim used.only [
       | inl same ↦ inl same
       | inr a ↦
-          let both : ((k.layer == 0) && (k.rail == 0)) ≡ true = and_from (k.layer == 0) (k.rail == 0) (eq-eqb k.layer 0 used.layer) (eq-eqb k.rail 0 used.rail) in
-          inr (subst (λ (o : Origin). Among (reads_of_origin q.design k o) j) (sym (cond-true ((k.layer == 0) && (k.rail == 0)) (base_origin q.design q.cycles k) Free both)) a)
+          let both : ((k.layer == 0) && (k.rail == 0)) ≡ true = and_from (k.layer == 0) (k.rail == 0) (eq-eqb k.layer 0 used.layer)
+          (eq-eqb k.rail 0 used.rail) in
+          inr (subst (λ (o : Origin). Among (reads_of_origin q.design k o) j)
+          (sym (cond-true ((k.layer == 0) && (k.rail == 0)) (base_origin q.design q.cycles k) Free both)) a)
     ]

@@ -1,5 +1,6 @@
 -- The same of keys where a claim is asked about: the layers of a late start, its capture, and the further points of a cycle.
-use Rattle.std.proofs.Common.{◌≡◌, ◌≢◌, ℕ, zero, suc, ◌+◌, ◌-◌, ◌<◌, ◌≤◌, Bool, true, false, not, cond, List, [], ◌∷◌, ◌++◌, map, length, Option, Some, None, refl, ap, sym, ◌∙◌, arith, inl, inr, ◌⊎◌, subst, add-one}
+use Rattle.std.proofs.Common.{◌≡◌, ◌≢◌, ℕ, zero, suc, ◌+◌, ◌-◌, ◌<◌, ◌≤◌, Bool, true, false, not, cond, List, [], ◌∷◌, ◌++◌, map, length, Option}
+use Rattle.std.proofs.Common.{Some, None, refl, ap, sym, ◌∙◌, arith, inl, inr, ◌⊎◌, subst, add-one}
 use Rattle.std.specs.Prelude.{slice_get, flat_map, nat_lt, ◌==◌, ◌&&◌}
 use Rattle.std.proofs.lemmas.Bool.{cond-false, cond_both, ltb-true, ltb-false, eqb-true, and_parts, or_cases, not-false, not_from_true}
 use Rattle.std.proofs.lemmas.List.{length-append}
@@ -23,7 +24,9 @@ use Rattle.query_model.specs.Keys.{key, lit, below}
 use Rattle.query_model.specs.Reads.{bit_key, read_pin}
 use Rattle.net_model.specs.Queries.{Query, Violates}
 use Rattle.net_model.specs.Mentions.{reads_own}
-use Rattle.query_model.specs.Defined.{Definition, numbered, plain, rails, exclusive, both, with_own, base_definitions, has_own, layer_gate, start_units, layer_definitions, late_key, late_reg, end_definition, start_lit, capture_lit, late_capture_lit, extra, toggle_key, change_key, differ_key, stale_key, differ_definition, extra_definitions, claim_definitions}
+use Rattle.query_model.specs.Defined.{Definition, numbered, plain, rails, exclusive, both, with_own, base_definitions, has_own, layer_gate}
+use Rattle.query_model.specs.Defined.{start_units, layer_definitions, late_key, late_reg, end_definition, start_lit, capture_lit, late_capture_lit}
+use Rattle.query_model.specs.Defined.{extra, toggle_key, change_key, differ_key, stale_key, differ_definition, extra_definitions, claim_definitions}
 use Rattle.query_model.specs.Formula.{Mentions, definitions, cycle_definitions, question_definitions}
 use Rattle.query_model.proofs.Members.{In-below}
 use Rattle.query_model.proofs.Lists.{length-numbered}
@@ -31,7 +34,8 @@ use Rattle.query_model.proofs.Based.{placed, in_place, from_numbered, in_numbere
 use Rattle.query_model.specs.declared.keys.Key.{Key}
 use Rattle.query_model.specs.declared.keys.KeyLit.{KeyLit}
 use Rattle.query_model.specs.declared.keys.Coding.TheVariants.{Rows}
-use Rattle.frame_unroll.specs.Origins.{Uses, gate_of, of_gate, base_origin, extra_origin, end_origin, has_rail, late_origin, layer_origin, reads_of_origin, gate_late, reg_late, reads_in_layer, claim_reads}
+use Rattle.frame_unroll.specs.Origins.{Uses, gate_of, of_gate, base_origin, extra_origin, end_origin, has_rail, late_origin, layer_origin}
+use Rattle.frame_unroll.specs.Origins.{reads_of_origin, gate_late, reg_late, reads_in_layer, claim_reads}
 use Rattle.frame_unroll.specs.declared.origins.Origin.{Origin}
 use Rattle.frame_unroll.specs.declared.origins.Origin.TheVariants.{Free, Reg as OfReg, Stale}
 use Rattle.frame_unroll.proofs.Saying.{Among, Among-left, Among-right, ReadsOf, plain_read, plain_out, rails_reads, rails_read, exclusive_read, both_read}
@@ -41,21 +45,29 @@ pub zero_more : (r : ℕ) → 0 + r ≡ r
 zero_more r = omega arith
 
 -- a definition of the claim stands in the query's list
-pub claim_in : (q : Query) (claim : Claim) (offset clean : ℕ) (moved : List (List Bool)) (c : ℕ) (def : Definition) → q.question ≡ Violates claim offset clean → c < q.cycles → In def (claim_definitions Rows q.design claim moved c) → In def (definitions Rows q moved)
+pub claim_in : (q : Query) (claim : Claim) (offset clean : ℕ) (moved : List (List Bool)) (c : ℕ) (def : Definition)
+    → q.question ≡ Violates claim offset clean → c < q.cycles → In def (claim_definitions Rows q.design claim moved c)
+    → In def (definitions Rows q moved)
 claim_in q claim offset clean moved c def asks lt has =
     In-flat (cycle_definitions Rows q moved) def c (below q.cycles) (In-below q.cycles c lt)
-    (In-right def (base_definitions Rows q.design q.live c) (question_definitions Rows q.design moved q.question c) (subst (λ w. In def (question_definitions Rows q.design moved w c)) (sym asks) has))
+    (In-right def (base_definitions Rows q.design q.live c) (question_definitions Rows q.design moved q.question c)
+    (subst (λ w. In def (question_definitions Rows q.design moved w c)) (sym asks) has))
 
-layer_in : (d : Design) (claim : Claim) (moved : List (List Bool)) (c l : ℕ) (def : Definition) → l < length claim.through + 1 → In def (layer_definitions Rows d claim moved c l) → In def (claim_definitions Rows d claim moved c)
+layer_in : (d : Design) (claim : Claim) (moved : List (List Bool)) (c l : ℕ) (def : Definition) → l < length claim.through + 1
+    → In def (layer_definitions Rows d claim moved c l) → In def (claim_definitions Rows d claim moved c)
 layer_in d claim moved c l def lt has =
-    In-left def (flat_map (layer_definitions Rows d claim moved c) (below (length claim.through + 1))) (end_definition Rows d claim moved c claim.end ++ extra_definitions d claim moved c)
+    In-left def (flat_map (layer_definitions Rows d claim moved c) (below (length claim.through + 1)))
+    (end_definition Rows d claim moved c claim.end ++ extra_definitions d claim moved c)
     (In-flat (layer_definitions Rows d claim moved c) def l (below (length claim.through + 1)) (In-below (length claim.through + 1) l lt) has)
 
-gate_in : (d : Design) (claim : Claim) (moved : List (List Bool)) (c l i : ℕ) (g : Gate) (def : Definition) → slice_get d.gates i ≡ Some g → In def (layer_gate Rows d claim moved c l i g) → In def (layer_definitions Rows d claim moved c l)
+gate_in : (d : Design) (claim : Claim) (moved : List (List Bool)) (c l i : ℕ) (g : Gate) (def : Definition) → slice_get d.gates i ≡ Some g
+    → In def (layer_gate Rows d claim moved c l i g) → In def (layer_definitions Rows d claim moved c l)
 gate_in d claim moved c l i g def at has =
     let layer : List (List Definition) = numbered (layer_gate Rows d claim moved c l) 0 d.gates in
     In-right def (start_units d claim c l) (flat_map (λ x. x) layer)
-    (In-flat (λ x. x) def (layer_gate Rows d claim moved c l i g) layer (subst (λ (n : ℕ). In (layer_gate Rows d claim moved c l n g) layer) (zero_more i) (in_numbered (layer_gate Rows d claim moved c l) 0 d.gates i g at)) has)
+    (In-flat (λ x. x) def (layer_gate Rows d claim moved c l i g) layer
+    (subst (λ (n : ℕ). In (layer_gate Rows d claim moved c l n g) layer) (zero_more i)
+    (in_numbered (layer_gate Rows d claim moved c l) 0 d.gates i g at)) has)
 
 -- what a gate's pins read in layer suc l on a rail
 abbrev pub gate_pins : Design → Claim → List (List Bool) → ℕ → ℕ → ℕ → Gate → ℕ → List KeyLit
@@ -68,18 +80,24 @@ abbrev pub gate_rails : Design → Claim → List (List Bool) → ℕ → ℕ �
 gate_rails d claim moved c l i g =
     rails Rows (value g.func) (gate_pins d claim moved c l i g 0) (gate_pins d claim moved c l i g 1) (key c (suc l) 0 g.out) (key c (suc l) 1 g.out)
 
-pub gate_layer : (d : Design) (claim : Claim) (moved : List (List Bool)) (c l i : ℕ) (g : Gate) → has_own claim moved l g.out ≡ true → layer_gate Rows d claim moved c l i g ≡ cond claim.hazard (gate_rails d claim moved c l i g ∷ []) (gate_plain d claim moved c l i g ∷ [])
+pub gate_layer : (d : Design) (claim : Claim) (moved : List (List Bool)) (c l i : ℕ) (g : Gate) → has_own claim moved l g.out ≡ true
+    → layer_gate Rows d claim moved c l i g ≡ cond claim.hazard (gate_rails d claim moved c l i g ∷ []) (gate_plain d claim moved c l i g ∷ [])
 gate_layer d claim moved c l i g own =
-    cond-false (not (has_own claim moved l g.out)) [] (cond claim.hazard (gate_rails d claim moved c l i g ∷ []) (gate_plain d claim moved c l i g ∷ [])) (not_from_true (has_own claim moved l g.out) own)
+    cond-false (not (has_own claim moved l g.out)) [] (cond claim.hazard (gate_rails d claim moved c l i g ∷ [])
+    (gate_plain d claim moved c l i g ∷ [])) (not_from_true (has_own claim moved l g.out) own)
 
 wider : (n : ℕ) (cell : (ℕ → Bool) → Bool) → n ≤ 7 → ReadsOnly n cell → ReadsOnly 7 cell
 wider n cell few reads a b same = reads a b (λ i lt. same i (omega (arith, few, lt)))
 
-pub gate_says : (d : Design) (claim : Claim) (moved : List (List Bool)) (c l i : ℕ) (g : Gate) → IsSound d → slice_get d.gates i ≡ Some g → ReadsOf (gate_rails d claim moved c l i g) (rails_reads (gate_pins d claim moved c l i g 0) (gate_pins d claim moved c l i g 1) (key c (suc l) 0 g.out) (key c (suc l) 1 g.out))
+pub gate_says : (d : Design) (claim : Claim) (moved : List (List Bool)) (c l i : ℕ) (g : Gate) → IsSound d → slice_get d.gates i ≡ Some g
+    → ReadsOf (gate_rails d claim moved c l i g) (rails_reads (gate_pins d claim moved c l i g 0) (gate_pins d claim moved c l i g 1)
+    (key c (suc l) 0 g.out) (key c (suc l) 1 g.out))
 gate_says d claim moved c l i g sound at =
     let range = All-at (IsGateInRange d) d.gates i g at sound.in_range.gates in
-    let long : (rail : ℕ) → length (gate_pins d claim moved c l i g rail) ≡ length g.ins = λ rail. length-numbered (λ p n. read_pin d claim moved c (suc l) rail (GateIn i p) n) 0 g.ins in
-    rails_read (value g.func) (gate_pins d claim moved c l i g 0) (gate_pins d claim moved c l i g 1) (key c (suc l) 0 g.out) (key c (suc l) 1 g.out) (long 1 ∙ sym (long 0)) (omega (arith, long 0, range.few))
+    let long : (rail : ℕ) → length (gate_pins d claim moved c l i g rail) ≡ length g.ins = λ rail.
+    length-numbered (λ p n. read_pin d claim moved c (suc l) rail (GateIn i p) n) 0 g.ins in
+    rails_read (value g.func) (gate_pins d claim moved c l i g 0) (gate_pins d claim moved c l i g 1) (key c (suc l) 0 g.out) (key c (suc l) 1 g.out)
+    (long 1 ∙ sym (long 0)) (omega (arith, long 0, range.few))
     (wider (length g.ins) (value g.func) (omega (arith, range.few)) (value_reads (length g.ins) g.func range.func))
 
 -- a key of a layer is on one of its rails
@@ -98,14 +116,19 @@ plain_rail claim rail plain has =
     ]
 
 -- a plain definition, whose own key stands beside what it reads
-plain_use : (defs : List Definition) (cell : (ℕ → Bool) → Bool) (reads : List KeyLit) (out j : Key) → In (plain Rows cell reads out) defs → Among ((reads ++ lit true out ∷ []) ++ []) j → Uses defs out j
+plain_use : (defs : List Definition) (cell : (ℕ → Bool) → Bool) (reads : List KeyLit) (out j : Key) → In (plain Rows cell reads out) defs
+    → Among ((reads ++ lit true out ∷ []) ++ []) j → Uses defs out j
 plain_use defs cell reads out j has a = by_part (In-cases a.0 (reads ++ lit true out ∷ []) [] a.1)
   where
     by_read : In a.0 reads ⊎ In a.0 (lit true out ∷ []) → Uses defs out j
     by_read (inl inside) = use_by defs (plain Rows cell reads out) reads out j has (inl refl) (plain_read cell reads out) (a.0, inside, a.2)
     by_read (inr (inl here)) =
-        let same : out ≡ j = ap (λ (l : KeyLit). l.key) here ∙ a.2 in
-        (plain Rows cell reads out, Contains-from_In defs (plain Rows cell reads out) has, Contains-from_In (out ∷ []) out (inl refl), subst (Mentions (plain Rows cell reads out).clauses) same (plain_out cell reads out))
+        let same : out ≡ j = ap (λ (l : KeyLit). l.key) here ∙ a.2 in (
+          plain Rows cell reads out,
+          Contains-from_In defs (plain Rows cell reads out) has,
+          Contains-from_In (out ∷ []) out (inl refl),
+          subst (Mentions (plain Rows cell reads out).clauses) same (plain_out cell reads out),
+        )
     by_read (inr (inr none)) = absurd none
 
     by_part : In a.0 (reads ++ lit true out ∷ []) ⊎ In a.0 [] → Uses defs out j
@@ -113,7 +136,10 @@ plain_use defs cell reads out j has a = by_part (In-cases a.0 (reads ++ lit true
     by_part (inr none) = absurd none
 
 -- the keys that a net reads in a layer are used
-gate_used : (q : Query) (claim : Claim) (offset clean : ℕ) (moved : List (List Bool)) (c l rail i : ℕ) (g : Gate) (j : Key) → IsSound q.design → q.question ≡ Violates claim offset clean → c < q.cycles → l < length claim.through + 1 → has_rail claim rail ≡ true → slice_get q.design.gates i ≡ Some g → has_own claim moved l g.out ≡ true → Among (gate_late q.design claim moved c l i (Some g)) j → Uses (definitions Rows q moved) (key c (suc l) rail g.out) j
+gate_used : (q : Query) (claim : Claim) (offset clean : ℕ) (moved : List (List Bool)) (c l rail i : ℕ) (g : Gate) (j : Key) → IsSound q.design
+    → q.question ≡ Violates claim offset clean → c < q.cycles → l < length claim.through + 1 → has_rail claim rail ≡ true
+    → slice_get q.design.gates i ≡ Some g → has_own claim moved l g.out ≡ true → Among (gate_late q.design claim moved c l i (Some g)) j
+    → Uses (definitions Rows q moved) (key c (suc l) rail g.out) j
 gate_used q claim offset clean moved c l rail i g j sound asks early low on at own =
     by_mode claim.hazard refl
   where
@@ -123,18 +149,22 @@ gate_used q claim offset clean moved c l rail i g j sound asks early low on at o
     f : ℕ → List KeyLit
     f n = gate_pins d claim moved c l i g n ++ lit true (key c (suc l) n g.out) ∷ []
 
-    listed : (def : Definition) → In def (cond claim.hazard (gate_rails d claim moved c l i g ∷ []) (gate_plain d claim moved c l i g ∷ [])) → In def (definitions Rows q moved)
-    listed def has = claim_in q claim offset clean moved c def asks early (layer_in d claim moved c l def low (gate_in d claim moved c l i g def at (subst (In def) (sym (gate_layer d claim moved c l i g own)) has)))
+    listed : (def : Definition) → In def (cond claim.hazard (gate_rails d claim moved c l i g ∷ []) (gate_plain d claim moved c l i g ∷ []))
+        → In def (definitions Rows q moved)
+    listed def has = claim_in q claim offset clean moved c def asks early
+        (layer_in d claim moved c l def low (gate_in d claim moved c l i g def at (subst (In def) (sym (gate_layer d claim moved c l i g own)) has)))
 
     by_mode : (h : Bool) → claim.hazard ≡ h → Among (f 0 ++ cond h (f 1) []) j → Uses (definitions Rows q moved) (key c (suc l) rail g.out) j
     by_mode true hazard a =
         use_by (definitions Rows q moved) (gate_rails d claim moved c l i g) (f 0 ++ f 1) (key c (suc l) rail g.out) j
-        (listed (gate_rails d claim moved c l i g) (subst (λ h. In (gate_rails d claim moved c l i g) (cond h (gate_rails d claim moved c l i g ∷ []) (gate_plain d claim moved c l i g ∷ []))) (sym hazard) (inl refl)))
+        (listed (gate_rails d claim moved c l i g) (subst (λ h. In (gate_rails d claim moved c l i g)
+        (cond h (gate_rails d claim moved c l i g ∷ []) (gate_plain d claim moved c l i g ∷ []))) (sym hazard) (inl refl)))
         (on_rail claim c (suc l) rail g.out hazard on) (gate_says d claim moved c l i g sound at) a
     by_mode false plain_mode a =
         subst (λ (n : ℕ). Uses (definitions Rows q moved) (key c (suc l) n g.out) j) (sym (plain_rail claim rail plain_mode on))
         (plain_use (definitions Rows q moved) (value g.func) (gate_pins d claim moved c l i g 0) (key c (suc l) 0 g.out) j
-        (listed (gate_plain d claim moved c l i g) (subst (λ h. In (gate_plain d claim moved c l i g) (cond h (gate_rails d claim moved c l i g ∷ []) (gate_plain d claim moved c l i g ∷ []))) (sym plain_mode) (inl refl))) a)
+        (listed (gate_plain d claim moved c l i g) (subst (λ h. In (gate_plain d claim moved c l i g)
+        (cond h (gate_rails d claim moved c l i g ∷ []) (gate_plain d claim moved c l i g ∷ []))) (sym plain_mode) (inl refl))) a)
 
 -- the late capture of a register
 abbrev pub reg_pins : Design → Claim → List (List Bool) → ℕ → ℕ → Reg → ℕ → List KeyLit
@@ -152,7 +182,8 @@ reg_rails d claim moved c r reg =
     rails Rows (reg_capture reg) (reg_rail d claim moved c r reg true 0) (reg_rail d claim moved c r reg false 1) (late_key d claim c 0) (late_key d claim c 1)
 
 length-with_own : (reg : Reg) (own : KeyLit) (pins : List KeyLit) → (length (with_own reg own pins) ≤ length pins + 1)
-length-with_own reg own pins = cond_both (reads_own reg) (own ∷ []) [] (λ more. length (pins ++ more) ≤ length pins + 1) (λ yes_own. omega (arith, length-append pins (own ∷ []))) (λ no_own. omega (arith, length-append pins []))
+length-with_own reg own pins = cond_both (reads_own reg) (own ∷ []) [] (λ more. length (pins ++ more) ≤ length pins + 1)
+    (λ yes_own. omega (arith, length-append pins (own ∷ []))) (λ no_own. omega (arith, length-append pins []))
 
 same_length : (reg : Reg) (x y : KeyLit) (xs ys : List KeyLit) → length xs ≡ length ys → length (with_own reg x xs) ≡ length (with_own reg y ys)
 same_length reg x y xs ys same = by_own (reads_own reg)
@@ -161,13 +192,17 @@ same_length reg x y xs ys same = by_own (reads_own reg)
     by_own true = omega (arith, same, length-append xs (x ∷ []), length-append ys (y ∷ []))
     by_own false = omega (arith, same, length-append xs [], length-append ys [])
 
-pub reg_says : (d : Design) (claim : Claim) (moved : List (List Bool)) (c r : ℕ) (reg : Reg) → IsSound d → slice_get d.regs r ≡ Some reg → ReadsOf (reg_rails d claim moved c r reg) (rails_reads (reg_rail d claim moved c r reg true 0) (reg_rail d claim moved c r reg false 1) (late_key d claim c 0) (late_key d claim c 1))
+pub reg_says : (d : Design) (claim : Claim) (moved : List (List Bool)) (c r : ℕ) (reg : Reg) → IsSound d → slice_get d.regs r ≡ Some reg
+    → ReadsOf (reg_rails d claim moved c r reg) (rails_reads (reg_rail d claim moved c r reg true 0) (reg_rail d claim moved c r reg false 1)
+    (late_key d claim c 0) (late_key d claim c 1))
 reg_says d claim moved c r reg sound at =
     let range = All-at (IsRegInRange d) d.regs r reg at sound.in_range.regs in
-    let long : (rail : ℕ) → length (reg_pins d claim moved c r reg rail) ≡ length reg.ins = λ rail. length-numbered (λ p n. read_pin d claim moved c (length claim.through + 1) rail (RegIn r p) n) 0 reg.ins in
+    let long : (rail : ℕ) → length (reg_pins d claim moved c r reg rail) ≡ length reg.ins = λ rail.
+    length-numbered (λ p n. read_pin d claim moved c (length claim.through + 1) rail (RegIn r p) n) 0 reg.ins in
     let few = length-with_own reg (lit true (bit_key d c r)) (reg_pins d claim moved c r reg 0) in
     rails_read (reg_capture reg) (reg_rail d claim moved c r reg true 0) (reg_rail d claim moved c r reg false 1) (late_key d claim c 0) (late_key d claim c 1)
-    (same_length reg (lit false (bit_key d c r)) (lit true (bit_key d c r)) (reg_pins d claim moved c r reg 1) (reg_pins d claim moved c r reg 0) (long 1 ∙ sym (long 0)))
+    (same_length reg (lit false (bit_key d c r)) (lit true (bit_key d c r)) (reg_pins d claim moved c r reg 1) (reg_pins d claim moved c r reg 0)
+    (long 1 ∙ sym (long 0)))
     (omega (arith, few, long 0, range.few)) (wider (length reg.ins + 1) (reg_capture reg) (omega (arith, range.few)) (reads_capture d r reg sound at))
 
 -- the same keys whatever the sign of the own bit
@@ -177,7 +212,10 @@ resigned reg k a b pins j = by_own (reads_own reg)
     by_own : (o : Bool) → Among (pins ++ cond o (lit a k ∷ []) []) j → Among (pins ++ cond o (lit b k ∷ []) []) j
     by_own true x = elim (In-cases x.0 pins (lit a k ∷ []) x.1) [
       | inl inside ↦ (x.0, In-left x.0 pins (lit b k ∷ []) inside, x.2)
-      | inr last ↦ elim last [ inl here ↦ (lit b k, In-right (lit b k) pins (lit b k ∷ []) (inl refl), ap (λ (l : KeyLit). l.key) here ∙ x.2) | inr none ↦ absurd none ]
+      | inr last ↦ elim last [
+        | inl here ↦ (lit b k, In-right (lit b k) pins (lit b k ∷ []) (inl refl), ap (λ (l : KeyLit). l.key) here ∙ x.2)
+        | inr none ↦ absurd none
+      ]
     ]
     by_own false x = x
 
@@ -188,87 +226,121 @@ Among-cases xs ys j a = elim (In-cases a.0 xs ys a.1) [ inl l ↦ inl (a.0, l, a
 abbrev pub reg_listed : Design → Claim → List (List Bool) → ℕ → ℕ → Reg → ℕ → List KeyLit
 reg_listed d claim moved c r reg rail = reg_rail d claim moved c r reg true rail ++ lit true (late_key d claim c rail) ∷ []
 
-to_rails : (d : Design) (claim : Claim) (moved : List (List Bool)) (c r : ℕ) (reg : Reg) (j : Key) → Among (reg_listed d claim moved c r reg 0 ++ reg_listed d claim moved c r reg 1) j → Among (rails_reads (reg_rail d claim moved c r reg true 0) (reg_rail d claim moved c r reg false 1) (late_key d claim c 0) (late_key d claim c 1)) j
+to_rails : (d : Design) (claim : Claim) (moved : List (List Bool)) (c r : ℕ) (reg : Reg) (j : Key)
+    → Among (reg_listed d claim moved c r reg 0 ++ reg_listed d claim moved c r reg 1) j
+    → Among (rails_reads (reg_rail d claim moved c r reg true 0) (reg_rail d claim moved c r reg false 1) (late_key d claim c 0)
+    (late_key d claim c 1)) j
 to_rails d claim moved c r reg j a = elim (Among-cases (reg_listed d claim moved c r reg 0) (reg_listed d claim moved c r reg 1) j a) [
   | inl first ↦ Among-left (reg_listed d claim moved c r reg 0) _ j first
   | inr second ↦ Among-right (reg_listed d claim moved c r reg 0) (reg_rail d claim moved c r reg false 1 ++ lit true (late_key d claim c 1) ∷ []) j
       (elim (Among-cases (reg_rail d claim moved c r reg true 1) (lit true (late_key d claim c 1) ∷ []) j second) [
-        | inl inside ↦ Among-left (reg_rail d claim moved c r reg false 1) (lit true (late_key d claim c 1) ∷ []) j (resigned reg (bit_key d c r) true false (reg_pins d claim moved c r reg 1) j inside)
+        | inl inside ↦ Among-left (reg_rail d claim moved c r reg false 1) (lit true (late_key d claim c 1) ∷ []) j
+            (resigned reg (bit_key d c r) true false (reg_pins d claim moved c r reg 1) j inside)
         | inr last ↦ Among-right (reg_rail d claim moved c r reg false 1) (lit true (late_key d claim c 1) ∷ []) j last
       ])
 ]
 
-pub from_rails : (d : Design) (claim : Claim) (moved : List (List Bool)) (c r : ℕ) (reg : Reg) (j : Key) → Among (rails_reads (reg_rail d claim moved c r reg true 0) (reg_rail d claim moved c r reg false 1) (late_key d claim c 0) (late_key d claim c 1)) j → Among (reg_listed d claim moved c r reg 0 ++ reg_listed d claim moved c r reg 1) j
-from_rails d claim moved c r reg j a = elim (Among-cases (reg_listed d claim moved c r reg 0) (reg_rail d claim moved c r reg false 1 ++ lit true (late_key d claim c 1) ∷ []) j a) [
-  | inl first ↦ Among-left (reg_listed d claim moved c r reg 0) (reg_listed d claim moved c r reg 1) j first
-  | inr second ↦ Among-right (reg_listed d claim moved c r reg 0) (reg_listed d claim moved c r reg 1) j
-      (elim (Among-cases (reg_rail d claim moved c r reg false 1) (lit true (late_key d claim c 1) ∷ []) j second) [
-        | inl inside ↦ Among-left (reg_rail d claim moved c r reg true 1) (lit true (late_key d claim c 1) ∷ []) j (resigned reg (bit_key d c r) false true (reg_pins d claim moved c r reg 1) j inside)
-        | inr last ↦ Among-right (reg_rail d claim moved c r reg true 1) (lit true (late_key d claim c 1) ∷ []) j last
-      ])
-]
+pub from_rails : (d : Design) (claim : Claim) (moved : List (List Bool)) (c r : ℕ) (reg : Reg) (j : Key)
+    → Among (rails_reads (reg_rail d claim moved c r reg true 0) (reg_rail d claim moved c r reg false 1) (late_key d claim c 0)
+    (late_key d claim c 1)) j → Among (reg_listed d claim moved c r reg 0 ++ reg_listed d claim moved c r reg 1) j
+from_rails d claim moved c r reg j a = elim (Among-cases (reg_listed d claim moved c r reg 0)
+    (reg_rail d claim moved c r reg false 1 ++ lit true (late_key d claim c 1) ∷ []) j a) [
+      | inl first ↦ Among-left (reg_listed d claim moved c r reg 0) (reg_listed d claim moved c r reg 1) j first
+      | inr second ↦ Among-right (reg_listed d claim moved c r reg 0) (reg_listed d claim moved c r reg 1) j
+          (elim (Among-cases (reg_rail d claim moved c r reg false 1) (lit true (late_key d claim c 1) ∷ []) j second) [
+            | inl inside ↦ Among-left (reg_rail d claim moved c r reg true 1) (lit true (late_key d claim c 1) ∷ []) j
+                (resigned reg (bit_key d c r) false true (reg_pins d claim moved c r reg 1) j inside)
+            | inr last ↦ Among-right (reg_rail d claim moved c r reg true 1) (lit true (late_key d claim c 1) ∷ []) j last
+          ])
+    ]
 
 -- the definition of the late capture stands in the list
-end_in : (d : Design) (claim : Claim) (moved : List (List Bool)) (c r : ℕ) (reg : Reg) (def : Definition) → claim.end ≡ RegEnd r → slice_get d.regs r ≡ Some reg → In def (cond claim.hazard (reg_rails d claim moved c r reg ∷ []) (reg_plain d claim moved c r reg ∷ [])) → In def (claim_definitions Rows d claim moved c)
+end_in : (d : Design) (claim : Claim) (moved : List (List Bool)) (c r : ℕ) (reg : Reg) (def : Definition) → claim.end ≡ RegEnd r
+    → slice_get d.regs r ≡ Some reg → In def (cond claim.hazard (reg_rails d claim moved c r reg ∷ []) (reg_plain d claim moved c r reg ∷ []))
+    → In def (claim_definitions Rows d claim moved c)
 end_in d claim moved c r reg def is at has =
-    In-right def (flat_map (layer_definitions Rows d claim moved c) (below (length claim.through + 1))) (end_definition Rows d claim moved c claim.end ++ extra_definitions d claim moved c)
+    In-right def (flat_map (layer_definitions Rows d claim moved c) (below (length claim.through + 1)))
+    (end_definition Rows d claim moved c claim.end ++ extra_definitions d claim moved c)
     (In-left def (end_definition Rows d claim moved c claim.end) (extra_definitions d claim moved c)
-    (subst (λ e. In def (end_definition Rows d claim moved c e)) (sym is) (subst (λ (o : Option Reg). In def (late_reg Rows d claim moved c r o)) (sym at) has)))
+    (subst (λ e. In def (end_definition Rows d claim moved c e)) (sym is)
+    (subst (λ (o : Option Reg). In def (late_reg Rows d claim moved c r o)) (sym at) has)))
 
-reg_used : (q : Query) (claim : Claim) (offset clean : ℕ) (moved : List (List Bool)) (c rail r : ℕ) (reg : Reg) (j : Key) → IsSound q.design → q.question ≡ Violates claim offset clean → c < q.cycles → has_rail claim rail ≡ true → claim.end ≡ RegEnd r → slice_get q.design.regs r ≡ Some reg → Among (reg_late q.design claim moved c r (Some reg)) j → Uses (definitions Rows q moved) (late_key q.design claim c rail) j
+reg_used : (q : Query) (claim : Claim) (offset clean : ℕ) (moved : List (List Bool)) (c rail r : ℕ) (reg : Reg) (j : Key) → IsSound q.design
+    → q.question ≡ Violates claim offset clean → c < q.cycles → has_rail claim rail ≡ true → claim.end ≡ RegEnd r
+    → slice_get q.design.regs r ≡ Some reg → Among (reg_late q.design claim moved c r (Some reg)) j → Uses (definitions Rows q moved)
+    (late_key q.design claim c rail) j
 reg_used q claim offset clean moved c rail r reg j sound asks early on is at =
     by_mode claim.hazard refl
   where
     d : Design
     d = q.design
 
-    listed : (def : Definition) → In def (cond claim.hazard (reg_rails d claim moved c r reg ∷ []) (reg_plain d claim moved c r reg ∷ [])) → In def (definitions Rows q moved)
+    listed : (def : Definition) → In def (cond claim.hazard (reg_rails d claim moved c r reg ∷ []) (reg_plain d claim moved c r reg ∷ []))
+        → In def (definitions Rows q moved)
     listed def has = claim_in q claim offset clean moved c def asks early (end_in d claim moved c r reg def is at has)
 
-    by_mode : (h : Bool) → claim.hazard ≡ h → Among (reg_listed d claim moved c r reg 0 ++ cond h (reg_listed d claim moved c r reg 1) []) j → Uses (definitions Rows q moved) (late_key d claim c rail) j
+    by_mode : (h : Bool) → claim.hazard ≡ h → Among (reg_listed d claim moved c r reg 0 ++ cond h (reg_listed d claim moved c r reg 1) []) j
+        → Uses (definitions Rows q moved) (late_key d claim c rail) j
     by_mode true hazard a =
-        use_by (definitions Rows q moved) (reg_rails d claim moved c r reg) (rails_reads (reg_rail d claim moved c r reg true 0) (reg_rail d claim moved c r reg false 1) (late_key d claim c 0) (late_key d claim c 1)) (late_key d claim c rail) j
-        (listed (reg_rails d claim moved c r reg) (subst (λ h. In (reg_rails d claim moved c r reg) (cond h (reg_rails d claim moved c r reg ∷ []) (reg_plain d claim moved c r reg ∷ []))) (sym hazard) (inl refl)))
-        (on_rail claim c (length claim.through + 1) rail (d.nets + length d.regs) hazard on) (reg_says d claim moved c r reg sound at) (to_rails d claim moved c r reg j a)
+        use_by (definitions Rows q moved) (reg_rails d claim moved c r reg)
+        (rails_reads (reg_rail d claim moved c r reg true 0) (reg_rail d claim moved c r reg false 1) (late_key d claim c 0)
+        (late_key d claim c 1)) (late_key d claim c rail) j
+        (listed (reg_rails d claim moved c r reg) (subst (λ h. In (reg_rails d claim moved c r reg)
+        (cond h (reg_rails d claim moved c r reg ∷ []) (reg_plain d claim moved c r reg ∷ []))) (sym hazard) (inl refl)))
+        (on_rail claim c (length claim.through + 1) rail (d.nets + length d.regs) hazard on) (reg_says d claim moved c r reg sound at)
+        (to_rails d claim moved c r reg j a)
     by_mode false plain_mode a =
         subst (λ (n : ℕ). Uses (definitions Rows q moved) (late_key d claim c n) j) (sym (plain_rail claim rail plain_mode on))
         (plain_use (definitions Rows q moved) (reg_capture reg) (reg_rail d claim moved c r reg true 0) (late_key d claim c 0) j
-        (listed (reg_plain d claim moved c r reg) (subst (λ h. In (reg_plain d claim moved c r reg) (cond h (reg_rails d claim moved c r reg ∷ []) (reg_plain d claim moved c r reg ∷ []))) (sym plain_mode) (inl refl))) a)
+        (listed (reg_plain d claim moved c r reg) (subst (λ h. In (reg_plain d claim moved c r reg)
+        (cond h (reg_rails d claim moved c r reg ∷ []) (reg_plain d claim moved c r reg ∷ []))) (sym plain_mode) (inl refl))) a)
 
 -- the further points of a cycle
-extra_in : (d : Design) (claim : Claim) (moved : List (List Bool)) (c : ℕ) (def : Definition) → In def (extra_definitions d claim moved c) → In def (claim_definitions Rows d claim moved c)
+extra_in : (d : Design) (claim : Claim) (moved : List (List Bool)) (c : ℕ) (def : Definition) → In def (extra_definitions d claim moved c)
+    → In def (claim_definitions Rows d claim moved c)
 extra_in d claim moved c def has =
-    In-right def (flat_map (layer_definitions Rows d claim moved c) (below (length claim.through + 1))) (end_definition Rows d claim moved c claim.end ++ extra_definitions d claim moved c)
+    In-right def (flat_map (layer_definitions Rows d claim moved c) (below (length claim.through + 1)))
+    (end_definition Rows d claim moved c claim.end ++ extra_definitions d claim moved c)
     (In-right def (end_definition Rows d claim moved c claim.end) (extra_definitions d claim moved c) has)
 
 -- what the definition of a late capture that differs reads
 abbrev pub differ_reads : Design → Claim → List (List Bool) → ℕ → List KeyLit
-differ_reads d claim moved c = late_capture_lit d claim moved c 0 claim.end ∷ cond claim.hazard (late_capture_lit d claim moved c 1 claim.end) (capture_lit d claim.end c) ∷ []
+differ_reads d claim moved c = late_capture_lit d claim moved c 0 claim.end ∷ cond claim.hazard (late_capture_lit d claim moved c 1 claim.end)
+    (capture_lit d claim.end c) ∷ []
 
 pub differ_says : (d : Design) (claim : Claim) (moved : List (List Bool)) (c : ℕ) → ReadsOf (differ_definition d claim moved c) (differ_reads d claim moved c)
 differ_says d claim moved c = by_mode claim.hazard
   where
-    by_mode : (h : Bool) → ReadsOf (cond h (both (differ_key d c) (late_capture_lit d claim moved c 0 claim.end) (late_capture_lit d claim moved c 1 claim.end)) (exclusive (differ_key d c) (late_capture_lit d claim moved c 0 claim.end) (capture_lit d claim.end c))) (late_capture_lit d claim moved c 0 claim.end ∷ cond h (late_capture_lit d claim moved c 1 claim.end) (capture_lit d claim.end c) ∷ [])
+    by_mode : (h : Bool) → ReadsOf (cond h (both (differ_key d c) (late_capture_lit d claim moved c 0 claim.end)
+        (late_capture_lit d claim moved c 1 claim.end)) (exclusive (differ_key d c) (late_capture_lit d claim moved c 0 claim.end)
+        (capture_lit d claim.end c))) (late_capture_lit d claim moved c 0 claim.end ∷ cond h (late_capture_lit d claim moved c 1 claim.end)
+        (capture_lit d claim.end c) ∷ [])
     by_mode true = both_read (differ_key d c) (late_capture_lit d claim moved c 0 claim.end) (late_capture_lit d claim moved c 1 claim.end)
     by_mode false = exclusive_read (differ_key d c) (late_capture_lit d claim moved c 0 claim.end) (capture_lit d claim.end c)
 
 pub differ_out : (d : Design) (claim : Claim) (moved : List (List Bool)) (c : ℕ) → (differ_definition d claim moved c).outs ≡ differ_key d c ∷ []
 differ_out d claim moved c = by_mode claim.hazard
   where
-    by_mode : (h : Bool) → (cond h (both (differ_key d c) (late_capture_lit d claim moved c 0 claim.end) (late_capture_lit d claim moved c 1 claim.end)) (exclusive (differ_key d c) (late_capture_lit d claim moved c 0 claim.end) (capture_lit d claim.end c))).outs ≡ differ_key d c ∷ []
+    by_mode : (h : Bool) → (cond h (both (differ_key d c) (late_capture_lit d claim moved c 0 claim.end)
+        (late_capture_lit d claim moved c 1 claim.end)) (exclusive (differ_key d c) (late_capture_lit d claim moved c 0 claim.end)
+        (capture_lit d claim.end c))).outs ≡ differ_key d c ∷ []
     by_mode true = refl
     by_mode false = refl
 
 abbrev pub stale_definition : Design → Claim → ℕ → ℕ → Definition
 stale_definition d claim c r = exclusive (stale_key d c (r + 1)) (start_lit d claim.start c) (start_lit d claim.start (c - r - 2))
 
-stale_in : (d : Design) (claim : Claim) (moved : List (List Bool)) (c r : ℕ) → r < judged_count claim.kind - 1 → In (stale_definition d claim c r) (extra_definitions d claim moved c)
-stale_in d claim moved c r lt = inr (inr (inr (In-map (stale_definition d claim c) r (below (judged_count claim.kind - 1)) (In-below (judged_count claim.kind - 1) r lt))))
+stale_in : (d : Design) (claim : Claim) (moved : List (List Bool)) (c r : ℕ) → r < judged_count claim.kind - 1 → In (stale_definition d claim c r)
+    (extra_definitions d claim moved c)
+stale_in d claim moved c r lt = inr (inr (inr (In-map (stale_definition d claim c) r (below (judged_count claim.kind - 1))
+    (In-below (judged_count claim.kind - 1) r lt))))
 
 pub earlier : (c r : ℕ) → c - (r + 1) - 1 ≡ c - r - 2
 earlier c r = omega arith
 
-extra_used : (q : Query) (claim : Claim) (offset clean : ℕ) (moved : List (List Bool)) (k j : Key) → q.question ≡ Violates claim offset clean → k.layer ≡ 0 → k.rail ≡ 0 → k.cycle < q.cycles → (n : ℕ) → q.design.nets + length q.design.regs + n ≡ k.point → Among (reads_in_layer q.design claim moved k 0 (extra_origin claim n)) j → Uses (definitions Rows q moved) k j
+extra_used : (q : Query) (claim : Claim) (offset clean : ℕ) (moved : List (List Bool)) (k j : Key) → q.question ≡ Violates claim offset clean
+    → k.layer ≡ 0 → k.rail ≡ 0 → k.cycle < q.cycles → (n : ℕ) → q.design.nets + length q.design.regs + n ≡ k.point
+    → Among (reads_in_layer q.design claim moved k 0 (extra_origin claim n)) j → Uses (definitions Rows q moved) k j
 extra_used q claim offset clean moved k j asks layer rail early = by_point
   where
     d : Design
@@ -283,31 +355,39 @@ extra_used q claim offset clean moved k j asks layer rail early = by_point
     own : (n : ℕ) → d.nets + length d.regs + n ≡ k.point → extra d c n ≡ k
     own n point = key_at k c 0 0 (d.nets + length d.regs + n) refl (sym layer) (sym rail) point
 
-    by_point : (n : ℕ) → d.nets + length d.regs + n ≡ k.point → Among (reads_in_layer d claim moved k 0 (extra_origin claim n)) j → Uses (definitions Rows q moved) k j
+    by_point : (n : ℕ) → d.nets + length d.regs + n ≡ k.point → Among (reads_in_layer d claim moved k 0 (extra_origin claim n)) j
+        → Uses (definitions Rows q moved) k j
     by_point zero point a =
         let def : Definition = exclusive (toggle_key d c) (start_lit d claim.start c) (start_lit d claim.start (c - 1)) in
-        use_by (definitions Rows q moved) def (start_lit d claim.start c ∷ start_lit d claim.start (c - 1) ∷ []) k j (listed def (inl refl)) (inl (own 0 point)) (exclusive_read (toggle_key d c) (start_lit d claim.start c) (start_lit d claim.start (c - 1))) a
+        use_by (definitions Rows q moved) def (start_lit d claim.start c ∷ start_lit d claim.start (c - 1) ∷ []) k j (listed def (inl refl))
+        (inl (own 0 point)) (exclusive_read (toggle_key d c) (start_lit d claim.start c) (start_lit d claim.start (c - 1))) a
     by_point (suc zero) point a =
         let def : Definition = exclusive (change_key d c) (capture_lit d claim.end c) (capture_lit d claim.end (c - 1)) in
-        use_by (definitions Rows q moved) def (capture_lit d claim.end c ∷ capture_lit d claim.end (c - 1) ∷ []) k j (listed def (inr (inl refl))) (inl (own 1 point)) (exclusive_read (change_key d c) (capture_lit d claim.end c) (capture_lit d claim.end (c - 1))) a
+        use_by (definitions Rows q moved) def (capture_lit d claim.end c ∷ capture_lit d claim.end (c - 1) ∷ []) k j (listed def (inr (inl refl)))
+        (inl (own 1 point)) (exclusive_read (change_key d c) (capture_lit d claim.end c) (capture_lit d claim.end (c - 1))) a
     by_point (suc (suc zero)) point a =
-        use_by (definitions Rows q moved) (differ_definition d claim moved c) (differ_reads d claim moved c) k j (listed (differ_definition d claim moved c) (inr (inr (inl refl))))
+        use_by (definitions Rows q moved) (differ_definition d claim moved c) (differ_reads d claim moved c) k j
+        (listed (differ_definition d claim moved c) (inr (inr (inl refl))))
         (subst (λ (outs : List Key). In k outs) (sym (differ_out d claim moved c)) (inl (own 2 point))) (differ_says d claim moved c) a
     by_point (suc (suc (suc r))) point a =
-        cond_both (nat_lt r (judged_count claim.kind - 1)) (Stale (r + 1)) Free (λ o. Among (reads_in_layer d claim moved k 0 o) j → Uses (definitions Rows q moved) k j)
+        cond_both (nat_lt r (judged_count claim.kind - 1)) (Stale (r + 1)) Free (λ o. Among (reads_in_layer d claim moved k 0 o) j
+        → Uses (definitions Rows q moved) k j)
         (λ judged read.
         let lt = ltb-true r (judged_count claim.kind - 1) judged in
         let there : d.nets + length d.regs + (2 + (r + 1)) ≡ k.point = omega (arith, point) in
-        use_by (definitions Rows q moved) (stale_definition d claim c r) (start_lit d claim.start c ∷ start_lit d claim.start (c - r - 2) ∷ []) k j (listed (stale_definition d claim c r) (stale_in d claim moved c r lt)) (inl (own (2 + (r + 1)) there))
+        use_by (definitions Rows q moved) (stale_definition d claim c r) (start_lit d claim.start c ∷ start_lit d claim.start (c - r - 2) ∷ []) k j
+        (listed (stale_definition d claim c r) (stale_in d claim moved c r lt)) (inl (own (2 + (r + 1)) there))
         (exclusive_read (stale_key d c (r + 1)) (start_lit d claim.start c) (start_lit d claim.start (c - r - 2)))
         (subst (λ (n : ℕ). Among (start_lit d claim.start c ∷ start_lit d claim.start n ∷ []) j) (earlier c r) read)) (λ other read. absurd read.1) a
 
 -- nets and bits read the same whether or not a claim is asked about
-pub base_level : (d : Design) (claim : Claim) (moved : List (List Bool)) (cycles : ℕ) (k : Key) → reads_in_layer d claim moved k 0 (base_origin d cycles k) ≡ reads_of_origin d k (base_origin d cycles k)
+pub base_level : (d : Design) (claim : Claim) (moved : List (List Bool)) (cycles : ℕ) (k : Key) → reads_in_layer d claim moved k 0
+    (base_origin d cycles k) ≡ reads_of_origin d k (base_origin d cycles k)
 base_level d claim moved cycles k =
     cond_both (nat_lt k.point d.nets) (cond (nat_lt k.cycle cycles) (of_gate (gate_of d.gates 0 k.point)) Free) _ Same
     (λ net. cond_both (nat_lt k.cycle cycles) (of_gate (gate_of d.gates 0 k.point)) Free Same (λ early. of_net (gate_of d.gates 0 k.point)) (λ late. refl))
-    (λ past. cond_both (nat_lt 0 k.cycle && (nat_lt k.cycle (cycles + 1) && nat_lt k.point (d.nets + length d.regs))) (OfReg (k.point - d.nets)) Free Same (λ yes_bit. refl) (λ no_bit. refl))
+    (λ past. cond_both (nat_lt 0 k.cycle && (nat_lt k.cycle (cycles + 1) && nat_lt k.point (d.nets + length d.regs))) (OfReg (k.point - d.nets)) Free
+    Same (λ yes_bit. refl) (λ no_bit. refl))
   where
     Same : Origin → Type 0
     Same o = reads_in_layer d claim moved k 0 o ≡ reads_of_origin d k o
@@ -317,7 +397,9 @@ base_level d claim moved cycles k =
     of_net (Some i) = refl
 
 -- the keys that a key's definition reads are used
-pub reads_used : (q : Query) (claim : Claim) (offset clean : ℕ) (moved : List (List Bool)) → IsSound q.design → Fits q.design claim → q.question ≡ Violates claim offset clean → (k : Key) (l : KeyLit) → In l (claim_reads q.design claim moved q.cycles k) → Uses (definitions Rows q moved) k l.key
+pub reads_used : (q : Query) (claim : Claim) (offset clean : ℕ) (moved : List (List Bool)) → IsSound q.design → Fits q.design claim
+    → q.question ≡ Violates claim offset clean → (k : Key) (l : KeyLit) → In l (claim_reads q.design claim moved q.cycles k)
+    → Uses (definitions Rows q moved) k l.key
 reads_used q claim offset clean moved sound fits asks k m has = by_layer k.layer refl (m, has, refl)
   where
     d : Design
@@ -333,14 +415,17 @@ reads_used q claim offset clean moved sound fits asks k m has = by_layer k.layer
     in_cycle layer =
         cond_both (not (k.rail == 0)) Free _ (Goal 0) (λ other a. absurd a.1)
         (λ e. let rail : k.rail ≡ 0 = eqb-true k.rail 0 (not-false (k.rail == 0) e) in
-        cond_both (nat_lt k.point (d.nets + length d.regs)) (base_origin d q.cycles k) _ (Goal 0) (λ low a. base_used q moved k j layer rail (subst (λ (ls : List KeyLit). Among ls j) (base_level d claim moved q.cycles k) a))
+        cond_both (nat_lt k.point (d.nets + length d.regs)) (base_origin d q.cycles k) _ (Goal 0)
+        (λ low a. base_used q moved k j layer rail (subst (λ (ls : List KeyLit). Among ls j) (base_level d claim moved q.cycles k) a))
         (λ high. cond_both (nat_lt k.cycle q.cycles) (extra_origin claim (k.point - (d.nets + length d.regs))) Free (Goal 0)
         (λ early a.
         let above = ltb-false k.point (d.nets + length d.regs) high in
         let point : d.nets + length d.regs + (k.point - (d.nets + length d.regs)) ≡ k.point = omega (arith, above) in
-        extra_used q claim offset clean moved k j asks layer rail (ltb-true k.cycle q.cycles early) (k.point - (d.nets + length d.regs)) point a) (λ late a. absurd a.1)))
+        extra_used q claim offset clean moved k j asks layer rail (ltb-true k.cycle q.cycles early) (k.point - (d.nets + length d.regs)) point a)
+        (λ late a. absurd a.1)))
 
-    of_net : (l : ℕ) → k.layer ≡ suc l → k.cycle < q.cycles → l < length claim.through + 1 → has_rail claim k.rail ≡ true → has_own claim moved l k.point ≡ true → (o : Option ℕ) → gate_of d.gates 0 k.point ≡ o → Goal (suc l) (of_gate o)
+    of_net : (l : ℕ) → k.layer ≡ suc l → k.cycle < q.cycles → l < length claim.through + 1 → has_rail claim k.rail ≡ true
+        → has_own claim moved l k.point ≡ true → (o : Option ℕ) → gate_of d.gates 0 k.point ≡ o → Goal (suc l) (of_gate o)
     of_net l layer early low on own None at a = absurd a.1
     of_net l layer early low on own (Some i) at a =
         let found = gate_found d.gates 0 k.point i at in
@@ -349,30 +434,37 @@ reads_used q claim offset clean moved sound fits asks k m has = by_layer k.layer
         let there : slice_get d.gates i ≡ Some g = ap (slice_get d.gates) place ∙ found.3 in
         let owns : has_own claim moved l g.out ≡ true = ap (has_own claim moved l) found.4 ∙ own in
         subst (λ (x : Key). Uses (definitions Rows q moved) x j) (key_at k k.cycle (suc l) k.rail g.out refl (sym layer) refl found.4)
-        (gate_used q claim offset clean moved k.cycle l k.rail i g j sound asks early low on there owns (subst (λ (o : Option Gate). Among (gate_late d claim moved k.cycle l i o) j) there a))
+        (gate_used q claim offset clean moved k.cycle l k.rail i g j sound asks early low on there owns
+        (subst (λ (o : Option Gate). Among (gate_late d claim moved k.cycle l i o) j) there a))
 
-    of_end : (l : ℕ) → k.layer ≡ suc l → k.cycle < q.cycles → has_rail claim k.rail ≡ true → k.point ≡ d.nets + length d.regs → l ≡ length claim.through → (e : End) → claim.end ≡ e → Goal (suc l) (end_origin e)
+    of_end : (l : ℕ) → k.layer ≡ suc l → k.cycle < q.cycles → has_rail claim k.rail ≡ true → k.point ≡ d.nets + length d.regs
+        → l ≡ length claim.through → (e : End) → claim.end ≡ e → Goal (suc l) (end_origin e)
     of_end l layer early on point last (OutputEnd o) is a = absurd a.1
     of_end l layer early on point last (RegEnd r) is a =
         let low : r < length d.regs = subst (λ e. Rattle.net_model.specs.Fits.IsEndIn d e) is fits.end_ in
         let reg = Rattle.query_model.proofs.Based.get_within d.regs r low in
-        subst (λ (x : Key). Uses (definitions Rows q moved) x j) (key_at k k.cycle (length claim.through + 1) k.rail (d.nets + length d.regs) refl (omega (arith, layer, last)) refl (sym point))
-        (reg_used q claim offset clean moved k.cycle k.rail r reg.0 j sound asks early on is reg.1 (subst (λ (o : Option Reg). Among (reg_late d claim moved k.cycle r o) j) reg.1 a))
+        subst (λ (x : Key). Uses (definitions Rows q moved) x j) (key_at k k.cycle (length claim.through + 1) k.rail (d.nets + length d.regs) refl
+        (omega (arith, layer, last)) refl (sym point))
+        (reg_used q claim offset clean moved k.cycle k.rail r reg.0 j sound asks early on is reg.1
+        (subst (λ (o : Option Reg). Among (reg_late d claim moved k.cycle r o) j) reg.1 a))
 
     in_layer : (l : ℕ) → k.layer ≡ suc l → Goal (suc l) (layer_origin d claim moved q.cycles k (suc l))
     in_layer l layer =
-        cond_both (nat_lt k.cycle q.cycles && (nat_lt l (length claim.through + 1) && has_rail claim k.rail)) (late_origin d claim moved l k) Free (Goal (suc l))
+        cond_both (nat_lt k.cycle q.cycles && (nat_lt l (length claim.through + 1) && has_rail claim k.rail)) (late_origin d claim moved l k) Free
+        (Goal (suc l))
         (λ yes_late.
         let first = and_parts (nat_lt k.cycle q.cycles) (nat_lt l (length claim.through + 1) && has_rail claim k.rail) yes_late in
         let second = and_parts (nat_lt l (length claim.through + 1)) (has_rail claim k.rail) first.1 in
         let early = ltb-true k.cycle q.cycles first.0 in
         let low = ltb-true l (length claim.through + 1) second.0 in
         cond_both (nat_lt k.point d.nets) (cond (has_own claim moved l k.point) (of_gate (gate_of d.gates 0 k.point)) Free) _ (Goal (suc l))
-        (λ net. cond_both (has_own claim moved l k.point) (of_gate (gate_of d.gates 0 k.point)) Free (Goal (suc l)) (λ own. of_net l layer early low second.1 own (gate_of d.gates 0 k.point) refl) (λ other a. absurd a.1))
+        (λ net. cond_both (has_own claim moved l k.point) (of_gate (gate_of d.gates 0 k.point)) Free (Goal (suc l))
+        (λ own. of_net l layer early low second.1 own (gate_of d.gates 0 k.point) refl) (λ other a. absurd a.1))
         (λ past. cond_both ((k.point == d.nets + length d.regs) && (l == length claim.through)) (end_origin claim.end) Free (Goal (suc l))
         (λ is_end.
         let parts = and_parts (k.point == d.nets + length d.regs) (l == length claim.through) is_end in
-        of_end l layer early second.1 (eqb-true k.point (d.nets + length d.regs) parts.0) (eqb-true l (length claim.through) parts.1) claim.end refl) (λ other a. absurd a.1)))
+        of_end l layer early second.1 (eqb-true k.point (d.nets + length d.regs) parts.0) (eqb-true l (length claim.through) parts.1) claim.end refl)
+        (λ other a. absurd a.1)))
         (λ other a. absurd a.1)
 
     by_layer : (n : ℕ) → k.layer ≡ n → Goal n (layer_origin d claim moved q.cycles k n)

@@ -145,7 +145,8 @@ fn add_gate_rail(
     requires tables { AreTables design.now claim.now tables.now }
     requires nets { AllBelow design.now.nets gate.now.ins }
     requires layer { rail_at.layer ≤ length claim.now.through + 1 }
-    ensures { OnOk result (Finds (gate_rail design.now claim.now tables.now.moved rail_at.cycle rail_at.layer rail_at.rail number gate.now) found.old.keys found.new.keys) }
+    ensures { OnOk result (Finds (gate_rail design.now claim.now tables.now.moved rail_at.cycle rail_at.layer rail_at.rail number gate.now)
+        found.old.keys found.new.keys) }
 {
     let reads = pin_literals_at(
         alloc,
@@ -182,7 +183,8 @@ fn add_late_gate(
     requires late { 0 < rail_at.layer }
     requires layer { rail_at.layer ≤ length claim.now.through + 1 }
     requires rail { rail_at.rail ≡ 0 }
-    ensures { OnOk result (Finds (origins.gate_late design.now claim.now tables.now.moved rail_at.cycle (rail_at.layer - 1) gate (slice_get design.now.gates gate)) found.old.keys found.new.keys) }
+    ensures { OnOk result (Finds (origins.gate_late design.now claim.now tables.now.moved rail_at.cycle (rail_at.layer - 1) gate
+        (slice_get design.now.gates gate)) found.old.keys found.new.keys) }
 {
     let driver = design.gates.item(gate);
     add_gate_rail(alloc, design, claim, tables, gate, driver, rail_at, found)?;
@@ -238,7 +240,8 @@ fn add_late_reg(
     requires fits { Fits design.now claim.now }
     requires tables { AreTables design.now claim.now tables.now }
     requires reg { reg < length design.now.regs }
-    ensures { OnOk result (Finds (origins.reg_late design.now claim.now tables.now.moved cycle reg (slice_get design.now.regs reg)) found.old.keys found.new.keys) }
+    ensures { OnOk result (Finds (origins.reg_late design.now claim.now tables.now.moved cycle reg (slice_get design.now.regs reg)) found.old.keys
+        found.new.keys) }
 {
     let register = design.regs.item(reg);
     let layer = claim.through.len() + 1;
@@ -298,7 +301,8 @@ fn add_differ_reads(
     requires fits { Fits design.now claim.now }
     requires tables { AreTables design.now claim.now tables.now }
     requires early { cycle < 2 ^ 32 }
-    ensures { OnOk result ((k : Key) → k.cycle ≡ cycle → Finds (origins.reads_in_layer design.now claim.now tables.now.moved k 0 Origin.Differ) found.old.keys found.new.keys) }
+    ensures { OnOk result ((k : Key) → k.cycle ≡ cycle → Finds (origins.reads_in_layer design.now claim.now tables.now.moved k 0 Origin.Differ)
+        found.old.keys found.new.keys) }
 {
     let late = late_capture_lit(design, claim, tables, cycle, 0);
     let other = if claim.hazard {
@@ -321,7 +325,8 @@ fn add_starts(
     requires sound { IsSound design.now }
     requires fits { Fits design.now claim.now }
     requires tables { AreTables design.now claim.now tables.now }
-    ensures { OnOk result (Finds (defined.start_lit design.now claim.now.start cycle ∷ defined.start_lit design.now claim.now.start before ∷ []) found.old.keys found.new.keys) }
+    ensures { OnOk result (Finds (defined.start_lit design.now claim.now.start cycle ∷ defined.start_lit design.now claim.now.start before ∷ [])
+        found.old.keys found.new.keys) }
 {
     let now = start_lit(design, &tables.drivers, claim.start, cycle);
     let then = start_lit(design, &tables.drivers, claim.start, before);
@@ -340,7 +345,8 @@ fn add_captures(
     requires fits { Fits design.now claim.now }
     requires tables { AreTables design.now claim.now tables.now }
     requires early { cycle < 2 ^ 32 }
-    ensures { OnOk result (Finds (defined.capture_lit design.now claim.now.end cycle ∷ defined.capture_lit design.now claim.now.end (cycle - 1) ∷ []) found.old.keys found.new.keys) }
+    ensures { OnOk result (Finds (defined.capture_lit design.now claim.now.end cycle ∷ defined.capture_lit design.now claim.now.end (cycle - 1) ∷ [])
+        found.old.keys found.new.keys) }
 {
     let before = cycle.saturating_sub(1);
     let now = capture_lit(design, &tables.drivers, claim.end, cycle);

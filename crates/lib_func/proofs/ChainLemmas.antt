@@ -57,11 +57,13 @@ unfolding function_in
 function_none s e = rw e refl
 
 -- only white space follows the function
-pub function_ends : (s : List ℕ) (f : Tree) (r : List ℕ) → chain_at (length s) Or s ≡ Some (f, r) → length (after_space r) ≡ 0 → function_in (length s) s ≡ Some f
+pub function_ends : (s : List ℕ) (f : Tree) (r : List ℕ) → chain_at (length s) Or s ≡ Some (f, r) → length (after_space r) ≡ 0
+    → function_in (length s) s ≡ Some f
 unfolding function_in
 function_ends s f r e ended = rw (e, ended) refl
 
 -- something else follows it
-pub function_trails : (s : List ℕ) (f : Tree) (r : List ℕ) → chain_at (length s) Or s ≡ Some (f, r) → 0 < length (after_space r) → function_in (length s) s ≡ None
+pub function_trails : (s : List ℕ) (f : Tree) (r : List ℕ) → chain_at (length s) Or s ≡ Some (f, r) → 0 < length (after_space r)
+    → function_in (length s) s ≡ None
 unfolding function_in
 function_trails s f r e more = let differs : (length (after_space r) == 0) ≡ false = grind (arith, nat_tests) in rw (e, differs) refl

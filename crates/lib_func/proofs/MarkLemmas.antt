@@ -11,7 +11,8 @@ marks_stop b k zero s e = refl
 marks_stop b k (suc m) s e = rw e refl
 
 -- the mark comes
-pub marks_more : (b k most : ℕ) (s : List ℕ) → (first (after_space s) == b) ≡ true → k < most → marks b k (most - k) s ≡ marks b (k + 1) (most - (k + 1)) (drop 1 (after_space s))
+pub marks_more : (b k most : ℕ) (s : List ℕ) → (first (after_space s) == b) ≡ true → k < most → marks b k (most - k) s ≡ marks b (k + 1)
+    (most - (k + 1)) (drop 1 (after_space s))
 unfolding marks
 marks_more b k most s e lt = let left : most - k ≡ suc (most - (k + 1)) = omega arith in rw (left, e, marks) refl
 

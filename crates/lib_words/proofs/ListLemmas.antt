@@ -27,7 +27,8 @@ module _ {A : Type 0} (close between : ℕ) (adds : A → Rule A) (found : A) (t
   list_more (suc m) more t some unclosed e good = (m, omega arith, rw (unclosed, e, good) refl)
 
   -- none of these does
-  pub list_bad : (m : ℕ) (why : GroupFault) → 0 < m → is_next close s ≡ false → is_next between s ≡ false → adds found total s ≡ Err why → list_from close between adds m found total s ≡ Err why
+  pub list_bad : (m : ℕ) (why : GroupFault) → 0 < m → is_next close s ≡ false → is_next between s ≡ false → adds found total s ≡ Err why
+      → list_from close between adds m found total s ≡ Err why
   unfolding list_from
   list_bad zero why some unclosed e bad = absurd (omega arith)
   list_bad (suc m) why some unclosed e bad = rw (unclosed, e, bad) refl

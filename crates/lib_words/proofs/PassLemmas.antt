@@ -18,7 +18,8 @@ passed_more room zero (suc opened) total s next t some inside good = absurd (ome
 passed_more room (suc m) (suc opened) total s next t some inside good = (m, omega arith, rw (good) refl)
 
 -- none stands there
-pub passed_bad : (room m opened total : ℕ) (s : List ℕ) (why : GroupFault) → 0 < m → 0 < opened → step_at room opened total s ≡ Err why → passed_from room m opened total s ≡ Err why
+pub passed_bad : (room m opened total : ℕ) (s : List ℕ) (why : GroupFault) → 0 < m → 0 < opened → step_at room opened total s ≡ Err why
+    → passed_from room m opened total s ≡ Err why
 unfolding passed_from
 passed_bad room m zero total s why some inside bad = absurd (omega arith)
 passed_bad room zero (suc opened) total s why some inside bad = absurd (omega arith)

@@ -50,7 +50,8 @@ adds_attribute room found total s = name_at total s >>= λ n. elim (attribute_be
 -- a part, after its name; where no `{` follows the arguments it is a complex attribute, and none is kept
 unfoldable pub part_at : PartKind → ℕ → Rule (Option Part)
 part_at kind room total s = names_at total s >>= λ n.
-    if is_next left_brace n.1 then (enter_at room 0 total n.1 >>= λ r. statements_at adds_attribute room [] total r >>= λ a. Ok (Some (record { kind = kind; names = n.0; attributes = a.0 }), a.1))
+    if is_next left_brace n.1 then (enter_at room 0 total n.1 >>= λ r. statements_at adds_attribute room [] total r >>= λ a.
+    Ok (Some (record { kind = kind; names = n.0; attributes = a.0 }), a.1))
     else Ok (None, n.1)
 
 abbrev pub with_attribute : CellGroup → Attribute → CellGroup

@@ -21,7 +21,8 @@ item_at [] k lt = absurd (omega arith)
 item_at (x ∷ xs) zero lt = (x, refl)
 item_at (x ∷ xs) (suc k) lt = item_at xs k (omega arith)
 
-inputs_exist : (d : Design) (ins : List Bool) (k : ℕ) → IsSound d → length ins ≡ length d.inputs → k ≤ length d.inputs → (nets : List Bool) × InputsDone d ins nets k
+inputs_exist : (d : Design) (ins : List Bool) (k : ℕ) → IsSound d → length ins ≡ length d.inputs → k ≤ length d.inputs → (nets : List Bool)
+    × InputsDone d ins nets k
 inputs_exist d ins zero sound same le =
     (replicate d.nets false, record { len = length-replicate d.nets false; shown = λ j lt. absurd (omega arith) })
 inputs_exist d ins (suc k) sound same le =
@@ -30,13 +31,17 @@ inputs_exist d ins (suc k) sound same le =
     let bit = item_at ins k (omega arith) in
     (set more.0 net.0 bit.0, subst (InputsDone d ins (set more.0 net.0 bit.0)) (add-one k) (inputs_more d ins more.0 k net.0 bit.0 sound net.1 bit.1 more.1))
 
-outs_exist : (d : Design) (r : ℕ) (reg : Reg) (bit : Bool) (start : List Bool) (o : ℕ) → IsSound d → slice_get d.regs r ≡ Some reg → length start ≡ d.nets → o ≤ length reg.outs → (nets : List Bool) × RegDone d r reg.outs bit start nets o
+outs_exist : (d : Design) (r : ℕ) (reg : Reg) (bit : Bool) (start : List Bool) (o : ℕ) → IsSound d → slice_get d.regs r ≡ Some reg
+    → length start ≡ d.nets → o ≤ length reg.outs → (nets : List Bool) × RegDone d r reg.outs bit start nets o
 outs_exist d r reg bit start zero sound at len le =
     (start, record { len = len; kept = λ n has. refl; shown = λ p lt. absurd (omega arith) })
 outs_exist d r reg bit start (suc o) sound at len le =
     let more = outs_exist d r reg bit start o sound at len (omega arith) in
-    let out = item_at reg.outs o (omega arith) in
-    (set more.0 out.0.net (shown out.0 bit), subst (RegDone d r reg.outs bit start (set more.0 out.0.net (shown out.0 bit))) (add-one o) (reg_more d r reg bit start more.0 o out.0 (shown out.0 bit) sound at out.1 refl more.1))
+    let out = item_at reg.outs o (omega arith) in (
+      set more.0 out.0.net (shown out.0 bit),
+      subst (RegDone d r reg.outs bit start (set more.0 out.0.net (shown out.0 bit))) (add-one o)
+          (reg_more d r reg bit start more.0 o out.0 (shown out.0 bit) sound at out.1 refl more.1),
+    )
 
 -- the first r registers show their bits, and the input nets are as at the start
 record AreRegsPut (d : Design) (bits start nets : List Bool) (r : ℕ) : Type 0 where
@@ -44,7 +49,8 @@ record AreRegsPut (d : Design) (bits start nets : List Bool) (r : ℕ) : Type 0 
   kept : (n : ℕ) → Contains d.inputs n → bit_at nets n ≡ bit_at start n
   shown : RegsShown d bits nets r
 
-one_more_reg : (d : Design) (bits start nets next : List Bool) (r : ℕ) (reg : Reg) → slice_get d.regs r ≡ Some reg → AreRegsPut d bits start nets r → RegDone d r reg.outs (bit_at bits r) nets next (length reg.outs) → AreRegsPut d bits start next (r + 1)
+one_more_reg : (d : Design) (bits start nets next : List Bool) (r : ℕ) (reg : Reg) → slice_get d.regs r ≡ Some reg → AreRegsPut d bits start nets r
+    → RegDone d r reg.outs (bit_at bits r) nets next (length reg.outs) → AreRegsPut d bits start next (r + 1)
 one_more_reg d bits start nets next r reg at put done =
     record {
       len = done.len;
@@ -57,7 +63,8 @@ one_more_reg d bits start nets next r reg at put done =
           put.shown;
     }
 
-regs_exist : (d : Design) (bits start : List Bool) (r : ℕ) → IsSound d → length start ≡ d.nets → r ≤ length d.regs → (nets : List Bool) × AreRegsPut d bits start nets r
+regs_exist : (d : Design) (bits start : List Bool) (r : ℕ) → IsSound d → length start ≡ d.nets → r ≤ length d.regs → (nets : List Bool)
+    × AreRegsPut d bits start nets r
 regs_exist d bits start zero sound len le =
     (start, record { len = len; kept = λ n has. refl; shown = λ q lt. absurd (omega arith) })
 regs_exist d bits start (suc r) sound len le =
@@ -66,17 +73,22 @@ regs_exist d bits start (suc r) sound len le =
     let done = outs_exist d r reg.0 (bit_at bits r) more.0 (length reg.0.outs) sound reg.1 more.1.len (omega arith) in
     (done.0, subst (AreRegsPut d bits start done.0) (add-one r) (one_more_reg d bits start more.0 done.0 r reg.0 reg.1 more.1 done.1))
 
-gates_exist : (d : Design) (start : List Bool) (k : ℕ) → IsSound d → length start ≡ d.nets → k ≤ length d.gates → (nets : List Bool) × GatesDone value false d start nets k
+gates_exist : (d : Design) (start : List Bool) (k : ℕ) → IsSound d → length start ≡ d.nets → k ≤ length d.gates → (nets : List Bool)
+    × GatesDone value false d start nets k
 gates_exist d start zero sound len le =
     (start, record { len = len; sources = λ n has. refl; gates = λ j lt. absurd (omega arith) })
 gates_exist d start (suc k) sound len le =
     let more = gates_exist d start k sound len (omega arith) in
     let gate = item_at d.gates k (omega arith) in
-    let bit = value gate.0.func (pins_of false gate.0.ins more.0) in
-    (set more.0 gate.0.out bit, subst (GatesDone value false d start (set more.0 gate.0.out bit)) (add-one k) (gates_more value value_agrees false d start more.0 k gate.0 bit sound gate.1 refl more.1))
+    let bit = value gate.0.func (pins_of false gate.0.ins more.0) in (
+      set more.0 gate.0.out bit,
+      subst (GatesDone value false d start (set more.0 gate.0.out bit)) (add-one k)
+          (gates_more value value_agrees false d start more.0 k gate.0 bit sound gate.1 refl more.1),
+    )
 
 -- each choice of bits and inputs has a settled cycle
-pub settled_exists : (d : Design) (bits ins : List Bool) → IsSound d → length bits ≡ length d.regs → length ins ≡ length d.inputs → (nets : List Bool) × IsSettled d (record { bits = bits; ins = ins; nets = nets })
+pub settled_exists : (d : Design) (bits ins : List Bool) → IsSound d → length bits ≡ length d.regs → length ins ≡ length d.inputs → (nets : List Bool)
+    × IsSettled d (record { bits = bits; ins = ins; nets = nets })
 settled_exists d bits ins sound some_bits some_ins =
     let first = inputs_exist d ins (length d.inputs) sound some_ins (omega arith) in
     let second = regs_exist d bits first.0 (length d.regs) sound first.1.len (omega arith) in

@@ -1,5 +1,6 @@
 -- Over the net values of a cycle there are layers, whatever the start shows late.
-use Rattle.std.proofs.Common.{◌≡◌, ◌≢◌, ℕ, zero, suc, ◌+◌, ◌<◌, ◌≤◌, Bool, false, List, [], map, length, get_or, replicate, Some, refl, ap, sym, ◌∙◌, subst, arith, inl, inr, add-one, get_or-set_same, length-set, set}
+use Rattle.std.proofs.Common.{◌≡◌, ◌≢◌, ℕ, zero, suc, ◌+◌, ◌<◌, ◌≤◌, Bool, false, List, [], map, length, get_or, replicate, Some, refl, ap, sym, ◌∙◌}
+use Rattle.std.proofs.Common.{subst, arith, inl, inr, add-one, get_or-set_same, length-set, set}
 use Rattle.std.specs.Prelude.{All, Contains, slice_get, slice_index}
 use Rattle.std.proofs.lemmas.Bool.{cases_Bool}
 use Rattle.std.proofs.lemmas.List.{length-replicate, get_or-replicate}
@@ -23,7 +24,9 @@ use Rattle.net_model.specs.declared.claims.PinRef.TheVariants.{Net}
 use Rattle.net_model.specs.declared.claims.Start.{Start}
 use Rattle.net_model.specs.declared.claims.Start.TheVariants.{Reg as RegStart, Input as InputStart}
 
-base_exists : {V : Type 0} (blank : V) (bit_value : Bool → V) (sets : List (List PinRef)) (l : ℕ) (base : List Bool) (start : List (List V)) (k : ℕ) → l < length start → length (row_at start l) ≡ length base → k ≤ length base → (rows : List (List V)) × BaseDone blank bit_value sets l base start rows k
+base_exists : {V : Type 0} (blank : V) (bit_value : Bool → V) (sets : List (List PinRef)) (l : ℕ) (base : List Bool) (start : List (List V)) (k : ℕ)
+    → l < length start → length (row_at start l) ≡ length base → k ≤ length base → (rows : List (List V))
+    × BaseDone blank bit_value sets l base start rows k
 base_exists {V} blank bit_value sets l base start zero within len le =
     (start, record { count = refl; below = λ m apart. refl; len = len; row = λ n lt. absurd (omega arith) })
 base_exists {V} blank bit_value sets l base start (suc k) within len le =
@@ -34,7 +37,9 @@ base_exists {V} blank bit_value sets l base start (suc k) within len le =
           (base_more blank bit_value sets l base start more.0 k v (omega (arith, more.1.count)) (omega arith) refl more.1),
     )
 
-late_exists : {V : Type 0} (blank value inverted : V) (d : Design) (r : ℕ) (reg : Reg) (start : List (List V)) (o : ℕ) → IsSound d → 0 < length start → length (row_at start 0) ≡ d.nets → slice_get d.regs r ≡ Some reg → o ≤ length reg.outs → (rows : List (List V)) × LateDone blank value inverted reg.outs start rows o
+late_exists : {V : Type 0} (blank value inverted : V) (d : Design) (r : ℕ) (reg : Reg) (start : List (List V)) (o : ℕ) → IsSound d → 0 < length start
+    → length (row_at start 0) ≡ d.nets → slice_get d.regs r ≡ Some reg → o ≤ length reg.outs → (rows : List (List V))
+    × LateDone blank value inverted reg.outs start rows o
 late_exists {V} blank value inverted d r reg start zero sound within len at le =
     (start, record { count = refl; below = λ m apart. refl; len = refl; late = λ p lt. absurd (omega arith); others = λ n out. refl })
 late_exists {V} blank value inverted d r reg start (suc o) sound within len at le =
@@ -54,7 +59,8 @@ record IsShown {V : Type 0} (blank value inverted : V) (d : Design) (start : Sta
   late : All (λ (o : RegOut). net_at blank new 0 o.net ≡ late_value value inverted o) (start_outs d start)
   others : (n : ℕ) → ¬ Contains (start_nets d start) n → net_at blank new 0 n ≡ net_at blank old 0 n
 
-shown_exists : {V : Type 0} (blank value inverted : V) (d : Design) (start : Start) (old : List (List V)) → IsSound d → IsStartIn d start → 0 < length old → length (row_at old 0) ≡ d.nets → (new : List (List V)) × IsShown blank value inverted d start old new
+shown_exists : {V : Type 0} (blank value inverted : V) (d : Design) (start : Start) (old : List (List V)) → IsSound d → IsStartIn d start
+    → 0 < length old → length (row_at old 0) ≡ d.nets → (new : List (List V)) × IsShown blank value inverted d start old new
 shown_exists {V} blank value inverted d (RegStart r) old sound is within len =
     let reg = item_at d.regs r is in
     let made = late_exists blank value inverted d r reg.0 old (length reg.0.outs) sound within len reg.1 (omega arith) in
@@ -88,7 +94,9 @@ shown_exists {V} blank value inverted d (InputStart i) old sound is within len =
       },
     )
 
-gates_exist : {V : Type 0} (applied : Applied V) (reads : ReadsPlaces applied) (blank : V) (d : Design) (sets : List (List PinRef)) (l : ℕ) (start : List (List V)) (k : ℕ) → IsSound d → l < length start → length (row_at start l) ≡ d.nets → k ≤ length d.gates → (rows : List (List V)) × LayerDone applied blank d sets l start rows k
+gates_exist : {V : Type 0} (applied : Applied V) (reads : ReadsPlaces applied) (blank : V) (d : Design) (sets : List (List PinRef)) (l : ℕ)
+    (start : List (List V)) (k : ℕ) → IsSound d → l < length start → length (row_at start l) ≡ d.nets → k ≤ length d.gates → (rows : List (List V))
+    × LayerDone applied blank d sets l start rows k
 gates_exist {V} applied reads blank d sets l start zero sound within len le = (
   start,
   record {
@@ -105,7 +113,11 @@ gates_exist {V} applied reads blank d sets l start (suc k) sound within len le =
     let gate = item_at d.gates k (omega arith) in
     let v = applied gate.0.func (layer_pins blank sets more.0 l k gate.0.ins) in
     elim (cases_Bool (is_in (Net gate.0.out) (held_set sets l))) [
-      | inl held ↦ (more.0, subst (LayerDone applied blank d sets l start more.0) (add-one k) (layer_skip applied blank d sets l start more.0 k gate.0 gate.1 held more.1))
+      | inl held ↦ (
+        more.0,
+        subst (LayerDone applied blank d sets l start more.0) (add-one k)
+            (layer_skip applied blank d sets l start more.0 k gate.0 gate.1 held more.1),
+      )
       | inr free ↦ (
         written more.0 l gate.0.out v,
         subst (LayerDone applied blank d sets l start (written more.0 l gate.0.out v)) (add-one k)
@@ -114,24 +126,30 @@ gates_exist {V} applied reads blank d sets l start (suc k) sound within len le =
     ]
 
 -- the layers so far, in rows that have a value for each net
-record AreMade {V : Type 0} (applied : Applied V) (bit_value : Bool → V) (value inverted : V) (d : Design) (start : Start) (sets : List (List PinRef)) (base : List Bool) (last : ℕ) (rows : List (List V)) : Type 0 where
+record AreMade {V : Type 0} (applied : Applied V) (bit_value : Bool → V) (value inverted : V) (d : Design) (start : Start) (sets : List (List PinRef))
+    (base : List Bool) (last : ℕ) (rows : List (List V)) : Type 0 where
   count : length rows ≡ length sets + 1
   lens : (m : ℕ) → m < length sets + 1 → length (row_at rows m) ≡ d.nets
   layers : AreLayersTo applied (bit_value false) d start sets (late_value value inverted) (map bit_value base) rows last
 
-all_gates : {V : Type 0} (applied : Applied V) (blank : V) (d : Design) (sets : List (List PinRef)) (l : ℕ) (start rows : List (List V)) → LayerDone applied blank d sets l start rows (length d.gates) → AreLayerGates applied blank d sets rows l
+all_gates : {V : Type 0} (applied : Applied V) (blank : V) (d : Design) (sets : List (List PinRef)) (l : ℕ) (start rows : List (List V))
+    → LayerDone applied blank d sets l start rows (length d.gates) → AreLayerGates applied blank d sets rows l
 all_gates {V} applied blank d sets l start rows done k g at free = done.gates k (slice_get_within d.gates k g at) g at free
 
-layers_to : {V : Type 0} (applied : Applied V) (reads : ReadsPlaces applied) (bit_value : Bool → V) (value inverted : V) (d : Design) (start : Start) (sets : List (List PinRef)) (base : List Bool) (last : ℕ) → IsSound d → IsStartIn d start → length base ≡ d.nets → last ≤ length sets → (rows : List (List V)) × AreMade applied bit_value value inverted d start sets base last rows
+layers_to : {V : Type 0} (applied : Applied V) (reads : ReadsPlaces applied) (bit_value : Bool → V) (value inverted : V) (d : Design) (start : Start)
+    (sets : List (List PinRef)) (base : List Bool) (last : ℕ) → IsSound d → IsStartIn d start → length base ≡ d.nets → last ≤ length sets
+    → (rows : List (List V)) × AreMade applied bit_value value inverted d start sets base last rows
 layers_to {V} applied reads bit_value value inverted d start sets base zero sound is long le =
     let blank = bit_value false in
     let size = length sets + 1 in
     let room : List (List V) = replicate size (replicate d.nets blank) in
     let count : length room ≡ size = length-replicate size (replicate d.nets blank) in
-    let row : (m : ℕ) → m < size → length (row_at room m) ≡ d.nets = λ m low. ap length (get_or-replicate size m (replicate d.nets blank) [] low) ∙ length-replicate d.nets blank in
+    let row : (m : ℕ) → m < size → length (row_at room m) ≡ d.nets = λ m low. ap length (get_or-replicate size m (replicate d.nets blank) [] low)
+    ∙ length-replicate d.nets blank in
     let based = base_exists blank bit_value sets 0 base room (length base) (omega arith) (row 0 (omega arith) ∙ sym long) (omega arith) in
     let shown = shown_exists blank value inverted d start based.0 sound is (omega (arith, based.1.count)) (based.1.len ∙ long) in
-    let done = gates_exist applied reads blank d sets 0 shown.0 (length d.gates) sound (omega (arith, shown.1.count, based.1.count)) (shown.1.len ∙ (based.1.len ∙ long)) (omega arith) in (
+    let done = gates_exist applied reads blank d sets 0 shown.0 (length d.gates) sound (omega (arith, shown.1.count, based.1.count))
+    (shown.1.len ∙ (based.1.len ∙ long)) (omega arith) in (
       done.0,
       record {
         count = done.1.count ∙ (shown.1.count ∙ (based.1.count ∙ count));
@@ -139,15 +157,19 @@ layers_to {V} applied reads bit_value value inverted d start sets base zero soun
             (len_kept based.0 shown.0 0 d.nets m shown.1.below (shown.1.len ∙ (based.1.len ∙ long))
             (len_kept room based.0 0 d.nets m based.1.below (based.1.len ∙ long) (row m low)));
         layers =
-            layers_first applied bit_value d start sets (late_value value inverted) base based.0 shown.0 done.0 sound is long (omega (arith, done.1.count, shown.1.count, based.1.count)) based.1.row shown.1.late shown.1.others done.1.len done.1.sources (all_gates applied blank d sets 0 shown.0 done.0 done.1);
+            layers_first applied bit_value d start sets (late_value value inverted) base based.0 shown.0 done.0 sound is long
+            (omega (arith, done.1.count, shown.1.count, based.1.count)) based.1.row shown.1.late shown.1.others done.1.len done.1.sources
+            (all_gates applied blank d sets 0 shown.0 done.0 done.1);
       },
     )
 layers_to {V} applied reads bit_value value inverted d start sets base (suc last) sound is long le =
     let blank = bit_value false in
     let more = layers_to applied reads bit_value value inverted d start sets base last sound is long (omega arith) in
     let l = last + 1 in
-    let based = base_exists blank bit_value sets l base more.0 (length base) (omega (arith, more.1.count)) (more.1.lens l (omega arith) ∙ sym long) (omega arith) in
-    let done = gates_exist applied reads blank d sets l based.0 (length d.gates) sound (omega (arith, based.1.count, more.1.count)) (based.1.len ∙ long) (omega arith) in (
+    let based = base_exists blank bit_value sets l base more.0 (length base) (omega (arith, more.1.count)) (more.1.lens l (omega arith) ∙ sym long)
+    (omega arith) in
+    let done = gates_exist applied reads blank d sets l based.0 (length d.gates) sound (omega (arith, based.1.count, more.1.count))
+    (based.1.len ∙ long) (omega arith) in (
       done.0,
       record {
         count = done.1.count ∙ (based.1.count ∙ more.1.count);
@@ -155,12 +177,17 @@ layers_to {V} applied reads bit_value value inverted d start sets base (suc last
             (len_kept more.0 based.0 l d.nets m based.1.below (based.1.len ∙ long) (more.1.lens m low));
         layers =
             subst (AreLayersTo applied blank d start sets (late_value value inverted) (map bit_value base) done.0) (add-one last)
-            (layers_next applied reads bit_value d start sets (late_value value inverted) base more.0 based.0 done.0 last sound (omega (arith, more.1.count)) long more.1.layers (λ m low. based.1.below m (omega arith)) based.1.len based.1.row (done.1.count ∙ based.1.count) (λ m low. done.1.below m (omega arith)) done.1.len done.1.sources done.1.held (all_gates applied blank d sets l based.0 done.0 done.1));
+            (layers_next applied reads bit_value d start sets (late_value value inverted) base more.0 based.0 done.0 last sound
+            (omega (arith, more.1.count)) long more.1.layers (λ m low. based.1.below m (omega arith)) based.1.len based.1.row
+            (done.1.count ∙ based.1.count) (λ m low. done.1.below m (omega arith)) done.1.len done.1.sources done.1.held
+            (all_gates applied blank d sets l based.0 done.0 done.1));
       },
     )
 
 -- for each value that the start shows late, there are layers
-pub layers_exist : {V : Type 0} (applied : Applied V) (reads : ReadsPlaces applied) (bit_value : Bool → V) (value inverted : V) (d : Design) (start : Start) (sets : List (List PinRef)) (base : List Bool) → IsSound d → IsStartIn d start → length base ≡ d.nets → (rows : List (List V)) × AreLayers applied (bit_value false) d start sets (late_value value inverted) (map bit_value base) rows
+pub layers_exist : {V : Type 0} (applied : Applied V) (reads : ReadsPlaces applied) (bit_value : Bool → V) (value inverted : V) (d : Design)
+    (start : Start) (sets : List (List PinRef)) (base : List Bool) → IsSound d → IsStartIn d start → length base ≡ d.nets → (rows : List (List V))
+    × AreLayers applied (bit_value false) d start sets (late_value value inverted) (map bit_value base) rows
 layers_exist {V} applied reads bit_value value inverted d start sets base sound is long =
     let made = layers_to applied reads bit_value value inverted d start sets base (length sets) sound is long (omega arith) in
     (made.0, made.1.layers)

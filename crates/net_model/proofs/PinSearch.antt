@@ -50,7 +50,8 @@ never false not_true = refl
 never true not_true = absurd (not_true refl)
 
 -- what binary search answers in a list in ascending order
-in_order : (pin : PinRef) (pins : List PinRef) (r : Result ℕ ℕ) → IsSorted (ordered.ghosts).cmp pins → IsSearchInRange r (length pins) → IsBinarySearchResult (λ y. (ordered.ghosts).cmp y pin) pins r → is_ok r ≡ is_in pin pins
+in_order : (pin : PinRef) (pins : List PinRef) (r : Result ℕ ℕ) → IsSorted (ordered.ghosts).cmp pins → IsSearchInRange r (length pins)
+    → IsBinarySearchResult (λ y. (ordered.ghosts).cmp y pin) pins r → is_ok r ≡ is_in pin pins
 in_order pin pins (Ok i) rises within found = sym (is_in-Contains pin pins (i, within, tied (get_or pins i pin) pin (found pin)))
 in_order pin pins (Err i) rises within found =
     let parted = found (searchable_from_sorted total-law (λ x. x) pins pin rises) in
@@ -62,7 +63,8 @@ in_order pin pins (Err i) rises within found =
     ])
 
 -- what it answers in the ascending list of a set
-pub found_exactly : (pin : PinRef) (listed ascending : List PinRef) (r : Result ℕ ℕ) → IsAscending (ordered.ghosts).cmp listed ascending → IsSearchInRange r (length ascending) → IsBinarySearchResult (λ y. (ordered.ghosts).cmp y pin) ascending r → is_ok r ≡ is_in pin listed
+pub found_exactly : (pin : PinRef) (listed ascending : List PinRef) (r : Result ℕ ℕ) → IsAscending (ordered.ghosts).cmp listed ascending
+    → IsSearchInRange r (length ascending) → IsBinarySearchResult (λ y. (ordered.ghosts).cmp y pin) ascending r → is_ok r ≡ is_in pin listed
 found_exactly pin listed ascending r is within found =
     in_order pin ascending r is.rises within found ∙ sym (list_any-IsPermutation (same_pin pin) listed ascending is.same)
 

@@ -55,6 +55,7 @@ pub Contains-is_in : (pin : PinRef) (set : List PinRef) → is_in pin set ≡ tr
 Contains-is_in pin set is = Contains-from_any {eq = same_pin} one_pin pin set is
 
 -- the set of a layer after the first
-pub held_set-after : (sets : List (List PinRef)) (layer place : ℕ) (set : List PinRef) → layer ≡ place + 1 → slice_get sets place ≡ Some set → held_set sets layer ≡ set
+pub held_set-after : (sets : List (List PinRef)) (layer place : ℕ) (set : List PinRef) → layer ≡ place + 1 → slice_get sets place ≡ Some set
+    → held_set sets layer ≡ set
 held_set-after sets layer place set next at =
     let e : layer ≡ suc place = omega arith in rw e (get_or_from_slice_get sets place set [] at)

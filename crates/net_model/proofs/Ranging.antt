@@ -13,7 +13,11 @@ all_right P [] ys all = all
 all_right P (x ∷ rest) ys all = all_right P rest ys (λ k d lt. all (suc k) d (omega arith))
 
 -- the first of four searches that finds a number
-pub ports : (d : Design) (inputs outputs fixed resets : Option ℕ) → MatchOption inputs (AllBelow d.nets d.inputs) (IsBeyond d.nets d.inputs) → MatchOption outputs (AllBelow d.nets d.outputs) (IsBeyond d.nets d.outputs) → MatchOption fixed (AllBelow (length d.inputs) (setting_inputs d.fixed)) (IsBeyond (length d.inputs) (setting_inputs d.fixed)) → MatchOption resets (AllBelow (length d.inputs) (setting_inputs d.resets)) (IsBeyond (length d.inputs) (setting_inputs d.resets)) → MatchOption (option_or (option_or (option_or inputs outputs) fixed) resets) (ArePortsInRange d) (IsOutOfRange d)
+pub ports : (d : Design) (inputs outputs fixed resets : Option ℕ) → MatchOption inputs (AllBelow d.nets d.inputs) (IsBeyond d.nets d.inputs)
+    → MatchOption outputs (AllBelow d.nets d.outputs) (IsBeyond d.nets d.outputs)
+    → MatchOption fixed (AllBelow (length d.inputs) (setting_inputs d.fixed)) (IsBeyond (length d.inputs) (setting_inputs d.fixed))
+    → MatchOption resets (AllBelow (length d.inputs) (setting_inputs d.resets)) (IsBeyond (length d.inputs) (setting_inputs d.resets))
+    → MatchOption (option_or (option_or (option_or inputs outputs) fixed) resets) (ArePortsInRange d) (IsOutOfRange d)
 ports d (Some n) outputs fixed resets i o f r = OfInputs i
 ports d None (Some n) fixed resets i o f r = OfOutputs o
 ports d None None (Some n) resets i o f r =

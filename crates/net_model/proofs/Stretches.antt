@@ -1,5 +1,6 @@
 -- A run that is violated contains a stretch that is violated at offset 0.
-use Rattle.std.proofs.Common.{◌≡◌, ℕ, zero, suc, ◌+◌, ◌-◌, ◌<◌, ◌≤◌, Bool, false, List, [], ◌∷◌, length, take, drop, get_or, Some, refl, ap, subst, sym, ◌∙◌, arith}
+use Rattle.std.proofs.Common.{◌≡◌, ℕ, zero, suc, ◌+◌, ◌-◌, ◌<◌, ◌≤◌, Bool, false, List, [], ◌∷◌, length, take, drop, get_or, Some, refl, ap, subst}
+use Rattle.std.proofs.Common.{sym, ◌∙◌, arith}
 use Rattle.std.specs.Prelude.{slice_get, nat_lt}
 use Rattle.std.proofs.lemmas.Bool.{le-ltb}
 use Rattle.std.proofs.lemmas.List.{length-take-le, length-drop}
@@ -70,7 +71,8 @@ IsStretch-window d run s m some long live from_reset =
 
 -- a stretch that is violated at an offset and at none below answers the step query
 pub step_answer : (d : Design) (claim : Claim) (depth : ℕ) (stretch : List Cycle) → IsStretch d stretch → length stretch ≡ depth + 1 + judged_count claim.kind
-    → ((offset : ℕ) → offset < depth → ¬ IsViolatedAt 0 d claim stretch (0 + 1 + offset)) → IsViolatedAt 0 d claim stretch (0 + 1 + depth) → IsStepAnswer d claim depth stretch
+    → ((offset : ℕ) → offset < depth → ¬ IsViolatedAt 0 d claim stretch (0 + 1 + offset)) → IsViolatedAt 0 d claim stretch (0 + 1 + depth)
+    → IsStepAnswer d claim depth stretch
 step_answer d claim depth stretch is count clean violated =
     record {
       cycles =
@@ -92,11 +94,13 @@ stretch_of d claim depth stretch answer =
       linked = answer.cycles.linked;
       resets = λ t o within.
           let inactive : nat_lt t 0 ≡ false = le-ltb t 0 (omega arith) in
-          subst (λ (active : Bool). HasResets d active (get_or stretch t o)) inactive (answer.cycles.resets t (get_or stretch t o) (slice_get-get_or stretch t o within));
+          subst (λ (active : Bool). HasResets d active (get_or stretch t o)) inactive
+          (answer.cycles.resets t (get_or stretch t o) (slice_get-get_or stretch t o within));
     }
 
 -- a run that is violated at t, and has all judged captures, contains an answer of the step query of depth 0
-pub violated_window : (d : Design) (claim : Claim) (run : List Cycle) (t : ℕ) → IsRun d run → t + judged_count claim.kind ≤ length run → IsViolatedAt d.reset_len d claim run t → IsStepAnswer d claim 0 (window (t - 1) (1 + judged_count claim.kind) run)
+pub violated_window : (d : Design) (claim : Claim) (run : List Cycle) (t : ℕ) → IsRun d run → t + judged_count claim.kind ≤ length run
+    → IsViolatedAt d.reset_len d claim run t → IsStepAnswer d claim 0 (window (t - 1) (1 + judged_count claim.kind) run)
 violated_window d claim run t from_reset long violated =
     let s = t - 1 in
     let m = 1 + judged_count claim.kind in
@@ -122,7 +126,8 @@ violated_window d claim run t from_reset long violated =
       judged = violated.judged;
       before = violated.before;
       c = violated.c;
-      before_at = at (1 + violated.r - 1) (t + violated.r - 1) violated.before (omega (arith, violated.judged)) (omega (arith, violated.toggles.is_live)) violated.before_at;
+      before_at = at (1 + violated.r - 1) (t + violated.r - 1) violated.before (omega (arith, violated.judged))
+          (omega (arith, violated.toggles.is_live)) violated.before_at;
       c_at = at (1 + violated.r) (t + violated.r) violated.c (omega (arith, violated.judged)) (omega (arith, violated.toggles.is_live)) violated.c_at;
       bad = violated.bad;
     })

@@ -1,5 +1,6 @@
 -- Two settled cycles with the same bits and inputs are the same.
-use Rattle.std.proofs.Common.{◌≡◌, ℕ, zero, suc, ◌<◌, ◌≤◌, Bool, true, false, cond, List, [], ◌∷◌, map, length, take, get_or, Some, refl, ap, subst, sym, ◌∙◌, arith, inl, inr, below_more}
+use Rattle.std.proofs.Common.{◌≡◌, ℕ, zero, suc, ◌<◌, ◌≤◌, Bool, true, false, cond, List, [], ◌∷◌, map, length, take, get_or, Some, refl, ap, subst}
+use Rattle.std.proofs.Common.{sym, ◌∙◌, arith, inl, inr, below_more}
 use Rattle.std.specs.Prelude.{Contains, count_by, slice_get, slice_index, ◌==◌, flat_map}
 use Rattle.std.proofs.lemmas.List.{same_lists, get_or_default}
 use Rattle.std.proofs.lemmas.Option.{slice_get_within, get_or_from_slice_get}
@@ -19,7 +20,8 @@ use Rattle.net_model.specs.declared.netlist.Reg.{Reg}
 use Rattle.net_model.specs.declared.netlist.RegOut.{RegOut}
 use Rattle.net_model.specs.declared.cycles.Cycle.{Cycle}
 
-first_or : (n x : ℕ) (xs : List ℕ) → (1 ≤ count_by (λ m. m == n) xs → Contains xs n) → 1 ≤ count_by (λ m. m == n) (x ∷ xs) → (b : Bool) → (x == n) ≡ b → Contains (x ∷ xs) n
+first_or : (n x : ℕ) (xs : List ℕ) → (1 ≤ count_by (λ m. m == n) xs → Contains xs n) → 1 ≤ count_by (λ m. m == n) (x ∷ xs) → (b : Bool) → (x == n) ≡ b
+    → Contains (x ∷ xs) n
 first_or n x xs later h true e = (0, omega arith, eqb-true x n e)
 first_or n x xs later h false e =
     let rest = count_cons (λ m. m == n) x xs in
@@ -32,7 +34,8 @@ counted_contains n [] h = absurd (omega arith)
 counted_contains n (x ∷ xs) h = first_or n x xs (counted_contains n xs) h (x == n) refl
 
 -- an element of a mapped list comes from a place
-pub from_taken : {X : Type 0} (f : X → ℕ) (xs : List X) (k : ℕ) (n : ℕ) → Contains (map f (take k xs)) n → (j : ℕ) × (x : X) × (j < k) × (slice_get xs j ≡ Some x) × (f x ≡ n)
+pub from_taken : {X : Type 0} (f : X → ℕ) (xs : List X) (k : ℕ) (n : ℕ) → Contains (map f (take k xs)) n → (j : ℕ) × (x : X) × (j < k)
+    × (slice_get xs j ≡ Some x) × (f x ≡ n)
 from_taken f xs zero n has = absurd (omega (arith, has.1))
 from_taken f [] (suc k) n has = absurd (omega (arith, has.1))
 from_taken f (x ∷ xs) (suc k) n (zero, within, same) = (0, x, omega arith, refl, same)
@@ -46,7 +49,8 @@ from_whole f (x ∷ xs) n (zero, within, same) = (0, x, refl, same)
 from_whole f (x ∷ xs) n (suc i, within, same) =
     let more = from_whole f xs n (i, omega arith, same) in (suc more.0, more.1, more.2, more.3)
 
-pub from_flat : {X : Type 0} (f : X → List ℕ) (xs : List X) (n : ℕ) → Contains (flat_map f xs) n → (j : ℕ) × (x : X) × (slice_get xs j ≡ Some x) × Contains (f x) n
+pub from_flat : {X : Type 0} (f : X → List ℕ) (xs : List X) (n : ℕ) → Contains (flat_map f xs) n → (j : ℕ) × (x : X) × (slice_get xs j ≡ Some x)
+    × Contains (f x) n
 from_flat f [] n has = absurd (omega (arith, has.1))
 from_flat f (x ∷ xs) n has =
     elim (Contains-append_cases (f x) (flat_map f xs) n has) [
@@ -70,14 +74,17 @@ sources_agree d a b s t bits ins n has =
           let reg = from_flat reg_nets d.regs n later in
           let out = from_whole net_of reg.1.outs n reg.3 in
           let at : get_or reg.1.outs out.0 out.1 ≡ out.1 = get_or_from_slice_get reg.1.outs out.0 out.1 out.1 out.2 in
-          let l = subst (λ (o : RegOut). bit_at a.nets o.net ≡ shown o (bit_at a.bits reg.0)) at (s.regs reg.0 reg.1 reg.2 out.0 out.1 (slice_get_within reg.1.outs out.0 out.1 out.2)) in
-          let r = subst (λ (o : RegOut). bit_at b.nets o.net ≡ shown o (bit_at b.bits reg.0)) at (t.regs reg.0 reg.1 reg.2 out.0 out.1 (slice_get_within reg.1.outs out.0 out.1 out.2)) in
+          let l = subst (λ (o : RegOut). bit_at a.nets o.net ≡ shown o (bit_at a.bits reg.0)) at
+          (s.regs reg.0 reg.1 reg.2 out.0 out.1 (slice_get_within reg.1.outs out.0 out.1 out.2)) in
+          let r = subst (λ (o : RegOut). bit_at b.nets o.net ≡ shown o (bit_at b.bits reg.0)) at
+          (t.regs reg.0 reg.1 reg.2 out.0 out.1 (slice_get_within reg.1.outs out.0 out.1 out.2)) in
           let same : shown out.1 (bit_at a.bits reg.0) ≡ shown out.1 (bit_at b.bits reg.0) = ap (λ (xs : List Bool). shown out.1 (bit_at xs reg.0)) bits in
           subst (λ m. bit_at a.nets m ≡ bit_at b.nets m) out.3 (l ∙ (same ∙ sym r))
     ]
 
 -- what is driven before a gate agrees, where the earlier gates do
-pub net_agrees : (d : Design) (a b : Cycle) → Agree (source_nets d) a.nets b.nets → (k : ℕ) → ((j : ℕ) → j < k → (g : Gate) → slice_get d.gates j ≡ Some g → bit_at a.nets g.out ≡ bit_at b.nets g.out) → Agree (before d k) a.nets b.nets
+pub net_agrees : (d : Design) (a b : Cycle) → Agree (source_nets d) a.nets b.nets → (k : ℕ)
+    → ((j : ℕ) → j < k → (g : Gate) → slice_get d.gates j ≡ Some g → bit_at a.nets g.out ≡ bit_at b.nets g.out) → Agree (before d k) a.nets b.nets
 net_agrees d a b sources k below n has =
     elim (Contains-append_cases (source_nets d) (gate_nets (take k d.gates)) n has) [
       | inl here ↦ sources n here
@@ -86,14 +93,18 @@ net_agrees d a b sources k below n has =
           subst (λ m. bit_at a.nets m ≡ bit_at b.nets m) gate.4 (below gate.0 gate.2 gate.1 gate.3)
     ]
 
-pub gate_agrees : (d : Design) (a b : Cycle) → IsSound d → IsSettled d a → IsSettled d b → Agree (source_nets d) a.nets b.nets → (k : ℕ) → ((j : ℕ) → j < k → (g : Gate) → slice_get d.gates j ≡ Some g → bit_at a.nets g.out ≡ bit_at b.nets g.out) → (h : Gate) → slice_get d.gates k ≡ Some h → bit_at a.nets h.out ≡ bit_at b.nets h.out
+pub gate_agrees : (d : Design) (a b : Cycle) → IsSound d → IsSettled d a → IsSettled d b → Agree (source_nets d) a.nets b.nets → (k : ℕ)
+    → ((j : ℕ) → j < k → (g : Gate) → slice_get d.gates j ≡ Some g → bit_at a.nets g.out ≡ bit_at b.nets g.out) → (h : Gate)
+    → slice_get d.gates k ≡ Some h → bit_at a.nets h.out ≡ bit_at b.nets h.out
 gate_agrees d a b sound s t sources k below h here =
     s.gates k h here
-    ∙ (value_agrees h.func (length h.ins) (gate_pins h.ins a.nets) (gate_pins h.ins b.nets) (All-at (IsGateInRange d) d.gates k h here sound.in_range.gates).func
+    ∙ (value_agrees h.func (length h.ins) (gate_pins h.ins a.nets) (gate_pins h.ins b.nets)
+    (All-at (IsGateInRange d) d.gates k h here sound.in_range.gates).func
     (λ i within. net_agrees d a b sources k below (slice_index h.ins i) (sound.in_order k h here i 0 within))
     ∙ sym (t.gates k h here))
 
-pub gates_agree : (d : Design) (a b : Cycle) → IsSound d → IsSettled d a → IsSettled d b → Agree (source_nets d) a.nets b.nets → (k : ℕ) → (j : ℕ) → j < k → (g : Gate) → slice_get d.gates j ≡ Some g → bit_at a.nets g.out ≡ bit_at b.nets g.out
+pub gates_agree : (d : Design) (a b : Cycle) → IsSound d → IsSettled d a → IsSettled d b → Agree (source_nets d) a.nets b.nets → (k : ℕ) → (j : ℕ)
+    → j < k → (g : Gate) → slice_get d.gates j ≡ Some g → bit_at a.nets g.out ≡ bit_at b.nets g.out
 gates_agree d a b sound s t sources zero j lt g at = absurd (omega arith)
 gates_agree d a b sound s t sources (suc k) j lt g at =
     below_more (λ i. (h : Gate) → slice_get d.gates i ≡ Some h → bit_at a.nets h.out ≡ bit_at b.nets h.out) k
@@ -129,7 +140,10 @@ pub settled_same : (d : Design) (a b : Cycle) → IsSound d → IsSettled d a �
 settled_same d a b sound s t bits ins = cycles_same a b bits ins (settled_once d a b sound s t bits ins)
 
 -- inputs, registers and gates that are put one after another are settled
-pub settled_made : (d : Design) (bits ins first second nets : List Bool) → length bits ≡ length d.regs → length ins ≡ length d.inputs → length nets ≡ d.nets → ((i : ℕ) → i < length d.inputs → bit_at first (slice_index d.inputs i) ≡ bit_at ins i) → Agree d.inputs second first → ((r : ℕ) (reg : Reg) → slice_get d.regs r ≡ Some reg → ShowsBit second (bit_at bits r) reg) → Agree (source_nets d) nets second → AreGatesSettled value false d.gates nets → IsSettled d (record { bits = bits; ins = ins; nets = nets })
+pub settled_made : (d : Design) (bits ins first second nets : List Bool) → length bits ≡ length d.regs → length ins ≡ length d.inputs
+    → length nets ≡ d.nets → ((i : ℕ) → i < length d.inputs → bit_at first (slice_index d.inputs i) ≡ bit_at ins i) → Agree d.inputs second first
+    → ((r : ℕ) (reg : Reg) → slice_get d.regs r ≡ Some reg → ShowsBit second (bit_at bits r) reg) → Agree (source_nets d) nets second
+    → AreGatesSettled value false d.gates nets → IsSettled d (record { bits = bits; ins = ins; nets = nets })
 settled_made d bits ins first second nets some_bits some_ins some_nets inputs kept regs sources gates =
     record {
       shape = record { bits = some_bits; ins = some_ins; nets = some_nets };
@@ -138,7 +152,8 @@ settled_made d bits ins first second nets some_bits some_ins some_nets inputs ke
           sources (slice_index d.inputs i) (Contains-append_left d.inputs (flat_map reg_nets d.regs) (slice_index d.inputs i) has)
           ∙ (kept (slice_index d.inputs i) has ∙ inputs i within);
       regs = λ r reg at k o within.
-          sources (get_or reg.outs k o).net (Contains-append_right d.inputs (flat_map reg_nets d.regs) (get_or reg.outs k o).net (flat_has reg_nets d.regs r reg (get_or reg.outs k o).net at (out_contains reg.outs k o within)))
+          sources (get_or reg.outs k o).net (Contains-append_right d.inputs (flat_map reg_nets d.regs) (get_or reg.outs k o).net
+          (flat_has reg_nets d.regs r reg (get_or reg.outs k o).net at (out_contains reg.outs k o within)))
           ∙ regs r reg at k o within;
       gates = gates;
     }

@@ -5,7 +5,9 @@ use Rattle.std.proofs.lemmas.List.Elements.{All-contains}
 use Rattle.net_model.specs.Form.{Form, ZeroForm, OneForm, PinForm, NotForm, AndForm, OrForm, XorForm, IsOver}
 use Rattle.net_model.specs.Mentions.{mentions, mentions_if_any}
 use Rattle.net_model.specs.Netlist.{AllBelow, IsOptionOver, IsGateInRange, IsRegInRange, IsSound, source_nets, gate_nets, reg_nets, held_inputs}
-use Rattle.net_model.specs.Faults.{IsBeyond, IsGateBeyond, GatePlace, GateInput, GateOutput, IsRegBeyond, RegPlace, RegInput, RegOutput, IsOutOfRange, OfGate, OfReg, OfInputs, OfOutputs, OfHeld, IsAboveLimit, Nets, Registers, Inputs, Outputs, GatePins, RegPins, ResetCycles, IsCause}
+use Rattle.net_model.specs.Faults.{IsBeyond, IsGateBeyond, GatePlace, GateInput, GateOutput, IsRegBeyond, RegPlace, RegInput, RegOutput, IsOutOfRange}
+use Rattle.net_model.specs.Faults.{OfGate, OfReg, OfInputs, OfOutputs, OfHeld, IsAboveLimit, Nets, Registers, Inputs, Outputs, GatePins, RegPins}
+use Rattle.net_model.specs.Faults.{ResetCycles, IsCause}
 use Rattle.net_model.proofs.Settling.{All-at}
 use Rattle.net_model.specs.declared.netlist.Design.{Design}
 use Rattle.net_model.specs.declared.netlist.Gate.{Gate}
@@ -92,7 +94,8 @@ unsound d (PlaceOutOfRange n) other cause sound = range_sound d n cause sound
 unsound d (ManyDrivers net) other cause sound = let one = sound.one_driver net cause.0 in let two = cause.1 in absurd (omega arith)
 unsound d (Undriven net) other cause sound = let one = sound.one_driver net cause.0 in let none = cause.1 in absurd (omega arith)
 unsound d (Order k) other cause sound =
-    cause.early (All-contains (Contains (source_nets d ++ gate_nets (take k d.gates))) cause.gate.ins cause.net (sound.in_order k cause.gate cause.at) cause.reads)
+    cause.early (All-contains (Contains (source_nets d ++ gate_nets (take k d.gates))) cause.gate.ins cause.net (sound.in_order k cause.gate cause.at)
+    cause.reads)
 unsound d (Twice i) other cause sound = let once = sound.once i cause.0 in let two = cause.1 in absurd (omega arith)
 unsound d (Limit n) other cause sound = limit_sound d n cause sound
 unsound d Memory other cause sound = absurd (other refl)

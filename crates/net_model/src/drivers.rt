@@ -14,7 +14,8 @@ use std::alloc::Global;
 fn mark_regs(design: &Design, marks: &mut Seq<bool>) -> Option<usize>
     requires range { IsInRange design.now }
     requires len { length marks.old ≡ design.now.nets }
-    ensures { MatchOption result (AddsMarks (flat_map reg_nets design.now.regs) marks.old marks.new) (IsMarkedTwice (flat_map reg_nets design.now.regs) marks.old) }
+    ensures { MatchOption result (AddsMarks (flat_map reg_nets design.now.regs) marks.old marks.new)
+        (IsMarkedTwice (flat_map reg_nets design.now.regs) marks.old) }
 {
     for r in 0..design.regs.len() {
         let reg = design.regs.item(r);

@@ -47,7 +47,8 @@ fn put_base_row<V: Value>(
     requires rows { layer < length rows.old }
     requires lens { (m : ℕ) → m ≤ layer → length (row_at rows.old m) ≡ length base.now }
     ensures kept { ChangesRow layer rows.old rows.new }
-    ensures row { (n : ℕ) → n < length base.now → net_at (V.bit_value false) rows.new layer n ≡ first_value (V.bit_value false) V.bit_value sets.now rows.old layer base.now n }
+    ensures row { (n : ℕ) → n < length base.now → net_at (V.bit_value false) rows.new layer n ≡ first_value (V.bit_value false) V.bit_value sets.now
+        rows.old layer base.now n }
 {
     for n in 0..base.len() {
         let value = base_value(sets, layer, base, rows, n);
@@ -63,7 +64,8 @@ fn put_late_reg<V: Value>(design: &Design, r: usize, value: V, inverted: V, rows
     requires len { length (row_at rows.old 0) ≡ design.now.nets }
     ensures kept { ChangesRow 0 rows.old rows.new }
     ensures late { All (λ (o : OutRecord). net_at (V.bit_value false) rows.new 0 o.net ≡ late_value value inverted o) (start_outs design.now (Start.Reg r)) }
-    ensures others { (n : ℕ) → ¬ Contains (start_nets design.now (Start.Reg r)) n → net_at (V.bit_value false) rows.new 0 n ≡ net_at (V.bit_value false) rows.old 0 n }
+    ensures others { (n : ℕ) → ¬ Contains (start_nets design.now (Start.Reg r)) n → net_at (V.bit_value false) rows.new 0 n ≡ net_at
+        (V.bit_value false) rows.old 0 n }
 {
     let reg = design.regs.item(r);
     let outs = &reg.outs;
@@ -82,7 +84,8 @@ fn put_late<V: Value>(design: &Design, start: &Start, value: V, inverted: V, row
     requires len { length (row_at rows.old 0) ≡ design.now.nets }
     ensures kept { ChangesRow 0 rows.old rows.new }
     ensures late { All (λ (o : OutRecord). net_at (V.bit_value false) rows.new 0 o.net ≡ late_value value inverted o) (start_outs design.now start.now) }
-    ensures others { (n : ℕ) → ¬ Contains (start_nets design.now start.now) n → net_at (V.bit_value false) rows.new 0 n ≡ net_at (V.bit_value false) rows.old 0 n }
+    ensures others { (n : ℕ) → ¬ Contains (start_nets design.now start.now) n → net_at (V.bit_value false) rows.new 0 n ≡ net_at
+        (V.bit_value false) rows.old 0 n }
 {
     match start {
         Start::Reg(r) => put_late_reg(design, *r, value, inverted, rows),
@@ -121,7 +124,8 @@ pub fn make_layers<V: Value>(
     requires lens { (m : ℕ) → m ≤ length claim.now.through → length (row_at rows.old m) ≡ design.now.nets }
     ensures count { length rows.new ≡ length rows.old }
     ensures above { (m : ℕ) → length claim.now.through < m → row_at rows.new m ≡ row_at rows.old m }
-    ensures layers { AreLayers V.applied (V.bit_value false) design.now claim.now.start claim.now.through (late_value value inverted) (map V.bit_value base.now) rows.new }
+    ensures layers { AreLayers V.applied (V.bit_value false) design.now claim.now.start claim.now.through (late_value value inverted)
+        (map V.bit_value base.now) rows.new }
 {
     let sets = &claim.through;
     put_base_row(sets, 0, base, rows);

@@ -89,8 +89,10 @@ pub fn settle_layer<V: Value>(
     requires rows { layer < length rows.old }
     requires lens { (m : ℕ) → m ≤ layer → length (row_at rows.old m) ≡ design.now.nets }
     ensures kept { ChangesRow layer rows.old rows.new }
-    ensures sources { (n : ℕ) → Contains (source_nets design.now) n → net_at (V.bit_value false) rows.new layer n ≡ net_at (V.bit_value false) rows.old layer n }
-    ensures held { (n : ℕ) → is_in (Net n) (held_set sets.now layer) ≡ true → net_at (V.bit_value false) rows.new layer n ≡ net_at (V.bit_value false) rows.old layer n }
+    ensures sources { (n : ℕ) → Contains (source_nets design.now) n → net_at (V.bit_value false) rows.new layer n ≡ net_at
+        (V.bit_value false) rows.old layer n }
+    ensures held { (n : ℕ) → is_in (Net n) (held_set sets.now layer) ≡ true → net_at (V.bit_value false) rows.new layer n ≡ net_at
+        (V.bit_value false) rows.old layer n }
     ensures gates { AreLayerGates V.applied (V.bit_value false) design.now sets.now rows.new layer }
 {
     for k in 0..design.gates.len() {

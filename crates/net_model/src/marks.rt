@@ -78,7 +78,8 @@ pub fn unmarked_of(numbers: &Seq<usize>, marks: &Seq<bool>) -> Option<usize>
 
 /// A number that has no mark.
 pub fn first_unmarked(marks: &Seq<bool>) -> Option<usize>
-    ensures { MatchOption result ((n : ℕ) → n < length marks.now → is_marked marks.now n ≡ true) (λ n. (n < length marks.now) × (is_marked marks.now n ≡ false)) }
+    ensures { MatchOption result ((n : ℕ) → n < length marks.now → is_marked marks.now n ≡ true)
+        (λ n. (n < length marks.now) × (is_marked marks.now n ≡ false)) }
 {
     for n in 0..marks.len() {
         if !marks.at(n) {

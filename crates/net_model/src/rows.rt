@@ -39,7 +39,8 @@ pub fn settle_gates<V: Value>(design: &Design, nets: &mut Seq<V>)
     requires sound { IsSound design.now }
     requires len { length nets.old ≡ design.now.nets }
     ensures len { length nets.new ≡ design.now.nets }
-    ensures sources { (n : ℕ) → Contains (source_nets design.now) n → slice_index_or nets.new n (V.bit_value false) ≡ slice_index_or nets.old n (V.bit_value false) }
+    ensures sources { (n : ℕ) → Contains (source_nets design.now) n → slice_index_or nets.new n (V.bit_value false) ≡ slice_index_or nets.old n
+        (V.bit_value false) }
     ensures gates { AreGatesSettled V.applied (V.bit_value false) design.now.gates nets.new }
 {
     for k in 0..design.gates.len() {

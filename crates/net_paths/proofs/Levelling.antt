@@ -1,5 +1,6 @@
 -- Levels of nets, gate by gate, and what they say at the end.
-use Rattle.std.proofs.Common.{arith, ◌≡◌, ◌≢◌, ℕ, zero, suc, ◌+◌, ◌<◌, ◌≤◌, max, Bool, List, [], ◌∷◌, ◌++◌, length, take, get_or, set, refl, sym, ap, ◌∙◌, subst, ◌⊎◌, inl, inr, le_refl, map, append_assoc, append-nil, get_or-set_same, get_or-set_other, length-set}
+use Rattle.std.proofs.Common.{arith, ◌≡◌, ◌≢◌, ℕ, zero, suc, ◌+◌, ◌<◌, ◌≤◌, max, Bool, List, [], ◌∷◌, ◌++◌, length, take, get_or, set, refl, sym, ap}
+use Rattle.std.proofs.Common.{◌∙◌, subst, ◌⊎◌, inl, inr, le_refl, map, append_assoc, append-nil, get_or-set_same, get_or-set_other, length-set}
 use Rattle.std.specs.Prelude.{Option, Some, None, slice_get, slice_index, Contains, flat_map, IsTrue, ◌↔◌, replicate}
 use Rattle.std.proofs.lemmas.Bool.{cases_lt, cases_eq}
 use Rattle.net_model.specs.Netlist.{IsSound, IsGateInRange, source_nets, gate_nets, driven_nets, reg_nets, AllBelow, IsRegInRange}
@@ -24,7 +25,8 @@ use Rattle.net_model.specs.declared.claims.End.{End}
 use Rattle.net_model.specs.declared.claims.End.TheVariants.{Reg as RegEnd, Output as OutputEnd}
 use Rattle.net_model.specs.declared.claims.PinRef.{PinRef}
 use Rattle.net_model.specs.declared.claims.PinRef.TheVariants.{Net, GateIn, RegIn, OutPort}
-use Rattle.net_paths.specs.Levels.{advanced, Reaches, At_start, Goes_on, level_at, IsAtLeast, IsLevel, met_through, IsGateLevel, greater, AreLevels, AreStarted, MeetsAtEnd}
+use Rattle.net_paths.specs.Levels.{advanced, Reaches, At_start, Goes_on, level_at, IsAtLeast, IsLevel, met_through, IsGateLevel, greater, AreLevels}
+use Rattle.net_paths.specs.Levels.{AreStarted, MeetsAtEnd}
 use Rattle.net_paths.proofs.Advancing.{advanced_le}
 use Rattle.net_paths.proofs.Reaching.{Arrives, arrives_from_path, path_from_arrives, net_reached, into_reg, into_output, From_start, From_gate}
 
@@ -47,7 +49,8 @@ some_same : {A : Type 0} (x y : A) → Some x ≡ Some y → x ≡ y
 some_same x y e = grind arith
 
 -- one more pin of a gate, whose net no path reaches
-pub gate_skips : (sets : List (List PinRef)) (levels : List (Option ℕ)) (k : ℕ) (ins : List ℕ) (out i : ℕ) (level : Option ℕ) → level_at levels (slice_index ins i) ≡ None
+pub gate_skips : (sets : List (List PinRef)) (levels : List (Option ℕ)) (k : ℕ) (ins : List ℕ) (out i : ℕ) (level : Option ℕ)
+    → level_at levels (slice_index ins i) ≡ None
     → IsGateLevel sets levels k ins out i level → IsGateLevel sets levels k ins out (i + 1) level
 gate_skips sets levels k ins out i level none is = record {
   some = λ met e. let (j, before, below, at, made) = is.some met e in (j, before, omega arith, at, made);
@@ -57,15 +60,18 @@ gate_skips sets levels k ins out i level none is = record {
   ];
 }
 
-at_pin : (sets : List (List PinRef)) (levels : List (Option ℕ)) (k : ℕ) (ins : List ℕ) (out i b j before : ℕ) → j ≡ i → level_at levels (slice_index ins i) ≡ Some b → level_at levels (slice_index ins j) ≡ Some before
+at_pin : (sets : List (List PinRef)) (levels : List (Option ℕ)) (k : ℕ) (ins : List ℕ) (out i b j before : ℕ) → j ≡ i
+    → level_at levels (slice_index ins i) ≡ Some b → level_at levels (slice_index ins j) ≡ Some before
     → met_through sets k out j before ≤ met_through sets k out i b
 at_pin sets levels k ins out i b j before same here at =
     let level : before ≡ b = some_same before b (sym at ∙ ap (λ q. level_at levels (slice_index ins q)) same ∙ here) in
-    let equal : met_through sets k out j before ≡ met_through sets k out i b = ap (λ q. met_through sets k out q before) same ∙ ap (met_through sets k out i) level in
+    let equal : met_through sets k out j before ≡ met_through sets k out i b = ap (λ q. met_through sets k out q before) same
+    ∙ ap (met_through sets k out i) level in
     omega (arith, equal)
 
 -- one more pin of a gate, whose net has a level
-pub gate_takes : (sets : List (List PinRef)) (levels : List (Option ℕ)) (k : ℕ) (ins : List ℕ) (out i b : ℕ) (level : Option ℕ) → level_at levels (slice_index ins i) ≡ Some b
+pub gate_takes : (sets : List (List PinRef)) (levels : List (Option ℕ)) (k : ℕ) (ins : List ℕ) (out i b : ℕ) (level : Option ℕ)
+    → level_at levels (slice_index ins i) ≡ Some b
     → IsGateLevel sets levels k ins out i level → IsGateLevel sets levels k ins out (i + 1) (greater level (met_through sets k out i b))
 gate_takes sets levels k ins out i b None here is = record {
   some = λ met e. let same : met_through sets k out i b ≡ met = grind arith in (i, b, omega arith, here, sym same);
@@ -92,15 +98,18 @@ only_one : (x net : ℕ) → Contains (x ∷ []) net → x ≡ net
 only_one x net (zero, below, is) = is
 only_one x net (suc i, below, is) = absurd (omega arith)
 
-reg_outs_are_sources : (d : Design) (r : ℕ) (reg : Option Reg) (net : ℕ) → slice_get d.regs r ≡ reg → Contains (map (λ (o : RegOut). o.net) (outs_of_reg reg)) net → Contains (flat_map reg_nets d.regs) net
+reg_outs_are_sources : (d : Design) (r : ℕ) (reg : Option Reg) (net : ℕ) → slice_get d.regs r ≡ reg
+    → Contains (map (λ (o : RegOut). o.net) (outs_of_reg reg)) net → Contains (flat_map reg_nets d.regs) net
 reg_outs_are_sources d r None net at (i, below, is) = absurd (omega arith)
 reg_outs_are_sources d r (Some reg) net at has = flat_has reg_nets d.regs r reg net at has
 
 -- the nets of a start are driven by inputs and registers
 start_is_source : (d : Design) (start : Start) (net : ℕ) → IsStartIn d start → Contains (start_nets d start) net → Contains (source_nets d) net
-start_is_source d (RegStart r) net fits has = Contains-append_right d.inputs (flat_map reg_nets d.regs) net (reg_outs_are_sources d r (slice_get d.regs r) net refl has)
+start_is_source d (RegStart r) net fits has = Contains-append_right d.inputs (flat_map reg_nets d.regs) net
+    (reg_outs_are_sources d r (slice_get d.regs r) net refl has)
 start_is_source d (InputStart i) net fits has =
-    Contains-append_left d.inputs (flat_map reg_nets d.regs) net (subst (Contains d.inputs) (only_one (slice_index d.inputs i) net has) (Contains-get_or d.inputs i 0 fits))
+    Contains-append_left d.inputs (flat_map reg_nets d.regs) net (subst (Contains d.inputs) (only_one (slice_index d.inputs i) net has)
+    (Contains-get_or d.inputs i 0 fits))
 
 source_before : (d : Design) (k net : ℕ) → Contains (source_nets d) net → Contains (before d k) net
 source_before d k net has = Contains-append_left (source_nets d) (gate_nets (take k d.gates)) net has
@@ -109,7 +118,8 @@ out_in_range : (d : Design) (k : ℕ) (g : Gate) → IsSound d → slice_get d.g
 out_in_range d k g sound at = (All-at (IsGateInRange d) d.gates k g at sound.in_range.gates).out
 
 -- a net that is driven before the next gate is driven before this one, or is its output
-before_cases : (d : Design) (k : ℕ) (g : Gate) (net : ℕ) → slice_get d.gates k ≡ Some g → Contains (before d (k + 1)) net → (Contains (before d k) net) ⊎ (net ≡ g.out)
+before_cases : (d : Design) (k : ℕ) (g : Gate) (net : ℕ) → slice_get d.gates k ≡ Some g → Contains (before d (k + 1)) net
+    → (Contains (before d k) net) ⊎ (net ≡ g.out)
 before_cases d k g net at has =
     let more : take (k + 1) d.gates ≡ take k d.gates ++ g ∷ [] =
     take_more d.gates k g (slice_get_within d.gates k g at) ∙ ap (λ h. take k d.gates ++ h ∷ []) (get_or_from_slice_get d.gates k g g at) in
@@ -132,12 +142,14 @@ same_gate d j k h g sound at_j at_k same =
       | inl e ↦ e
       | inr differ ↦ elim (cases_lt j k) [
         | inl below ↦ absurd (not_yet d k g h.out sound at_k (out_in_range d k g sound at_k) (out_before d j k h below at_j) (sym same))
-        | inr past ↦ let above : k < j = omega arith in absurd (not_yet d j h g.out sound at_j (out_in_range d j h sound at_j) (out_before d k j g above at_k) same)
+        | inr past ↦ let above : k < j = omega arith in absurd (not_yet d j h g.out sound at_j (out_in_range d j h sound at_j)
+            (out_before d k j g above at_k) same)
       ]
     ]
 
 -- the level of a gate's output
-gate_is_level : (d : Design) (start : Start) (sets : List (List PinRef)) (levels : List (Option ℕ)) (k : ℕ) (g : Gate) (level : Option ℕ) → IsSound d → IsStartIn d start → slice_get d.gates k ≡ Some g
+gate_is_level : (d : Design) (start : Start) (sets : List (List PinRef)) (levels : List (Option ℕ)) (k : ℕ) (g : Gate) (level : Option ℕ) → IsSound d
+    → IsStartIn d start → slice_get d.gates k ≡ Some g
     → AreLevels d start sets levels k → IsGateLevel sets levels k g.ins g.out (length g.ins) level → IsLevel d start sets g.out level
 gate_is_level d start sets levels k g level sound fits at are is = record {
   some = λ met e.
@@ -156,13 +168,15 @@ gate_is_level d start sets levels k g level sound fits at are is = record {
         let net : ℕ = slice_index g.ins i in
         let found : Reaches d start sets (Net net) count = subst (λ (q : Gate). Reaches d start sets (Net (slice_index q.ins i)) count) is_g reached in
         let (top, known, le) = at_least_some count (level_at levels net) ((are.done net (sound.in_order k g at i 0 below)).greatest count found) in
-        let through = advanced_le sets (advanced sets count (GateIn k i)) (advanced sets top (GateIn k i)) (Net g.out) (advanced_le sets count top (GateIn k i) le) in
+        let through = advanced_le sets (advanced sets count (GateIn k i)) (advanced sets top (GateIn k i)) (Net g.out)
+        (advanced_le sets count top (GateIn k i) le) in
         let made_k : met ≡ met_through sets k g.out i count = subst (λ n. met ≡ met_through sets n g.out i count) one made in
         at_least_less met (met_through sets k g.out i top) level (omega (arith, made_k, through)) (is.greatest i top below known)
   ];
 }
 
-pub levels_more : (d : Design) (start : Start) (sets : List (List PinRef)) (levels : List (Option ℕ)) (k : ℕ) (g : Gate) (level : Option ℕ) → IsSound d → IsStartIn d start → slice_get d.gates k ≡ Some g
+pub levels_more : (d : Design) (start : Start) (sets : List (List PinRef)) (levels : List (Option ℕ)) (k : ℕ) (g : Gate) (level : Option ℕ)
+    → IsSound d → IsStartIn d start → slice_get d.gates k ≡ Some g
     → IsGateLevel sets levels k g.ins g.out (length g.ins) level → AreLevels d start sets levels k → AreLevels d start sets (set levels g.out level) (k + 1)
 levels_more d start sets levels k g level sound fits at is are = record {
   len = length-set levels g.out level ∙ are.len;
@@ -173,8 +187,10 @@ levels_more d start sets levels k g level sound fits at is are = record {
             subst (IsLevel d start sets net) (sym (get_or-set_other levels g.out net level None differs)) (are.done net earlier)
         | inr same ↦
             let within : g.out < length levels = subst (λ n. g.out < n) (sym are.len) (out_in_range d k g sound at) in
-            let here : level_at (set levels g.out level) net ≡ level = ap (level_at (set levels g.out level)) same ∙ get_or-set_same levels g.out level None within in
-            subst (IsLevel d start sets net) (sym here) (subst (λ n. IsLevel d start sets n level) (sym same) (gate_is_level d start sets levels k g level sound fits at are is))
+            let here : level_at (set levels g.out level) net ≡ level = ap (level_at (set levels g.out level)) same
+            ∙ get_or-set_same levels g.out level None within in
+            subst (IsLevel d start sets net) (sym here) (subst (λ n. IsLevel d start sets n level) (sym same)
+            (gate_is_level d start sets levels k g level sound fits at are is))
       ];
 }
 
@@ -213,7 +229,8 @@ every_net d net sound here =
     let driven = counted_contains net (driven_nets d) (omega (arith, sound.one_driver net here)) in
     subst (λ l. Contains (source_nets d ++ gate_nets l) net) (sym (take_all (length d.gates) d.gates (le_refl (length d.gates)))) driven
 
-pub all_levels : (d : Design) (start : Start) (sets : List (List PinRef)) (levels : List (Option ℕ)) (k : ℕ) → IsSound d → length d.gates ≤ k → AreLevels d start sets levels k
+pub all_levels : (d : Design) (start : Start) (sets : List (List PinRef)) (levels : List (Option ℕ)) (k : ℕ) → IsSound d → length d.gates ≤ k
+    → AreLevels d start sets levels k
     → (net : ℕ) → net < d.nets → IsLevel d start sets net (level_at levels net)
 all_levels d start sets levels k sound past are net here =
     let all : take (length d.gates) d.gates ≡ take k d.gates = take_all (length d.gates) d.gates (le_refl (length d.gates)) ∙ sym (take_all k d.gates past) in
@@ -244,16 +261,30 @@ arrives_from_meets d start (RegEnd r) sets levels sound fits are (reg, at, (i, h
     let net : ℕ = slice_index reg.ins i in
     let below : net < d.nets = (All-at (IsRegInRange d) d.regs r reg at sound.in_range.regs).ins i 0 here in
     let reached = (are net below).some count known in
-    record { pin = RegIn r i; met = advanced sets count (RegIn r i); reaches = Goes_on (Net net) (RegIn r i) count reached (To_reg r reg i at here); ends = (i, refl); all = all }
+    record {
+      pin = RegIn r i;
+      met = advanced sets count (RegIn r i);
+      reaches = Goes_on (Net net) (RegIn r i) count reached (To_reg r reg i at here);
+      ends = (i, refl);
+      all = all;
+    }
 arrives_from_meets d start (OutputEnd o) sets levels sound fits are (count, known, all) =
     let net : ℕ = slice_index d.outputs o in
     let below : net < d.nets = sound.in_range.outputs o 0 fits in
     let reached = (are net below).some count known in
-    record { pin = OutPort o; met = advanced sets count (OutPort o); reaches = Goes_on (Net net) (OutPort o) count reached (To_output o fits); ends = refl; all = all }
+    record {
+      pin = OutPort o;
+      met = advanced sets count (OutPort o);
+      reaches = Goes_on (Net net) (OutPort o) count reached (To_output o fits);
+      ends =
+          refl;
+      all = all;
+    }
 
 -- the levels decide whether there is a path
 pub path_decided : (d : Design) (start : Start) (end_ : End) (sets : List (List PinRef)) (levels : List (Option ℕ)) (test : Bool) → IsSound d → IsEndIn d end_
-    → ((net : ℕ) → net < d.nets → IsLevel d start sets net (level_at levels net)) → (IsTrue test ↔ MeetsAtEnd d sets levels end_) → IsTrue test ↔ HasPath d start end_ sets
+    → ((net : ℕ) → net < d.nets → IsLevel d start sets net (level_at levels net)) → (IsTrue test ↔ MeetsAtEnd d sets levels end_)
+    → IsTrue test ↔ HasPath d start end_ sets
 path_decided d start end_ sets levels test sound fits are decides = (
   (λ yes. path_from_arrives d start end_ sets (arrives_from_meets d start end_ sets levels sound fits are (decides.0 yes))),
   (λ path. decides.1 (meets_from_arrives d start end_ sets levels sound fits are (arrives_from_path d start end_ sets path))),
@@ -261,7 +292,8 @@ path_decided d start end_ sets levels test sound fits are decides = (
 
 -- the nets of one more output, after those of the outputs before it
 pub started_more : (sets : List (List PinRef)) (outs : List RegOut) (i : ℕ) (d : RegOut) (old mid new : List (Option ℕ)) → i < length outs
-    → AreStarted sets (map (λ (o : RegOut). o.net) (take i outs)) old mid → AreStarted sets ((get_or outs i d).net ∷ []) mid new → AreStarted sets (map (λ (o : RegOut). o.net) (take (i + 1) outs)) old new
+    → AreStarted sets (map (λ (o : RegOut). o.net) (take i outs)) old mid → AreStarted sets ((get_or outs i d).net ∷ []) mid new
+    → AreStarted sets (map (λ (o : RegOut). o.net) (take (i + 1) outs)) old new
 started_more sets outs i d old mid new here first second =
     let nets : List ℕ = map (λ (o : RegOut). o.net) (take i outs) in
     let out : ℕ = (get_or outs i d).net in

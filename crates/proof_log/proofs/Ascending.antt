@@ -1,5 +1,6 @@
 -- Clauses in normal form, literal by literal.
-use Rattle.std.proofs.Common.{◌≡◌, ℕ, zero, suc, ◌+◌, ◌-◌, ◌<◌, ◌≤◌, List, [], ◌∷◌, ◌++◌, length, get_or, take, drop, refl, sym, ap, ◌∙◌, subst, inl, inr, arith}
+use Rattle.std.proofs.Common.{◌≡◌, ℕ, zero, suc, ◌+◌, ◌-◌, ◌<◌, ◌≤◌, List, [], ◌∷◌, ◌++◌, length, get_or, take, drop, refl, sym, ap, ◌∙◌, subst, inl}
+use Rattle.std.proofs.Common.{inr, arith}
 use Rattle.std.specs.List.{All, AllByRecursion}
 use Rattle.std.proofs.lemmas.Bool.{cases_lt}
 use Rattle.std.proofs.lemmas.List.{take_more, take_all, drop_all, length-take-le, get_or-take}
@@ -31,13 +32,15 @@ pub record IsNormalSoFar (vars : ℕ) (lits : List ℕ) (i before : ℕ) : Type 
 pub so_far_none : (vars : ℕ) (lits : List ℕ) → IsNormalSoFar vars lits 0 0
 so_far_none vars lits = record { normal = tt; in_vars = All-nil (InVars vars); none = λ e. refl; last = λ h. absurd (omega arith) }
 
-pub so_far_more : (vars : ℕ) (lits : List ℕ) (i before l : ℕ) → i < length lits → l ≡ get_or lits i 0 → 2 ≤ l → before < lit_var l → lit_var l ≤ vars → IsNormalSoFar vars lits i before → IsNormalSoFar vars lits (i + 1) (lit_var l)
+pub so_far_more : (vars : ℕ) (lits : List ℕ) (i before l : ℕ) → i < length lits → l ≡ get_or lits i 0 → 2 ≤ l → before < lit_var l → lit_var l ≤ vars
+    → IsNormalSoFar vars lits i before → IsNormalSoFar vars lits (i + 1) (lit_var l)
 so_far_more vars lits i before l h l_is low above below s =
     let long : length (take i lits) ≡ i = length-take-le i lits (omega arith) in
     let N : List ℕ → Type 0 = IsNormal in
     let next : take (i + 1) lits ≡ take i lits ++ l ∷ [] = take_more lits i 0 h ∙ ap (λ q. take i lits ++ q ∷ []) (sym l_is) in
     let inserted : take i (take i lits) ++ l ∷ drop i (take i lits) ≡ take i lits ++ l ∷ [] =
-    ap (λ xs. xs ++ l ∷ drop i (take i lits)) (take_all i (take i lits) (omega arith)) ∙ ap (λ ys. take i lits ++ l ∷ ys) (drop_all i (take i lits) (omega arith)) in
+    ap (λ xs. xs ++ l ∷ drop i (take i lits)) (take_all i (take i lits) (omega arith)) ∙ ap (λ ys. take i lits ++ l ∷ ys)
+    (drop_all i (take i lits) (omega arith)) in
     let P : ℕ → Type 0 = InVars vars in
     record {
       normal = subst N (sym next) (subst N inserted (IsNormal-insert (take i lits) i l s.normal (omega arith)
@@ -62,7 +65,8 @@ so_far_more vars lits i before l h l_is low above below s =
         ]
 
 -- a literal that is not above the one before, or not of the variables, leaves no normal form
-pub not_normal : (vars : ℕ) (lits : List ℕ) (i before l : ℕ) → i < length lits → l ≡ get_or lits i 0 → 1 ≤ lit_var l → IsNormalSoFar vars lits i before → lit_var l ≤ before → IsNormal lits → ⊥
+pub not_normal : (vars : ℕ) (lits : List ℕ) (i before l : ℕ) → i < length lits → l ≡ get_or lits i 0 → 1 ≤ lit_var l
+    → IsNormalSoFar vars lits i before → lit_var l ≤ before → IsNormal lits → ⊥
 not_normal vars lits i before l h l_is low s le n =
     elim (cases_lt 0 i) [
       | inl some ↦

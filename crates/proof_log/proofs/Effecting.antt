@@ -13,24 +13,28 @@ use Rattle.proof_log.specs.Effects.{effect_of, effect_of_open}
 use Rattle.proof_log.specs.declared.effects.Effect.TheVariants.{Falsified, Sets, Neither}
 
 -- one more literal that is not false
-pub open_more : (set clause : List ℕ) (i x : ℕ) → i < length clause → x ≡ get_or clause i 0 → is_set set (negated x) ≡ false → open_literals set (take (i + 1) clause) ≡ open_literals set (take i clause) ++ x ∷ []
+pub open_more : (set clause : List ℕ) (i x : ℕ) → i < length clause → x ≡ get_or clause i 0 → is_set set (negated x) ≡ false
+    → open_literals set (take (i + 1) clause) ≡ open_literals set (take i clause) ++ x ∷ []
 open_more set clause i x h e s =
     rw (filter_more (λ l. not (is_set set (negated l))) clause i 0 h, ← e, s)
 
 -- one more literal that is false
-pub open_same : (set clause : List ℕ) (i x : ℕ) → i < length clause → x ≡ get_or clause i 0 → is_set set (negated x) ≡ true → open_literals set (take (i + 1) clause) ≡ open_literals set (take i clause)
+pub open_same : (set clause : List ℕ) (i x : ℕ) → i < length clause → x ≡ get_or clause i 0 → is_set set (negated x) ≡ true
+    → open_literals set (take (i + 1) clause) ≡ open_literals set (take i clause)
 open_same set clause i x h e s =
     rw (filter_more (λ l. not (is_set set (negated l))) clause i 0 h, ← e, s) (append-nil _)
 
 -- two literals that are not false
-pub neither_from_two : (set clause : List ℕ) (i x w : ℕ) → i < length clause → x ≡ get_or clause i 0 → is_set set (negated x) ≡ false → open_literals set (take i clause) ≡ w ∷ [] → effect_of set clause ≡ Neither
+pub neither_from_two : (set clause : List ℕ) (i x w : ℕ) → i < length clause → x ≡ get_or clause i 0 → is_set set (negated x) ≡ false
+    → open_literals set (take i clause) ≡ w ∷ [] → effect_of set clause ≡ Neither
 neither_from_two set clause i x w h e s one =
     let test : ℕ → Bool = λ l. not (is_set set (negated l)) in
     ap (λ c. effect_of_open set (filter test c)) (sym (take-append-drop (i + 1) clause))
     ∙ ap (effect_of_open set) (filter-append test (take (i + 1) clause) (drop (i + 1) clause))
     ∙ ap (λ o. effect_of_open set (o ++ filter test (drop (i + 1) clause))) (open_more set clause i x h e s ∙ ap (λ o. o ++ x ∷ []) one)
 
-pub neither_from_some : (set clause : List ℕ) (i x : ℕ) (o : Option ℕ) → i < length clause → x ≡ get_or clause i 0 → is_set set (negated x) ≡ false → is_some o ≡ true → open_literals set (take i clause) ≡ option_to_list o → Neither ≡ effect_of set clause
+pub neither_from_some : (set clause : List ℕ) (i x : ℕ) (o : Option ℕ) → i < length clause → x ≡ get_or clause i 0 → is_set set (negated x) ≡ false
+    → is_some o ≡ true → open_literals set (take i clause) ≡ option_to_list o → Neither ≡ effect_of set clause
 neither_from_some set clause i x None h e s some inv = absurd (false≢true some)
 neither_from_some set clause i x (Some w) h e s some inv = sym (neither_from_two set clause i x w h e s inv)
 

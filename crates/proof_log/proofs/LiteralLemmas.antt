@@ -32,7 +32,8 @@ pub lit_true-negated : (v : ℕ → Bool) (l : ℕ) → lit_true v (negated l) �
 lit_true-negated v l =
     elim (cases_eq (l % 2) 0) [
       | inl h ↦ let up = even_up l h in
-          ap (lit_true v) (negated_even l h) ∙ lit_true_odd v (l + 1) (λ e. absurd (omega arith)) ∙ ap (λ x. not (v x)) up.1 ∙ ap not (sym (lit_true_even v l h))
+          ap (lit_true v) (negated_even l h) ∙ lit_true_odd v (l + 1) (λ e. absurd (omega arith)) ∙ ap (λ x. not (v x)) up.1
+          ∙ ap not (sym (lit_true_even v l h))
       | inr h ↦ let down = odd_down l h in
           ap (lit_true v) (negated_odd l h) ∙ lit_true_even v (l - 1) down.0 ∙ ap v down.1 ∙ sym (not-not (v (l / 2))) ∙ ap not (sym (lit_true_odd v l h))
     ]

@@ -1,7 +1,9 @@
 -- Which literals are in a list.
-use Rattle.std.proofs.Common.{◌≡◌, ℕ, zero, suc, ◌<◌, Bool, true, false, not, ◌||◌, eqb, List, [], ◌∷◌, ◌++◌, map, length, get_or, take, drop, refl, sym, ap, ◌∙◌, subst, inl, inr, arith}
+use Rattle.std.proofs.Common.{◌≡◌, ℕ, zero, suc, ◌<◌, Bool, true, false, not, ◌||◌, eqb, List, [], ◌∷◌, ◌++◌, map, length, get_or, take, drop, refl}
+use Rattle.std.proofs.Common.{sym, ap, ◌∙◌, subst, inl, inr, arith}
 use Rattle.std.specs.List.{All, filter, IsDistinct, AllByRecursion}
-use Rattle.std.proofs.lemmas.Bool.{false≢true, true≢false, cases_Bool, or_cases, or_left, or_right, eqb-true, eqb-false, eq-eqb, ne_eqb, cond-true, cond-false, both_ways}
+use Rattle.std.proofs.lemmas.Bool.{false≢true, true≢false, cases_Bool, or_cases, or_left, or_right, eqb-true, eqb-false, eq-eqb, ne_eqb, cond-true}
+use Rattle.std.proofs.lemmas.Bool.{cond-false, both_ways}
 use Rattle.std.proofs.lemmas.List.Folds.{list_any-append}
 use Rattle.std.proofs.lemmas.List.{get_or_default}
 use Rattle.proof_log.specs.Literals.{lit_var, negated}
@@ -59,7 +61,11 @@ pub is_set-take : (n : ℕ) (xs : List ℕ) (q : ℕ) → is_set (take n xs) q �
 is_set-take zero xs q h = absurd (false≢true (sym (is_set-nil q) ∙ h))
 is_set-take (suc n) [] q h = h
 is_set-take (suc n) (x ∷ xs) q h =
-    is_set-cons x xs q ∙ (elim (or_cases (eqb x q) (is_set (take n xs) q) (sym (is_set-cons x (take n xs) q) ∙ h)) [ inl e ↦ or_left _ _ e | inr r ↦ or_right _ _ (is_set-take n xs q r) ])
+    is_set-cons x xs q ∙ (elim (or_cases (eqb x q) (is_set (take n xs) q) (sym (is_set-cons x (take n xs) q) ∙ h)) [
+      | inl e ↦ or_left _ _ e
+      | inr r ↦
+          or_right _ _ (is_set-take n xs q r)
+    ])
 
 -- what passes a test is among those that pass
 pub filter_mem : (test : ℕ → Bool) (xs : List ℕ) (l : ℕ) → is_set xs l ≡ true → test l ≡ true → is_set (filter test xs) l ≡ true
@@ -69,7 +75,8 @@ filter_mem test (x ∷ xs) l h t =
       | inl pass ↦ ap (λ ys. is_set ys l) (cond-true (test x) (x ∷ filter test xs) (filter test xs) pass) ∙ is_set-cons x (filter test xs) l
           ∙ (elim (or_cases (eqb x l) (is_set xs l) (sym (is_set-cons x xs l) ∙ h)) [ inl e ↦ or_left _ _ e | inr r ↦ or_right _ _ (filter_mem test xs l r t) ])
       | inr fail ↦ ap (λ ys. is_set ys l) (cond-false (test x) (x ∷ filter test xs) (filter test xs) fail)
-          ∙ (elim (or_cases (eqb x l) (is_set xs l) (sym (is_set-cons x xs l) ∙ h)) [ inl e ↦ absurd (both_ways (test x) fail (ap test (eqb-true x l e) ∙ t)) | inr r ↦ filter_mem test xs l r t ])
+          ∙ (elim (or_cases (eqb x l) (is_set xs l) (sym (is_set-cons x xs l) ∙ h))
+          [ inl e ↦ absurd (both_ways (test x) fail (ap test (eqb-true x l e) ∙ t)) | inr r ↦ filter_mem test xs l r t ])
     ]
 
 -- what is among those that pass was there, and passes
@@ -100,7 +107,10 @@ pub map_mem : (c : List ℕ) (l : ℕ) → is_set c l ≡ true → is_set (map n
 map_mem [] l h = absurd (false≢true (sym (is_set-nil l) ∙ h))
 map_mem (x ∷ xs) l h =
     is_set-cons (negated x) (map negated xs) (negated l)
-    ∙ (elim (or_cases (eqb x l) (is_set xs l) (sym (is_set-cons x xs l) ∙ h)) [ inl e ↦ or_left _ _ (eq-eqb _ _ (ap negated (eqb-true x l e))) | inr r ↦ or_right _ _ (map_mem xs l r) ])
+    ∙ (elim (or_cases (eqb x l) (is_set xs l) (sym (is_set-cons x xs l) ∙ h)) [
+      | inl e ↦ or_left _ _ (eq-eqb _ _ (ap negated (eqb-true x l e)))
+      | inr r ↦ or_right _ _ (map_mem xs l r)
+    ])
 
 -- what holds of each literal, by membership and by place
 pub All-from_members : (P : ℕ → Type 0) (c : List ℕ) → ((l : ℕ) → is_set c l ≡ true → P l) → All P c
@@ -115,7 +125,8 @@ member_from_All P (x ∷ xs) l all h =
     ]
 
 -- the later literals are of other variables
-pub other_var : (p : ℕ) (later : List ℕ) → AllByRecursion (λ y. eqb (lit_var p) y ≡ false) (map lit_var later) → (q : ℕ) → is_set later q ≡ true → lit_var p ≡ lit_var q → ⊥
+pub other_var : (p : ℕ) (later : List ℕ) → AllByRecursion (λ y. eqb (lit_var p) y ≡ false) (map lit_var later) → (q : ℕ) → is_set later q ≡ true
+    → lit_var p ≡ lit_var q → ⊥
 other_var p [] all q h e = false≢true (sym (is_set-nil q) ∙ h)
 other_var p (x ∷ xs) all q h e =
     elim (or_cases (eqb x q) (is_set xs q) (sym (is_set-cons x xs q) ∙ h)) [

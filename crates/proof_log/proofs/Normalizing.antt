@@ -1,5 +1,6 @@
 -- Putting literals into their places.
-use Rattle.std.proofs.Common.{◌≡◌, ℕ, zero, suc, ◌+◌, ◌<◌, ◌≤◌, Bool, true, false, ◌||◌, eqb, List, [], ◌∷◌, ◌++◌, length, get_or, take, drop, refl, sym, ap, ◌∙◌, subst, inl, inr, arith}
+use Rattle.std.proofs.Common.{◌≡◌, ℕ, zero, suc, ◌+◌, ◌<◌, ◌≤◌, Bool, true, false, ◌||◌, eqb, List, [], ◌∷◌, ◌++◌, length, get_or, take, drop, refl}
+use Rattle.std.proofs.Common.{sym, ap, ◌∙◌, subst, inl, inr, arith}
 use Rattle.std.specs.List.{AllByRecursion}
 use Rattle.std.proofs.lemmas.Bool.{cases_Bool, or_left, eqb-true, eqb-false}
 use Rattle.proof_log.specs.Literals.{lit_var, negated}
@@ -18,7 +19,8 @@ all_insert P xs zero l all p = (p, all)
 all_insert P [] (suc n) l all p = (p, tt)
 all_insert P (x ∷ xs) (suc n) l all p = (all.0, all_insert P xs n l all.1 p)
 
-pub IsNormal-insert : (xs : List ℕ) (n l : ℕ) → IsNormal xs → n ≤ length xs → ((k : ℕ) → k < n → lit_var (get_or xs k 0) < lit_var l) → (n < length xs → lit_var l < lit_var (get_or xs n 0)) → IsNormal (take n xs ++ l ∷ drop n xs)
+pub IsNormal-insert : (xs : List ℕ) (n l : ℕ) → IsNormal xs → n ≤ length xs → ((k : ℕ) → k < n → lit_var (get_or xs k 0) < lit_var l)
+    → (n < length xs → lit_var l < lit_var (get_or xs n 0)) → IsNormal (take n xs ++ l ∷ drop n xs)
 IsNormal-insert [] zero l normal h before after = (tt, tt)
 IsNormal-insert [] (suc n) l normal h before after = absurd (omega arith)
 IsNormal-insert (x ∷ xs) zero l normal h before after =
@@ -38,7 +40,8 @@ pub is_set-insert : (xs : List ℕ) (n l q : ℕ) → is_set (take n xs ++ l ∷
 is_set-insert xs zero l q = is_set-cons l xs q
 is_set-insert [] (suc n) l q = is_set-cons l [] q
 is_set-insert (x ∷ xs) (suc n) l q =
-    is_set-cons x (take n xs ++ l ∷ drop n xs) q ∙ ap (λ b. eqb x q || b) (is_set-insert xs n l q) ∙ or_swap (eqb x q) (eqb l q) (is_set xs q) ∙ ap (λ b. eqb l q || b) (sym (is_set-cons x xs q))
+    is_set-cons x (take n xs ++ l ∷ drop n xs) q ∙ ap (λ b. eqb x q || b) (is_set-insert xs n l q) ∙ or_swap (eqb x q) (eqb l q) (is_set xs q)
+    ∙ ap (λ b. eqb l q || b) (sym (is_set-cons x xs q))
 
 -- adding a literal that is there changes nothing
 pub is_set-again : (xs : List ℕ) (l q : ℕ) → is_set xs l ≡ true → is_set xs q ≡ (eqb l q || is_set xs q)
@@ -48,7 +51,8 @@ is_set-again xs l q h = elim (cases_Bool (eqb l q)) [
 ]
 
 -- a literal of the variable is there
-pub inserted_there : (xs : List ℕ) (n l : ℕ) (b : Bool) → IsNormal xs → n < length xs → lit_var (get_or xs n 0) ≡ lit_var l → b ≡ eqb (get_or xs n 0) l → Inserted xs l xs b
+pub inserted_there : (xs : List ℕ) (n l : ℕ) (b : Bool) → IsNormal xs → n < length xs → lit_var (get_or xs n 0) ≡ lit_var l
+    → b ≡ eqb (get_or xs n 0) l → Inserted xs l xs b
 inserted_there xs n l b normal h e b_is =
     elim (cases_Bool b) [
       | inl t ↦
@@ -60,14 +64,16 @@ inserted_there xs n l b normal h e b_is =
     ]
 
 -- no literal of the variable is there
-pub inserted_new : (xs new : List ℕ) (n l : ℕ) → IsNormal xs → IsPlaceOf xs (lit_var l) n → (n < length xs → lit_var (get_or xs n 0) ≡ lit_var l → ⊥) → new ≡ take n xs ++ l ∷ drop n xs → Inserted xs l new true
+pub inserted_new : (xs new : List ℕ) (n l : ℕ) → IsNormal xs → IsPlaceOf xs (lit_var l) n → (n < length xs → lit_var (get_or xs n 0) ≡ lit_var l → ⊥)
+    → new ≡ take n xs ++ l ∷ drop n xs → Inserted xs l new true
 inserted_new xs new n l normal place other is =
     let N : List ℕ → Type 0 = IsNormal in (
       subst N (sym is) (IsNormal-insert xs n l normal place.within place.before (λ h. let a = place.after h in let o = other h in omega arith)),
       λ q. ap (λ ys. is_set ys q) is ∙ is_set-insert xs n l q,
     )
 
-pub complements_at : (lits old new : List ℕ) (i l : ℕ) (b : Bool) → i < length lits → l ≡ get_or lits i 0 → ((q : ℕ) → is_set old q ≡ is_set (take i lits) q) → Inserted old l new b → b ≡ false → HasComplements lits
+pub complements_at : (lits old new : List ℕ) (i l : ℕ) (b : Bool) → i < length lits → l ≡ get_or lits i 0
+    → ((q : ℕ) → is_set old q ≡ is_set (take i lits) q) → Inserted old l new b → b ≡ false → HasComplements lits
 complements_at lits old new i l true h e same ins f = cc
 complements_at lits old new i l false h e same ins f =
     (l, ap (is_set lits) e ∙ is_set-at lits i h, is_set-take i lits (negated l) (sym (same (negated l)) ∙ ins))
@@ -78,7 +84,9 @@ or_comm true false = refl
 or_comm false true = refl
 or_comm false false = refl
 
-pub inserted_more : (lits old new : List ℕ) (i l : ℕ) (b : Bool) → i < length lits → l ≡ get_or lits i 0 → ((q : ℕ) → is_set old q ≡ is_set (take i lits) q) → Inserted old l new b → b ≡ true → IsNormal new × ((q : ℕ) → is_set new q ≡ is_set (take (i + 1) lits) q)
+pub inserted_more : (lits old new : List ℕ) (i l : ℕ) (b : Bool) → i < length lits → l ≡ get_or lits i 0
+    → ((q : ℕ) → is_set old q ≡ is_set (take i lits) q) → Inserted old l new b → b ≡ true → IsNormal new
+    × ((q : ℕ) → is_set new q ≡ is_set (take (i + 1) lits) q)
 inserted_more lits old new i l true h e same ins t = (
   ins.0,
   λ q. ins.1 q ∙ ap (λ x. eqb l q || x) (same q) ∙ or_comm (eqb l q) (is_set (take i lits) q) ∙ sym (is_set-push (take i lits) l q)

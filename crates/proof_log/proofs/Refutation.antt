@@ -22,19 +22,23 @@ true_named v known all (suc k) c h =
     let P : List ℕ → Type 0 = IsTrueIn v in
     subst P (get_or_from_slice_get known k c c h) (all k c (slice_get_within known k c h))
 
-pub true_known : (v : ℕ → Bool) (formula : List (List ℕ)) (earlier : List DerivStep) → All (IsTrueIn v) formula → All (λ s. IsTrueIn v s.clause) earlier → All (IsTrueIn v) (known_clauses formula earlier)
+pub true_known : (v : ℕ → Bool) (formula : List (List ℕ)) (earlier : List DerivStep) → All (IsTrueIn v) formula
+    → All (λ s. IsTrueIn v s.clause) earlier → All (IsTrueIn v) (known_clauses formula earlier)
 true_known v formula earlier f e = All-append (IsTrueIn v) _ _ f (All-map (IsTrueIn v) (λ s. s.clause) earlier e)
 
 -- the clause of a step that follows is true
-pub follows_true : (v : ℕ → Bool) (formula : List (List ℕ)) (earlier : List DerivStep) (s : DerivStep) → All (IsTrueIn v) formula → All (λ s. IsTrueIn v s.clause) earlier → Follows formula earlier s → IsTrueIn v s.clause
+pub follows_true : (v : ℕ → Bool) (formula : List (List ℕ)) (earlier : List DerivStep) (s : DerivStep) → All (IsTrueIn v) formula
+    → All (λ s. IsTrueIn v s.clause) earlier → Follows formula earlier s → IsTrueIn v s.clause
 follows_true v formula earlier s f e follows =
     elim (cases_Bool (clause_true v s.clause)) [
       | inl t ↦ t
-      | inr n ↦ absurd (no_conflict v (known_clauses formula earlier) (true_named v _ (true_known v formula earlier f e)) s.hints _ (AllSetTrue-negated v s.clause n) follows)
+      | inr n ↦ absurd (no_conflict v (known_clauses formula earlier) (true_named v _ (true_known v formula earlier f e)) s.hints _
+          (AllSetTrue-negated v s.clause n) follows)
     ]
 
 -- so are the clauses of steps that all follow
-pub all_follow_true : (v : ℕ → Bool) (formula : List (List ℕ)) (steps earlier : List DerivStep) → All (IsTrueIn v) formula → All (λ s. IsTrueIn v s.clause) earlier → AllFollow formula earlier steps → AllByRecursion (IsTrueIn v) (map (λ s. s.clause) steps)
+pub all_follow_true : (v : ℕ → Bool) (formula : List (List ℕ)) (steps earlier : List DerivStep) → All (IsTrueIn v) formula
+    → All (λ s. IsTrueIn v s.clause) earlier → AllFollow formula earlier steps → AllByRecursion (IsTrueIn v) (map (λ s. s.clause) steps)
 all_follow_true v formula [] earlier f e follow = tt
 all_follow_true v formula (s ∷ ss) earlier f e follow =
     let t = follows_true v formula earlier s f e follow.0 in

@@ -1,6 +1,7 @@
 -- Why a derivation that refutes leaves the formula no model.
 use Rattle.std.proofs.Common.{◌≡◌, ℕ, Bool, true, false, not, eqb, Some, List, [], ◌∷◌, ◌++◌, map, sym, ap, ◌∙◌, inl, inr}
-use Rattle.std.proofs.lemmas.Bool.{false≢true, cases_Bool, or_cases, or_left, or_right, eqb-true, cond-true, cond-false, not_from_true, not_from_false, both_ways}
+use Rattle.std.proofs.lemmas.Bool.{false≢true, cases_Bool, or_cases, or_left, or_right, eqb-true, cond-true, cond-false, not_from_true}
+use Rattle.std.proofs.lemmas.Bool.{not_from_false, both_ways}
 use Rattle.proof_log.specs.Literals.{negated, lit_true}
 use Rattle.proof_log.specs.Clauses.{clause_true, is_set, open_literals}
 use Rattle.proof_log.specs.Derivations.{clause_named, LeadsToConflict}
@@ -23,7 +24,8 @@ open_true v set (x ∷ xs) all h =
       | inl s ↦
           let x_false = false_at v set x all s in
           let rest : clause_true v xs ≡ true = elim (or_cases (lit_true v x) (clause_true v xs) h) [ inl t ↦ absurd (both_ways _ x_false t) | inr t ↦ t ] in
-          ap (clause_true v) (cond-false (not (is_set set (negated x))) (x ∷ open_literals set xs) (open_literals set xs) (not_from_true _ s)) ∙ open_true v set xs all rest
+          ap (clause_true v) (cond-false (not (is_set set (negated x))) (x ∷ open_literals set xs) (open_literals set xs) (not_from_true _ s))
+          ∙ open_true v set xs all rest
       | inr s ↦
           ap (clause_true v) (cond-true (not (is_set set (negated x))) (x ∷ open_literals set xs) (open_literals set xs) (not_from_false _ s))
           ∙ (elim (or_cases (lit_true v x) (clause_true v xs) h) [ inl t ↦ or_left _ _ t | inr t ↦ or_right _ _ (open_true v set xs all t) ])
@@ -48,7 +50,8 @@ AllSetTrue-negated v (x ∷ xs) f l h =
     ]
 
 -- no values make the clauses and the set literals true where hints lead to a conflict
-pub no_conflict : (v : ℕ → Bool) (known : List (List ℕ)) → ((n : ℕ) (c : List ℕ) → clause_named known n ≡ Some c → clause_true v c ≡ true) → (hints : List ℕ) (set : List ℕ) → AllSetTrue v set → LeadsToConflict known set hints → ⊥
+pub no_conflict : (v : ℕ → Bool) (known : List (List ℕ)) → ((n : ℕ) (c : List ℕ) → clause_named known n ≡ Some c → clause_true v c ≡ true)
+    → (hints : List ℕ) (set : List ℕ) → AllSetTrue v set → LeadsToConflict known set hints → ⊥
 no_conflict v known true_all [] set all leads = leads
 no_conflict v known true_all (h ∷ hs) set all leads =
     let open_is_true = open_true v set leads.0 all (true_all h leads.0 leads.1) in

@@ -1,5 +1,6 @@
 -- The cells of gates and registers over the bits of their places.
-use Rattle.std.proofs.Common.{◌≡◌, ℕ, zero, suc, ◌+◌, ◌<◌, Bool, true, false, not, cond, List, [], ◌∷◌, ◌++◌, map, length, Option, Some, None, refl, ap, sym, ◌∙◌, arith, inl, inr, subst}
+use Rattle.std.proofs.Common.{◌≡◌, ℕ, zero, suc, ◌+◌, ◌<◌, Bool, true, false, not, cond, List, [], ◌∷◌, ◌++◌, map, length, Option, Some, None, refl}
+use Rattle.std.proofs.Common.{ap, sym, ◌∙◌, arith, inl, inr, subst}
 use Rattle.std.specs.Prelude.{slice_index, slice_index_or, ◌||◌, if◌then◌else◌}
 use Rattle.std.proofs.lemmas.Bool.{or_left, or_right, cases_lt, eq-eqb, cond_below, cond_above}
 use Rattle.net_model.specs.Form.{Form, ZeroForm, OneForm, PinForm, NotForm, AndForm, OrForm, XorForm, value, IsOver}
@@ -36,7 +37,8 @@ on_gate f ins nets over =
     (λ i lt. ap (λ xs. slice_index_or xs i false) (sym (append_nil (map (bit_at nets) ins))) ∙ mapped_at (bit_at nets) ins [] i lt)
 
 -- a value changes with the last place only where the function mentions it
-pub value_but_last : (f : Form) (n : ℕ) (a b : ℕ → Bool) → IsOver (n + 1) f → ((i : ℕ) → i < n → a i ≡ b i) → (mentions n f ≡ true → a n ≡ b n) → value f a ≡ value f b
+pub value_but_last : (f : Form) (n : ℕ) (a b : ℕ → Bool) → IsOver (n + 1) f → ((i : ℕ) → i < n → a i ≡ b i) → (mentions n f ≡ true → a n ≡ b n)
+    → value f a ≡ value f b
 value_but_last ZeroForm n a b over same last = refl
 value_but_last OneForm n a b over same last = refl
 value_but_last (PinForm i) n a b over same last =
@@ -55,16 +57,23 @@ value_but_last (XorForm f g) n a b over same last =
     let l = value_but_last f n a b over.0 same (λ m. last (or_left (mentions n f) (mentions n g) m)) in
     let r = value_but_last g n a b over.1 same (λ m. last (or_right (mentions n f) (mentions n g) m)) in cc
 
-if_any_but_last : (o : Option Form) (n : ℕ) (a b : ℕ → Bool) → IsOptionOver (n + 1) o → ((i : ℕ) → i < n → a i ≡ b i) → (mentions_if_any n o ≡ true → a n ≡ b n) → value_if_any o a ≡ value_if_any o b
+if_any_but_last : (o : Option Form) (n : ℕ) (a b : ℕ → Bool) → IsOptionOver (n + 1) o → ((i : ℕ) → i < n → a i ≡ b i)
+    → (mentions_if_any n o ≡ true → a n ≡ b n) → value_if_any o a ≡ value_if_any o b
 if_any_but_last None n a b over same last = refl
 if_any_but_last (Some f) n a b over same last = value_but_last f n a b over same last
 
-pub capture_but_last : (d : Design) (reg : Reg) (a b : ℕ → Bool) → IsRegInRange d reg → ((i : ℕ) → i < length reg.ins → a i ≡ b i) → (reads_own reg ≡ true → a (length reg.ins) ≡ b (length reg.ins)) → reg_capture reg a ≡ reg_capture reg b
+pub capture_but_last : (d : Design) (reg : Reg) (a b : ℕ → Bool) → IsRegInRange d reg → ((i : ℕ) → i < length reg.ins → a i ≡ b i)
+    → (reads_own reg ≡ true → a (length reg.ins) ≡ b (length reg.ins)) → reg_capture reg a ≡ reg_capture reg b
 capture_but_last d reg a b range same last =
     let n = length reg.ins in
-    let next = value_but_last reg.next n a b range.next same (λ m. last (or_left (mentions n reg.next) (mentions_if_any n reg.clear || mentions_if_any n reg.preset) m)) in
-    let clear = if_any_but_last reg.clear n a b range.clear same (λ m. last (or_right (mentions n reg.next) (mentions_if_any n reg.clear || mentions_if_any n reg.preset) (or_left (mentions_if_any n reg.clear) (mentions_if_any n reg.preset) m))) in
-    let preset = if_any_but_last reg.preset n a b range.preset same (λ m. last (or_right (mentions n reg.next) (mentions_if_any n reg.clear || mentions_if_any n reg.preset) (or_right (mentions_if_any n reg.clear) (mentions_if_any n reg.preset) m))) in
+    let next = value_but_last reg.next n a b range.next same (λ m. last
+    (or_left (mentions n reg.next) (mentions_if_any n reg.clear || mentions_if_any n reg.preset) m)) in
+    let clear = if_any_but_last reg.clear n a b range.clear same (λ m.
+    last (or_right (mentions n reg.next) (mentions_if_any n reg.clear || mentions_if_any n reg.preset)
+    (or_left (mentions_if_any n reg.clear) (mentions_if_any n reg.preset) m))) in
+    let preset = if_any_but_last reg.preset n a b range.preset same
+    (λ m. last (or_right (mentions n reg.next) (mentions_if_any n reg.clear || mentions_if_any n reg.preset)
+    (or_right (mentions_if_any n reg.clear) (mentions_if_any n reg.preset) m))) in
     cc
 
 abbrev pub own_bits : Reg → Bool → List Bool → List Bool
@@ -74,19 +83,23 @@ own_at : (reg : Reg) (f : ℕ → Bool) (ins : List ℕ) (own : Bool) → reads_
 own_at reg f ins own e = ap (λ (b : Bool). slice_index_or (map f ins ++ cond b (own ∷ []) []) (length ins) false) e ∙ mapped_end f ins own
 
 -- a register's capture on the list of its nets' bits, and its own bit where it reads that
-pub on_reg : (d : Design) (reg : Reg) (nets : List Bool) (own : Bool) → IsRegInRange d reg → on_list (reg_capture reg) (own_bits reg own (map (bit_at nets) reg.ins)) ≡ reg_capture reg (reg_pins reg.ins nets own)
+pub on_reg : (d : Design) (reg : Reg) (nets : List Bool) (own : Bool) → IsRegInRange d reg → on_list (reg_capture reg)
+    (own_bits reg own (map (bit_at nets) reg.ins)) ≡ reg_capture reg (reg_pins reg.ins nets own)
 on_reg d reg nets own range =
     capture_but_last d reg (λ i. slice_index_or (own_bits reg own (map (bit_at nets) reg.ins)) i false) (reg_pins reg.ins nets own) range
     (λ i lt. mapped_at (bit_at nets) reg.ins (if reads_own reg then own ∷ [] else []) i lt ∙ cond_below i (length reg.ins) (gate_pins reg.ins nets i) own lt)
-    (λ m. own_at reg (bit_at nets) reg.ins own m ∙ cond_above (length reg.ins) (length reg.ins) (gate_pins reg.ins nets (length reg.ins)) own own (omega arith) refl)
+    (λ m. own_at reg (bit_at nets) reg.ins own m ∙ cond_above (length reg.ins) (length reg.ins) (gate_pins reg.ins nets (length reg.ins)) own own
+    (omega arith) refl)
 
-pub tell_append : (kind : Key → Type 0) (v : Key → Bool) (ls ms : List KeyLit) (bs cs : List Bool) → TellEach kind v ls bs → TellEach kind v ms cs → TellEach kind v (ls ++ ms) (bs ++ cs)
+pub tell_append : (kind : Key → Type 0) (v : Key → Bool) (ls ms : List KeyLit) (bs cs : List Bool) → TellEach kind v ls bs → TellEach kind v ms cs
+    → TellEach kind v (ls ++ ms) (bs ++ cs)
 tell_append kind v [] ms [] cs a b = b
 tell_append kind v [] ms (c ∷ bs) cs a b = absurd a
 tell_append kind v (l ∷ ls) ms [] cs a b = absurd a
 tell_append kind v (l ∷ ls) ms (c ∷ bs) cs a b = (a.0, tell_append kind v ls ms bs cs a.1 b)
 
-pub tell_own : (kind : Key → Type 0) (v : Key → Bool) (reg : Reg) (own : KeyLit) (bit : Bool) (ls : List KeyLit) (bs : List Bool) → LitTells kind v own bit → TellEach kind v ls bs → TellEach kind v (with_own reg own ls) (own_bits reg bit bs)
+pub tell_own : (kind : Key → Type 0) (v : Key → Bool) (reg : Reg) (own : KeyLit) (bit : Bool) (ls : List KeyLit) (bs : List Bool)
+    → LitTells kind v own bit → TellEach kind v ls bs → TellEach kind v (with_own reg own ls) (own_bits reg bit bs)
 tell_own kind v reg own bit ls bs tells each =
     tell_append kind v ls (if reads_own reg then own ∷ [] else []) bs (if reads_own reg then bit ∷ [] else []) each (by_test (reads_own reg)) where
       by_test : (b : Bool) → TellEach kind v (cond b (own ∷ []) []) (cond b (bit ∷ []) [])

@@ -1,5 +1,6 @@
 -- The laws of queries, from those of each mode.
-use Rattle.std.proofs.Common.{◌≡◌, ℕ, ◌+◌, ◌<◌, ◌≤◌, Bool, true, false, not, List, [], ◌∷◌, map, length, Option, Some, None, refl, ap, sym, ◌∙◌, arith, inl, inr, subst}
+use Rattle.std.proofs.Common.{◌≡◌, ℕ, ◌+◌, ◌<◌, ◌≤◌, Bool, true, false, not, List, [], ◌∷◌, map, length, Option, Some, None, refl, ap, sym, ◌∙◌}
+use Rattle.std.proofs.Common.{arith, inl, inr, subst}
 use Rattle.std.specs.Prelude.{slice_get, slice_index, nat_lt}
 use Rattle.std.proofs.lemmas.Bool.{cases_Bool}
 use Rattle.std.proofs.lemmas.Option.{slice_get_within}
@@ -58,7 +59,8 @@ pub coded : (coding : Coding) → IsCoding coding
 coded Rows = record { covers = rows_coding; settles = λ cell places few only. rows_settle cell places few only }
 coded Primes = record { covers = primes_coding; settles = λ cell places few only. primes_settle cell places few only }
 
-names_all : (d : Design) (inv : List InvClause) → ((clause : InvClause) → Rattle.std.specs.Prelude.Contains inv clause → Names d clause) → (i : InvClause) → In i inv → NamesRegs d i
+names_all : (d : Design) (inv : List InvClause) → ((clause : InvClause) → Rattle.std.specs.Prelude.Contains inv clause → Names d clause)
+    → (i : InvClause) → In i inv → NamesRegs d i
 names_all d inv names i has l in_l =
     let place = placed l i.lits in_l in
     All-at (λ (s : StateLit). s.reg < length d.regs) i.lits place.0 l place.1 (names i (Contains-from_In inv i has))
@@ -72,7 +74,9 @@ short Base n = omega arith
 short Step n = omega arith
 
 -- the free bits tell what is free
-pub is_free : (coding : Coding) (q : Query) (moved : List (List Bool)) (keys : List Key) (v : Key → Bool) (run : List Cycle) → AreNeeded (definitions coding q moved) (asked_clauses q) keys → AreCyclesOf q run → HasFreeBits q.design keys v run → IsFree (IsNeeded (definitions coding q moved) (asked_clauses q)) v q.design run
+pub is_free : (coding : Coding) (q : Query) (moved : List (List Bool)) (keys : List Key) (v : Key → Bool) (run : List Cycle)
+    → AreNeeded (definitions coding q moved) (asked_clauses q) keys → AreCyclesOf q run → HasFreeBits q.design keys v run
+    → IsFree (IsNeeded (definitions coding q moved) (asked_clauses q)) v q.design run
 is_free coding q moved keys v run needed are free =
     let first = get_within run 0 are.linked.some in
     record {
@@ -83,7 +87,9 @@ is_free coding q moved keys v run needed are free =
     }
 
 -- what the keys of a model tell of a run, it agrees with
-agrees : (coding : Coding) (q : Query) (moved : List (List Bool)) (keys : List Key) (v : Key → Bool) (run : List Cycle) → IsSound q.design → IsLinked q.design run → AreNeeded (definitions coding q moved) (asked_clauses q) keys → Told (IsNeeded (definitions coding q moved) (asked_clauses q)) v q.design run → AgreesWith q.design keys v run
+agrees : (coding : Coding) (q : Query) (moved : List (List Bool)) (keys : List Key) (v : Key → Bool) (run : List Cycle) → IsSound q.design
+    → IsLinked q.design run → AreNeeded (definitions coding q moved) (asked_clauses q) keys
+    → Told (IsNeeded (definitions coding q moved) (asked_clauses q)) v q.design run → AgreesWith q.design keys v run
 agrees coding q moved keys v run sound linked needed told =
     record {
       nets = λ t c n at low has.
@@ -118,7 +124,8 @@ says_agrees d keys v run linked says =
 abbrev At : {X : Type 0} → (Cycle → X → Type 0) → List Cycle → (ℕ → X) → Type 0
 At P run f = (t : ℕ) (c : Cycle) → slice_get run t ≡ Some c → P c (f t)
 
-chosen : {X : Type 0} (P : Cycle → X → Type 0) (blank : X) (o : Option Cycle) → ((c : Cycle) → o ≡ Some c → (x : X) × P c x) → (x : X) × ((c : Cycle) → o ≡ Some c → P c x)
+chosen : {X : Type 0} (P : Cycle → X → Type 0) (blank : X) (o : Option Cycle) → ((c : Cycle) → o ≡ Some c → (x : X) × P c x) → (x : X)
+    × ((c : Cycle) → o ≡ Some c → P c x)
 chosen P blank None each = (blank, λ c e. absurd (none_some e))
   where
     none_some : {c : Cycle} → None ≡ Some c → ⊥
@@ -130,7 +137,8 @@ chosen P blank (Some c) each =
     same : {other : Cycle} → Some c ≡ Some other → c ≡ other
     same e = cc
 
-choose : {X : Type 0} (P : Cycle → X → Type 0) (blank : X) (run : List Cycle) → ((t : ℕ) (c : Cycle) → slice_get run t ≡ Some c → (x : X) × P c x) → (f : ℕ → X) × At P run f
+choose : {X : Type 0} (P : Cycle → X → Type 0) (blank : X) (run : List Cycle) → ((t : ℕ) (c : Cycle) → slice_get run t ≡ Some c → (x : X) × P c x)
+    → (f : ℕ → X) × At P run f
 choose P blank run each = (
   λ t. (chosen P blank (slice_get run t) (each t)).0,
   λ t c at. (chosen P blank (slice_get run t) (each t)).1 c at,
@@ -141,7 +149,8 @@ same_map [] = refl
 same_map (x ∷ xs) = ap (λ ys. x ∷ ys) (same_map xs)
 
 -- each cycle of linked cycles has layers in which the start shows the other bit
-flipped_rows : (d : Design) (claim : Claim) (run : List Cycle) → IsSound d → Fits d claim → IsLinked d run → (rows : ℕ → List (List Bool)) × At (λ c rows. AreLayers value false d claim.start claim.through (λ o. shown o (not (start_bit claim.start c))) c.nets rows) run rows
+flipped_rows : (d : Design) (claim : Claim) (run : List Cycle) → IsSound d → Fits d claim → IsLinked d run → (rows : ℕ → List (List Bool))
+    × At (λ c rows. AreLayers value false d claim.start claim.through (λ o. shown o (not (start_bit claim.start c))) c.nets rows) run rows
 flipped_rows d claim run sound fits linked =
     choose (λ c rows. AreLayers value false d claim.start claim.through (λ o. shown o (not (start_bit claim.start c))) c.nets rows) [] run
     (λ t c at.
@@ -151,7 +160,8 @@ flipped_rows d claim run sound fits linked =
     (made.0, subst (λ xs. AreLayers value false d claim.start claim.through (late_value stale (not stale)) xs made.0) (same_map c.nets) made.1))
 
 -- and layers in which it is unknown
-hazy_rows : (d : Design) (claim : Claim) (run : List Cycle) → IsSound d → Fits d claim → IsLinked d run → (rows : ℕ → List (List Tern)) × At (λ c rows. AreLayers tern_value Zero d claim.start claim.through (λ _. Unknown) (map tern_of c.nets) rows) run rows
+hazy_rows : (d : Design) (claim : Claim) (run : List Cycle) → IsSound d → Fits d claim → IsLinked d run → (rows : ℕ → List (List Tern))
+    × At (λ c rows. AreLayers tern_value Zero d claim.start claim.through (λ _. Unknown) (map tern_of c.nets) rows) run rows
 hazy_rows d claim run sound fits linked =
     choose (λ c rows. AreLayers tern_value Zero d claim.start claim.through (λ _. Unknown) (map tern_of c.nets) rows) [] run
     (λ t c at.
@@ -159,7 +169,9 @@ hazy_rows d claim run sound fits linked =
     let made = layers_exist tern_value tern_agrees tern_of Unknown Unknown d claim.start claim.through c.nets sound fits.start settled.shape.nets in
     (made.0, unknown_layers d claim.start claim.through c.nets made.0 (length claim.through) made.1))
 
-are_flipped : (d : Design) (claim : Claim) (moved : List (List Bool)) (run : List Cycle) (sound : IsSound d) (fits : Fits d claim) (linked : IsLinked d run) → AreMoved d claim moved → claim.hazard ≡ false → AreFlipped d claim moved run (flipped_rows d claim run sound fits linked).0
+are_flipped : (d : Design) (claim : Claim) (moved : List (List Bool)) (run : List Cycle) (sound : IsSound d) (fits : Fits d claim)
+    (linked : IsLinked d run) → AreMoved d claim moved → claim.hazard ≡ false → AreFlipped d claim moved run
+    (flipped_rows d claim run sound fits linked).0
 are_flipped d claim moved run sound fits linked are plain t c at =
     record {
       sound = sound;
@@ -171,7 +183,8 @@ are_flipped d claim moved run sound fits linked are plain t c at =
       layers = (flipped_rows d claim run sound fits linked).1 t c at;
     }
 
-are_hazy : (d : Design) (claim : Claim) (moved : List (List Bool)) (run : List Cycle) (sound : IsSound d) (fits : Fits d claim) (linked : IsLinked d run) → AreMoved d claim moved → claim.hazard ≡ true → AreHazy d claim moved run (hazy_rows d claim run sound fits linked).0
+are_hazy : (d : Design) (claim : Claim) (moved : List (List Bool)) (run : List Cycle) (sound : IsSound d) (fits : Fits d claim)
+    (linked : IsLinked d run) → AreMoved d claim moved → claim.hazard ≡ true → AreHazy d claim moved run (hazy_rows d claim run sound fits linked).0
 are_hazy d claim moved run sound fits linked are hazard t c at =
     record {
       sound = sound;
@@ -187,8 +200,11 @@ pub asked_of : (d : Design) (claim : Claim) (run : List Cycle) → IsSound d →
 asked_of d claim run sound fits linked = record { sound = sound; linked = linked; start_in = fits.start; end_in = fits.end_ }
 
 -- each model of a claim's query is an answer
-pub claim_models : (coding : Coding) (d : Design) (claim : Claim) (phase : Phase) (depth : ℕ) (inv : List InvClause) → IsSound d → Fits d claim → ((clause : InvClause) → Rattle.std.specs.Prelude.Contains inv clause → Names d clause) → ModelsAnswer coding (claim_query d claim phase depth inv)
-claim_models coding d claim phase depth inv sound fits names keys clauses v run formula all are free = (answer, agrees coding (claim_query d claim phase depth inv) formula.moved keys v run sound are.linked formula.are_needed told)
+pub claim_models : (coding : Coding) (d : Design) (claim : Claim) (phase : Phase) (depth : ℕ) (inv : List InvClause) → IsSound d → Fits d claim
+    → ((clause : InvClause) → Rattle.std.specs.Prelude.Contains inv clause → Names d clause)
+    → ModelsAnswer coding (claim_query d claim phase depth inv)
+claim_models coding d claim phase depth inv sound fits names keys clauses v run formula all are free =
+    (answer, agrees coding (claim_query d claim phase depth inv) formula.moved keys v run sound are.linked formula.are_needed told)
   where
     live : ℕ
     live = live_of d phase
@@ -211,14 +227,18 @@ claim_models coding d claim phase depth inv sound fits names keys clauses v run 
     named : (i : InvClause) → In i inv → NamesRegs d i
     named = names_all d inv names
 
-    known : IsFree (IsNeeded (definitions coding (claim_query d claim phase depth inv) formula.moved) (asked_clauses (claim_query d claim phase depth inv))) v d run
+    known : IsFree (IsNeeded (definitions coding (claim_query d claim phase depth inv) formula.moved)
+        (asked_clauses (claim_query d claim phase depth inv))) v d run
     known = is_free coding (claim_query d claim phase depth inv) formula.moved keys v run formula.are_needed are free
 
-    true_all : AllTrue v (Rattle.query_model.specs.Formula.formula_over (definitions coding (claim_query d claim phase depth inv) formula.moved) (asked_clauses (claim_query d claim phase depth inv)) keys)
+    true_all : AllTrue v (Rattle.query_model.specs.Formula.formula_over (definitions coding (claim_query d claim phase depth inv) formula.moved)
+        (asked_clauses (claim_query d claim phase depth inv)) keys)
     true_all = subst (AllTrue v) formula.are_clauses all
 
-    told : Told (IsNeeded (definitions coding (claim_query d claim phase depth inv) formula.moved) (asked_clauses (claim_query d claim phase depth inv))) v d run
-    told = model_told coding (claim_query d claim phase depth inv) formula.moved keys v run (coded coding).covers sound are.linked are.resets are.count formula.are_needed true_all known
+    told : Told (IsNeeded (definitions coding (claim_query d claim phase depth inv) formula.moved)
+        (asked_clauses (claim_query d claim phase depth inv))) v d run
+    told = model_told coding (claim_query d claim phase depth inv) formula.moved keys v run (coded coding).covers sound are.linked are.resets
+        are.count formula.are_needed true_all known
 
     answer : IsAnswer (claim_query d claim phase depth inv) run
     answer =
@@ -226,21 +246,26 @@ claim_models coding d claim phase depth inv sound fits names keys clauses v run 
           | inl hazard ↦
               let made = hazy_rows d claim run sound fits are.linked in
               let hazy = are_hazy d claim formula.moved run sound fits are.linked formula.are_moved hazard in
-              claim_model_answers coding d live cycles inv kept_below claim depth clean formula.moved (unknown_at d claim run made.0) keys v run (coded coding).covers named are.resets asked
+              claim_model_answers coding d live cycles inv kept_below claim depth clean formula.moved (unknown_at d claim run made.0) keys v run
+              (coded coding).covers named are.resets asked
               (hazy_decided kind d claim run (unknown_at d claim run made.0) (are_hazy_judged d claim formula.moved run made.0 hazard asked hazy))
               (hazy_tells coding kind v d claim formula.moved run made.0 (coded coding) hazard asked hazy)
               are.count (omega arith) (short phase depth) formula.are_needed true_all known
           | inr plain ↦
               let made = flipped_rows d claim run sound fits are.linked in
               let flips = are_flipped d claim formula.moved run sound fits are.linked formula.are_moved plain in
-              claim_model_answers coding d live cycles inv kept_below claim depth clean formula.moved (differs_late_at d claim run made.0) keys v run (coded coding).covers named are.resets asked
-              (plain_decided kind d claim run (late_at d claim run made.0) (differs_late_at d claim run made.0) (are_judged d claim formula.moved run made.0 plain asked flips))
+              claim_model_answers coding d live cycles inv kept_below claim depth clean formula.moved (differs_late_at d claim run made.0) keys v run
+              (coded coding).covers named are.resets asked
+              (plain_decided kind d claim run (late_at d claim run made.0) (differs_late_at d claim run made.0)
+              (are_judged d claim formula.moved run made.0 plain asked flips))
               (plain_tells coding kind v d claim formula.moved run made.0 (coded coding).covers plain asked flips)
               are.count (omega arith) (short phase depth) formula.are_needed true_all known
         ]
 
 -- each answer to a claim's query gives a model
-pub claim_answers : (coding : Coding) (d : Design) (claim : Claim) (phase : Phase) (depth : ℕ) (inv : List InvClause) → IsSound d → Fits d claim → ((clause : InvClause) → Rattle.std.specs.Prelude.Contains inv clause → Names d clause) → AnswersHaveModels coding (claim_query d claim phase depth inv)
+pub claim_answers : (coding : Coding) (d : Design) (claim : Claim) (phase : Phase) (depth : ℕ) (inv : List InvClause) → IsSound d → Fits d claim
+    → ((clause : InvClause) → Rattle.std.specs.Prelude.Contains inv clause → Names d clause) → AnswersHaveModels coding
+    (claim_query d claim phase depth inv)
 claim_answers coding d claim phase depth inv sound fits names keys clauses run formula answer =
     let found = made in (found.0, subst (AllTrue found.0) (sym formula.are_clauses) found.1, says_agrees d keys found.0 run answer.cycles.linked found.2)
   where
@@ -251,7 +276,9 @@ claim_answers coding d claim phase depth inv sound fits names keys clauses run f
     asked = asked_of d claim run sound fits answer.cycles.linked
 
     Found : Type 0
-    Found = (v : Key → Bool) × AllTrue v (Rattle.query_model.specs.Formula.formula_over (definitions coding (claim_query d claim phase depth inv) formula.moved) (asked_clauses (claim_query d claim phase depth inv)) keys) × Says v d run
+    Found = (v : Key → Bool) × AllTrue v (Rattle.query_model.specs.Formula.formula_over
+        (definitions coding (claim_query d claim phase depth inv) formula.moved) (asked_clauses (claim_query d claim phase depth inv)) keys)
+        × Says v d run
 
     made : Found
     made =
@@ -259,36 +286,48 @@ claim_answers coding d claim phase depth inv sound fits names keys clauses run f
           | inl hazard ↦
               let rows = hazy_rows d claim run sound fits answer.cycles.linked in
               let hazy = are_hazy d claim formula.moved run sound fits answer.cycles.linked formula.are_moved hazard in
-              claim_answer_models coding d (live_of d phase) (live_of d phase + depth + 1 + judged_count claim.kind) inv (only_in_step phase (live_of d phase + depth + 1 + judged_count claim.kind)) claim depth (only_in_step phase depth) formula.moved (hazy_layer d claim run rows.0) (unknown_at d claim run rows.0) keys run (coded coding).covers (names_all d inv names) asked
+              claim_answer_models coding d (live_of d phase) (live_of d phase + depth + 1 + judged_count claim.kind) inv
+              (only_in_step phase (live_of d phase + depth + 1 + judged_count claim.kind)) claim depth (only_in_step phase depth) formula.moved
+              (hazy_layer d claim run rows.0) (unknown_at d claim run rows.0) keys run (coded coding).covers (names_all d inv names) asked
               (hazy_decided AnyKey d claim run (unknown_at d claim run rows.0) (are_hazy_judged d claim formula.moved run rows.0 hazard asked hazy))
               (hazy_says coding d claim formula.moved run rows.0 (coded coding) hazard asked hazy)
               (few_judged claim.kind fits.kind) (short phase (live_of d phase + depth + 1 + judged_count claim.kind)) (omega arith) (short phase depth) answer
           | inr plain ↦
               let rows = flipped_rows d claim run sound fits answer.cycles.linked in
               let flips = are_flipped d claim formula.moved run sound fits answer.cycles.linked formula.are_moved plain in
-              claim_answer_models coding d (live_of d phase) (live_of d phase + depth + 1 + judged_count claim.kind) inv (only_in_step phase (live_of d phase + depth + 1 + judged_count claim.kind)) claim depth (only_in_step phase depth) formula.moved (flipped_layer d claim run rows.0) (differs_late_at d claim run rows.0) keys run (coded coding).covers (names_all d inv names) asked
-              (plain_decided AnyKey d claim run (late_at d claim run rows.0) (differs_late_at d claim run rows.0) (are_judged d claim formula.moved run rows.0 plain asked flips))
+              claim_answer_models coding d (live_of d phase) (live_of d phase + depth + 1 + judged_count claim.kind) inv
+              (only_in_step phase (live_of d phase + depth + 1 + judged_count claim.kind)) claim depth (only_in_step phase depth) formula.moved
+              (flipped_layer d claim run rows.0) (differs_late_at d claim run rows.0) keys run (coded coding).covers (names_all d inv names) asked
+              (plain_decided AnyKey d claim run (late_at d claim run rows.0) (differs_late_at d claim run rows.0)
+              (are_judged d claim formula.moved run rows.0 plain asked flips))
               (plain_says coding d claim formula.moved run rows.0 (coded coding).covers plain asked flips)
               (few_judged claim.kind fits.kind) (short phase (live_of d phase + depth + 1 + judged_count claim.kind)) (omega arith) (short phase depth) answer
         ]
 
 -- the same for the query of an invariant's clause
-pub clause_models : (coding : Coding) (d : Design) (inv : List InvClause) (clause : InvClause) (phase : Phase) (depth : ℕ) → IsSound d → Names d clause → ((i : InvClause) → Rattle.std.specs.Prelude.Contains inv i → Names d i) → ModelsAnswer coding (clause_query d inv clause phase depth)
+pub clause_models : (coding : Coding) (d : Design) (inv : List InvClause) (clause : InvClause) (phase : Phase) (depth : ℕ) → IsSound d
+    → Names d clause → ((i : InvClause) → Rattle.std.specs.Prelude.Contains inv i → Names d i)
+    → ModelsAnswer coding (clause_query d inv clause phase depth)
 clause_models coding d inv clause phase depth sound name names keys clauses v run formula all are free = (
-  clause_model_answers coding d (live_of d phase) (live_of d phase + depth + 1) inv (only_in_step phase depth) clause formula.moved keys v run (coded coding).covers sound
+  clause_model_answers coding d (live_of d phase) (live_of d phase + depth + 1) inv (only_in_step phase depth) clause formula.moved keys v run
+      (coded coding).covers sound
       (λ l has. let place = placed l clause.lits has in All-at (λ (s : StateLit). s.reg < length d.regs) clause.lits place.0 l place.1 name)
       (names_all d inv names) are.linked are.resets are.count formula.are_needed (subst (AllTrue v) formula.are_clauses all)
       (is_free coding (clause_query d inv clause phase depth) formula.moved keys v run formula.are_needed are free),
   agrees coding (clause_query d inv clause phase depth) formula.moved keys v run sound are.linked formula.are_needed
-      (model_told coding (clause_query d inv clause phase depth) formula.moved keys v run (coded coding).covers sound are.linked are.resets are.count formula.are_needed (subst (AllTrue v) formula.are_clauses all)
+      (model_told coding (clause_query d inv clause phase depth) formula.moved keys v run (coded coding).covers sound are.linked are.resets are.count
+      formula.are_needed (subst (AllTrue v) formula.are_clauses all)
       (is_free coding (clause_query d inv clause phase depth) formula.moved keys v run formula.are_needed are free)),
 )
 
-pub clause_answers : (coding : Coding) (d : Design) (inv : List InvClause) (clause : InvClause) (phase : Phase) (depth : ℕ) → IsSound d → Names d clause → ((i : InvClause) → Rattle.std.specs.Prelude.Contains inv i → Names d i) → AnswersHaveModels coding (clause_query d inv clause phase depth)
+pub clause_answers : (coding : Coding) (d : Design) (inv : List InvClause) (clause : InvClause) (phase : Phase) (depth : ℕ) → IsSound d
+    → Names d clause → ((i : InvClause) → Rattle.std.specs.Prelude.Contains inv i → Names d i) → AnswersHaveModels coding
+    (clause_query d inv clause phase depth)
 clause_answers coding d inv clause phase depth sound name names keys clauses run formula answer = (
   meaning d run (λ k. false),
   subst (AllTrue (meaning d run (λ k. false))) (sym formula.are_clauses)
-      (clause_answer_models coding d (live_of d phase) (live_of d phase + depth + 1) inv (only_in_step phase depth) clause formula.moved keys run (coded coding).covers sound
+      (clause_answer_models coding d (live_of d phase) (live_of d phase + depth + 1) inv (only_in_step phase depth) clause formula.moved keys run
+      (coded coding).covers sound
       (λ l has. let place = placed l clause.lits has in All-at (λ (s : StateLit). s.reg < length d.regs) clause.lits place.0 l place.1 name)
       (names_all d inv names) (let le = short phase depth in omega arith) answer),
   says_agrees d keys (meaning d run (λ k. false)) run answer.cycles.linked (meaning_says d run (λ k. false)),

@@ -1,5 +1,6 @@
 -- Constant cubes are right and complete, so prime cubes cover, and both codings settle.
-use Rattle.std.proofs.Common.{◌≡◌, ◌≢◌, ℕ, zero, suc, ◌+◌, ◌*◌, ◌/◌, ◌%◌, ◌^◌, ◌<◌, ◌≤◌, Bool, true, false, List, [], ◌∷◌, map, length, refl, ap, sym, ◌∙◌, arith, inl, inr, subst}
+use Rattle.std.proofs.Common.{◌≡◌, ◌≢◌, ℕ, zero, suc, ◌+◌, ◌*◌, ◌/◌, ◌%◌, ◌^◌, ◌<◌, ◌≤◌, Bool, true, false, List, [], ◌∷◌, map, length, refl, ap, sym}
+use Rattle.std.proofs.Common.{◌∙◌, arith, inl, inr, subst}
 use Rattle.std.specs.Prelude.{slice_index_or, nat_eq}
 use Rattle.std.proofs.lemmas.List.{length-map}
 use Rattle.std.proofs.lemmas.Bool.{cases_lt, cond-true, cond-false, eq-eqb, ne_eqb}
@@ -40,7 +41,8 @@ split_const Unknown go v h =
     ap (λ y. join y (go true)) (h false tt) ∙ ap (join v) (h true tt) ∙ join_self v
 
 -- where all completions have one value, that is the common one
-common_const : (k : ℕ) (f : (ℕ → Bool) → Bool) (t : ℕ → Tern) (a : ℕ → Bool) (b : Bool) → k ≤ 7 → ((bits : ℕ → Bool) → ((i : ℕ) → i < k → Completes (t i) (bits i)) → ((i : ℕ) → k ≤ i → bits i ≡ a i) → f bits ≡ b) → common k f t a ≡ tern_of b
+common_const : (k : ℕ) (f : (ℕ → Bool) → Bool) (t : ℕ → Tern) (a : ℕ → Bool) (b : Bool) → k ≤ 7
+    → ((bits : ℕ → Bool) → ((i : ℕ) → i < k → Completes (t i) (bits i)) → ((i : ℕ) → k ≤ i → bits i ≡ a i) → f bits ≡ b) → common k f t a ≡ tern_of b
 common_const zero f t a b le all = ap tern_of (all a (λ i lt. absurd (omega arith)) (λ i low. refl))
 common_const (suc k) f t a b le all =
     split_const (t k) (λ bit. common k f t (with_bit a k bit)) (tern_of b)
@@ -93,7 +95,8 @@ reads : List Tern → ℕ → Tern
 reads ts i = slice_index_or ts i Zero
 
 -- a list of values on which the cell is constant has that common value
-constant_value : (cell : (ℕ → Bool) → Bool) (ts : List Tern) (b : Bool) → length ts ≤ 7 → ReadsOnly 7 cell → ((bits : List Bool) → Inside bits ts → on_list cell bits ≡ b) → cell_value cell (λ i. slice_index_or ts i Zero) ≡ tern_of b
+constant_value : (cell : (ℕ → Bool) → Bool) (ts : List Tern) (b : Bool) → length ts ≤ 7 → ReadsOnly 7 cell
+    → ((bits : List Bool) → Inside bits ts → on_list cell bits ≡ b) → cell_value cell (λ i. slice_index_or ts i Zero) ≡ tern_of b
 unfolding cell_value
 constant_value cell ts b few only all =
     common_const 7 cell (λ i. slice_index_or ts i Zero) (λ _. false) b (omega arith)
@@ -107,10 +110,12 @@ constant_value cell ts b few only all =
     ∙ all (list_of n f) (inside_listed ts f (λ i lt. fits i (omega arith))))
 
 -- and each completion has it
-pub constant_right : (cell : (ℕ → Bool) → Bool) (ts : List Tern) (b : Bool) (bits : List Bool) → ReadsOnly 7 cell → cell_value cell (λ i. slice_index_or ts i Zero) ≡ tern_of b → Inside bits ts → on_list cell bits ≡ b
+pub constant_right : (cell : (ℕ → Bool) → Bool) (ts : List Tern) (b : Bool) (bits : List Bool) → ReadsOnly 7 cell
+    → cell_value cell (λ i. slice_index_or ts i Zero) ≡ tern_of b → Inside bits ts → on_list cell bits ≡ b
 unfolding cell_value
 constant_right cell ts b bits only is in' =
-    common_sound 7 cell (λ i. slice_index_or ts i Zero) (λ _. false) (λ i. slice_index_or bits i false) b (omega arith) only (λ i lt. inside_at bits ts i in') (λ i low high. absurd (omega arith)) is
+    common_sound 7 cell (λ i. slice_index_or ts i Zero) (λ _. false) (λ i. slice_index_or bits i false) b (omega arith) only
+    (λ i lt. inside_at bits ts i in') (λ i low high. absurd (omega arith)) is
 
 -- numbers of cubes
 abbrev pub tern_digit : Tern → ℕ
@@ -131,7 +136,8 @@ terns_back : (ts : List Tern) → cube_terns (length ts) (cube_number ts) ≡ ts
 terns_back [] = refl
 terns_back (t ∷ ts) =
     let parts = digit_back t (cube_number ts) in
-    ap (λ (x : Tern). x ∷ cube_terns (length ts) (cube_number (t ∷ ts) / 3)) parts.0 ∙ ap (λ (n : ℕ). t ∷ cube_terns (length ts) n) parts.1 ∙ ap (λ (xs : List Tern). t ∷ xs) (terns_back ts)
+    ap (λ (x : Tern). x ∷ cube_terns (length ts) (cube_number (t ∷ ts) / 3)) parts.0 ∙ ap (λ (n : ℕ). t ∷ cube_terns (length ts) n) parts.1
+    ∙ ap (λ (xs : List Tern). t ∷ xs) (terns_back ts)
 
 digit_small : (t : Tern) → tern_digit t ≤ 2
 digit_small Zero = omega arith
@@ -151,7 +157,8 @@ record IsConstant (cell : (ℕ → Bool) → Bool) (places : ℕ) (cube : Cube) 
   len : length cube.fixed ≡ places
   value : cell_value cell (λ i. slice_index_or cube.fixed i Zero) ≡ tern_of cube.value
 
-from_known : (cell : (ℕ → Bool) → Bool) (places : ℕ) (ts : List Tern) (cube : Cube) → length ts ≡ places → (x : Tern) → cell_value cell (λ i. slice_index_or ts i Zero) ≡ x → In cube (known_cube ts x) → IsConstant cell places cube
+from_known : (cell : (ℕ → Bool) → Bool) (places : ℕ) (ts : List Tern) (cube : Cube) → length ts ≡ places → (x : Tern)
+    → cell_value cell (λ i. slice_index_or ts i Zero) ≡ x → In cube (known_cube ts x) → IsConstant cell places cube
 from_known cell places ts cube len Zero e (inl here) = subst (IsConstant cell places) here (record { len = len; value = e })
 from_known cell places ts cube len One e (inl here) = subst (IsConstant cell places) here (record { len = len; value = e })
 from_known cell places ts cube len Zero e (inr none) = absurd none
@@ -161,8 +168,10 @@ from_known cell places ts cube len Unknown e has = absurd has
 from_constant : (cell : (ℕ → Bool) → Bool) (places : ℕ) (ws : List ℕ) (cube : Cube) → In cube (constant_from cell places ws) → IsConstant cell places cube
 from_constant cell places [] cube has = absurd has
 from_constant cell places (w ∷ ws) cube has =
-    elim (In-cases cube (known_cube (cube_terns places w) (cell_value cell (λ i. slice_index_or (cube_terns places w) i Zero))) (constant_from cell places ws) has) [
-      | inl here ↦ from_known cell places (cube_terns places w) cube (length-cube_terns places w) (cell_value cell (λ i. slice_index_or (cube_terns places w) i Zero)) refl here
+    elim (In-cases cube (known_cube (cube_terns places w) (cell_value cell (λ i. slice_index_or (cube_terns places w) i Zero)))
+    (constant_from cell places ws) has) [
+      | inl here ↦ from_known cell places (cube_terns places w) cube (length-cube_terns places w)
+          (cell_value cell (λ i. slice_index_or (cube_terns places w) i Zero)) refl here
       | inr later ↦ from_constant cell places ws cube later
     ]
 
@@ -170,16 +179,20 @@ in_known : (ts : List Tern) (b : Bool) → In (record { fixed = ts; value = b })
 in_known ts true = inl refl
 in_known ts false = inl refl
 
-in_constant : (cell : (ℕ → Bool) → Bool) (places w : ℕ) (ws : List ℕ) (cube : Cube) → In w ws → In cube (known_cube (cube_terns places w) (cell_value cell (λ i. slice_index_or (cube_terns places w) i Zero))) → In cube (constant_from cell places ws)
+in_constant : (cell : (ℕ → Bool) → Bool) (places w : ℕ) (ws : List ℕ) (cube : Cube) → In w ws
+    → In cube (known_cube (cube_terns places w) (cell_value cell (λ i. slice_index_or (cube_terns places w) i Zero)))
+    → In cube (constant_from cell places ws)
 in_constant cell places w [] cube has there = absurd has
 in_constant cell places w (x ∷ ws) cube (inl here) there =
     In-left cube (known_cube (cube_terns places x) (cell_value cell (λ i. slice_index_or (cube_terns places x) i Zero))) (constant_from cell places ws)
     (subst (λ y. In cube (known_cube (cube_terns places y) (cell_value cell (λ i. slice_index_or (cube_terns places y) i Zero)))) (sym here) there)
 in_constant cell places w (x ∷ ws) cube (inr later) there =
-    In-right cube (known_cube (cube_terns places x) (cell_value cell (λ i. slice_index_or (cube_terns places x) i Zero))) (constant_from cell places ws) (in_constant cell places w ws cube later there)
+    In-right cube (known_cube (cube_terns places x) (cell_value cell (λ i. slice_index_or (cube_terns places x) i Zero)))
+    (constant_from cell places ws) (in_constant cell places w ws cube later there)
 
 -- each list of values on which the cell is constant is a constant cube
-pub constant_in : (cell : (ℕ → Bool) → Bool) (ts : List Tern) (b : Bool) → length ts ≤ 7 → ReadsOnly 7 cell → ((bits : List Bool) → Inside bits ts → on_list cell bits ≡ b) → In (record { fixed = ts; value = b }) (constant_cubes cell (length ts))
+pub constant_in : (cell : (ℕ → Bool) → Bool) (ts : List Tern) (b : Bool) → length ts ≤ 7 → ReadsOnly 7 cell
+    → ((bits : List Bool) → Inside bits ts → on_list cell bits ≡ b) → In (record { fixed = ts; value = b }) (constant_cubes cell (length ts))
 constant_in cell ts b few only all =
     let places = length ts in
     let w = cube_number ts in
@@ -217,7 +230,8 @@ some_inside (Unknown ∷ ts) = let more = some_inside ts in (false ∷ more.0, (
 pub rows_settle : (cell : (ℕ → Bool) → Bool) (places : ℕ) → places ≤ 7 → ReadsOnly 7 cell → Settles cell places (settling Rows cell places)
 rows_settle cell places few only =
     record {
-      right = λ cube bits has in'. let is = from_constant cell places (below (3 ^ places)) cube has in constant_right cell cube.fixed cube.value bits only is.value in';
+      right = λ cube bits has in'. let is = from_constant cell places (below (3 ^ places)) cube has in
+          constant_right cell cube.fixed cube.value bits only is.value in';
       lens = λ cube has. (from_constant cell places (below (3 ^ places)) cube has).len;
       boxes = λ ts b size all.
           let there = constant_in cell ts b (omega arith) only all in
@@ -234,6 +248,7 @@ primes_settle cell places few only =
           let found = in_prime cell (length ts) (record { fixed = ts; value = b }) there in
           let some = some_inside ts in
           let is = prime_constant cell (length ts) found.0 found.1 in
-          let value : found.0.value ≡ b = sym (constant_right cell found.0.fixed found.0.value some.0 only is.value (inside_within some.0 ts found.0.fixed found.2 some.1)) ∙ all some.0 some.1 in
+          let value : found.0.value ≡ b = sym (constant_right cell found.0.fixed found.0.value some.0 only is.value
+          (inside_within some.0 ts found.0.fixed found.2 some.1)) ∙ all some.0 some.1 in
           (found.0, subst (λ n. In found.0 (prime_cubes cell n)) size found.1, value, found.2);
     }

@@ -60,16 +60,24 @@ KindOfAll kind alts = (alt : List KeyLit) (l : KeyLit) → In alt alts → In l 
 
 -- the alternatives of a claim say which judged cycles are bad
 pub record IsDecided (kind : Key → Type 0) (d : Design) (claim : Claim) (run : List Cycle) (differs : ℕ → Bool) : Type 0 where
-  pub bad : (v : Key → Bool) (t r : ℕ) (a b before c : Cycle) (alt : List KeyLit) → ExtrasTold kind v d claim run differs → Moment claim run t r a b before c → start_bit claim.start b ≢ start_bit claim.start a → KindOfAll kind (alternatives_at d claim t r) → In alt (alternatives_at d claim t r) → AllHold v alt → IsBadFor claim.hazard d claim (start_bit claim.start a) before c
-  pub good : (t r : ℕ) (a b before c : Cycle) → Moment claim run t r a b before c → KindOfAll kind (alternatives_at d claim t r) → IsBadFor claim.hazard d claim (start_bit claim.start a) before c → (alt : List KeyLit) × In alt (alternatives_at d claim t r) × ((v : Key → Bool) → ExtrasTold kind v d claim run differs → AllHold v alt)
+  pub bad : (v : Key → Bool) (t r : ℕ) (a b before c : Cycle) (alt : List KeyLit) → ExtrasTold kind v d claim run differs
+      → Moment claim run t r a b before c → start_bit claim.start b ≢ start_bit claim.start a → KindOfAll kind (alternatives_at d claim t r)
+      → In alt (alternatives_at d claim t r) → AllHold v alt → IsBadFor claim.hazard d claim (start_bit claim.start a) before c
+  pub good : (t r : ℕ) (a b before c : Cycle) → Moment claim run t r a b before c → KindOfAll kind (alternatives_at d claim t r)
+      → IsBadFor claim.hazard d claim (start_bit claim.start a) before c → (alt : List KeyLit) × In alt (alternatives_at d claim t r)
+      × ((v : Key → Bool) → ExtrasTold kind v d claim run differs → AllHold v alt)
   pub some : (t r : ℕ) → (alt : List KeyLit) × In alt (alternatives_at d claim t r)
 
-kinds_at : (kind : Key → Type 0) (d : Design) (claim : Claim) (t r : ℕ) → r < judged_count claim.kind → KindOfAll kind (alternatives d claim t) → KindOfAll kind (alternatives_at d claim t r)
+kinds_at : (kind : Key → Type 0) (d : Design) (claim : Claim) (t r : ℕ) → r < judged_count claim.kind → KindOfAll kind (alternatives d claim t)
+    → KindOfAll kind (alternatives_at d claim t r)
 kinds_at kind d claim t r lt kinds alt l in_alt in_l =
     kinds alt l (In-flat (alternatives_at d claim t) alt r (below (judged_count claim.kind)) (In-below (judged_count claim.kind) r lt) in_alt) in_l
 
 -- a toggle and an alternative that holds are a violation
-pub holds_violated : (kind : Key → Type 0) (v : Key → Bool) (d : Design) (claim : Claim) (run : List Cycle) (differs : ℕ → Bool) (live t : ℕ) (alt : List KeyLit) → IsDecided kind d claim run differs → ExtrasTold kind v d claim run differs → live + 1 ≤ t → t + judged_count claim.kind ≤ length run → kind (toggle_key d t) → KindOfAll kind (alternatives d claim t) → v (toggle_key d t) ≡ true → In alt (alternatives d claim t) → AllHold v alt → IsViolatedAt live d claim run t
+pub holds_violated : (kind : Key → Type 0) (v : Key → Bool) (d : Design) (claim : Claim) (run : List Cycle) (differs : ℕ → Bool) (live t : ℕ)
+    (alt : List KeyLit) → IsDecided kind d claim run differs → ExtrasTold kind v d claim run differs → live + 1 ≤ t
+    → t + judged_count claim.kind ≤ length run → kind (toggle_key d t) → KindOfAll kind (alternatives d claim t) → v (toggle_key d t) ≡ true
+    → In alt (alternatives d claim t) → AllHold v alt → IsViolatedAt live d claim run t
 holds_violated kind v d claim run differs live t alt is extras low fits toggle_kind kinds toggle in_alts hold =
     let of = from_flat (alternatives_at d claim t) alt (below (judged_count claim.kind)) in_alts in
     let r = of.0 in
@@ -93,7 +101,10 @@ holds_violated kind v d claim run differs live t alt is extras low fits toggle_k
     }
 
 -- and a violation has both
-pub violated_holds : (kind : Key → Type 0) (d : Design) (claim : Claim) (run : List Cycle) (differs : ℕ → Bool) (live t : ℕ) → IsDecided kind d claim run differs → kind (toggle_key d t) → KindOfAll kind (alternatives d claim t) → IsViolatedAt live d claim run t → ((v : Key → Bool) → ExtrasTold kind v d claim run differs → v (toggle_key d t) ≡ true) × ((alt : List KeyLit) × In alt (alternatives d claim t) × ((v : Key → Bool) → ExtrasTold kind v d claim run differs → AllHold v alt))
+pub violated_holds : (kind : Key → Type 0) (d : Design) (claim : Claim) (run : List Cycle) (differs : ℕ → Bool) (live t : ℕ)
+    → IsDecided kind d claim run differs → kind (toggle_key d t) → KindOfAll kind (alternatives d claim t) → IsViolatedAt live d claim run t
+    → ((v : Key → Bool) → ExtrasTold kind v d claim run differs → v (toggle_key d t) ≡ true)
+    × ((alt : List KeyLit) × In alt (alternatives d claim t) × ((v : Key → Bool) → ExtrasTold kind v d claim run differs → AllHold v alt))
 violated_holds kind d claim run differs live t is toggle_kind kinds bad =
     let tog = bad.toggles in
     let r = bad.r in
@@ -102,6 +113,12 @@ violated_holds kind d claim run differs live t is toggle_kind kinds bad =
     record { at_a = tog.before_at; at_b = tog.now_at; at_before = bad.before_at; at_c = bad.c_at; low = omega (arith, tog.is_live); judged = bad.judged } in
     let found = is.good t r tog.before tog.now bad.before bad.c at (kinds_at kind d claim t r bad.judged kinds)
     (subst (λ (s : Bool). IsBadFor claim.hazard d claim s bad.before bad.c) (sym tog.stale_is) bad.bad) in (
-      λ v extras. extras.toggle t tog.before tog.now tog.before_at tog.now_at toggle_kind ∙ ne_xor (start_bit claim.start tog.now) (start_bit claim.start tog.before) ne,
-      (found.0, In-flat (alternatives_at d claim t) found.0 r (below (judged_count claim.kind)) (In-below (judged_count claim.kind) r bad.judged) found.1, found.2),
+      λ v extras. extras.toggle t tog.before tog.now tog.before_at tog.now_at toggle_kind ∙ ne_xor (start_bit claim.start tog.now)
+          (start_bit claim.start tog.before) ne,
+      (
+        found.0,
+        In-flat (alternatives_at d claim t) found.0 r (below (judged_count claim.kind)) (In-below (judged_count claim.kind) r bad.judged)
+            found.1,
+        found.2,
+      ),
     )

@@ -52,7 +52,8 @@ settled_terns d c sound settled k g at =
     (λ i lt. sym (map_base tern_of c.nets (slice_index g.ins i)))))
 
 -- a net that isn't moved has its known bit
-pub unmoved_known : (d : Design) (claim : Claim) (moved : List (List Bool)) (c : Cycle) (rows : List (List Tern)) → IsHazy d claim moved c rows → (l : ℕ) → l ≤ length claim.through → (n : ℕ) → n < d.nets → net_at false moved l n ≡ false → net_at Zero rows l n ≡ tern_of (bit_at c.nets n)
+pub unmoved_known : (d : Design) (claim : Claim) (moved : List (List Bool)) (c : Cycle) (rows : List (List Tern)) → IsHazy d claim moved c rows
+    → (l : ℕ) → l ≤ length claim.through → (n : ℕ) → n < d.nets → net_at false moved l n ≡ false → net_at Zero rows l n ≡ tern_of (bit_at c.nets n)
 unmoved_known d claim moved c rows hazy l le n low u =
     stays tern_value Zero d claim.start claim.through (λ _. Unknown) (map tern_of c.nets) rows (IsUnmoved moved) (IsUnmovedPin claim.through moved)
     (record {
@@ -75,7 +76,8 @@ known_zero true = refl
 known_zero false = refl
 
 -- a literal and its opposite are the rails of a known bit
-pub known_rails : (kind : Key → Type 0) (v : Key → Bool) (l : KeyLit) (b : Bool) → (kind l.key → lit_value v l ≡ b) → RailTells kind v l (opposite l) (tern_of b)
+pub known_rails : (kind : Key → Type 0) (v : Key → Bool) (l : KeyLit) (b : Bool) → (kind l.key → lit_value v l ≡ b) → RailTells kind v l (opposite l)
+    (tern_of b)
 known_rails kind v l b tells =
     (λ has. tells has ∙ known_one b, λ has. value_opposite v l ∙ (ap not (tells has) ∙ known_zero b))
 
@@ -87,7 +89,8 @@ LayerMay kind v d claim moved t rows l n =
 -- and the net's own keys, where they are read
 abbrev pub OwnMay : (Key → Type 0) → (Key → Bool) → Design → Claim → List (List Bool) → ℕ → List (List Tern) → ℕ → ℕ → Type 0
 OwnMay kind v d claim moved t rows l n =
-    net_at false moved l n ≡ true → is_in (Net n) (held_set claim.through l) ≡ false → RailTells kind v (lit true (key t (suc l) 0 n)) (lit true (key t (suc l) 1 n)) (net_at Zero rows l n)
+    net_at false moved l n ≡ true → is_in (Net n) (held_set claim.through l) ≡ false → RailTells kind v (lit true (key t (suc l) 0 n))
+    (lit true (key t (suc l) 1 n)) (net_at Zero rows l n)
 
 -- where hazards count, a moved net that isn't held is read by its own keys
 pub read_own : (d : Design) (claim : Claim) (t l rail n : ℕ) → claim.hazard ≡ true → read_late d claim t l rail n ≡ lit true (key t (suc l) rail n)
@@ -100,34 +103,50 @@ read_own d claim t zero rail n mode = by_mode (is_start_net d claim n) claim.haz
     by_mode false false e = absurd cc
 read_own d claim t (suc l) rail n mode = refl
 
-held_may : (kind : Key → Type 0) (v : Key → Bool) (d : Design) (claim : Claim) (moved : List (List Bool)) (t : ℕ) (c : Cycle) (rows : List (List Tern)) → IsHazy d claim moved c rows → (l n : ℕ) → l ≤ length claim.through → n < d.nets → ((j : ℕ) → j < l → LayerMay kind v d claim moved t rows j n) → is_in (Net n) (held_set claim.through l) ≡ true → RailTells kind v (read d claim moved t l 0 n) (read d claim moved t l 1 n) (net_at Zero rows l n)
+held_may : (kind : Key → Type 0) (v : Key → Bool) (d : Design) (claim : Claim) (moved : List (List Bool)) (t : ℕ) (c : Cycle)
+    (rows : List (List Tern)) → IsHazy d claim moved c rows → (l n : ℕ) → l ≤ length claim.through → n < d.nets
+    → ((j : ℕ) → j < l → LayerMay kind v d claim moved t rows j n) → is_in (Net n) (held_set claim.through l) ≡ true
+    → RailTells kind v (read d claim moved t l 0 n) (read d claim moved t l 1 n) (net_at Zero rows l n)
 held_may kind v d claim moved t c rows hazy zero n le low lower is = cc
 held_may kind v d claim moved t c rows hazy (suc l) n le low lower is =
-    let same : net_at Zero rows l n ≡ net_at Zero rows (suc l) n = sym (hazy.layers.held l (omega arith) n low is) ∙ ap (λ m. net_at Zero rows m n) (add-one l) in
+    let same : net_at Zero rows l n ≡ net_at Zero rows (suc l) n = sym (hazy.layers.held l (omega arith) n low is) ∙ ap (λ m. net_at Zero rows m n)
+    (add-one l) in
     subst (λ (x : Tern). RailTells kind v (read d claim moved t (suc l) 0 n) (read d claim moved t (suc l) 1 n) x) same (lower l (omega arith))
 
-pub layer_may : (kind : Key → Type 0) (v : Key → Bool) (d : Design) (claim : Claim) (moved : List (List Bool)) (t : ℕ) (c : Cycle) (rows : List (List Tern)) → IsHazy d claim moved c rows → (l n : ℕ) → l ≤ length claim.through → n < d.nets → ReadTells kind v d t (bit_at c.nets) n → ((j : ℕ) → j < l → LayerMay kind v d claim moved t rows j n) → OwnMay kind v d claim moved t rows l n → LayerMay kind v d claim moved t rows l n
+pub layer_may : (kind : Key → Type 0) (v : Key → Bool) (d : Design) (claim : Claim) (moved : List (List Bool)) (t : ℕ) (c : Cycle)
+    (rows : List (List Tern)) → IsHazy d claim moved c rows → (l n : ℕ) → l ≤ length claim.through → n < d.nets
+    → ReadTells kind v d t (bit_at c.nets) n → ((j : ℕ) → j < l → LayerMay kind v d claim moved t rows j n) → OwnMay kind v d claim moved t rows l n
+    → LayerMay kind v d claim moved t rows l n
 layer_may kind v d claim moved t c rows hazy l n le low base lower own = by_tests (net_at false moved l n) refl (is_in (Net n) (held_set claim.through l)) refl
   where
     chosen : Bool → Bool → ℕ → KeyLit → KeyLit
     chosen m h rail bit = cond (not m) bit (cond h (read d claim moved t l rail n) (read_late d claim t l rail n))
 
-    by_tests : (m : Bool) → net_at false moved l n ≡ m → (h : Bool) → is_in (Net n) (held_set claim.through l) ≡ h → RailTells kind v (chosen m h 0 (read_base d t n)) (chosen m h 1 (opposite (read_base d t n))) (net_at Zero rows l n)
+    by_tests : (m : Bool) → net_at false moved l n ≡ m → (h : Bool) → is_in (Net n) (held_set claim.through l) ≡ h
+        → RailTells kind v (chosen m h 0 (read_base d t n)) (chosen m h 1 (opposite (read_base d t n))) (net_at Zero rows l n)
     by_tests false m h e =
-        subst (λ (x : Tern). RailTells kind v (read_base d t n) (opposite (read_base d t n)) x) (sym (unmoved_known d claim moved c rows hazy l le n low m)) (known_rails kind v (read_base d t n) (bit_at c.nets n) base)
+        subst (λ (x : Tern). RailTells kind v (read_base d t n) (opposite (read_base d t n)) x)
+        (sym (unmoved_known d claim moved c rows hazy l le n low m)) (known_rails kind v (read_base d t n) (bit_at c.nets n) base)
     by_tests true m true e = held_may kind v d claim moved t c rows hazy l n le low lower e
     by_tests true m false e =
         subst (λ (x : KeyLit). RailTells kind v x (read_late d claim t l 1 n) (net_at Zero rows l n)) (sym (read_own d claim t l 0 n hazy.hazard))
-        (subst (λ (x : KeyLit). RailTells kind v (lit true (key t (suc l) 0 n)) x (net_at Zero rows l n)) (sym (read_own d claim t l 1 n hazy.hazard)) (own m e))
+        (subst (λ (x : KeyLit). RailTells kind v (lit true (key t (suc l) 0 n)) x (net_at Zero rows l n)) (sym (read_own d claim t l 1 n hazy.hazard))
+        (own m e))
 
 -- what the rails of a pin tell
-pub pin_may : (kind : Key → Type 0) (v : Key → Bool) (d : Design) (claim : Claim) (moved : List (List Bool)) (t : ℕ) (rows : List (List Tern)) (l : ℕ) (pin : PinRef) (n : ℕ) → ((j : ℕ) → j ≤ l → LayerMay kind v d claim moved t rows j n) → RailTells kind v (read_pin d claim moved t (suc l) 0 pin n) (read_pin d claim moved t (suc l) 1 pin n) (pin_reads Zero claim.through rows l pin n)
+pub pin_may : (kind : Key → Type 0) (v : Key → Bool) (d : Design) (claim : Claim) (moved : List (List Bool)) (t : ℕ) (rows : List (List Tern)) (l : ℕ)
+    (pin : PinRef) (n : ℕ) → ((j : ℕ) → j ≤ l → LayerMay kind v d claim moved t rows j n)
+    → RailTells kind v (read_pin d claim moved t (suc l) 0 pin n) (read_pin d claim moved t (suc l) 1 pin n)
+    (pin_reads Zero claim.through rows l pin n)
 pin_may kind v d claim moved t rows zero pin n tell = tell 0 (omega arith)
-pin_may kind v d claim moved t rows (suc l) pin n tell = by_test (is_in pin (slice_index_or claim.through l [])) (pin_may kind v d claim moved t rows l pin n (λ j le. tell j (omega arith)))
+pin_may kind v d claim moved t rows (suc l) pin n tell = by_test (is_in pin (slice_index_or claim.through l []))
+    (pin_may kind v d claim moved t rows l pin n (λ j le. tell j (omega arith)))
   where
     chosen : Bool → ℕ → KeyLit
     chosen b rail = cond b (read_pin d claim moved t (suc l) rail pin n) (read d claim moved t (suc (suc l)) rail n)
 
-    by_test : (b : Bool) → RailTells kind v (read_pin d claim moved t (suc l) 0 pin n) (read_pin d claim moved t (suc l) 1 pin n) (pin_reads Zero claim.through rows l pin n) → RailTells kind v (chosen b 0) (chosen b 1) (cond b (pin_reads Zero claim.through rows l pin n) (net_at Zero rows (suc l) n))
+    by_test : (b : Bool) → RailTells kind v (read_pin d claim moved t (suc l) 0 pin n) (read_pin d claim moved t (suc l) 1 pin n)
+        (pin_reads Zero claim.through rows l pin n) → RailTells kind v (chosen b 0) (chosen b 1)
+        (cond b (pin_reads Zero claim.through rows l pin n) (net_at Zero rows (suc l) n))
     by_test true before = before
     by_test false before = tell (suc l) (omega arith)

@@ -1,5 +1,6 @@
 -- Alternatives whose conditions are true, and violations.
-use Rattle.std.proofs.Common.{◌≡◌, ◌≢◌, ℕ, zero, suc, ◌+◌, ◌-◌, ◌<◌, ◌≤◌, Bool, true, false, not, cond, List, [], ◌∷◌, length, Option, Some, refl, ap, sym, ◌∙◌, arith, inl, inr, subst, add-one}
+use Rattle.std.proofs.Common.{◌≡◌, ◌≢◌, ℕ, zero, suc, ◌+◌, ◌-◌, ◌<◌, ◌≤◌, Bool, true, false, not, cond, List, [], ◌∷◌, length, Option, Some, refl, ap}
+use Rattle.std.proofs.Common.{sym, ◌∙◌, arith, inl, inr, subst, add-one}
 use Rattle.std.specs.Prelude.{slice_get, slice_index}
 use Rattle.std.proofs.lemmas.Bool.{cond_below, cond_above}
 use Rattle.net_model.specs.Form.{xor, value}
@@ -48,15 +49,21 @@ all_still d sets =
       own = λ l pin n p is. tt;
     }
 
-start_kept : (d : Design) (claim : Claim) (c : Cycle) (rows : List (List Bool)) → IsSettled d c → IsStartIn d claim.start → AreLayers value false d claim.start claim.through (λ o. shown o (start_bit claim.start c)) c.nets rows → (n : ℕ) → In n (start_nets d claim.start) → net_at false rows 0 n ≡ bit_at c.nets n
+start_kept : (d : Design) (claim : Claim) (c : Cycle) (rows : List (List Bool)) → IsSettled d c → IsStartIn d claim.start
+    → AreLayers value false d claim.start claim.through (λ o. shown o (start_bit claim.start c)) c.nets rows → (n : ℕ)
+    → In n (start_nets d claim.start) → net_at false rows 0 n ≡ bit_at c.nets n
 start_kept d claim c rows settled is layers n has =
     let of = from_map (λ (o : RegOut). o.net) n (start_outs d claim.start) has in
     let at = placed of.0 (start_outs d claim.start) of.1 in
-    let late = All-at (λ (o : RegOut). net_at false rows 0 o.net ≡ shown o (start_bit claim.start c)) (start_outs d claim.start) at.0 of.0 at.1 layers.late_nets in
-    let shows = All-at (λ (o : RegOut). bit_at c.nets o.net ≡ shown o (start_bit claim.start c)) (start_outs d claim.start) at.0 of.0 at.1 (start_shows d claim.start c settled is) in
+    let late = All-at (λ (o : RegOut). net_at false rows 0 o.net ≡ shown o (start_bit claim.start c)) (start_outs d claim.start) at.0 of.0 at.1
+    layers.late_nets in
+    let shows = All-at (λ (o : RegOut). bit_at c.nets o.net ≡ shown o (start_bit claim.start c)) (start_outs d claim.start) at.0 of.0 at.1
+    (start_shows d claim.start c settled is) in
     subst (λ m. net_at false rows 0 m ≡ bit_at c.nets m) of.2 (late ∙ sym shows)
 
-kept_pin : (d : Design) (claim : Claim) (c : Cycle) (rows : List (List Bool)) → IsSound d → IsSettled d c → IsStartIn d claim.start → AreLayers value false d claim.start claim.through (λ o. shown o (start_bit claim.start c)) c.nets rows → (pin : PinRef) (n : ℕ) → n < d.nets → pin_reads false claim.through rows (length claim.through) pin n ≡ bit_at c.nets n
+kept_pin : (d : Design) (claim : Claim) (c : Cycle) (rows : List (List Bool)) → IsSound d → IsSettled d c → IsStartIn d claim.start
+    → AreLayers value false d claim.start claim.through (λ o. shown o (start_bit claim.start c)) c.nets rows → (pin : PinRef) (n : ℕ) → n < d.nets
+    → pin_reads false claim.through rows (length claim.through) pin n ≡ bit_at c.nets n
 kept_pin d claim c rows sound settled is layers pin n low =
     pin_still false d claim.through (λ l m. Unit {0}) (λ l p m. Unit {0}) rows c.nets (all_still d claim.through) (length claim.through) pin n
     (λ j le. stays value false d claim.start claim.through (λ o. shown o (start_bit claim.start c)) c.nets rows (λ l m. Unit {0}) (λ l p m. Unit {0})
@@ -71,8 +78,11 @@ kept_pin d claim c rows sound settled is layers pin n low =
     j le n low)
     tt
 
-kept_end : (d : Design) (claim : Claim) (c : Cycle) (rows : List (List Bool)) → IsSound d → IsSettled d c → IsStartIn d claim.start → AreLayers value false d claim.start claim.through (λ o. shown o (start_bit claim.start c)) c.nets rows → (e : End) → IsEndIn d e → capture_over d claim.through rows e c ≡ capture d e c
-kept_end d claim c rows sound settled is layers (OutputEnd o) lt = kept_pin d claim c rows sound settled is layers (OutPort o) (slice_index d.outputs o) (sound.in_range.outputs o 0 lt)
+kept_end : (d : Design) (claim : Claim) (c : Cycle) (rows : List (List Bool)) → IsSound d → IsSettled d c → IsStartIn d claim.start
+    → AreLayers value false d claim.start claim.through (λ o. shown o (start_bit claim.start c)) c.nets rows → (e : End) → IsEndIn d e
+    → capture_over d claim.through rows e c ≡ capture d e c
+kept_end d claim c rows sound settled is layers (OutputEnd o) lt = kept_pin d claim c rows sound settled is layers (OutPort o)
+    (slice_index d.outputs o) (sound.in_range.outputs o 0 lt)
 kept_end d claim c rows sound settled is layers (RegEnd r) lt =
     let reg = get_within d.regs r lt in
     let range = All-at (IsRegInRange d) d.regs r reg.0 reg.1 sound.in_range.regs in
@@ -85,7 +95,8 @@ kept_end d claim c rows sound settled is layers (RegEnd r) lt =
     ∙ kept_pin d claim c rows sound settled is layers (RegIn r i) (slice_index ins i) (range.ins i 0 small)
     ∙ cond_below i (length ins) (gate_pins ins c.nets i) own small)
     (λ m.
-    sym (cond_above (length ins) (length ins) (pin_reads false claim.through rows (length claim.through) (RegIn r (length ins)) (slice_index ins (length ins))) own own (omega arith) refl)
+    sym (cond_above (length ins) (length ins) (pin_reads false claim.through rows (length claim.through) (RegIn r (length ins))
+    (slice_index ins (length ins))) own own (omega arith) refl)
     ∙ cond_above (length ins) (length ins) (gate_pins ins c.nets (length ins)) own own (omega arith) refl)
     ∙ sym (ap (λ (o : Option Reg). reg_capture_in c r o) reg.1)
 
@@ -99,7 +110,9 @@ pub record IsJudged (d : Design) (claim : Claim) (run : List Cycle) (late differ
   pub lates : (t : ℕ) (c : Cycle) → slice_get run t ≡ Some c → IsLateCapture d claim c (not (start_bit claim.start c)) (late t)
   pub differs_are : (t : ℕ) (c : Cycle) → slice_get run t ≡ Some c → differs t ≡ xor (late t) (capture d claim.end c)
 
-pub late_differs : (d : Design) (claim : Claim) (run : List Cycle) (late differs : ℕ → Bool) (t : ℕ) (c : Cycle) (stale : Bool) → IsJudged d claim run late differs → slice_get run t ≡ Some c → DiffersLate d claim c stale → (start_bit claim.start c ≢ stale) × (late t ≢ capture d claim.end c)
+pub late_differs : (d : Design) (claim : Claim) (run : List Cycle) (late differs : ℕ → Bool) (t : ℕ) (c : Cycle) (stale : Bool)
+    → IsJudged d claim run late differs → slice_get run t ≡ Some c → DiffersLate d claim c stale → (start_bit claim.start c ≢ stale)
+    × (late t ≢ capture d claim.end c)
 late_differs d claim run late differs t c stale is at apart =
     let settled = All-at (IsSettled d) run t c at is.linked.settled in
     let other : start_bit claim.start c ≢ stale =
@@ -107,16 +120,23 @@ late_differs d claim run late differs t c stale is at apart =
     let kept = subst (λ (b : Bool). IsLateCapture d claim c b apart.0) (sym e) apart.1 in
     apart.2 (sym kept.capture ∙ kept_end d claim c kept.rows is.sound settled is.start_in kept.layers claim.end is.end_in) in
     let flip = ne_not (start_bit claim.start c) stale other in
-    let same = late_capture_once d claim c stale (late t) apart.0 is.sound is.end_in (subst (λ (b : Bool). IsLateCapture d claim c b (late t)) flip (is.lates t c at)) apart.1 in
+    let same = late_capture_once d claim c stale (late t) apart.0 is.sound is.end_in
+    (subst (λ (b : Bool). IsLateCapture d claim c b (late t)) flip (is.lates t c at)) apart.1 in
     (other, λ e. apart.2 (sym same ∙ e))
 
-pub differs_late : (d : Design) (claim : Claim) (run : List Cycle) (late differs : ℕ → Bool) (t : ℕ) (c : Cycle) (stale : Bool) → IsJudged d claim run late differs → slice_get run t ≡ Some c → start_bit claim.start c ≢ stale → late t ≢ capture d claim.end c → DiffersLate d claim c stale
+pub differs_late : (d : Design) (claim : Claim) (run : List Cycle) (late differs : ℕ → Bool) (t : ℕ) (c : Cycle) (stale : Bool)
+    → IsJudged d claim run late differs → slice_get run t ≡ Some c → start_bit claim.start c ≢ stale → late t ≢ capture d claim.end c
+    → DiffersLate d claim c stale
 differs_late d claim run late differs t c stale is at other ne =
     let flip = ne_not (start_bit claim.start c) stale other in
     (late t, subst (λ (b : Bool). IsLateCapture d claim c b (late t)) flip (is.lates t c at), ne)
 
 -- the start's bit differs from the stale one, r cycles after the toggle
-stale_holds : (kind : Key → Type 0) (v : Key → Bool) (d : Design) (claim : Claim) (run : List Cycle) (late differs : ℕ → Bool) (t r : ℕ) (a b c : Cycle) → ExtrasTold kind v d claim run differs → slice_get run (t - 1) ≡ Some a → slice_get run t ≡ Some b → slice_get run (t + r) ≡ Some c → r < judged_count claim.kind → 1 ≤ t → start_bit claim.start b ≢ start_bit claim.start a → ((l : KeyLit) → In l (stale_if_later d (t + r) r) → kind l.key) → AllHold v (stale_if_later d (t + r) r) → start_bit claim.start c ≢ start_bit claim.start a
+stale_holds : (kind : Key → Type 0) (v : Key → Bool) (d : Design) (claim : Claim) (run : List Cycle) (late differs : ℕ → Bool) (t r : ℕ)
+    (a b c : Cycle) → ExtrasTold kind v d claim run differs → slice_get run (t - 1) ≡ Some a → slice_get run t ≡ Some b
+    → slice_get run (t + r) ≡ Some c → r < judged_count claim.kind → 1 ≤ t → start_bit claim.start b ≢ start_bit claim.start a
+    → ((l : KeyLit) → In l (stale_if_later d (t + r) r) → kind l.key) → AllHold v (stale_if_later d (t + r) r)
+    → start_bit claim.start c ≢ start_bit claim.start a
 stale_holds kind v d claim run late differs t zero a b c extras at_a at_b at_c lt low ne kinds hold =
     let sum : t + 0 ≡ t = omega arith in
     let there : slice_get run t ≡ Some c = subst (λ i. slice_get run i ≡ Some c) sum at_c in
@@ -131,7 +151,10 @@ stale_holds kind v d claim run late differs t (suc r) a b c extras at_a at_b at_
     (extras.stale (t + suc r) r a c (omega arith) before at_c) (kinds (lit true z) (inl refl)) in
     xor_ne (start_bit claim.start c) (start_bit claim.start a) (sym says ∙ hold (lit true z) (inl refl))
 
-holds_stale : (kind : Key → Type 0) (v : Key → Bool) (d : Design) (claim : Claim) (run : List Cycle) (late differs : ℕ → Bool) (t r : ℕ) (a c : Cycle) → ExtrasTold kind v d claim run differs → slice_get run (t - 1) ≡ Some a → slice_get run (t + r) ≡ Some c → r < judged_count claim.kind → 1 ≤ t → ((l : KeyLit) → In l (stale_if_later d (t + r) r) → kind l.key) → start_bit claim.start c ≢ start_bit claim.start a → AllHold v (stale_if_later d (t + r) r)
+holds_stale : (kind : Key → Type 0) (v : Key → Bool) (d : Design) (claim : Claim) (run : List Cycle) (late differs : ℕ → Bool) (t r : ℕ) (a c : Cycle)
+    → ExtrasTold kind v d claim run differs → slice_get run (t - 1) ≡ Some a → slice_get run (t + r) ≡ Some c → r < judged_count claim.kind → 1 ≤ t
+    → ((l : KeyLit) → In l (stale_if_later d (t + r) r) → kind l.key) → start_bit claim.start c ≢ start_bit claim.start a
+    → AllHold v (stale_if_later d (t + r) r)
 holds_stale kind v d claim run late differs t zero a c extras at_a at_c lt low kinds ne l has = absurd has
 holds_stale kind v d claim run late differs t (suc r) a c extras at_a at_c lt low kinds ne l (inl here) =
     let back : t - 1 ≡ t + suc r - r - 2 = omega arith in
@@ -148,13 +171,19 @@ first_in (inl here) = here
 first_in (inr none) = absurd none
 
 -- the conditions of an alternative make the cycle bad
-pub alternative_bad : (kind : Key → Type 0) (v : Key → Bool) (d : Design) (claim : Claim) (run : List Cycle) (late differs : ℕ → Bool) (t r : ℕ) (a b before c : Cycle) → IsJudged d claim run late differs → ExtrasTold kind v d claim run differs → Moment claim run t r a b before c → start_bit claim.start b ≢ start_bit claim.start a → (k : Kind) (sets : List (List PinRef)) (alt : List KeyLit) → KindOfAll kind (plain_alternatives k sets d (t + r) r) → In alt (plain_alternatives k sets d (t + r) r) → AllHold v alt → IsBadPlain k sets d claim (start_bit claim.start a) before c
+pub alternative_bad : (kind : Key → Type 0) (v : Key → Bool) (d : Design) (claim : Claim) (run : List Cycle) (late differs : ℕ → Bool) (t r : ℕ)
+    (a b before c : Cycle) → IsJudged d claim run late differs → ExtrasTold kind v d claim run differs → Moment claim run t r a b before c
+    → start_bit claim.start b ≢ start_bit claim.start a → (k : Kind) (sets : List (List PinRef)) (alt : List KeyLit)
+    → KindOfAll kind (plain_alternatives k sets d (t + r) r) → In alt (plain_alternatives k sets d (t + r) r) → AllHold v alt
+    → IsBadPlain k sets d claim (start_bit claim.start a) before c
 alternative_bad kind v d claim run late differs t r a b before c is extras at ne False sets alt kinds has hold =
     let this : List KeyLit = lit true (differ_key d (t + r)) ∷ stale_if_later d (t + r) r in
     let holds : AllHold v this = subst (AllHold v) (sym (first_in has)) hold in
-    let other = stale_holds kind v d claim run late differs t r a b c extras at.at_a at.at_b at.at_c at.judged at.low ne (λ l i. kinds this l (inl refl) (inr i)) (λ l i. holds l (inr i)) in
+    let other = stale_holds kind v d claim run late differs t r a b c extras at.at_a at.at_b at.at_c at.judged at.low ne
+    (λ l i. kinds this l (inl refl) (inr i)) (λ l i. holds l (inr i)) in
     let says = extras.differ (t + r) c at.at_c (kinds this (lit true (differ_key d (t + r))) (inl refl) (inl refl)) ∙ is.differs_are (t + r) c at.at_c in
-    differs_late d claim run late differs (t + r) c (start_bit claim.start a) is at.at_c other (xor_ne (late (t + r)) (capture d claim.end c) (sym says ∙ holds (lit true (differ_key d (t + r))) (inl refl)))
+    differs_late d claim run late differs (t + r) c (start_bit claim.start a) is at.at_c other
+    (xor_ne (late (t + r)) (capture d claim.end c) (sym says ∙ holds (lit true (differ_key d (t + r))) (inl refl)))
 alternative_bad kind v d claim run late differs t r a b before c is extras at ne (Multi k) [] alt kinds has hold =
     let this : List KeyLit = lit true (change_key d (t + r)) ∷ [] in
     let holds : AllHold v this = subst (AllHold v) (sym (first_in has)) hold in
@@ -163,10 +192,13 @@ alternative_bad kind v d claim run late differs t r a b before c is extras at ne
 alternative_bad kind v d claim run late differs t r a b before c is extras at ne (Multi k) (set ∷ sets) alt kinds has hold =
     let this : List KeyLit = lit true (change_key d (t + r)) ∷ lit true (differ_key d (t + r)) ∷ stale_if_later d (t + r) r in
     let holds : AllHold v this = subst (AllHold v) (sym (first_in has)) hold in
-    let other = stale_holds kind v d claim run late differs t r a b c extras at.at_a at.at_b at.at_c at.judged at.low ne (λ l i. kinds this l (inl refl) (inr (inr i))) (λ l i. holds l (inr (inr i))) in
-    let differ = extras.differ (t + r) c at.at_c (kinds this (lit true (differ_key d (t + r))) (inl refl) (inr (inl refl))) ∙ is.differs_are (t + r) c at.at_c in
+    let other = stale_holds kind v d claim run late differs t r a b c extras at.at_a at.at_b at.at_c at.judged at.low ne
+    (λ l i. kinds this l (inl refl) (inr (inr i))) (λ l i. holds l (inr (inr i))) in
+    let differ = extras.differ (t + r) c at.at_c (kinds this (lit true (differ_key d (t + r))) (inl refl) (inr (inl refl)))
+    ∙ is.differs_are (t + r) c at.at_c in
     let change = extras.change (t + r) before c at.at_before at.at_c (kinds this (lit true (change_key d (t + r))) (inl refl) (inl refl)) in (
-      differs_late d claim run late differs (t + r) c (start_bit claim.start a) is at.at_c other (xor_ne (late (t + r)) (capture d claim.end c) (sym differ ∙ holds (lit true (differ_key d (t + r))) (inr (inl refl)))),
+      differs_late d claim run late differs (t + r) c (start_bit claim.start a) is at.at_c other
+          (xor_ne (late (t + r)) (capture d claim.end c) (sym differ ∙ holds (lit true (differ_key d (t + r))) (inr (inl refl)))),
       xor_ne (capture d claim.end c) (capture d claim.end before) (sym change ∙ holds (lit true (change_key d (t + r))) (inl refl)),
     )
 
@@ -174,7 +206,10 @@ lit_holds : (v : Key → Bool) (z : Key) (l : KeyLit) → lit true z ≡ l → v
 lit_holds v z l same e = subst (λ (m : KeyLit). lit_value v m ≡ true) same e
 
 -- and a bad cycle has an alternative whose conditions hold wherever the keys tell the run
-pub bad_alternative : (kind : Key → Type 0) (d : Design) (claim : Claim) (run : List Cycle) (late differs : ℕ → Bool) (t r : ℕ) (a b before c : Cycle) → IsJudged d claim run late differs → Moment claim run t r a b before c → (k : Kind) (sets : List (List PinRef)) → KindOfAll kind (plain_alternatives k sets d (t + r) r) → IsBadPlain k sets d claim (start_bit claim.start a) before c → (alt : List KeyLit) × In alt (plain_alternatives k sets d (t + r) r) × ((v : Key → Bool) → ExtrasTold kind v d claim run differs → AllHold v alt)
+pub bad_alternative : (kind : Key → Type 0) (d : Design) (claim : Claim) (run : List Cycle) (late differs : ℕ → Bool) (t r : ℕ) (a b before c : Cycle)
+    → IsJudged d claim run late differs → Moment claim run t r a b before c → (k : Kind) (sets : List (List PinRef))
+    → KindOfAll kind (plain_alternatives k sets d (t + r) r) → IsBadPlain k sets d claim (start_bit claim.start a) before c → (alt : List KeyLit)
+    × In alt (plain_alternatives k sets d (t + r) r) × ((v : Key → Bool) → ExtrasTold kind v d claim run differs → AllHold v alt)
 bad_alternative kind d claim run late differs t r a b before c is at False sets kinds bad =
     let this : List KeyLit = lit true (differ_key d (t + r)) ∷ stale_if_later d (t + r) r in
     let both = late_differs d claim run late differs (t + r) c (start_bit claim.start a) is at.at_c bad in (
@@ -183,7 +218,8 @@ bad_alternative kind d claim run late differs t r a b before c is at False sets 
       λ v extras l has.
           let says = extras.differ (t + r) c at.at_c (kinds this (lit true (differ_key d (t + r))) (inl refl) (inl refl)) ∙ is.differs_are (t + r) c at.at_c in
           let differ : v (differ_key d (t + r)) ≡ true = says ∙ ne_xor (late (t + r)) (capture d claim.end c) both.1 in
-          let stale = holds_stale kind v d claim run late differs t r a c extras at.at_a at.at_c at.judged at.low (λ l i. kinds this l (inl refl) (inr i)) both.0 in
+          let stale = holds_stale kind v d claim run late differs t r a c extras at.at_a at.at_c at.judged at.low
+          (λ l i. kinds this l (inl refl) (inr i)) both.0 in
           elim has [ inl here ↦ lit_holds v (differ_key d (t + r)) l here differ | inr later ↦ stale l later ],
     )
 bad_alternative kind d claim run late differs t r a b before c is at (Multi k) [] kinds bad =
@@ -201,28 +237,34 @@ bad_alternative kind d claim run late differs t r a b before c is at (Multi k) (
       this,
       inl refl,
       λ v extras l has.
-          let says_differ = extras.differ (t + r) c at.at_c (kinds this (lit true (differ_key d (t + r))) (inl refl) (inr (inl refl))) ∙ is.differs_are (t + r) c at.at_c in
+          let says_differ = extras.differ (t + r) c at.at_c (kinds this (lit true (differ_key d (t + r))) (inl refl) (inr (inl refl)))
+          ∙ is.differs_are (t + r) c at.at_c in
           let says_change = extras.change (t + r) before c at.at_before at.at_c (kinds this (lit true (change_key d (t + r))) (inl refl) (inl refl)) in
           let differ : v (differ_key d (t + r)) ≡ true = says_differ ∙ ne_xor (late (t + r)) (capture d claim.end c) both.1 in
           let change : v (change_key d (t + r)) ≡ true = says_change ∙ ne_xor (capture d claim.end c) (capture d claim.end before) bad.1 in
-          let stale = holds_stale kind v d claim run late differs t r a c extras at.at_a at.at_c at.judged at.low (λ l i. kinds this l (inl refl) (inr (inr i))) both.0 in
+          let stale = holds_stale kind v d claim run late differs t r a c extras at.at_a at.at_c at.judged at.low
+          (λ l i. kinds this l (inl refl) (inr (inr i))) both.0 in
           elim has [
             | inl here ↦ lit_holds v (change_key d (t + r)) l here change
             | inr later ↦ elim later [ inl here ↦ lit_holds v (differ_key d (t + r)) l here differ | inr last ↦ stale l last ]
           ],
     )
 
-pub plain_at : (d : Design) (claim : Claim) (t r : ℕ) → claim.hazard ≡ false → alternatives_at d claim t r ≡ plain_alternatives claim.kind claim.through d (t + r) r
+pub plain_at : (d : Design) (claim : Claim) (t r : ℕ) → claim.hazard ≡ false → alternatives_at d claim t r ≡ plain_alternatives claim.kind
+    claim.through d (t + r) r
 plain_at d claim t r mode = by_mode _ claim.hazard mode where
-  by_mode : (x : List (List KeyLit)) (h : Bool) → h ≡ false → cond h x (plain_alternatives claim.kind claim.through d (t + r) r) ≡ plain_alternatives claim.kind claim.through d (t + r) r
+  by_mode : (x : List (List KeyLit)) (h : Bool) → h ≡ false → cond h x (plain_alternatives claim.kind claim.through d (t + r) r) ≡ plain_alternatives
+      claim.kind claim.through d (t + r) r
   by_mode x false e = refl
   by_mode x true e = absurd cc
 
-bad_plain : (h : Bool) (d : Design) (claim : Claim) (stale : Bool) (before c : Cycle) → h ≡ false → IsBadFor h d claim stale before c → IsBadPlain claim.kind claim.through d claim stale before c
+bad_plain : (h : Bool) (d : Design) (claim : Claim) (stale : Bool) (before c : Cycle) → h ≡ false → IsBadFor h d claim stale before c
+    → IsBadPlain claim.kind claim.through d claim stale before c
 bad_plain false d claim stale before c e bad = bad
 bad_plain true d claim stale before c e bad = absurd cc
 
-plain_bad : (h : Bool) (d : Design) (claim : Claim) (stale : Bool) (before c : Cycle) → h ≡ false → IsBadPlain claim.kind claim.through d claim stale before c → IsBadFor h d claim stale before c
+plain_bad : (h : Bool) (d : Design) (claim : Claim) (stale : Bool) (before c : Cycle) → h ≡ false → IsBadPlain claim.kind claim.through d claim stale
+    before c → IsBadFor h d claim stale before c
 plain_bad false d claim stale before c e bad = bad
 plain_bad true d claim stale before c e bad = absurd cc
 
@@ -232,14 +274,18 @@ one_plain (Multi k) [] d c r = (_, inl refl)
 one_plain (Multi k) (set ∷ sets) d c r = (_, inl refl)
 
 -- the alternatives of a plain claim decide
-pub plain_decided : (kind : Key → Type 0) (d : Design) (claim : Claim) (run : List Cycle) (late differs : ℕ → Bool) → IsJudged d claim run late differs → IsDecided kind d claim run differs
+pub plain_decided : (kind : Key → Type 0) (d : Design) (claim : Claim) (run : List Cycle) (late differs : ℕ → Bool)
+    → IsJudged d claim run late differs → IsDecided kind d claim run differs
 plain_decided kind d claim run late differs is =
     record {
       bad = λ v t r a b before c alt extras at ne kinds in_alts hold.
           plain_bad claim.hazard d claim (start_bit claim.start a) before c is.plain
-          (alternative_bad kind v d claim run late differs t r a b before c is extras at ne claim.kind claim.through alt (subst (KindOfAll kind) (plain_at d claim t r is.plain) kinds) (subst (In alt) (plain_at d claim t r is.plain) in_alts) hold);
+          (alternative_bad kind v d claim run late differs t r a b before c is extras at ne claim.kind claim.through alt
+          (subst (KindOfAll kind) (plain_at d claim t r is.plain) kinds) (subst (In alt) (plain_at d claim t r is.plain) in_alts) hold);
       good = λ t r a b before c at kinds bad.
-          let found = bad_alternative kind d claim run late differs t r a b before c is at claim.kind claim.through (subst (KindOfAll kind) (plain_at d claim t r is.plain) kinds) (bad_plain claim.hazard d claim (start_bit claim.start a) before c is.plain bad) in
+          let found = bad_alternative kind d claim run late differs t r a b before c is at claim.kind claim.through
+          (subst (KindOfAll kind) (plain_at d claim t r is.plain) kinds)
+          (bad_plain claim.hazard d claim (start_bit claim.start a) before c is.plain bad) in
           (found.0, subst (In found.0) (sym (plain_at d claim t r is.plain)) found.1, found.2);
       some = λ t r.
           let one = one_plain claim.kind claim.through d (t + r) r in

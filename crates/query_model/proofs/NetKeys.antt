@@ -32,11 +32,15 @@ higher : (d : Design) (c l rail n : ℕ) → OwnNet d (key c (suc l) rail n)
 higher d c l rail n zero_layer low = absurd (omega arith)
 
 -- what is read is a register's bit, or the net's own key
-pub read_is : (d : Design) (c : ℕ) (regs : List Reg) (r n : ℕ) → ((s : Bool) × ((j : ℕ) × (read_from d c regs r n ≡ lit s (bit_key d c j)))) ⊎ (read_from d c regs r n ≡ lit true (key c 0 0 n))
+pub read_is : (d : Design) (c : ℕ) (regs : List Reg) (r n : ℕ) → ((s : Bool) × ((j : ℕ) × (read_from d c regs r n ≡ lit s (bit_key d c j)))) ⊎
+    (read_from d c regs r n ≡ lit true (key c 0 0 n))
 read_is d c [] r n = inr refl
 read_is d c (reg ∷ regs) r n = by_shown (shown_in reg.outs n) (read_is d c regs (r + 1) n)
   where
-    by_shown : (s : Option Bool) → ((b : Bool) × ((j : ℕ) × (read_from d c regs (r + 1) n ≡ lit b (bit_key d c j)))) ⊎ (read_from d c regs (r + 1) n ≡ lit true (key c 0 0 n)) → ((b : Bool) × ((j : ℕ) × (bit_or d c r (read_from d c regs (r + 1) n) s ≡ lit b (bit_key d c j)))) ⊎ (bit_or d c r (read_from d c regs (r + 1) n) s ≡ lit true (key c 0 0 n))
+    by_shown : (s : Option Bool) → ((b : Bool) × ((j : ℕ) × (read_from d c regs (r + 1) n ≡ lit b (bit_key d c j)))) ⊎
+        (read_from d c regs (r + 1) n ≡ lit true (key c 0 0 n)) → ((b : Bool)
+        × ((j : ℕ) × (bit_or d c r (read_from d c regs (r + 1) n) s ≡ lit b (bit_key d c j)))) ⊎
+        (bit_or d c r (read_from d c regs (r + 1) n) s ≡ lit true (key c 0 0 n))
     by_shown None rest = rest
     by_shown (Some inverted) rest = inl (not inverted, (r, refl))
 
@@ -50,14 +54,17 @@ read_own d c n =
 -- a net that no register shows is read by its own key
 unshown : (d : Design) (c : ℕ) (regs : List Reg) (r n : ℕ) → (In n (flat_map reg_nets regs) → ⊥) → read_from d c regs r n ≡ lit true (key c 0 0 n)
 unshown d c [] r n none = refl
-unshown d c (reg ∷ regs) r n none = by_shown (shown_in reg.outs n) refl (unshown d c regs (r + 1) n (λ has. none (In-right n (reg_nets reg) (flat_map reg_nets regs) has)))
+unshown d c (reg ∷ regs) r n none = by_shown (shown_in reg.outs n) refl
+    (unshown d c regs (r + 1) n (λ has. none (In-right n (reg_nets reg) (flat_map reg_nets regs) has)))
   where
-    by_shown : (s : Option Bool) → shown_in reg.outs n ≡ s → read_from d c regs (r + 1) n ≡ lit true (key c 0 0 n) → bit_or d c r (read_from d c regs (r + 1) n) s ≡ lit true (key c 0 0 n)
+    by_shown : (s : Option Bool) → shown_in reg.outs n ≡ s → read_from d c regs (r + 1) n ≡ lit true (key c 0 0 n)
+        → bit_or d c r (read_from d c regs (r + 1) n) s ≡ lit true (key c 0 0 n)
     by_shown None e rest = rest
     by_shown (Some inverted) e rest =
         let found = found_shown reg.outs n inverted e in
         let there = Rattle.query_model.proofs.Based.in_place found.1 reg.outs found.0 found.2 in
-        absurd (none (In-left n (reg_nets reg) (flat_map reg_nets regs) (subst (λ m. In m (reg_nets reg)) found.3 (In-map (λ (o : RegOut). o.net) found.1 reg.outs there))))
+        absurd (none (In-left n (reg_nets reg) (flat_map reg_nets regs)
+        (subst (λ m. In m (reg_nets reg)) found.3 (In-map (λ (o : RegOut). o.net) found.1 reg.outs there))))
 
 -- an input's net and a gate's are no register's output, since each net has one driver
 input_own : (d : Design) (c i : ℕ) → IsSound d → i < length d.inputs → OwnNet d (key c 0 0 (slice_index d.inputs i))
@@ -68,7 +75,14 @@ input_own d c i sound lt zero_layer low =
     let one = sound.one_driver n low in
     let of_input = count_contains n d.inputs (Contains-get_or d.inputs i 0 lt) in
     let of_reg = count_contains n (flat_map reg_nets d.regs) (Contains-from_In (flat_map reg_nets d.regs) n has) in
-    absurd (omega (arith, one, of_input, of_reg, count_append (λ m. Rattle.std.specs.Prelude.nat_eq m n) (source_nets d) (gate_nets d.gates), count_append (λ m. Rattle.std.specs.Prelude.nat_eq m n) d.inputs (flat_map reg_nets d.regs))))
+    absurd (omega (
+      arith,
+      one,
+      of_input,
+      of_reg,
+      count_append (λ m. Rattle.std.specs.Prelude.nat_eq m n) (source_nets d) (gate_nets d.gates),
+      count_append (λ m. Rattle.std.specs.Prelude.nat_eq m n) d.inputs (flat_map reg_nets d.regs),
+    )))
 
 gate_own : (d : Design) (c k : ℕ) (g : Gate) → IsSound d → slice_get d.gates k ≡ Some g → OwnNet d (key c 0 0 g.out)
 gate_own d c k g sound at zero_layer low =
@@ -79,10 +93,18 @@ gate_own d c k g sound at zero_layer low =
     let one = sound.one_driver n low in
     let of_gate = count_contains n (gate_nets d.gates) (Contains-from_In (gate_nets d.gates) n (In-map (λ (h : Gate). h.out) g d.gates there)) in
     let of_reg = count_contains n (flat_map reg_nets d.regs) (Contains-from_In (flat_map reg_nets d.regs) n has) in
-    absurd (omega (arith, one, of_gate, of_reg, count_append (λ m. Rattle.std.specs.Prelude.nat_eq m n) (source_nets d) (gate_nets d.gates), count_append (λ m. Rattle.std.specs.Prelude.nat_eq m n) d.inputs (flat_map reg_nets d.regs))))
+    absurd (omega (
+      arith,
+      one,
+      of_gate,
+      of_reg,
+      count_append (λ m. Rattle.std.specs.Prelude.nat_eq m n) (source_nets d) (gate_nets d.gates),
+      count_append (λ m. Rattle.std.specs.Prelude.nat_eq m n) d.inputs (flat_map reg_nets d.regs),
+    )))
 
 -- each needed key that is a net's own in layer 0 is what is read for that net
-pub needed_own : (coding : Coding) (q : Query) (moved : List (List Bool)) (k : Key) → IsSound q.design → IsNeeded (definitions coding q moved) (asked_clauses q) k → OwnNet q.design k
+pub needed_own : (coding : Coding) (q : Query) (moved : List (List Bool)) (k : Key) → IsSound q.design → IsNeeded (definitions coding q moved)
+    (asked_clauses q) k → OwnNet q.design k
 needed_own coding q moved k sound needed =
     needed_has coding (OwnNet q.design) q moved k
     (record {

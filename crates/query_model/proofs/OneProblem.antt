@@ -1,5 +1,6 @@
 -- A query has one problem: one table of moved nets, one list of needed keys, and one list of clauses in normal form.
-use Rattle.std.proofs.Common.{◌≡◌, ℕ, zero, suc, ◌+◌, ◌*◌, ◌/◌, ◌<◌, ◌≤◌, Bool, true, false, List, [], ◌∷◌, map, length, get_or, Some, refl, ap, sym, ◌∙◌, subst, arith, add-one, inl, inr, ◌⊎◌}
+use Rattle.std.proofs.Common.{◌≡◌, ℕ, zero, suc, ◌+◌, ◌*◌, ◌/◌, ◌<◌, ◌≤◌, Bool, true, false, List, [], ◌∷◌, map, length, get_or, Some, refl, ap, sym}
+use Rattle.std.proofs.Common.{◌∙◌, subst, arith, add-one, inl, inr, ◌⊎◌}
 use Rattle.std.specs.Prelude.{Contains, slice_get, slice_index, slice_index_or, All, ◌||◌, ◌==◌}
 use Rattle.std.specs.List.{list_any}
 use Rattle.std.proofs.lemmas.Bool.{cases_Bool, cases_eq, eq-eqb, eqb-true, or_left, or_right, or_cases}
@@ -87,7 +88,8 @@ moved_layer : (d : Design) (claim : Claim) (a b : List (List Bool)) → IsSound 
 moved_layer d claim a b sound s t l le lower =
     over_nets d (SameAt a b l) sound (moved_source d claim a b sound s t l le lower) (moved_gate d claim a b sound s t l le lower)
 
-moved_before : (d : Design) (claim : Claim) (a b : List (List Bool)) → IsSound d → AreMoved d claim a → AreMoved d claim b → (l : ℕ) → l ≤ length claim.through + 1
+moved_before : (d : Design) (claim : Claim) (a b : List (List Bool)) → IsSound d → AreMoved d claim a → AreMoved d claim b → (l : ℕ)
+    → l ≤ length claim.through + 1
     → SameBefore d a b l
 moved_before d claim a b sound s t zero le m lt n low = absurd (omega arith)
 moved_before d claim a b sound s t (suc l) le m lt n low =
@@ -263,7 +265,8 @@ normals_once (lits ∷ rest) (c ∷ cs) (e ∷ es) (inr taken) (inr taken_too) =
     ap (λ (x : List ℕ). x ∷ cs) (normal_once lits c e taken.0 taken_too.0) ∙ ap (λ (xs : List (List ℕ)). e ∷ xs) (normals_once rest cs es taken.1 taken_too.1)
 
 -- the formulas of a query are one
-formula_once : (coding : Coding) (q : Query) (keys others : List Key) (cs es : List (List KeyLit)) → IsSound q.design → IsFormulaOf coding q keys cs → IsFormulaOf coding q others es → (keys ≡ others) × (cs ≡ es)
+formula_once : (coding : Coding) (q : Query) (keys others : List Key) (cs es : List (List KeyLit)) → IsSound q.design → IsFormulaOf coding q keys cs
+    → IsFormulaOf coding q others es → (keys ≡ others) × (cs ≡ es)
 formula_once coding q keys others cs es sound one other =
     let moved : other.moved ≡ one.moved = moved_for q.design q.question other.moved one.moved sound other.are_moved one.are_moved in
     let needed : AreNeeded (definitions coding q one.moved) (asked_clauses q) others =
@@ -283,5 +286,6 @@ one_problem coding q sound keys others vars counts cs es one other =
     ap (λ (ks : List Key). map (map (code_of ks)) one.over_keys) same.0 ∙ ap (map (map (code_of others))) same.1 in (
       same.0,
       one.vars_are ∙ (ap length same.0 ∙ sym other.vars_are),
-      normals_once (map (map (code_of others)) other.over_keys) cs es (subst (λ (all : List (List ℕ)). AreNormalsOf all cs) coded one.clauses_are) other.clauses_are,
+      normals_once (map (map (code_of others)) other.over_keys) cs es (subst (λ (all : List (List ℕ)). AreNormalsOf all cs) coded one.clauses_are)
+          other.clauses_are,
     )

@@ -11,7 +11,8 @@ use Rattle.query_model.specs.declared.keys.Key.{Key}
 
 key_is : (a b : Key) → a.cycle ≡ b.cycle → a.layer ≡ b.layer → a.rail ≡ b.rail → a.point ≡ b.point → a ≡ b
 key_is a b c l r p =
-    ap (λ x. key x a.layer a.rail a.point) c ∙ ap (λ x. key b.cycle x a.rail a.point) l ∙ ap (λ x. key b.cycle b.layer x a.point) r ∙ ap (λ x. key b.cycle b.layer b.rail x) p
+    ap (λ x. key x a.layer a.rail a.point) c ∙ ap (λ x. key b.cycle x a.rail a.point) l ∙ ap (λ x. key b.cycle b.layer x a.point) r
+    ∙ ap (λ x. key b.cycle b.layer b.rail x) p
 
 pub same_key-true : (a b : Key) → same_key a b ≡ true → a ≡ b
 same_key-true a b e =

@@ -93,7 +93,8 @@ pub from_filter : {X : Type 0} (p : X → Bool) (x : X) (xs : List X) → In x (
 from_filter p x [] has = absurd has
 from_filter {X} p x (y ∷ ys) has = by_test (p y) refl has (from_filter p x ys)
   where
-    by_test : (b : Bool) → p y ≡ b → In x (cond b (y ∷ filter p ys) (filter p ys)) → (In x (filter p ys) → In x ys × (p x ≡ true)) → In x (y ∷ ys) × (p x ≡ true)
+    by_test : (b : Bool) → p y ≡ b → In x (cond b (y ∷ filter p ys) (filter p ys)) → (In x (filter p ys) → In x ys × (p x ≡ true)) → In x (y ∷ ys)
+        × (p x ≡ true)
     by_test true e (inl here) rest = (inl here, ap p (sym here) ∙ e)
     by_test true e (inr later) rest = let more = rest later in (inr more.0, more.1)
     by_test false e later rest = let more = rest later in (inr more.0, more.1)
@@ -108,7 +109,8 @@ in_filter p x (y ∷ ys) (inr later) e = by_test (p y) (in_filter p x ys later e
   by_test false there = there
 
 -- by the number of fixed places
-climbs : (cubes : List Cube) (n : ℕ) (cube : Cube) → fixed_count cube.fixed < n → In cube cubes → (e : Cube) × In e (filter (is_prime cubes) cubes) × (lies_in cube.fixed e.fixed ≡ true)
+climbs : (cubes : List Cube) (n : ℕ) (cube : Cube) → fixed_count cube.fixed < n → In cube cubes → (e : Cube) × In e (filter (is_prime cubes) cubes)
+    × (lies_in cube.fixed e.fixed ≡ true)
 climbs cubes zero cube lt has = absurd (omega arith)
 climbs cubes (suc n) cube lt has =
     elim (cases_Bool (is_prime cubes cube)) [
@@ -122,7 +124,8 @@ climbs cubes (suc n) cube lt has =
           (more.0, more.1, lies_trans cube.fixed found.0.fixed more.0.fixed parts.0 more.2)
     ]
 
-pub in_prime : (cell : (ℕ → Bool) → Bool) (places : ℕ) (cube : Cube) → In cube (constant_cubes cell places) → (e : Cube) × In e (prime_cubes cell places) × (lies_in cube.fixed e.fixed ≡ true)
+pub in_prime : (cell : (ℕ → Bool) → Bool) (places : ℕ) (cube : Cube) → In cube (constant_cubes cell places) → (e : Cube)
+    × In e (prime_cubes cell places) × (lies_in cube.fixed e.fixed ≡ true)
 in_prime cell places cube has = climbs (constant_cubes cell places) (fixed_count cube.fixed + 1) cube (omega arith) has
 
 -- what lies in a cube lies in each that it lies in

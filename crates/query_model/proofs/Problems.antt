@@ -34,7 +34,8 @@ has_key_in keys k e =
     subst (λ (j : Key). In j keys) (sym (same_key-true k found.0 found.2)) found.1
 
 -- each key in a formula is in its list of keys
-keys_listed : (defs : List Definition) (asked : List (List KeyLit)) (keys : List Key) (c : List KeyLit) (l : KeyLit) → AreNeeded defs asked keys → In c (formula_over defs asked keys) → In l c → In l.key keys
+keys_listed : (defs : List Definition) (asked : List (List KeyLit)) (keys : List Key) (c : List KeyLit) (l : KeyLit) → AreNeeded defs asked keys
+    → In c (formula_over defs asked keys) → In l c → In l.key keys
 keys_listed defs asked keys c l needed in_formula in_c =
     In-from_Contains keys l.key (needed.all l.key
     (elim (In-cases c (flat_map (listed keys) defs) asked in_formula) [
@@ -46,7 +47,8 @@ keys_listed defs asked keys c l needed in_formula in_c =
       | inr in_asked ↦ Asked l.key (mentioned asked c l in_asked in_c)
     ]))
   where
-    some_out : (def : Definition) (b : Bool) → list_any (has_key keys) def.outs ≡ b → In c (cond b def.clauses []) → (out : Key) × (In out def.outs × In c def.clauses) × In out keys
+    some_out : (def : Definition) (b : Bool) → list_any (has_key keys) def.outs ≡ b → In c (cond b def.clauses []) → (out : Key)
+        × (In out def.outs × In c def.clauses) × In out keys
     some_out def true e has = let found = some_where (has_key keys) def.outs e in (found.0, (found.1, has), has_key_in keys found.0 found.2)
     some_out def false e has = absurd has
 
@@ -60,15 +62,18 @@ same_values u w (l ∷ c) same =
     by_sign false = ap Rattle.std.proofs.Common.not (same l (inl refl))
 
 -- a model over keys is a model over variables
-true_coded : (keys : List Key) (w : Key → Bool) (cs : List (List KeyLit)) → ((c : List KeyLit) (l : KeyLit) → In c cs → In l c → In l.key keys) → AllTrue w cs → AllCodesTrue (by_key keys w) (map (map (code_of keys)) cs)
+true_coded : (keys : List Key) (w : Key → Bool) (cs : List (List KeyLit)) → ((c : List KeyLit) (l : KeyLit) → In c cs → In l c → In l.key keys)
+    → AllTrue w cs → AllCodesTrue (by_key keys w) (map (map (code_of keys)) cs)
 true_coded keys w [] inside hold = tt
 true_coded keys w (c ∷ cs) inside hold = (
-  coded_same keys (by_key keys w) c ∙ (same_values (by_number keys (by_key keys w)) w c (λ l has. by_key_number keys w l.key (inside c l (inl refl) has)) ∙ hold.0),
+  coded_same keys (by_key keys w) c ∙ (same_values (by_number keys (by_key keys w)) w c
+      (λ l has. by_key_number keys w l.key (inside c l (inl refl) has)) ∙ hold.0),
   true_coded keys w cs (λ d l has. inside d l (inr has)) hold.1,
 )
 
 -- and agrees with the same runs
-agrees_by_number : (d : Design) (keys : List Key) (w : Key → Bool) (run : List Cycle) → AgreesWith d keys w run → AgreesWith d keys (by_number keys (by_key keys w)) run
+agrees_by_number : (d : Design) (keys : List Key) (w : Key → Bool) (run : List Cycle) → AgreesWith d keys w run
+    → AgreesWith d keys (by_number keys (by_key keys w)) run
 agrees_by_number d keys w run agrees =
     record {
       nets = λ t c n at low has. by_key_number keys w (key t 0 0 n) (In-from_Contains keys (key t 0 0 n) has) ∙ agrees.nets t c n at low has;

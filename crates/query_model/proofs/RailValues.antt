@@ -32,13 +32,17 @@ abbrev pub on_terns : ((ℕ → Bool) → Bool) → List Tern → Tern
 on_terns cell ts = cell_value cell (λ i. slice_index_or ts i Zero)
 
 -- the clauses of a function's output give its rails
-pub rails_give : (kind : Key → Type 0) (v : Key → Bool) (cell : (ℕ → Bool) → Bool) (hs ls : List KeyLit) (high low : KeyLit) (rows cubes : List Cube) (ts : List Tern) → length ts ≤ 7 → ReadsOnly 7 cell → Covers cell (length ts) rows → Settles cell (length ts) cubes → RailsTell kind v hs ls ts → AllTrue v (hazard_clauses hs ls high low rows cubes) → ((c : List KeyLit) (l : KeyLit) → In c (hazard_clauses hs ls high low rows cubes) → In l c → kind l.key) → AreRails v high low (on_terns cell ts)
+pub rails_give : (kind : Key → Type 0) (v : Key → Bool) (cell : (ℕ → Bool) → Bool) (hs ls : List KeyLit) (high low : KeyLit) (rows cubes : List Cube)
+    (ts : List Tern) → length ts ≤ 7 → ReadsOnly 7 cell → Covers cell (length ts) rows → Settles cell (length ts) cubes → RailsTell kind v hs ls ts
+    → AllTrue v (hazard_clauses hs ls high low rows cubes) → ((c : List KeyLit) (l : KeyLit) → In c (hazard_clauses hs ls high low rows cubes)
+    → In l c → kind l.key) → AreRails v high low (on_terns cell ts)
 rails_give kind v cell hs ls high low rows cubes ts few only covers settles tell all has = by_value (on_terns cell ts) refl
   where
     may : (b : Bool) (x : Tern) → on_terns cell ts ≡ x → Completes x b → lit_value v (may_be b high low) ≡ true
     may b x e fits =
         let some = some_bits cell ts b few only (subst (λ (y : Tern). Completes y b) (sym e) fits) in
-        subst (λ (y : Bool). lit_value v (may_be y high low) ≡ true) some.2 (hazard_may kind v cell hs ls high low rows cubes ts some.0 covers tell all has some.1)
+        subst (λ (y : Bool). lit_value v (may_be y high low) ≡ true) some.2
+        (hazard_may kind v cell hs ls high low rows cubes ts some.0 covers tell all has some.1)
 
     must : (b : Bool) → on_terns cell ts ≡ tern_of b → lit_value v (may_be (not b) high low) ≡ false
     must b e = hazard_must kind v cell hs ls high low rows cubes ts b settles tell all has (λ bits inside. constant_right cell ts b bits only e inside)
@@ -63,24 +67,29 @@ may_not x false v high low rails e = subst (λ (y : Tern). lit_value v high ≡ 
 may_not x true v high low rails e = subst (λ (y : Tern). lit_value v low ≡ may_zero y) e rails.1
 
 -- the value on bits in the list completes the cell's value
-completed : (cell : (ℕ → Bool) → Bool) (ts : List Tern) (bits : List Bool) (x : Tern) → ReadsOnly 7 cell → on_terns cell ts ≡ x → Inside bits ts → Completes x (on_list cell bits)
+completed : (cell : (ℕ → Bool) → Bool) (ts : List Tern) (bits : List Bool) (x : Tern) → ReadsOnly 7 cell → on_terns cell ts ≡ x → Inside bits ts
+    → Completes x (on_list cell bits)
 completed cell ts bits Zero only e inside = constant_right cell ts false bits only e inside
 completed cell ts bits One only e inside = constant_right cell ts true bits only e inside
 completed cell ts bits Unknown only e inside = tt
 
 -- rails that have the values make the clauses true
-pub rails_true : (v : Key → Bool) (cell : (ℕ → Bool) → Bool) (hs ls : List KeyLit) (high low : KeyLit) (rows cubes : List Cube) (ts : List Tern) → length ts ≤ 7 → ReadsOnly 7 cell → Covers cell (length ts) rows → Settles cell (length ts) cubes → RailsTell AnyKey v hs ls ts → AreRails v high low (on_terns cell ts) → AllTrue v (hazard_clauses hs ls high low rows cubes)
+pub rails_true : (v : Key → Bool) (cell : (ℕ → Bool) → Bool) (hs ls : List KeyLit) (high low : KeyLit) (rows cubes : List Cube) (ts : List Tern)
+    → length ts ≤ 7 → ReadsOnly 7 cell → Covers cell (length ts) rows → Settles cell (length ts) cubes → RailsTell AnyKey v hs ls ts
+    → AreRails v high low (on_terns cell ts) → AllTrue v (hazard_clauses hs ls high low rows cubes)
 rails_true v cell hs ls high low rows cubes ts few only covers settles tell rails =
     hazard_true v cell hs ls high low rows cubes ts covers settles tell
     (λ bits inside. may_be_completed (on_terns cell ts) (on_list cell bits) v high low rails (completed cell ts bits (on_terns cell ts) only refl inside))
     (λ b all. may_not (on_terns cell ts) b v high low rails
     ((cell_common cell (λ i. slice_index_or ts i Zero) only b).1
-    (λ bits fits. only bits (λ i. slice_index_or (list_of (length ts) bits) i false) (λ i lt. past bits fits i lt) ∙ all (list_of (length ts) bits) (inside_listed ts bits (λ i lt. fits i (below i lt))))))
+    (λ bits fits. only bits (λ i. slice_index_or (list_of (length ts) bits) i false) (λ i lt. past bits fits i lt) ∙ all (list_of (length ts) bits)
+    (inside_listed ts bits (λ i lt. fits i (below i lt))))))
   where
     below : (i : ℕ) → i < length ts → i < 7
     below i lt = omega arith
 
-    past : (bits : ℕ → Bool) → ((i : ℕ) → i < 7 → Completes (slice_index_or ts i Zero) (bits i)) → (i : ℕ) → i < 7 → bits i ≡ slice_index_or (list_of (length ts) bits) i false
+    past : (bits : ℕ → Bool) → ((i : ℕ) → i < 7 → Completes (slice_index_or ts i Zero) (bits i)) → (i : ℕ) → i < 7 → bits i ≡ slice_index_or
+        (list_of (length ts) bits) i false
     past bits fits i lt =
         elim (Rattle.std.proofs.lemmas.Bool.cases_lt i (length ts)) [
           | inl less ↦ sym (listed_at (length ts) bits i less)

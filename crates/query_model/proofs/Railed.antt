@@ -1,5 +1,6 @@
 -- Where hazards count, the needed keys of the layers have the rails of the ternary layers.
-use Rattle.std.proofs.Common.{◌≡◌, ℕ, zero, suc, ◌+◌, ◌<◌, ◌≤◌, Bool, true, false, not, cond, List, [], map, length, Some, refl, ap, sym, ◌∙◌, arith, inl, inr, ◌⊎◌, subst, add-one}
+use Rattle.std.proofs.Common.{◌≡◌, ℕ, zero, suc, ◌+◌, ◌<◌, ◌≤◌, Bool, true, false, not, cond, List, [], map, length, Some, refl, ap, sym, ◌∙◌, arith}
+use Rattle.std.proofs.Common.{inl, inr, ◌⊎◌, subst, add-one}
 use Rattle.std.specs.Prelude.{Contains, slice_get, slice_index}
 use Rattle.std.proofs.lemmas.Bool.{and_from, and_parts, not-true, both_ways, cases_lt}
 use Rattle.std.proofs.lemmas.Option.{slice_get_within}
@@ -81,7 +82,9 @@ late_layers d claim moved are =
     }
 
 -- so is each needed key of a claim's query
-needed_layer : (coding : Coding) (d : Design) (claim : Claim) (phase : Phase) (depth : ℕ) (inv : List InvClause) (moved : List (List Bool)) (k : Key) → AreMoved d claim moved → IsNeeded (definitions coding (claim_query d claim phase depth inv) moved) (asked_clauses (claim_query d claim phase depth inv)) k → OwnLayer d claim moved k
+needed_layer : (coding : Coding) (d : Design) (claim : Claim) (phase : Phase) (depth : ℕ) (inv : List InvClause) (moved : List (List Bool)) (k : Key)
+    → AreMoved d claim moved → IsNeeded (definitions coding (claim_query d claim phase depth inv) moved)
+    (asked_clauses (claim_query d claim phase depth inv)) k → OwnLayer d claim moved k
 needed_layer coding d claim phase depth inv moved k are needed =
     needed_has coding (OwnLayer d claim moved) (claim_query d claim phase depth inv) moved k (base_layer d claim moved) (late_layers d claim moved are) needed
 
@@ -97,28 +100,35 @@ moved_low d claim moved are l n is =
     short past =
         elim (cases_lt l (length moved)) [
           | inl within ↦ let len : length (row_at moved l) ≡ d.nets = are.lens l [] within in omega arith
-          | inr beyond ↦ let none : row_at moved l ≡ [] = get_or_past moved l [] beyond in let size : length (row_at moved l) ≡ 0 = ap length none in omega arith
+          | inr beyond ↦ let none : row_at moved l ≡ [] = get_or_past moved l [] beyond in let size : length (row_at moved l) ≡ 0 = ap length none in
+              omega arith
         ]
 
 -- a net with keys of its own is read by them
-read_is_own : (d : Design) (claim : Claim) (moved : List (List Bool)) (t l rail n : ℕ) → claim.hazard ≡ true → has_own claim moved l n ≡ true → read d claim moved t (suc l) rail n ≡ lit true (key t (suc l) rail n)
+read_is_own : (d : Design) (claim : Claim) (moved : List (List Bool)) (t l rail n : ℕ) → claim.hazard ≡ true → has_own claim moved l n ≡ true
+    → read d claim moved t (suc l) rail n ≡ lit true (key t (suc l) rail n)
 read_is_own d claim moved t l rail n hazard own =
     let parts = and_parts (net_at false moved l n) (not (is_in (Net n) (held_set claim.through l))) own in
-    by_tests (net_at false moved l n) parts.0 (is_in (Net n) (held_set claim.through l)) (not-true (is_in (Net n) (held_set claim.through l)) parts.1) _ (read d claim moved t l rail n)
+    by_tests (net_at false moved l n) parts.0 (is_in (Net n) (held_set claim.through l)) (not-true (is_in (Net n) (held_set claim.through l)) parts.1)
+    _ (read d claim moved t l rail n)
     ∙ read_own d claim t l rail n hazard
   where
-    by_tests : (m : Bool) → m ≡ true → (h : Bool) → h ≡ false → (x y : KeyLit) → cond (not m) x (cond h y (read_late d claim t l rail n)) ≡ read_late d claim t l rail n
+    by_tests : (m : Bool) → m ≡ true → (h : Bool) → h ≡ false → (x y : KeyLit) → cond (not m) x (cond h y (read_late d claim t l rail n)) ≡ read_late
+        d claim t l rail n
     by_tests true m false h x y = refl
     by_tests true m true h x y = absurd cc
     by_tests false m h e x y = absurd cc
 
 -- rails that tell a value have what it says of each rail
-rail_is : (kind : Key → Type 0) (v : Key → Bool) (k : ℕ → Key) (x : Tern) → RailTells kind v (lit true (k 0)) (lit true (k 1)) x → (rail : ℕ) → rail ≤ 1 → kind (k rail) → v (k rail) ≡ rail_value rail x
+rail_is : (kind : Key → Type 0) (v : Key → Bool) (k : ℕ → Key) (x : Tern) → RailTells kind v (lit true (k 0)) (lit true (k 1)) x → (rail : ℕ)
+    → rail ≤ 1 → kind (k rail) → v (k rail) ≡ rail_value rail x
 rail_is kind v k x tells zero le has = tells.0 has
 rail_is kind v k x tells (suc zero) le has = tells.1 has
 rail_is kind v k x tells (suc (suc rail)) le has = absurd (omega arith)
 
-net_rail : (kind : Key → Type 0) (v : Key → Bool) (d : Design) (claim : Claim) (moved : List (List Bool)) (t : ℕ) (rows : List (List Tern)) (l rail n : ℕ) → claim.hazard ≡ true → LayerMay kind v d claim moved t rows l n → has_own claim moved l n ≡ true → rail ≤ 1 → kind (key t (suc l) rail n) → v (key t (suc l) rail n) ≡ rail_value rail (net_at Zero rows l n)
+net_rail : (kind : Key → Type 0) (v : Key → Bool) (d : Design) (claim : Claim) (moved : List (List Bool)) (t : ℕ) (rows : List (List Tern))
+    (l rail n : ℕ) → claim.hazard ≡ true → LayerMay kind v d claim moved t rows l n → has_own claim moved l n ≡ true → rail ≤ 1
+    → kind (key t (suc l) rail n) → v (key t (suc l) rail n) ≡ rail_value rail (net_at Zero rows l n)
 net_rail kind v d claim moved t rows l rail n hazard tells own le has =
     let x = net_at Zero rows l n in
     let high = read_is_own d claim moved t l 0 n hazard own in
@@ -128,18 +138,24 @@ net_rail kind v d claim moved t rows l rail n hazard tells own le has =
     (subst (λ (m : KeyLit). RailTells kind v m (read d claim moved t (suc l) 1 n) x) high tells) in
     rail_is kind v (λ r. key t (suc l) r n) x mine rail le has
 
-end_rail : (kind : Key → Type 0) (v : Key → Bool) (d : Design) (claim : Claim) (moved : List (List Bool)) (t : ℕ) (c : Cycle) (rows : List (List Tern)) (r rail : ℕ) (e : End) → e ≡ RegEnd r → EndMay kind v d claim moved t c rows e → rail ≤ 1 → kind (late_key d claim t rail) → v (late_key d claim t rail) ≡ rail_value rail (tern_capture_over d claim.through rows e c)
+end_rail : (kind : Key → Type 0) (v : Key → Bool) (d : Design) (claim : Claim) (moved : List (List Bool)) (t : ℕ) (c : Cycle)
+    (rows : List (List Tern)) (r rail : ℕ) (e : End) → e ≡ RegEnd r → EndMay kind v d claim moved t c rows e → rail ≤ 1
+    → kind (late_key d claim t rail) → v (late_key d claim t rail) ≡ rail_value rail (tern_capture_over d claim.through rows e c)
 end_rail kind v d claim moved t c rows r rail e is tells le has =
     let mine : EndMay kind v d claim moved t c rows (RegEnd r) = subst (λ (x : End). EndMay kind v d claim moved t c rows x) is tells in
     rail_is kind v (λ i. late_key d claim t i) (tern_capture_over d claim.through rows (RegEnd r) c) mine rail le has
     ∙ ap (λ (x : End). rail_value rail (tern_capture_over d claim.through rows x c)) (sym is)
 
 -- definitions that are true tell the layers of a cycle, and the late capture over them
-record AreTold (kind : Key → Type 0) (v : Key → Bool) (d : Design) (claim : Claim) (moved : List (List Bool)) (t : ℕ) (c : Cycle) (rows : List (List Tern)) : Type 0 where
+record AreTold (kind : Key → Type 0) (v : Key → Bool) (d : Design) (claim : Claim) (moved : List (List Bool)) (t : ℕ) (c : Cycle)
+    (rows : List (List Tern)) : Type 0 where
   nets : (l : ℕ) → l ≤ length claim.through → (n : ℕ) → n < d.nets → LayerMay kind v d claim moved t rows l n
   end : EndMay kind v d claim moved t c rows claim.end
 
-rows_told : (coding : Coding) (kind : Key → Type 0) (v : Key → Bool) (d : Design) (claim : Claim) (moved : List (List Bool)) (run : List Cycle) (t : ℕ) (c : Cycle) (rows : List (List Tern)) → IsCoding coding → claim.hazard ≡ true → IsAskedOf d claim run → AreMoved d claim moved → Told kind v d run → Forces kind v (claim_definitions coding d claim moved t) → slice_get run t ≡ Some c → AreLayers tern_value Zero d claim.start claim.through (λ _. Unknown) (map tern_of c.nets) rows → AreTold kind v d claim moved t c rows
+rows_told : (coding : Coding) (kind : Key → Type 0) (v : Key → Bool) (d : Design) (claim : Claim) (moved : List (List Bool)) (run : List Cycle)
+    (t : ℕ) (c : Cycle) (rows : List (List Tern)) → IsCoding coding → claim.hazard ≡ true → IsAskedOf d claim run → AreMoved d claim moved
+    → Told kind v d run → Forces kind v (claim_definitions coding d claim moved t) → slice_get run t ≡ Some c
+    → AreLayers tern_value Zero d claim.start claim.through (λ _. Unknown) (map tern_of c.nets) rows → AreTold kind v d claim moved t c rows
 rows_told coding kind v d claim moved run t c rows is hazard asked are told forced at layers =
     let within = slice_get_within run t c at in
     let hazy : IsHazy d claim moved c rows =
@@ -155,19 +171,27 @@ rows_told coding kind v d claim moved run t c rows is hazard asked are told forc
     let nets = layers_may coding kind v d claim moved t c rows is hazy (told.nets t c at) (layers_of coding kind v d claim moved t forced) in
     record {
       nets = nets;
-      end = end_may coding kind v d claim moved t c rows is hazy claim.end asked.end_in nets (λ r small own. told.bits t (omega arith) r small own ∙ now_bits d run t c r at) (ends_of coding kind v d claim moved t forced);
+      end = end_may coding kind v d claim moved t c rows is hazy claim.end asked.end_in nets (λ r small own. told.bits t (omega arith) r small own
+          ∙ now_bits d run t c r at) (ends_of coding kind v d claim moved t forced);
     }
 
 -- the needed keys of a model have the rails of each cycle's layers
-told_rails : (coding : Coding) (d : Design) (claim : Claim) (phase : Phase) (depth : ℕ) (inv : List InvClause) (moved : List (List Bool)) (keys : List Key) (v : Key → Bool) (run : List Cycle) → IsSound d → claim.hazard ≡ true → AreMoved d claim moved → AreNeeded (definitions coding (claim_query d claim phase depth inv) moved) (asked_clauses (claim_query d claim phase depth inv)) keys → ((t : ℕ) (c : Cycle) (rows : List (List Tern)) → slice_get run t ≡ Some c → AreLayers tern_value Zero d claim.start claim.through (λ _. Unknown) (map tern_of c.nets) rows → AreTold (IsNeeded (definitions coding (claim_query d claim phase depth inv) moved) (asked_clauses (claim_query d claim phase depth inv))) v d claim moved t c rows) → HasRails d claim keys v run
+told_rails : (coding : Coding) (d : Design) (claim : Claim) (phase : Phase) (depth : ℕ) (inv : List InvClause) (moved : List (List Bool))
+    (keys : List Key) (v : Key → Bool) (run : List Cycle) → IsSound d → claim.hazard ≡ true → AreMoved d claim moved
+    → AreNeeded (definitions coding (claim_query d claim phase depth inv) moved) (asked_clauses (claim_query d claim phase depth inv)) keys
+    → ((t : ℕ) (c : Cycle) (rows : List (List Tern)) → slice_get run t ≡ Some c → AreLayers tern_value Zero d claim.start claim.through (λ _. Unknown)
+    (map tern_of c.nets) rows → AreTold (IsNeeded (definitions coding (claim_query d claim phase depth inv) moved)
+    (asked_clauses (claim_query d claim phase depth inv))) v d claim moved t c rows) → HasRails d claim keys v run
 told_rails coding d claim phase depth inv moved keys v run sound hazard are needed told =
     let kind : Key → Type 0 = IsNeeded (definitions coding (claim_query d claim phase depth inv) moved) (asked_clauses (claim_query d claim phase depth inv)) in
     record {
       nets = λ t l rail n c rows at layers le small low has.
           let is : kind (key t (suc l) rail n) = needed.needed (key t (suc l) rail n) (subst (λ i. Contains keys (key t i rail n)) (add-one l) has) in
-          let own : has_own claim moved l n ≡ true = elim (needed_layer coding d claim phase depth inv moved (key t (suc l) rail n) are is l refl) [ inl own ↦ own | inr end ↦ absurd (omega (arith, end.2)) ] in
+          let own : has_own claim moved l n ≡ true = elim (needed_layer coding d claim phase depth inv moved (key t (suc l) rail n) are is l refl)
+          [ inl own ↦ own | inr end ↦ absurd (omega (arith, end.2)) ] in
           subst (λ i. v (key t i rail n) ≡ rail_value rail (net_at Zero rows l n)) (sym (add-one l))
-          (net_rail kind v d claim moved t rows l rail n hazard ((told t c rows at (computed_layers d claim.start claim.through c.nets rows sound layers)).nets l le n low) own small is);
+          (net_rail kind v d claim moved t rows l rail n hazard ((told t c rows at
+          (computed_layers d claim.start claim.through c.nets rows sound layers)).nets l le n low) own small is);
       capture = λ t rail c late at is small has.
           let needs = needed.needed (late_key d claim t rail) has in
           elim (needed_layer coding d claim phase depth inv moved (late_key d claim t rail) are needs (length claim.through) (add-one (length claim.through))) [
@@ -184,7 +208,8 @@ told_rails coding d claim phase depth inv moved keys v run sound hazard are need
     }
 
 -- in each model of a claim's query where hazards count, the layers' rails are those of the ternary layers
-pub claim_rails : (coding : Coding) (d : Design) (claim : Claim) (phase : Phase) (depth : ℕ) (inv : List InvClause) → IsSound d → Fits d claim → claim.hazard ≡ true → ModelsHaveRails coding claim (claim_query d claim phase depth inv)
+pub claim_rails : (coding : Coding) (d : Design) (claim : Claim) (phase : Phase) (depth : ℕ) (inv : List InvClause) → IsSound d → Fits d claim
+    → claim.hazard ≡ true → ModelsHaveRails coding claim (claim_query d claim phase depth inv)
 claim_rails coding d claim phase depth inv sound fits hazard keys clauses v run formula all are free =
     let q = claim_query d claim phase depth inv in
     let moved = formula.moved in
@@ -206,4 +231,5 @@ claim_rails coding d claim phase depth inv sound fits hazard keys clauses v run 
 pub numbered_rails : (coding : Coding) (claim : Claim) (q : Query) → ModelsHaveRails coding claim q → NumberedHaveRails coding claim q
 numbered_rails coding claim q law keys vars clauses v run problem hold are free =
     law keys problem.over_keys (Rattle.query_model.specs.Variables.by_number keys v) run problem.formula
-    (model_by_number keys v problem.over_keys (normals_true v (map (map (Rattle.query_model.specs.Variables.code_of keys)) problem.over_keys) clauses problem.clauses_are hold)) are free
+    (model_by_number keys v problem.over_keys (normals_true v (map (map (Rattle.query_model.specs.Variables.code_of keys)) problem.over_keys) clauses
+    problem.clauses_are hold)) are free

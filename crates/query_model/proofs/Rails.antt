@@ -1,5 +1,6 @@
 -- The other way round: rails of a function's value make the clauses true; an unknown value may be both.
-use Rattle.std.proofs.Common.{◌≡◌, ◌≢◌, ℕ, zero, suc, ◌<◌, ◌≤◌, Bool, true, false, not, List, [], ◌∷◌, map, length, refl, ap, sym, ◌∙◌, arith, inl, inr, ◌⊎◌, subst}
+use Rattle.std.proofs.Common.{◌≡◌, ◌≢◌, ℕ, zero, suc, ◌<◌, ◌≤◌, Bool, true, false, not, List, [], ◌∷◌, map, length, refl, ap, sym, ◌∙◌, arith, inl}
+use Rattle.std.proofs.Common.{inr, ◌⊎◌, subst}
 use Rattle.std.specs.Prelude.{slice_index_or}
 use Rattle.std.proofs.lemmas.Bool.{or_left, or_right, and_from, cases_Bool, cases_lt}
 use Rattle.net_model.specs.Ternary.{Completes}
@@ -42,7 +43,8 @@ abbrev Completion : ℕ → ((ℕ → Bool) → Bool) → (ℕ → Tern) → (�
 Completion k f t a b =
     (bits : ℕ → Bool) × ((i : ℕ) → i < k → Completes (t i) (bits i)) × ((i : ℕ) → k ≤ i → bits i ≡ a i) × (f bits ≡ b)
 
-extend : (k : ℕ) (f : (ℕ → Bool) → Bool) (t : ℕ → Tern) (a : ℕ → Bool) (bit b : Bool) → Completes (t k) bit → Completion k f t (with_bit a k bit) b → Completion (suc k) f t a b
+extend : (k : ℕ) (f : (ℕ → Bool) → Bool) (t : ℕ → Tern) (a : ℕ → Bool) (bit b : Bool) → Completes (t k) bit → Completion k f t (with_bit a k bit) b
+    → Completion (suc k) f t a b
 extend k f t a bit b fits c =
     let here : c.0 k ≡ bit = c.2 k (omega arith) ∙ with_same a k bit in (
       c.0,
@@ -58,7 +60,9 @@ extend k f t a bit b fits c =
 some_completion : (k : ℕ) (f : (ℕ → Bool) → Bool) (t : ℕ → Tern) (a : ℕ → Bool) (b : Bool) → Completes (common k f t a) b → Completion k f t a b
 some_completion zero f t a b c = (a, λ i lt. absurd (omega arith), λ i low. refl, tern_completes (f a) b c)
 some_completion (suc k) f t a b c = by_value (t k) refl c (some_completion k f t (with_bit a k false) b) (some_completion k f t (with_bit a k true) b) where
-  by_value : (x : Tern) → t k ≡ x → Completes (split x (λ bit. common k f t (with_bit a k bit))) b → (Completes (common k f t (with_bit a k false)) b → Completion k f t (with_bit a k false) b) → (Completes (common k f t (with_bit a k true)) b → Completion k f t (with_bit a k true) b) → Completion (suc k) f t a b
+  by_value : (x : Tern) → t k ≡ x → Completes (split x (λ bit. common k f t (with_bit a k bit))) b
+      → (Completes (common k f t (with_bit a k false)) b → Completion k f t (with_bit a k false) b)
+      → (Completes (common k f t (with_bit a k true)) b → Completion k f t (with_bit a k true) b) → Completion (suc k) f t a b
   by_value Zero e c low high = extend k f t a false b (subst (λ (x : Tern). Completes x false) (sym e) refl) (low c)
   by_value One e c low high = extend k f t a true b (subst (λ (x : Tern). Completes x true) (sym e) refl) (high c)
   by_value Unknown e c low high =
@@ -67,7 +71,8 @@ some_completion (suc k) f t a b c = by_value (t k) refl c (some_completion k f t
         | inr r ↦ extend k f t a true b (subst (λ (x : Tern). Completes x true) (sym e) tt) (high r)
       ]
 
-pub some_bits : (cell : (ℕ → Bool) → Bool) (ts : List Tern) (b : Bool) → length ts ≤ 7 → ReadsOnly 7 cell → Completes (cell_value cell (λ i. slice_index_or ts i Zero)) b → (bits : List Bool) × Inside bits ts × (on_list cell bits ≡ b)
+pub some_bits : (cell : (ℕ → Bool) → Bool) (ts : List Tern) (b : Bool) → length ts ≤ 7 → ReadsOnly 7 cell
+    → Completes (cell_value cell (λ i. slice_index_or ts i Zero)) b → (bits : List Bool) × Inside bits ts × (on_list cell bits ≡ b)
 unfolding cell_value
 some_bits cell ts b few only c =
     let n = length ts in
@@ -94,7 +99,8 @@ any_bit One = (true, refl)
 any_bit Unknown = (false, tt)
 
 -- a fixed place is barred from its bit, or some completion lies in the cube
-barred_cases : (v : Key → Bool) (hs ls : List KeyLit) (ts us : List Tern) → RailsTell AnyKey v hs ls ts → length us ≡ length ts → (is_true v (barred hs ls us) ≡ true) ⊎ ((bits : List Bool) × Inside bits ts × Inside bits us)
+barred_cases : (v : Key → Bool) (hs ls : List KeyLit) (ts us : List Tern) → RailsTell AnyKey v hs ls ts → length us ≡ length ts
+    → (is_true v (barred hs ls us) ≡ true) ⊎ ((bits : List Bool) × Inside bits ts × Inside bits us)
 barred_cases v [] [] [] [] tell len = inr ([], tt, tt)
 barred_cases v [] [] [] (u ∷ us) tell len = absurd (omega arith)
 barred_cases v [] [] (t ∷ ts) us tell len = absurd tell
@@ -140,7 +146,8 @@ only_one One e = refl
 only_one Unknown e = absurd cc
 
 -- a fixed place may escape the cube, or all completions lie in it
-escapes_cases : (v : Key → Bool) (hs ls : List KeyLit) (ts us : List Tern) → RailsTell AnyKey v hs ls ts → length us ≡ length ts → (is_true v (escapes hs ls us) ≡ true) ⊎ (lies_in ts us ≡ true)
+escapes_cases : (v : Key → Bool) (hs ls : List KeyLit) (ts us : List Tern) → RailsTell AnyKey v hs ls ts → length us ≡ length ts
+    → (is_true v (escapes hs ls us) ≡ true) ⊎ (lies_in ts us ≡ true)
 escapes_cases v [] [] [] [] tell len = inr refl
 escapes_cases v [] [] [] (u ∷ us) tell len = absurd (omega arith)
 escapes_cases v [] [] (t ∷ ts) us tell len = absurd tell
@@ -171,7 +178,11 @@ escapes_cases v (h ∷ hs) (l ∷ ls) (t ∷ ts) (Unknown ∷ us) tell len =
     ]
 
 -- rails of the output that say what the function may be make all clauses true
-pub hazard_true : (v : Key → Bool) (cell : (ℕ → Bool) → Bool) (hs ls : List KeyLit) (high low : KeyLit) (rows cubes : List Cube) (ts : List Tern) → Covers cell (length ts) rows → Settles cell (length ts) cubes → RailsTell AnyKey v hs ls ts → ((bits : List Bool) → Inside bits ts → lit_value v (may_be (on_list cell bits) high low) ≡ true) → ((b : Bool) → ((bits : List Bool) → Inside bits ts → on_list cell bits ≡ b) → lit_value v (may_be (not b) high low) ≡ false) → AllTrue v (hazard_clauses hs ls high low rows cubes)
+pub hazard_true : (v : Key → Bool) (cell : (ℕ → Bool) → Bool) (hs ls : List KeyLit) (high low : KeyLit) (rows cubes : List Cube) (ts : List Tern)
+    → Covers cell (length ts) rows → Settles cell (length ts) cubes → RailsTell AnyKey v hs ls ts
+    → ((bits : List Bool) → Inside bits ts → lit_value v (may_be (on_list cell bits) high low) ≡ true)
+    → ((b : Bool) → ((bits : List Bool) → Inside bits ts → on_list cell bits ≡ b) → lit_value v (may_be (not b) high low) ≡ false)
+    → AllTrue v (hazard_clauses hs ls high low rows cubes)
 hazard_true v cell hs ls high low rows cubes ts covers settles tell may must =
     all_true v (hazard_clauses hs ls high low rows cubes)
     (λ c has.
@@ -184,7 +195,8 @@ hazard_true v cell hs ls high low rows cubes ts covers settles tell may must =
           subst (λ d. is_true v d ≡ true) of.2
           (elim (barred_cases v hs ls ts cube.fixed tell (covers.lens cube of.1)) [
             | inl some ↦ split ∙ or_left (is_true v (barred hs ls cube.fixed)) (lit_value v out) some
-            | inr hit ↦ split ∙ or_right (is_true v (barred hs ls cube.fixed)) (lit_value v out) (subst (λ b. lit_value v (may_be b high low) ≡ true) (covers.right cube hit.0 of.1 hit.2) (may hit.0 hit.1))
+            | inr hit ↦ split ∙ or_right (is_true v (barred hs ls cube.fixed)) (lit_value v out)
+                (subst (λ b. lit_value v (may_be b high low) ≡ true) (covers.right cube hit.0 of.1 hit.2) (may hit.0 hit.1))
           ])
       | inr second ↦
           let of = from_map (must_clause hs ls high low) c cubes second in
@@ -196,6 +208,7 @@ hazard_true v cell hs ls high low rows cubes ts covers settles tell may must =
             | inl some ↦ split ∙ or_left (is_true v (escapes hs ls cube.fixed)) (lit_value v (opposite out)) some
             | inr all_in ↦
                 split ∙ or_right (is_true v (escapes hs ls cube.fixed)) (lit_value v (opposite out))
-                (value_opposite v out ∙ ap not (must cube.value (λ bits in'. settles.right cube bits of.1 (Rattle.query_model.proofs.Prime.inside_within bits ts cube.fixed all_in in'))))
+                (value_opposite v out ∙ ap not (must cube.value (λ bits in'. settles.right cube bits of.1
+                (Rattle.query_model.proofs.Prime.inside_within bits ts cube.fixed all_in in'))))
           ])
     ])

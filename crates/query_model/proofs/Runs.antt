@@ -1,5 +1,6 @@
 -- The base definitions of a run: its bits make them true, and what they make of the needed keys is its bits.
-use Rattle.std.proofs.Common.{length-append, ◌≡◌, ℕ, ◌+◌, ◌-◌, ◌<◌, ◌≤◌, Bool, true, false, not, cond, List, [], ◌∷◌, ◌++◌, map, length, Option, Some, None, refl, ap, sym, ◌∙◌, arith}
+use Rattle.std.proofs.Common.{length-append, ◌≡◌, ℕ, ◌+◌, ◌-◌, ◌<◌, ◌≤◌, Bool, true, false, not, cond, List, [], ◌∷◌, ◌++◌, map, length, Option, Some}
+use Rattle.std.proofs.Common.{None, refl, ap, sym, ◌∙◌, arith}
 use Rattle.std.specs.Prelude.{All, slice_get, ◌||◌}
 use Rattle.std.proofs.lemmas.List.{length-map}
 use Rattle.net_model.specs.Form.{value, IsOver}
@@ -39,7 +40,8 @@ bits_of d run t r = state_bit d (slice_get run (t - 1)) (slice_get run t) r
 pub now_bits : (d : Design) (run : List Cycle) (t : ℕ) (c : Cycle) (r : ℕ) → slice_get run t ≡ Some c → bits_of d run t r ≡ bit_at c.bits r
 now_bits d run t c r at = ap (λ (o : Option Cycle). state_bit d (slice_get run (t - 1)) o r) at
 
-pub next_bits : (d : Design) (run : List Cycle) (t : ℕ) (c : Cycle) (r : ℕ) → IsLinked d run → slice_get run t ≡ Some c → r < length d.regs → bits_of d run (t + 1) r ≡ capture d (RegEnd r) c
+pub next_bits : (d : Design) (run : List Cycle) (t : ℕ) (c : Cycle) (r : ℕ) → IsLinked d run → slice_get run t ≡ Some c → r < length d.regs
+    → bits_of d run (t + 1) r ≡ capture d (RegEnd r) c
 next_bits d run t c r linked at within = by_next (slice_get run (t + 1)) refl where
   by_next : (o : Option Cycle) → slice_get run (t + 1) ≡ o → bits_of d run (t + 1) r ≡ capture d (RegEnd r) c
   by_next (Some next) e = now_bits d run (t + 1) next r e ∙ linked.next t c next at e r within
@@ -67,7 +69,8 @@ AnyKey k = Unit {0}
 -- definitions of keys of the kind are true, and have no other keys
 pub record Forces (kind : Key → Type 0) (v : Key → Bool) (defs : List Definition) : Type 0 where
   pub clauses : (def : Definition) (out : Key) → In def defs → In out def.outs → kind out → AllTrue v def.clauses
-  pub closed : (def : Definition) (out : Key) → In def defs → In out def.outs → kind out → (c : List KeyLit) (l : KeyLit) → In c def.clauses → In l c → kind l.key
+  pub closed : (def : Definition) (out : Key) → In def defs → In out def.outs → kind out → (c : List KeyLit) (l : KeyLit) → In c def.clauses → In l c
+      → kind l.key
 
 -- units
 pub unit_true : (v : Key → Bool) (value : Bool) (k : Key) → v k ≡ value → AllTrue v ((lit value k ∷ []) ∷ [])
@@ -89,16 +92,22 @@ unit_says v false k all = not_is (v k) (sym (or_false (not (v k))) ∙ all.0)
 -- gates
 gate_cell : (d : Design) (k : ℕ) (g : Gate) → IsSound d → slice_get d.gates k ≡ Some g → (length (map (read_base d k) g.ins) ≤ 7) × ReadsOnly 7 (value g.func)
 gate_cell d k g sound at =
-    let range = All-at (IsGateInRange d) d.gates k g at sound.in_range.gates in
-    (omega (arith, length-map g.ins (read_base d k), range.few), value_reads 7 g.func (IsOver-weaker (length g.ins) 7 g.func (omega (arith, range.few)) range.func))
+    let range = All-at (IsGateInRange d) d.gates k g at sound.in_range.gates in (
+      omega (arith, length-map g.ins (read_base d k), range.few),
+      value_reads 7 g.func
+          (IsOver-weaker (length g.ins) 7 g.func (omega (arith, range.few)) range.func),
+    )
 
-gate_covers : (coding : Coding) (d : Design) (t k : ℕ) (g : Gate) → CodingCovers coding → IsSound d → slice_get d.gates k ≡ Some g → Covers (value g.func) (length (map (read_base d t) g.ins)) (covering coding (value g.func) (length (map (read_base d t) g.ins)))
+gate_covers : (coding : Coding) (d : Design) (t k : ℕ) (g : Gate) → CodingCovers coding → IsSound d → slice_get d.gates k ≡ Some g
+    → Covers (value g.func) (length (map (read_base d t) g.ins)) (covering coding (value g.func) (length (map (read_base d t) g.ins)))
 gate_covers coding d t k g covers sound at =
     let range = All-at (IsGateInRange d) d.gates k g at sound.in_range.gates in
     covers (value g.func) (length (map (read_base d t) g.ins)) (omega (arith, length-map g.ins (read_base d t), range.few))
     (value_reads 7 g.func (IsOver-weaker (length g.ins) 7 g.func (omega (arith, range.few)) range.func))
 
-pub gate_true : (coding : Coding) (v : Key → Bool) (d : Design) (t k : ℕ) (g : Gate) (c : Cycle) → CodingCovers coding → IsSound d → IsSettled d c → slice_get d.gates k ≡ Some g → v (key t 0 0 g.out) ≡ bit_at c.nets g.out → All (ReadTells AnyKey v d t (bit_at c.nets)) g.ins → AllTrue v (gate_definition coding d t g).clauses
+pub gate_true : (coding : Coding) (v : Key → Bool) (d : Design) (t k : ℕ) (g : Gate) (c : Cycle) → CodingCovers coding → IsSound d → IsSettled d c
+    → slice_get d.gates k ≡ Some g → v (key t 0 0 g.out) ≡ bit_at c.nets g.out → All (ReadTells AnyKey v d t (bit_at c.nets)) g.ins
+    → AllTrue v (gate_definition coding d t g).clauses
 gate_true coding v d t k g c covers sound settled at out tell =
     let range = All-at (IsGateInRange d) d.gates k g at sound.in_range.gates in
     let reads = map (read_base d t) g.ins in
@@ -106,11 +115,15 @@ gate_true coding v d t k g c covers sound settled at out tell =
     says_plain v (value g.func) reads (lit true (key t 0 0 g.out)) (covering coding (value g.func) (length reads)) (gate_covers coding d t k g covers sound at)
     (out ∙ settled.gates k g at ∙ sym (on_gate g.func g.ins c.nets range.func) ∙ ap (on_list (value g.func)) (sym told))
 
-pub gate_told : (coding : Coding) (kind : Key → Type 0) (v : Key → Bool) (d : Design) (t k : ℕ) (g : Gate) (c : Cycle) → CodingCovers coding → IsSound d → IsSettled d c → slice_get d.gates k ≡ Some g → All (ReadTells kind v d t (bit_at c.nets)) g.ins → AllTrue v (gate_definition coding d t g).clauses → ((cl : List KeyLit) (l : KeyLit) → In cl (gate_definition coding d t g).clauses → In l cl → kind l.key) → v (key t 0 0 g.out) ≡ bit_at c.nets g.out
+pub gate_told : (coding : Coding) (kind : Key → Type 0) (v : Key → Bool) (d : Design) (t k : ℕ) (g : Gate) (c : Cycle) → CodingCovers coding
+    → IsSound d → IsSettled d c → slice_get d.gates k ≡ Some g → All (ReadTells kind v d t (bit_at c.nets)) g.ins
+    → AllTrue v (gate_definition coding d t g).clauses → ((cl : List KeyLit) (l : KeyLit) → In cl (gate_definition coding d t g).clauses → In l cl
+    → kind l.key) → v (key t 0 0 g.out) ≡ bit_at c.nets g.out
 gate_told coding kind v d t k g c covers sound settled at tell all has =
     let range = All-at (IsGateInRange d) d.gates k g at sound.in_range.gates in
     let reads = map (read_base d t) g.ins in
-    plain_gives kind v (value g.func) reads (map (bit_at c.nets) g.ins) (lit true (key t 0 0 g.out)) (covering coding (value g.func) (length reads)) (gate_covers coding d t k g covers sound at)
+    plain_gives kind v (value g.func) reads (map (bit_at c.nets) g.ins) (lit true (key t 0 0 g.out)) (covering coding (value g.func) (length reads))
+    (gate_covers coding d t k g covers sound at)
     (reads_tell kind v d t (bit_at c.nets) g.ins tell) all has
     ∙ on_gate g.func g.ins c.nets range.func ∙ sym (settled.gates k g at)
 
@@ -135,34 +148,47 @@ own_short false own ls n le = omega (arith, length-append ls [], le)
 abbrev pub reg_reads : Design → ℕ → ℕ → Reg → List KeyLit
 reg_reads d t r reg = with_own reg (lit true (bit_key d t r)) (map (read_base d t) reg.ins)
 
-reg_covers : (coding : Coding) (d : Design) (t r : ℕ) (reg : Reg) → CodingCovers coding → IsSound d → slice_get d.regs r ≡ Some reg → Covers (reg_capture reg) (length (reg_reads d t r reg)) (covering coding (reg_capture reg) (length (reg_reads d t r reg)))
+reg_covers : (coding : Coding) (d : Design) (t r : ℕ) (reg : Reg) → CodingCovers coding → IsSound d → slice_get d.regs r ≡ Some reg
+    → Covers (reg_capture reg) (length (reg_reads d t r reg)) (covering coding (reg_capture reg) (length (reg_reads d t r reg)))
 reg_covers coding d t r reg covers sound at =
     let range = All-at (IsRegInRange d) d.regs r reg at sound.in_range.regs in
     let short : length (reg_reads d t r reg) ≤ 6 + 1 =
     own_short (reads_own reg) (lit true (bit_key d t r)) (map (read_base d t) reg.ins) 6 (omega (arith, length-map reg.ins (read_base d t), range.few)) in
     covers (reg_capture reg) (length (reg_reads d t r reg)) (omega arith) (capture_reads d reg range)
 
-pub captured : (d : Design) (c : Cycle) (r : ℕ) (reg : Reg) → slice_get d.regs r ≡ Some reg → capture d (RegEnd r) c ≡ reg_capture reg (reg_pins reg.ins c.nets (bit_at c.bits r))
+pub captured : (d : Design) (c : Cycle) (r : ℕ) (reg : Reg) → slice_get d.regs r ≡ Some reg → capture d (RegEnd r) c ≡ reg_capture reg
+    (reg_pins reg.ins c.nets (bit_at c.bits r))
 captured d c r reg at = ap (λ (o : Option Reg). Rattle.net_model.specs.Cycles.reg_capture_in c r o) at
 
-reg_tells : (kind : Key → Type 0) (v : Key → Bool) (d : Design) (t r : ℕ) (reg : Reg) (c : Cycle) → All (ReadTells kind v d t (bit_at c.nets)) reg.ins → LitTells kind v (lit true (bit_key d t r)) (bit_at c.bits r) → TellEach kind v (reg_reads d t r reg) (own_bits reg (bit_at c.bits r) (map (bit_at c.nets) reg.ins))
+reg_tells : (kind : Key → Type 0) (v : Key → Bool) (d : Design) (t r : ℕ) (reg : Reg) (c : Cycle) → All (ReadTells kind v d t (bit_at c.nets)) reg.ins
+    → LitTells kind v (lit true (bit_key d t r)) (bit_at c.bits r) → TellEach kind v (reg_reads d t r reg)
+    (own_bits reg (bit_at c.bits r) (map (bit_at c.nets) reg.ins))
 reg_tells kind v d t r reg c pins own =
-    tell_own kind v reg (lit true (bit_key d t r)) (bit_at c.bits r) (map (read_base d t) reg.ins) (map (bit_at c.nets) reg.ins) own (reads_tell kind v d t (bit_at c.nets) reg.ins pins)
+    tell_own kind v reg (lit true (bit_key d t r)) (bit_at c.bits r) (map (read_base d t) reg.ins) (map (bit_at c.nets) reg.ins) own
+    (reads_tell kind v d t (bit_at c.nets) reg.ins pins)
 
-pub bit_true : (coding : Coding) (v : Key → Bool) (d : Design) (t r : ℕ) (reg : Reg) (c : Cycle) → CodingCovers coding → IsSound d → slice_get d.regs r ≡ Some reg → v (bit_key d (t + 1) r) ≡ capture d (RegEnd r) c → All (ReadTells AnyKey v d t (bit_at c.nets)) reg.ins → v (bit_key d t r) ≡ bit_at c.bits r → AllTrue v (bit_definition coding d t r reg).clauses
+pub bit_true : (coding : Coding) (v : Key → Bool) (d : Design) (t r : ℕ) (reg : Reg) (c : Cycle) → CodingCovers coding → IsSound d
+    → slice_get d.regs r ≡ Some reg → v (bit_key d (t + 1) r) ≡ capture d (RegEnd r) c → All (ReadTells AnyKey v d t (bit_at c.nets)) reg.ins
+    → v (bit_key d t r) ≡ bit_at c.bits r → AllTrue v (bit_definition coding d t r reg).clauses
 bit_true coding v d t r reg c covers sound at out pins own =
     let range = All-at (IsRegInRange d) d.regs r reg at sound.in_range.regs in
     let reads = reg_reads d t r reg in
     let bits = own_bits reg (bit_at c.bits r) (map (bit_at c.nets) reg.ins) in
     let told = values_told AnyKey v (λ j. tt) reads bits (reg_tells AnyKey v d t r reg c pins (λ any. own)) in
-    says_plain v (reg_capture reg) reads (lit true (bit_key d (t + 1) r)) (covering coding (reg_capture reg) (length reads)) (reg_covers coding d t r reg covers sound at)
+    says_plain v (reg_capture reg) reads (lit true (bit_key d (t + 1) r)) (covering coding (reg_capture reg) (length reads))
+    (reg_covers coding d t r reg covers sound at)
     (out ∙ captured d c r reg at ∙ sym (on_reg d reg c.nets (bit_at c.bits r) range) ∙ ap (on_list (reg_capture reg)) (sym told))
 
-pub bit_told : (coding : Coding) (kind : Key → Type 0) (v : Key → Bool) (d : Design) (t r : ℕ) (reg : Reg) (c : Cycle) → CodingCovers coding → IsSound d → slice_get d.regs r ≡ Some reg → All (ReadTells kind v d t (bit_at c.nets)) reg.ins → LitTells kind v (lit true (bit_key d t r)) (bit_at c.bits r) → AllTrue v (bit_definition coding d t r reg).clauses → ((cl : List KeyLit) (l : KeyLit) → In cl (bit_definition coding d t r reg).clauses → In l cl → kind l.key) → v (bit_key d (t + 1) r) ≡ capture d (RegEnd r) c
+pub bit_told : (coding : Coding) (kind : Key → Type 0) (v : Key → Bool) (d : Design) (t r : ℕ) (reg : Reg) (c : Cycle) → CodingCovers coding
+    → IsSound d → slice_get d.regs r ≡ Some reg → All (ReadTells kind v d t (bit_at c.nets)) reg.ins → LitTells kind v (lit true (bit_key d t r))
+    (bit_at c.bits r) → AllTrue v (bit_definition coding d t r reg).clauses
+    → ((cl : List KeyLit) (l : KeyLit) → In cl (bit_definition coding d t r reg).clauses → In l cl → kind l.key) → v (bit_key d (t + 1) r) ≡ capture d
+    (RegEnd r) c
 bit_told coding kind v d t r reg c covers sound at pins own all has =
     let range = All-at (IsRegInRange d) d.regs r reg at sound.in_range.regs in
     let reads = reg_reads d t r reg in
     let bits = own_bits reg (bit_at c.bits r) (map (bit_at c.nets) reg.ins) in
-    plain_gives kind v (reg_capture reg) reads bits (lit true (bit_key d (t + 1) r)) (covering coding (reg_capture reg) (length reads)) (reg_covers coding d t r reg covers sound at)
+    plain_gives kind v (reg_capture reg) reads bits (lit true (bit_key d (t + 1) r)) (covering coding (reg_capture reg) (length reads))
+    (reg_covers coding d t r reg covers sound at)
     (reg_tells kind v d t r reg c pins own) all has
     ∙ on_reg d reg c.nets (bit_at c.bits r) range ∙ sym (captured d c r reg at)

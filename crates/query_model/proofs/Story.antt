@@ -34,7 +34,8 @@ extra_bit starts captures differs bad t (suc (suc (suc r))) = if nat_lt r 17 the
 
 abbrev pub others_by : Design → Claim → List Cycle → (Key → ℕ → Bool) → (ℕ → Bool) → (ℕ → Bool) → Key → ℕ → Bool
 others_by d claim run layer differs bad k zero =
-    extra_bit (λ t. start_in_option claim (slice_get run t)) (λ t. capture_in_option d claim (slice_get run t)) differs bad k.cycle (k.point - (d.nets + length d.regs))
+    extra_bit (λ t. start_in_option claim (slice_get run t)) (λ t. capture_in_option d claim (slice_get run t)) differs bad k.cycle
+    (k.point - (d.nets + length d.regs))
 others_by d claim run layer differs bad k (suc l) = layer k l
 
 abbrev pub others : Design → Claim → List Cycle → (Key → ℕ → Bool) → (ℕ → Bool) → (ℕ → Bool) → Key → Bool
@@ -43,7 +44,9 @@ others d claim run layer differs bad k = others_by d claim run layer differs bad
 abbrev pub story : Design → Claim → List Cycle → (Key → ℕ → Bool) → (ℕ → Bool) → (ℕ → Bool) → Key → Bool
 story d claim run layer differs bad = meaning d run (others d claim run layer differs bad)
 
-story_extra : (d : Design) (claim : Claim) (run : List Cycle) (layer : Key → ℕ → Bool) (differs bad : ℕ → Bool) (t i j : ℕ) → i ≡ j → story d claim run layer differs bad (extra d t i) ≡ extra_bit (λ u. start_in_option claim (slice_get run u)) (λ u. capture_in_option d claim (slice_get run u)) differs bad t j
+story_extra : (d : Design) (claim : Claim) (run : List Cycle) (layer : Key → ℕ → Bool) (differs bad : ℕ → Bool) (t i j : ℕ) → i ≡ j
+    → story d claim run layer differs bad (extra d t i) ≡ extra_bit (λ u. start_in_option claim (slice_get run u))
+    (λ u. capture_in_option d claim (slice_get run u)) differs bad t j
 story_extra d claim run layer differs bad t i j e =
     let back : d.nets + length d.regs + i - (d.nets + length d.regs) ≡ j = omega arith in
     meaning_extra d run (others d claim run layer differs bad) t i
@@ -52,26 +55,32 @@ story_extra d claim run layer differs bad t i j e =
 two : (f : Bool → Bool → Bool) (a b x y : Bool) → a ≡ x → b ≡ y → f a b ≡ f x y
 two f a b x y e g = ap (λ p. f p b) e ∙ ap (f x) g
 
-pub story_differ : (d : Design) (claim : Claim) (run : List Cycle) (layer : Key → ℕ → Bool) (differs bad : ℕ → Bool) (t : ℕ) → story d claim run layer differs bad (differ_key d t) ≡ differs t
+pub story_differ : (d : Design) (claim : Claim) (run : List Cycle) (layer : Key → ℕ → Bool) (differs bad : ℕ → Bool) (t : ℕ)
+    → story d claim run layer differs bad (differ_key d t) ≡ differs t
 story_differ d claim run layer differs bad t = story_extra d claim run layer differs bad t 2 2 refl
 
-pub story_extras : (d : Design) (claim : Claim) (run : List Cycle) (layer : Key → ℕ → Bool) (differs bad : ℕ → Bool) → judged_count claim.kind ≤ 15 → ExtrasTold AnyKey (story d claim run layer differs bad) d claim run differs
+pub story_extras : (d : Design) (claim : Claim) (run : List Cycle) (layer : Key → ℕ → Bool) (differs bad : ℕ → Bool) → judged_count claim.kind ≤ 15
+    → ExtrasTold AnyKey (story d claim run layer differs bad) d claim run differs
 story_extras d claim run layer differs bad few =
     record {
       toggle = λ t a b at_a at_b any.
           story_extra d claim run layer differs bad t 0 0 refl
-          ∙ two xor (start_in_option claim (slice_get run t)) (start_in_option claim (slice_get run (t - 1))) (start_bit claim.start b) (start_bit claim.start a) (ap (start_in_option claim) at_b) (ap (start_in_option claim) at_a);
+          ∙ two xor (start_in_option claim (slice_get run t)) (start_in_option claim (slice_get run (t - 1))) (start_bit claim.start b)
+          (start_bit claim.start a) (ap (start_in_option claim) at_b) (ap (start_in_option claim) at_a);
       change = λ t a b at_a at_b any.
           story_extra d claim run layer differs bad t 1 1 refl
-          ∙ two xor (capture_in_option d claim (slice_get run t)) (capture_in_option d claim (slice_get run (t - 1))) (capture d claim.end b) (capture d claim.end a) (ap (capture_in_option d claim) at_b) (ap (capture_in_option d claim) at_a);
+          ∙ two xor (capture_in_option d claim (slice_get run t)) (capture_in_option d claim (slice_get run (t - 1))) (capture d claim.end b)
+          (capture d claim.end a) (ap (capture_in_option d claim) at_b) (ap (capture_in_option d claim) at_a);
       differ = λ t c at any. story_differ d claim run layer differs bad t;
       stale = λ t r a b lt at_a at_b any.
           story_extra d claim run layer differs bad t (2 + (r + 1)) (suc (suc (suc r))) (omega arith)
           ∙ cond-true (nat_lt r 17) _ _ (lt-ltb r 17 (omega arith))
-          ∙ two xor (start_in_option claim (slice_get run t)) (start_in_option claim (slice_get run (t - r - 2))) (start_bit claim.start b) (start_bit claim.start a) (ap (start_in_option claim) at_b) (ap (start_in_option claim) at_a);
+          ∙ two xor (start_in_option claim (slice_get run t)) (start_in_option claim (slice_get run (t - r - 2))) (start_bit claim.start b)
+          (start_bit claim.start a) (ap (start_in_option claim) at_b) (ap (start_in_option claim) at_a);
     }
 
-pub story_bad : (d : Design) (claim : Claim) (run : List Cycle) (layer : Key → ℕ → Bool) (differs bad : ℕ → Bool) (t a : ℕ) → story d claim run layer differs bad (bad_key d t a) ≡ bad a
+pub story_bad : (d : Design) (claim : Claim) (run : List Cycle) (layer : Key → ℕ → Bool) (differs bad : ℕ → Bool) (t a : ℕ)
+    → story d claim run layer differs bad (bad_key d t a) ≡ bad a
 story_bad d claim run layer differs bad t a =
     let back : 17 + a - 17 ≡ a = omega arith in
     story_extra d claim run layer differs bad t (20 + a) (suc (suc (suc (17 + a)))) (omega arith)

@@ -1,5 +1,6 @@
 -- Clauses of cubes say that the output has the function's value.
-use Rattle.std.proofs.Common.{◌≡◌, ℕ, zero, suc, ◌+◌, ◌*◌, ◌/◌, ◌%◌, ◌^◌, ◌<◌, ◌≤◌, Bool, true, false, not, cond, List, [], ◌∷◌, ◌++◌, map, length, refl, ap, sym, ◌∙◌, arith, inl, inr, ◌⊎◌, subst}
+use Rattle.std.proofs.Common.{◌≡◌, ℕ, zero, suc, ◌+◌, ◌*◌, ◌/◌, ◌%◌, ◌^◌, ◌<◌, ◌≤◌, Bool, true, false, not, cond, List, [], ◌∷◌, ◌++◌, map, length}
+use Rattle.std.proofs.Common.{refl, ap, sym, ◌∙◌, arith, inl, inr, ◌⊎◌, subst}
 use Rattle.std.specs.Prelude.{◌||◌, ◌==◌}
 use Rattle.std.proofs.lemmas.List.Folds.{list_any-append}
 use Rattle.std.proofs.lemmas.List.{length-map}
@@ -61,29 +62,39 @@ outside_false v [] [] in' = refl
 outside_false v [] (t ∷ ts) in' = refl
 outside_false v (r ∷ rs) [] in' = refl
 outside_false v (r ∷ rs) (Zero ∷ ts) in' = or_from (lit_value v r) (is_true v (outside rs ts)) in'.0 (outside_false v rs ts in'.1)
-outside_false v (r ∷ rs) (One ∷ ts) in' = or_from (lit_value v (opposite r)) (is_true v (outside rs ts)) (value_opposite v r ∙ ap not in'.0) (outside_false v rs ts in'.1)
+outside_false v (r ∷ rs) (One ∷ ts) in' = or_from (lit_value v (opposite r)) (is_true v (outside rs ts)) (value_opposite v r ∙ ap not in'.0)
+    (outside_false v rs ts in'.1)
 outside_false v (r ∷ rs) (Unknown ∷ ts) in' = outside_false v rs ts in'.1
 
 -- and other bits make one of them true
-pub outside_cases : (v : Key → Bool) (reads : List KeyLit) (ts : List Tern) → length ts ≡ length reads → (is_true v (outside reads ts) ≡ true) ⊎ Inside (map (lit_value v) reads) ts
+pub outside_cases : (v : Key → Bool) (reads : List KeyLit) (ts : List Tern) → length ts ≡ length reads
+    → (is_true v (outside reads ts) ≡ true) ⊎ Inside (map (lit_value v) reads) ts
 outside_cases v [] [] same = inr tt
 outside_cases v [] (t ∷ ts) same = absurd (omega arith)
 outside_cases v (r ∷ rs) [] same = absurd (omega arith)
 outside_cases v (r ∷ rs) (Zero ∷ ts) same =
     elim (cases_Bool (lit_value v r)) [
       | inl here ↦ inl (or_left (lit_value v r) (is_true v (outside rs ts)) here)
-      | inr not_here ↦ elim (outside_cases v rs ts (omega arith)) [ inl later ↦ inl (or_right (lit_value v r) (is_true v (outside rs ts)) later) | inr in' ↦ inr (not_here, in') ]
+      | inr not_here ↦ elim (outside_cases v rs ts (omega arith)) [
+        | inl later ↦ inl (or_right (lit_value v r) (is_true v (outside rs ts)) later)
+        | inr in' ↦ inr (not_here, in')
+      ]
     ]
 outside_cases v (r ∷ rs) (One ∷ ts) same =
     elim (cases_Bool (lit_value v r)) [
-      | inl here ↦ elim (outside_cases v rs ts (omega arith)) [ inl later ↦ inl (or_right (lit_value v (opposite r)) (is_true v (outside rs ts)) later) | inr in' ↦ inr (here, in') ]
+      | inl here ↦ elim (outside_cases v rs ts (omega arith)) [
+        | inl later ↦
+            inl (or_right (lit_value v (opposite r)) (is_true v (outside rs ts)) later)
+        | inr in' ↦ inr (here, in')
+      ]
       | inr not_here ↦ inl (or_left (lit_value v (opposite r)) (is_true v (outside rs ts)) (value_opposite v r ∙ ap not not_here))
     ]
 outside_cases v (r ∷ rs) (Unknown ∷ ts) same =
     elim (outside_cases v rs ts (omega arith)) [ inl later ↦ inl later | inr in' ↦ inr (tt, in') ]
 
 -- clauses of cubes that cover a function say that the output has its value
-pub plain_says : (v : Key → Bool) (cell : (ℕ → Bool) → Bool) (reads : List KeyLit) (out : KeyLit) (cubes : List Cube) → Covers cell (length reads) cubes → AllTrue v (plain_clauses reads out cubes) → lit_value v out ≡ on_list cell (map (lit_value v) reads)
+pub plain_says : (v : Key → Bool) (cell : (ℕ → Bool) → Bool) (reads : List KeyLit) (out : KeyLit) (cubes : List Cube)
+    → Covers cell (length reads) cubes → AllTrue v (plain_clauses reads out cubes) → lit_value v out ≡ on_list cell (map (lit_value v) reads)
 plain_says v cell reads out cubes covers all =
     let hit = covers.each (map (lit_value v) reads) (length-map reads (lit_value v)) in
     let clause = true_at v (plain_clauses reads out cubes) (cube_clause reads out hit.0) all (In-map (cube_clause reads out) hit.0 cubes hit.1) in
@@ -93,7 +104,8 @@ plain_says v cell reads out cubes covers all =
     ap (λ b. b || lit_value v (flipped (not hit.0.value) out)) (sym none) ∙ sym split ∙ clause in
     value_flipped v hit.0.value out last ∙ sym (covers.right hit.0 (map (lit_value v) reads) hit.1 hit.2)
 
-pub says_plain : (v : Key → Bool) (cell : (ℕ → Bool) → Bool) (reads : List KeyLit) (out : KeyLit) (cubes : List Cube) → Covers cell (length reads) cubes → lit_value v out ≡ on_list cell (map (lit_value v) reads) → AllTrue v (plain_clauses reads out cubes)
+pub says_plain : (v : Key → Bool) (cell : (ℕ → Bool) → Bool) (reads : List KeyLit) (out : KeyLit) (cubes : List Cube)
+    → Covers cell (length reads) cubes → lit_value v out ≡ on_list cell (map (lit_value v) reads) → AllTrue v (plain_clauses reads out cubes)
 says_plain v cell reads out cubes covers is =
     all_true v (plain_clauses reads out cubes)
     (λ c has.
@@ -103,7 +115,8 @@ says_plain v cell reads out cubes covers is =
     let holds : is_true v (cube_clause reads out cube) ≡ true =
     elim (outside_cases v reads cube.fixed (covers.lens cube from.1)) [
       | inl some ↦ split ∙ or_left (is_true v (outside reads cube.fixed)) (lit_value v (flipped (not cube.value) out)) some
-      | inr in' ↦ split ∙ or_right (is_true v (outside reads cube.fixed)) (lit_value v (flipped (not cube.value) out)) (flipped_value v cube.value out (is ∙ covers.right cube (map (lit_value v) reads) from.1 in'))
+      | inr in' ↦ split ∙ or_right (is_true v (outside reads cube.fixed)) (lit_value v (flipped (not cube.value) out))
+          (flipped_value v cube.value out (is ∙ covers.right cube (map (lit_value v) reads) from.1 in'))
     ] in
     subst (λ d. is_true v d ≡ true) from.2 holds)
 
@@ -120,7 +133,8 @@ pub row_of_number : (bits : List Bool) → row_bits (length bits) (number_of bit
 row_of_number [] = refl
 row_of_number (b ∷ bs) =
     let parts = one_bit b (number_of bs) in
-    ap (λ (x : Bool). x ∷ row_bits (length bs) (number_of (b ∷ bs) / 2)) parts.0 ∙ ap (λ (n : ℕ). b ∷ row_bits (length bs) n) parts.1 ∙ ap (λ (xs : List Bool). b ∷ xs) (row_of_number bs)
+    ap (λ (x : Bool). x ∷ row_bits (length bs) (number_of (b ∷ bs) / 2)) parts.0 ∙ ap (λ (n : ℕ). b ∷ row_bits (length bs) n) parts.1
+    ∙ ap (λ (xs : List Bool). b ∷ xs) (row_of_number bs)
 
 bit_small : (b : Bool) → cond {A = ℕ} b 1 0 ≤ 1
 bit_small true = omega arith
@@ -159,6 +173,9 @@ rows_cover cell places =
       each = λ bits len.
           let w = number_of bits in
           let small : w < 2 ^ places = subst (λ n. w < 2 ^ n) len (number_less bits) in
-          let same : row_bits places w ≡ bits = subst (λ n. row_bits n w ≡ bits) len (row_of_number bits) in
-          (row_cube cell places w, In-map (row_cube cell places) w (below (2 ^ places)) (In-below (2 ^ places) w small), subst (λ xs. Inside bits (map tern_of xs)) (sym same) (bits_inside bits));
+          let same : row_bits places w ≡ bits = subst (λ n. row_bits n w ≡ bits) len (row_of_number bits) in (
+            row_cube cell places w,
+            In-map (row_cube cell places) w (below (2 ^ places)) (In-below (2 ^ places) w small),
+            subst (λ xs. Inside bits (map tern_of xs)) (sym same) (bits_inside bits),
+          );
     }

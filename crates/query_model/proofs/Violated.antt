@@ -1,5 +1,6 @@
 -- Queries of claims: each model gives an answer, and each answer a model.
-use Rattle.std.proofs.Common.{◌≡◌, ℕ, zero, suc, ◌+◌, ◌<◌, ◌≤◌, Bool, true, false, not, List, [], ◌∷◌, ◌++◌, map, length, Some, refl, ap, sym, ◌∙◌, arith, inl, inr, ◌⊎◌, subst}
+use Rattle.std.proofs.Common.{◌≡◌, ℕ, zero, suc, ◌+◌, ◌<◌, ◌≤◌, Bool, true, false, not, List, [], ◌∷◌, ◌++◌, map, length, Some, refl, ap, sym, ◌∙◌}
+use Rattle.std.proofs.Common.{arith, inl, inr, ◌⊎◌, subst}
 use Rattle.std.specs.Prelude.{slice_get, flat_map, ◌||◌, nat_lt, nat_eq}
 use Rattle.std.proofs.lemmas.Bool.{cases_Bool, cases_eq, or_cases, or_from, or_left, or_right, or_parts, not-false, eq-eqb, ne_eqb, both_ways}
 use Rattle.std.proofs.lemmas.Option.{slice_get_within}
@@ -13,8 +14,10 @@ use Rattle.net_model.specs.declared.invariants.InvClause.{InvClause}
 use Rattle.net_model.specs.declared.claims.Claim.{Claim}
 use Rattle.query_model.specs.Keys.{lit, opposite, lit_value, is_true, AllTrue, below}
 use Rattle.net_model.specs.Queries.{Query, Question, Violates, IsAnswer}
-use Rattle.query_model.specs.Defined.{Definition, numbered, base_definitions, layer_definitions, end_definition, differ_definition, extra_definitions, claim_definitions, toggle_key, differ_key, bad_key}
-use Rattle.query_model.specs.Formula.{alternatives, alternatives_at, clean_clauses, bad_clauses, kept_clauses, question_clauses, asked_clauses, definitions, cycle_definitions, question_definitions, IsNeeded, Asked, AreNeeded, formula_over}
+use Rattle.query_model.specs.Defined.{Definition, numbered, base_definitions, layer_definitions, end_definition, differ_definition, extra_definitions}
+use Rattle.query_model.specs.Defined.{claim_definitions, toggle_key, differ_key, bad_key}
+use Rattle.query_model.specs.Formula.{alternatives, alternatives_at, clean_clauses, bad_clauses, kept_clauses, question_clauses, asked_clauses}
+use Rattle.query_model.specs.Formula.{definitions, cycle_definitions, question_definitions, IsNeeded, Asked, AreNeeded, formula_over}
 use Rattle.net_model.proofs.Members.{In, In-left, In-right, In-map, In-flat, In-cases, In-from_Contains, Contains-from_In, from_map, from_flat}
 use Rattle.query_model.proofs.Members.{In-below, below_less, all_true, true_at}
 use Rattle.query_model.proofs.Tabled.{value_opposite}
@@ -31,7 +34,9 @@ use Rattle.query_model.specs.declared.keys.KeyLit.{KeyLit}
 use Rattle.query_model.specs.declared.keys.Coding.{Coding}
 
 -- alternatives and the clauses that ask for them
-pub pick_bad : (v : Key → Bool) (d : Design) (t i : ℕ) (alts : List (List KeyLit)) → is_true v (numbered (λ a conditions. lit true (bad_key d t a)) i alts) ≡ true → (a : ℕ) × (alt : List KeyLit) × (slice_get alts a ≡ Some alt) × (v (bad_key d t (i + a)) ≡ true)
+pub pick_bad : (v : Key → Bool) (d : Design) (t i : ℕ) (alts : List (List KeyLit))
+    → is_true v (numbered (λ a conditions. lit true (bad_key d t a)) i alts) ≡ true → (a : ℕ) × (alt : List KeyLit) × (slice_get alts a ≡ Some alt)
+    × (v (bad_key d t (i + a)) ≡ true)
 pick_bad v d t i [] e = absurd cc
 pick_bad v d t i (alt ∷ alts) e =
     elim (or_cases (v (bad_key d t i)) (is_true v (numbered (λ a conditions. lit true (bad_key d t a)) (i + 1) alts)) e) [
@@ -49,10 +54,12 @@ condition_clause d t a condition = lit false (bad_key d t a) ∷ condition ∷ [
 abbrev pub condition_clauses : Design → ℕ → ℕ → List KeyLit → List (List KeyLit)
 condition_clauses d t a conditions = map (condition_clause d t a) conditions
 
-pub condition_in : (d : Design) (claim : Claim) (t a : ℕ) (alt : List KeyLit) (l : KeyLit) → slice_get (alternatives d claim t) a ≡ Some alt → In l alt → In (condition_clause d t a l) (bad_clauses d claim t)
+pub condition_in : (d : Design) (claim : Claim) (t a : ℕ) (alt : List KeyLit) (l : KeyLit) → slice_get (alternatives d claim t) a ≡ Some alt
+    → In l alt → In (condition_clause d t a l) (bad_clauses d claim t)
 condition_in d claim t a alt l at has =
     inr (inr (In-flat (λ x. x) (condition_clause d t a l) (condition_clauses d t a alt) (numbered (condition_clauses d t) 0 (alternatives d claim t))
-    (subst (λ i. In (condition_clauses d t i alt) (numbered (condition_clauses d t) 0 (alternatives d claim t))) (omega arith) (in_numbered (condition_clauses d t) 0 (alternatives d claim t) a alt at)) (In-map (condition_clause d t a) l alt has)))
+    (subst (λ i. In (condition_clauses d t i alt) (numbered (condition_clauses d t) 0 (alternatives d claim t))) (omega arith)
+    (in_numbered (condition_clauses d t) 0 (alternatives d claim t) a alt at)) (In-map (condition_clause d t a) l alt has)))
 
 condition_true : (v : Key → Bool) (k : Key) (l : KeyLit) → v k ≡ true → is_true v (lit false k ∷ l ∷ []) ≡ true → lit_value v l ≡ true
 condition_true v k l e is =
@@ -65,7 +72,8 @@ clean_fails : (v : Key → Bool) (z : Key) (alt : List KeyLit) → v z ≡ true 
 clean_fails v z alt e hold = or_from (not (v z)) (is_true v (map opposite alt)) (ap not e) (none alt hold) where
   none : (ls : List KeyLit) → AllHold v ls → is_true v (map opposite ls) ≡ false
   none [] h = refl
-  none (l ∷ ls) h = or_from (lit_value v (opposite l)) (is_true v (map opposite ls)) (value_opposite v l ∙ ap not (h l (inl refl))) (none ls (λ m i. h m (inr i)))
+  none (l ∷ ls) h = or_from (lit_value v (opposite l)) (is_true v (map opposite ls)) (value_opposite v l ∙ ap not (h l (inl refl)))
+      (none ls (λ m i. h m (inr i)))
 
 -- and where it fails all that is so
 fails_holds : (v : Key → Bool) (ls : List KeyLit) → is_true v (map opposite ls) ≡ false → AllHold v ls
@@ -78,7 +86,8 @@ fails_holds v (m ∷ ms) e l (inr later) =
     fails_holds v ms parts.1 l later
 
 -- there is an alternative where a capture is judged
-one_alternative : (kind : Key → Type 0) (d : Design) (claim : Claim) (run : List Cycle) (differs : ℕ → Bool) (t r : ℕ) → IsDecided kind d claim run differs → r < judged_count claim.kind → (alt : List KeyLit) × In alt (alternatives d claim t)
+one_alternative : (kind : Key → Type 0) (d : Design) (claim : Claim) (run : List Cycle) (differs : ℕ → Bool) (t r : ℕ)
+    → IsDecided kind d claim run differs → r < judged_count claim.kind → (alt : List KeyLit) × In alt (alternatives d claim t)
 one_alternative kind d claim run differs t r decided lt =
     let one = decided.some t r in
     (one.0, In-flat (alternatives_at d claim t) one.0 r (below (judged_count claim.kind)) (In-below (judged_count claim.kind) r lt) one.1)
@@ -87,7 +96,9 @@ abbrev pub violated : Design → ℕ → ℕ → List InvClause → ℕ → Clai
 violated d live cycles kept kept_below claim offset clean =
     record { design = d; live = live; cycles = cycles; kept = kept; kept_below = kept_below; question = Violates claim offset clean }
 
-clean_in : (d : Design) (live cycles : ℕ) (kept : List InvClause) (kept_below : ℕ) (claim : Claim) (offset clean o : ℕ) (alt : List KeyLit) → o < clean → In alt (alternatives d claim (live + 1 + o)) → In (lit false (toggle_key d (live + 1 + o)) ∷ map opposite alt) (asked_clauses (violated d live cycles kept kept_below claim offset clean))
+clean_in : (d : Design) (live cycles : ℕ) (kept : List InvClause) (kept_below : ℕ) (claim : Claim) (offset clean o : ℕ) (alt : List KeyLit)
+    → o < clean → In alt (alternatives d claim (live + 1 + o)) → In (lit false (toggle_key d (live + 1 + o)) ∷ map opposite alt)
+    (asked_clauses (violated d live cycles kept kept_below claim offset clean))
 clean_in d live cycles kept kept_below claim offset clean o alt lt has =
     let clause = lit false (toggle_key d (live + 1 + o)) ∷ map opposite alt in
     let q = violated d live cycles kept kept_below claim offset clean in
@@ -96,13 +107,16 @@ clean_in d live cycles kept kept_below claim offset clean o alt lt has =
     (In-flat (λ i. clean_clauses d claim (live + 1 + i)) clause o (below clean) (In-below clean o lt)
     (In-map (λ (conditions : List KeyLit). lit false (toggle_key d (live + 1 + o)) ∷ map opposite conditions) alt (alternatives d claim (live + 1 + o)) has)))
 
-bad_in : (d : Design) (live cycles : ℕ) (kept : List InvClause) (kept_below : ℕ) (claim : Claim) (offset clean : ℕ) (clause : List KeyLit) → In clause (bad_clauses d claim (live + 1 + offset)) → In clause (asked_clauses (violated d live cycles kept kept_below claim offset clean))
+bad_in : (d : Design) (live cycles : ℕ) (kept : List InvClause) (kept_below : ℕ) (claim : Claim) (offset clean : ℕ) (clause : List KeyLit)
+    → In clause (bad_clauses d claim (live + 1 + offset)) → In clause (asked_clauses (violated d live cycles kept kept_below claim offset clean))
 bad_in d live cycles kept kept_below claim offset clean clause has =
     let q = violated d live cycles kept kept_below claim offset clean in
     In-right clause (kept_clauses q) (question_clauses q (Violates claim offset clean))
     (In-right clause (flat_map (λ i. clean_clauses d claim (live + 1 + i)) (below clean)) (bad_clauses d claim (live + 1 + offset)) has)
 
-pub claim_in : (coding : Coding) (q : Query) (moved : List (List Bool)) (claim : Claim) (offset clean t : ℕ) → q.question ≡ Violates claim offset clean → t < q.cycles → (def : Definition) → In def (claim_definitions coding q.design claim moved t) → In def (definitions coding q moved)
+pub claim_in : (coding : Coding) (q : Query) (moved : List (List Bool)) (claim : Claim) (offset clean t : ℕ)
+    → q.question ≡ Violates claim offset clean → t < q.cycles → (def : Definition) → In def (claim_definitions coding q.design claim moved t)
+    → In def (definitions coding q moved)
 claim_in coding q moved claim offset clean t is lt def has =
     In-flat (cycle_definitions coding q moved) def t (below q.cycles) (In-below q.cycles t lt)
     (In-right def (base_definitions coding q.design q.live t) (question_definitions coding q.design moved q.question t)
@@ -118,14 +132,19 @@ pub record IsAskedOf (d : Design) (claim : Claim) (run : List Cycle) : Type 0 wh
 -- the definitions of a claim's keys that are true tell in which cycles the late start matters
 abbrev pub TellsDiffer : Coding → (Key → Type 0) → (Key → Bool) → Design → Claim → List (List Bool) → List Cycle → (ℕ → Bool) → Type 0
 TellsDiffer coding kind v d claim moved run differs =
-    Told kind v d run → ((t : ℕ) → t < length run → Forces kind v (claim_definitions coding d claim moved t)) → (t : ℕ) (c : Cycle) → slice_get run t ≡ Some c → kind (differ_key d t) → v (differ_key d t) ≡ differs t
+    Told kind v d run → ((t : ℕ) → t < length run → Forces kind v (claim_definitions coding d claim moved t)) → (t : ℕ) (c : Cycle)
+    → slice_get run t ≡ Some c → kind (differ_key d t) → v (differ_key d t) ≡ differs t
 
 -- what a model of a claim's query tells of the further keys
-extras_of_model : (coding : Coding) (d : Design) (live cycles : ℕ) (kept : List InvClause) (kept_below : ℕ) (claim : Claim) (offset clean : ℕ) (moved : List (List Bool)) (v : Key → Bool) (run : List Cycle) (differs : ℕ → Bool) (kind : Key → Type 0) → IsAskedOf d claim run → TellsDiffer coding kind v d claim moved run differs → length run ≡ cycles → Told kind v d run → Forces kind v (definitions coding (violated d live cycles kept kept_below claim offset clean) moved) → ExtrasTold kind v d claim run differs
+extras_of_model : (coding : Coding) (d : Design) (live cycles : ℕ) (kept : List InvClause) (kept_below : ℕ) (claim : Claim) (offset clean : ℕ)
+    (moved : List (List Bool)) (v : Key → Bool) (run : List Cycle) (differs : ℕ → Bool) (kind : Key → Type 0) → IsAskedOf d claim run
+    → TellsDiffer coding kind v d claim moved run differs → length run ≡ cycles → Told kind v d run
+    → Forces kind v (definitions coding (violated d live cycles kept kept_below claim offset clean) moved) → ExtrasTold kind v d claim run differs
 extras_of_model coding d live cycles kept kept_below claim offset clean moved v run differs kind is tells count told forced =
     let defs = definitions coding (violated d live cycles kept kept_below claim offset clean) moved in
     let part : (t : ℕ) → t < length run → Forces kind v (claim_definitions coding d claim moved t) =
-    λ t lt. forces_some kind v defs (claim_definitions coding d claim moved t) (claim_in coding (violated d live cycles kept kept_below claim offset clean) moved claim offset clean t refl (omega arith)) forced in
+    λ t lt. forces_some kind v defs (claim_definitions coding d claim moved t)
+    (claim_in coding (violated d live cycles kept kept_below claim offset clean) moved claim offset clean t refl (omega arith)) forced in
     let layer_list : ℕ → List Definition = λ t. flat_map (layer_definitions coding d claim moved t) (below (length claim.through + 1)) in
     let others_forced : (t : ℕ) → t < length run → Forces kind v (extra_definitions d claim moved t) =
     λ t lt.
@@ -141,14 +160,30 @@ extras_of_model coding d live cycles kept kept_below claim offset clean moved v 
     extras_told kind v d claim moved run differs lits (tells told part) others_forced
 
 -- a model of a claim's query gives an answer
-pub claim_model_answers : (coding : Coding) (d : Design) (live cycles : ℕ) (kept : List InvClause) (kept_below : ℕ) (claim : Claim) (offset clean : ℕ) (moved : List (List Bool)) (differs : ℕ → Bool) (keys : List Key) (v : Key → Bool) (run : List Cycle) → CodingCovers coding → ((i : InvClause) → In i kept → NamesRegs d i) → ((t : ℕ) (c : Cycle) → slice_get run t ≡ Some c → HasResets d (nat_lt t live) c) → IsAskedOf d claim run → IsDecided (IsNeeded (definitions coding (violated d live cycles kept kept_below claim offset clean) moved) (asked_clauses (violated d live cycles kept kept_below claim offset clean))) d claim run differs → TellsDiffer coding (IsNeeded (definitions coding (violated d live cycles kept kept_below claim offset clean) moved) (asked_clauses (violated d live cycles kept kept_below claim offset clean))) v d claim moved run differs → length run ≡ cycles → live + 1 + offset + judged_count claim.kind ≤ cycles → clean ≤ offset → AreNeeded (definitions coding (violated d live cycles kept kept_below claim offset clean) moved) (asked_clauses (violated d live cycles kept kept_below claim offset clean)) keys → AllTrue v (formula_over (definitions coding (violated d live cycles kept kept_below claim offset clean) moved) (asked_clauses (violated d live cycles kept kept_below claim offset clean)) keys) → IsFree (IsNeeded (definitions coding (violated d live cycles kept kept_below claim offset clean) moved) (asked_clauses (violated d live cycles kept kept_below claim offset clean))) v d run → IsAnswer (violated d live cycles kept kept_below claim offset clean) run
-claim_model_answers coding d live cycles kept kept_below claim offset clean moved differs keys v run covers names resets is decided tells count fits less needed all free =
+pub claim_model_answers : (coding : Coding) (d : Design) (live cycles : ℕ) (kept : List InvClause) (kept_below : ℕ) (claim : Claim) (offset clean : ℕ)
+    (moved : List (List Bool)) (differs : ℕ → Bool) (keys : List Key) (v : Key → Bool) (run : List Cycle) → CodingCovers coding
+    → ((i : InvClause) → In i kept → NamesRegs d i) → ((t : ℕ) (c : Cycle) → slice_get run t ≡ Some c → HasResets d (nat_lt t live) c)
+    → IsAskedOf d claim run → IsDecided (IsNeeded (definitions coding (violated d live cycles kept kept_below claim offset clean) moved)
+    (asked_clauses (violated d live cycles kept kept_below claim offset clean))) d claim run differs
+    → TellsDiffer coding (IsNeeded (definitions coding (violated d live cycles kept kept_below claim offset clean) moved)
+    (asked_clauses (violated d live cycles kept kept_below claim offset clean))) v d claim moved run differs → length run ≡ cycles
+    → live + 1 + offset + judged_count claim.kind ≤ cycles → clean ≤ offset
+    → AreNeeded (definitions coding (violated d live cycles kept kept_below claim offset clean) moved)
+    (asked_clauses (violated d live cycles kept kept_below claim offset clean)) keys
+    → AllTrue v (formula_over (definitions coding (violated d live cycles kept kept_below claim offset clean) moved)
+    (asked_clauses (violated d live cycles kept kept_below claim offset clean)) keys)
+    → IsFree (IsNeeded (definitions coding (violated d live cycles kept kept_below claim offset clean) moved)
+    (asked_clauses (violated d live cycles kept kept_below claim offset clean))) v d run
+    → IsAnswer (violated d live cycles kept kept_below claim offset clean) run
+claim_model_answers coding d live cycles kept kept_below claim offset clean moved differs keys v run covers names resets is decided tells count fits
+    less needed all free =
     let q = violated d live cycles kept kept_below claim offset clean in
     let defs = definitions coding q moved in
     let asked = asked_clauses q in
     let kind = IsNeeded defs asked in
     let told = model_told coding q moved keys v run covers is.sound is.linked resets count needed all free in
-    let extras = extras_of_model coding d live cycles kept kept_below claim offset clean moved v run differs kind is tells count told (forces v defs asked keys needed all) in
+    let extras = extras_of_model coding d live cycles kept kept_below claim offset clean moved v run differs kind is tells count told
+    (forces v defs asked keys needed all) in
     let true_asked = asked_true v defs q keys all in
     let t = live + 1 + offset in
     record {
@@ -167,32 +202,46 @@ claim_model_answers coding d live cycles kept kept_below claim offset clean move
             Asked l.key (mentioned asked (lit false (toggle_key d u) ∷ map opposite alt) (opposite l) there (inr (In-map opposite l alt in_l))) in
             let both = violated_holds kind d claim run differs live u decided toggle_kind kinds bad in
             let there = clean_in d live cycles kept kept_below claim offset clean o both.1.0 lt both.1.1 in
-            both_ways (is_true v (lit false (toggle_key d u) ∷ map opposite both.1.0)) (clean_fails v (toggle_key d u) both.1.0 (both.0 v extras) (both.1.2 v extras)) (true_at v asked (lit false (toggle_key d u) ∷ map opposite both.1.0) true_asked there),
+            both_ways (is_true v (lit false (toggle_key d u) ∷ map opposite both.1.0))
+            (clean_fails v (toggle_key d u) both.1.0 (both.0 v extras) (both.1.2 v extras))
+            (true_at v asked (lit false (toggle_key d u) ∷ map opposite both.1.0) true_asked there),
         (let inside = bad_in d live cycles kept kept_below claim offset clean in
             let toggle_kind : kind (toggle_key d t) =
-            Asked (toggle_key d t) (mentioned asked (lit true (toggle_key d t) ∷ []) (lit true (toggle_key d t)) (inside (lit true (toggle_key d t) ∷ []) (inl refl)) (inl refl)) in
+            Asked (toggle_key d t) (mentioned asked (lit true (toggle_key d t) ∷ []) (lit true (toggle_key d t))
+            (inside (lit true (toggle_key d t) ∷ []) (inl refl)) (inl refl)) in
             let kinds : KindOfAll kind (alternatives d claim t) =
             λ alt l in_alt in_l.
             let place = placed alt (alternatives d claim t) in_alt in
             let there = inside (condition_clause d t place.0 l) (condition_in d claim t place.0 alt l place.1 in_l) in
             Asked l.key (mentioned asked (condition_clause d t place.0 l) l there (inr (inl refl))) in
-            let toggle = unit_says v true (toggle_key d t) (true_at v asked (lit true (toggle_key d t) ∷ []) true_asked (inside (lit true (toggle_key d t) ∷ []) (inl refl)), tt) in
+            let toggle = unit_says v true (toggle_key d t) (
+              true_at v asked (lit true (toggle_key d t) ∷ []) true_asked
+                  (inside (lit true (toggle_key d t) ∷ []) (inl refl)),
+              tt,
+            ) in
             let chosen_clause = numbered (λ a conditions. lit true (bad_key d t a)) 0 (alternatives d claim t) in
             let chosen = pick_bad v d t 0 (alternatives d claim t) (true_at v asked chosen_clause true_asked (inside chosen_clause (inr (inl refl)))) in
             let bad : v (bad_key d t chosen.0) ≡ true = subst (λ n. v (bad_key d t n) ≡ true) (omega arith) chosen.3 in
             let hold : AllHold v chosen.1 =
-            λ l has. condition_true v (bad_key d t chosen.0) l bad (true_at v asked (condition_clause d t chosen.0 l) true_asked (inside (condition_clause d t chosen.0 l) (condition_in d claim t chosen.0 chosen.1 l chosen.2 has))) in
-            holds_violated kind v d claim run differs live t chosen.1 decided extras (omega arith) (omega arith) toggle_kind kinds toggle (in_place chosen.1 (alternatives d claim t) chosen.0 chosen.2) hold),
+            λ l has. condition_true v (bad_key d t chosen.0) l bad (true_at v asked (condition_clause d t chosen.0 l) true_asked
+            (inside (condition_clause d t chosen.0 l) (condition_in d claim t chosen.0 chosen.1 l chosen.2 has))) in
+            holds_violated kind v d claim run differs live t chosen.1 decided extras (omega arith) (omega arith) toggle_kind kinds toggle
+            (in_place chosen.1 (alternatives d claim t) chosen.0 chosen.2) hold),
       );
     }
 
 -- keys that say the layers of a run make their definitions true, whatever alternative is chosen
-pub record SaysLate (coding : Coding) (d : Design) (claim : Claim) (moved : List (List Bool)) (run : List Cycle) (layer : Key → ℕ → Bool) (differs : ℕ → Bool) : Type 0 where
-  pub layers : (bad : ℕ → Bool) (t : ℕ) (c : Cycle) → slice_get run t ≡ Some c → (l : ℕ) → l ≤ length claim.through → (def : Definition) → In def (layer_definitions coding d claim moved t l) → AllTrue (story d claim run layer differs bad) def.clauses
-  pub ends : (bad : ℕ → Bool) (t : ℕ) (c : Cycle) → slice_get run t ≡ Some c → (def : Definition) → In def (end_definition coding d claim moved t claim.end) → AllTrue (story d claim run layer differs bad) def.clauses
-  pub differ : (bad : ℕ → Bool) (t : ℕ) (c : Cycle) → slice_get run t ≡ Some c → AllTrue (story d claim run layer differs bad) (differ_definition d claim moved t).clauses
+pub record SaysLate (coding : Coding) (d : Design) (claim : Claim) (moved : List (List Bool)) (run : List Cycle) (layer : Key → ℕ → Bool)
+    (differs : ℕ → Bool) : Type 0 where
+  pub layers : (bad : ℕ → Bool) (t : ℕ) (c : Cycle) → slice_get run t ≡ Some c → (l : ℕ) → l ≤ length claim.through → (def : Definition)
+      → In def (layer_definitions coding d claim moved t l) → AllTrue (story d claim run layer differs bad) def.clauses
+  pub ends : (bad : ℕ → Bool) (t : ℕ) (c : Cycle) → slice_get run t ≡ Some c → (def : Definition)
+      → In def (end_definition coding d claim moved t claim.end) → AllTrue (story d claim run layer differs bad) def.clauses
+  pub differ : (bad : ℕ → Bool) (t : ℕ) (c : Cycle) → slice_get run t ≡ Some c → AllTrue (story d claim run layer differs bad)
+      (differ_definition d claim moved t).clauses
 
-any_place : (f : ℕ → Bool) (d : Design) (v : Key → Bool) (t i : ℕ) (alts : List (List KeyLit)) (a : ℕ) → a < length alts → v (bad_key d t (i + a)) ≡ true → is_true v (numbered (λ n conditions. lit true (bad_key d t n)) i alts) ≡ true
+any_place : (f : ℕ → Bool) (d : Design) (v : Key → Bool) (t i : ℕ) (alts : List (List KeyLit)) (a : ℕ) → a < length alts
+    → v (bad_key d t (i + a)) ≡ true → is_true v (numbered (λ n conditions. lit true (bad_key d t n)) i alts) ≡ true
 any_place f d v t i [] a lt e = absurd (omega arith)
 any_place f d v t i (x ∷ xs) zero lt e =
     let sum : i + 0 ≡ i = omega arith in
@@ -207,7 +256,9 @@ two_true v k l (inl e) = or_left (not (v k)) (lit_value v l || false) (ap not e)
 two_true v k l (inr e) = or_right (not (v k)) (lit_value v l || false) (or_left (lit_value v l) false e)
 
 -- the last clauses, where one alternative is chosen whose conditions hold
-bad_true : (v : Key → Bool) (d : Design) (claim : Claim) (t chosen : ℕ) (alt cl : List KeyLit) → ((a : ℕ) → v (bad_key d t a) ≡ nat_eq a chosen) → v (toggle_key d t) ≡ true → slice_get (alternatives d claim t) chosen ≡ Some alt → AllHold v alt → In cl (bad_clauses d claim t) → is_true v cl ≡ true
+bad_true : (v : Key → Bool) (d : Design) (claim : Claim) (t chosen : ℕ) (alt cl : List KeyLit) → ((a : ℕ) → v (bad_key d t a) ≡ nat_eq a chosen)
+    → v (toggle_key d t) ≡ true → slice_get (alternatives d claim t) chosen ≡ Some alt → AllHold v alt → In cl (bad_clauses d claim t)
+    → is_true v cl ≡ true
 bad_true v d claim t chosen alt cl bads toggle at hold (inl same) =
     subst (λ (x : List KeyLit). is_true v x ≡ true) same (unit_true v true (toggle_key d t) toggle).0
 bad_true v d claim t chosen alt cl bads toggle at hold (inr (inl same)) =
@@ -232,8 +283,15 @@ bad_true v d claim t chosen alt cl bads toggle at hold (inr (inr later)) =
     ]))
 
 -- each answer of a claim's query gives a model
-pub claim_answer_models : (coding : Coding) (d : Design) (live cycles : ℕ) (kept : List InvClause) (kept_below : ℕ) (claim : Claim) (offset clean : ℕ) (moved : List (List Bool)) (layer : Key → ℕ → Bool) (differs : ℕ → Bool) (keys : List Key) (run : List Cycle) → CodingCovers coding → ((i : InvClause) → In i kept → NamesRegs d i) → IsAskedOf d claim run → IsDecided AnyKey d claim run differs → SaysLate coding d claim moved run layer differs → judged_count claim.kind ≤ 15 → kept_below ≤ cycles → live + 1 + offset + judged_count claim.kind ≤ cycles → clean ≤ offset → IsAnswer (violated d live cycles kept kept_below claim offset clean) run → (v : Key → Bool) × AllTrue v (formula_over (definitions coding (violated d live cycles kept kept_below claim offset clean) moved) (asked_clauses (violated d live cycles kept kept_below claim offset clean)) keys) × Says v d run
-claim_answer_models coding d live cycles kept kept_below claim offset clean moved layer differs keys run covers names is decided late few short fits less answer =
+pub claim_answer_models : (coding : Coding) (d : Design) (live cycles : ℕ) (kept : List InvClause) (kept_below : ℕ) (claim : Claim) (offset clean : ℕ)
+    (moved : List (List Bool)) (layer : Key → ℕ → Bool) (differs : ℕ → Bool) (keys : List Key) (run : List Cycle) → CodingCovers coding
+    → ((i : InvClause) → In i kept → NamesRegs d i) → IsAskedOf d claim run → IsDecided AnyKey d claim run differs
+    → SaysLate coding d claim moved run layer differs → judged_count claim.kind ≤ 15 → kept_below ≤ cycles
+    → live + 1 + offset + judged_count claim.kind ≤ cycles → clean ≤ offset → IsAnswer (violated d live cycles kept kept_below claim offset clean) run
+    → (v : Key → Bool) × AllTrue v (formula_over (definitions coding (violated d live cycles kept kept_below claim offset clean) moved)
+    (asked_clauses (violated d live cycles kept kept_below claim offset clean)) keys) × Says v d run
+claim_answer_models coding d live cycles kept kept_below claim offset clean moved layer differs keys run covers names is decided late few short fits
+    less answer =
     let q = violated d live cycles kept kept_below claim offset clean in
     let count = answer.cycles.count in
     let t = live + 1 + offset in
@@ -279,7 +337,8 @@ claim_answer_models coding d live cycles kept kept_below claim offset clean move
           let cleans = flat_map (λ o. clean_clauses d claim (live + 1 + o)) (below clean) in
           elim (In-cases cl (kept_clauses q) (cleans ++ bad_clauses d claim t) has) [
             | inl in_kept ↦
-                true_at v (kept_clauses q) cl (kept_said q v run names says (omega arith) (λ i c clause lt at there. answer.kept i c clause lt at (Contains-from_In kept clause there))) in_kept
+                true_at v (kept_clauses q) cl (kept_said q v run names says (omega arith)
+                (λ i c clause lt at there. answer.kept i c clause lt at (Contains-from_In kept clause there))) in_kept
             | inr question ↦
                 elim (In-cases cl cleans (bad_clauses d claim t) question) [
                   | inl in_clean ↦
@@ -287,7 +346,8 @@ claim_answer_models coding d live cycles kept kept_below claim offset clean move
                       let o = of.0 in
                       let u = live + 1 + o in
                       let lt = below_less clean o of.1 in
-                      let from = from_map (λ (conditions : List KeyLit). lit false (toggle_key d u) ∷ map opposite conditions) cl (alternatives d claim u) of.2 in
+                      let from = from_map (λ (conditions : List KeyLit). lit false (toggle_key d u) ∷ map opposite conditions) cl
+                      (alternatives d claim u) of.2 in
                       let clause = lit false (toggle_key d u) ∷ map opposite from.0 in
                       subst (λ (x : List KeyLit). is_true v x ≡ true) from.2
                       (elim (cases_Bool (is_true v clause)) [

@@ -91,5 +91,8 @@ abbrev n : ℕ → KeyLit
 n i = lit false (Rattle.std.specs.Prelude.slice_index_or keys (Rattle.std.specs.Prelude.pred i) (key 9 9 9 9))
 
 -- the clauses of its step query at depth 0, before each is sorted
-step_clauses : formula_over (definitions Rows (claim_query design claim Step 0 []) moved) (asked_clauses (claim_query design claim Step 0 [])) keys ≡ (p 1 ∷ n 3 ∷ []) ∷ (n 1 ∷ p 3 ∷ []) ∷ (p 3 ∷ n 8 ∷ []) ∷ (n 3 ∷ p 8 ∷ []) ∷ (n 3 ∷ n 7 ∷ []) ∷ (p 3 ∷ p 7 ∷ []) ∷ (n 4 ∷ p 3 ∷ p 2 ∷ []) ∷ (n 4 ∷ n 3 ∷ n 2 ∷ []) ∷ (p 4 ∷ n 3 ∷ p 2 ∷ []) ∷ (p 4 ∷ p 3 ∷ n 2 ∷ []) ∷ (n 5 ∷ p 7 ∷ p 8 ∷ []) ∷ (n 5 ∷ n 7 ∷ n 8 ∷ []) ∷ (p 5 ∷ n 7 ∷ p 8 ∷ []) ∷ (p 5 ∷ p 7 ∷ n 8 ∷ []) ∷ (p 4 ∷ []) ∷ (p 6 ∷ []) ∷ (n 6 ∷ p 5 ∷ []) ∷ []
+step_clauses : formula_over (definitions Rows (claim_query design claim Step 0 []) moved) (asked_clauses (claim_query design claim Step 0 [])) keys ≡
+    (p 1 ∷ n 3 ∷ []) ∷ (n 1 ∷ p 3 ∷ []) ∷ (p 3 ∷ n 8 ∷ []) ∷ (n 3 ∷ p 8 ∷ []) ∷ (n 3 ∷ n 7 ∷ []) ∷ (p 3 ∷ p 7 ∷ []) ∷ (n 4 ∷ p 3 ∷ p 2 ∷ [])
+    ∷ (n 4 ∷ n 3 ∷ n 2 ∷ []) ∷ (p 4 ∷ n 3 ∷ p 2 ∷ []) ∷ (p 4 ∷ p 3 ∷ n 2 ∷ []) ∷ (n 5 ∷ p 7 ∷ p 8 ∷ []) ∷ (n 5 ∷ n 7 ∷ n 8 ∷ [])
+    ∷ (p 5 ∷ n 7 ∷ p 8 ∷ []) ∷ (p 5 ∷ p 7 ∷ n 8 ∷ []) ∷ (p 4 ∷ []) ∷ (p 6 ∷ []) ∷ (n 6 ∷ p 5 ∷ []) ∷ []
 step_clauses = refl

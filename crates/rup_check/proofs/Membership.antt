@@ -1,5 +1,6 @@
 -- Sets of literals with the same members give the same faults.
-use Rattle.std.proofs.Common.{◌≡◌, ℕ, ◌+◌, Bool, true, false, not, cond, ◌||◌, eqb, Option, Some, None, List, [], ◌∷◌, ◌++◌, map, take, length, get_or, ◌<◌, refl, sym, ap, ◌∙◌, inl, inr, ◌⊎◌, arith}
+use Rattle.std.proofs.Common.{◌≡◌, ℕ, ◌+◌, Bool, true, false, not, cond, ◌||◌, eqb, Option, Some, None, List, [], ◌∷◌, ◌++◌, map, take, length}
+use Rattle.std.proofs.Common.{get_or, ◌<◌, refl, sym, ap, ◌∙◌, inl, inr, ◌⊎◌, arith}
 use Rattle.std.specs.List.{list_any}
 use Rattle.std.specs.Ordering.{nat_cmp, is_eq, match_ordering}
 use Rattle.std.specs.declared.cmp.Ordering.TheVariants.{Less, Equal, Greater}
@@ -46,7 +47,8 @@ cases_Effect Neither = inl refl
 cases_Effect Falsified = inr (inl refl)
 cases_Effect (Sets u) = inr (inr (u, refl))
 
-pub hints_fault-same : (known : List (List ℕ)) (step : ℕ) (a b hints : List ℕ) (place : ℕ) → SameMembers a b → hints_fault known step a hints place ≡ hints_fault known step b hints place
+pub hints_fault-same : (known : List (List ℕ)) (step : ℕ) (a b hints : List ℕ) (place : ℕ) → SameMembers a b
+    → hints_fault known step a hints place ≡ hints_fault known step b hints place
 hints_fault-same known step a b [] place same = refl
 hints_fault-same known step a b (h ∷ hs) place same =
     elim (cases_Option (clause_named known h)) [
@@ -56,7 +58,8 @@ hints_fault-same known step a b (h ∷ hs) place same =
           elim (cases_Effect (effect_of b some.0)) [
             | inl n ↦ rw (some.1, hints_fault, e, n) refl
             | inr (inl f) ↦ rw (some.1, hints_fault, e, f) refl
-            | inr (inr u) ↦ rw (some.1, hints_fault, e, u.1) (hints_fault-same known step (a ++ u.0 ∷ []) (b ++ u.0 ∷ []) hs (place + 1) (push_same a b u.0 same))
+            | inr (inr u) ↦ rw (some.1, hints_fault, e, u.1) (hints_fault-same known step (a ++ u.0 ∷ []) (b ++ u.0 ∷ []) hs (place + 1)
+                (push_same a b u.0 same))
           ]
     ]
 
@@ -102,7 +105,8 @@ is_set-insert_key (x ∷ xs) key q =
     elim (cases_eq key x) [
       | inl e ↦
           ap (λ o. is_set (match_ordering o (key ∷ x ∷ xs) (x ∷ xs) (x ∷ insert_key nat_cmp xs key)) q) (cmp_equal key x e)
-          ∙ is_set-cons x xs q ∙ or_same (eqb x q) (is_set xs q) ∙ ap (λ b. eqb x q || b) (sym (is_set-cons x xs q)) ∙ ap (λ y. eqb y q || is_set (x ∷ xs) q) (sym e)
+          ∙ is_set-cons x xs q ∙ or_same (eqb x q) (is_set xs q) ∙ ap (λ b. eqb x q || b) (sym (is_set-cons x xs q))
+          ∙ ap (λ y. eqb y q || is_set (x ∷ xs) q) (sym e)
       | inr ne ↦ elim (cases_lt key x) [
         | inl lt ↦
             ap (λ o. is_set (match_ordering o (key ∷ x ∷ xs) (x ∷ xs) (x ∷ insert_key nat_cmp xs key)) q) (cmp_less key x lt)
@@ -159,7 +163,9 @@ not_in_first lits others l h = first_false (is_set lits l) (is_set others l) (sy
     first_false false b h = refl
 
 -- one more literal of the clause is negated
-pub negated_more : (set next clause : List ℕ) (i l n : ℕ) → i < length clause → l ≡ get_or clause i 0 → n ≡ negated l → SameMembers set (map negated (take i clause)) → ((q : ℕ) → is_set next q ≡ (is_set set q || eqb n q)) → SameMembers next (map negated (take (i + 1) clause))
+pub negated_more : (set next clause : List ℕ) (i l n : ℕ) → i < length clause → l ≡ get_or clause i 0 → n ≡ negated l
+    → SameMembers set (map negated (take i clause)) → ((q : ℕ) → is_set next q ≡ (is_set set q || eqb n q))
+    → SameMembers next (map negated (take (i + 1) clause))
 negated_more set next clause i l n h l_is n_is same more q =
     more q ∙ ap (λ b. b || eqb n q) (same q)
     ∙ ap (λ m. is_set (map negated (take i clause)) q || eqb m q) (n_is ∙ ap negated l_is)

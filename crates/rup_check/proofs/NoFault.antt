@@ -1,5 +1,6 @@
 -- A derivation has no fault exactly where it refutes.
-use Rattle.std.proofs.Common.{◌≡◌, ◌≢◌, Bool, true, eqb, get_or, ℕ, ◌+◌, ◌-◌, ◌<◌, ◌≤◌, Option, Some, None, Result, Ok, Err, IfErr, List, [], ◌∷◌, ◌++◌, map, length, take, drop, refl, sym, ap, ◌∙◌, inl, inr, arith}
+use Rattle.std.proofs.Common.{◌≡◌, ◌≢◌, Bool, true, eqb, get_or, ℕ, ◌+◌, ◌-◌, ◌<◌, ◌≤◌, Option, Some, None, Result, Ok, Err, IfErr, List, [], ◌∷◌}
+use Rattle.std.proofs.Common.{◌++◌, map, length, take, drop, refl, sym, ap, ◌∙◌, inl, inr, arith}
 use Rattle.std.specs.List.{slice_get}
 use Rattle.std.specs.Option.{option_map}
 use Rattle.std.proofs.lemmas.List.{drop_all, drop_more, take_more, length-take-le}
@@ -28,7 +29,8 @@ after_false_is known step (n ∷ ns) place h =
     ]
 
 -- hints with no fault lead to a conflict
-pub leads_from_no_fault : (known : List (List ℕ)) (step : ℕ) (hints set : List ℕ) (place : ℕ) → hints_fault known step set hints place ≡ None → LeadsToConflict known set hints
+pub leads_from_no_fault : (known : List (List ℕ)) (step : ℕ) (hints set : List ℕ) (place : ℕ) → hints_fault known step set hints place ≡ None
+    → LeadsToConflict known set hints
 leads_from_no_fault known step [] set place h = cc
 leads_from_no_fault known step (n ∷ ns) set place h =
     elim (cases_Option (clause_named known n)) [
@@ -45,7 +47,8 @@ leads_from_no_fault known step (n ∷ ns) set place h =
     ]
 
 -- hints that lead to a conflict have no fault
-pub no_fault_from_leads : (known : List (List ℕ)) (step : ℕ) (hints set : List ℕ) (place : ℕ) → LeadsToConflict known set hints → hints_fault known step set hints place ≡ None
+pub no_fault_from_leads : (known : List (List ℕ)) (step : ℕ) (hints set : List ℕ) (place : ℕ) → LeadsToConflict known set hints
+    → hints_fault known step set hints place ≡ None
 no_fault_from_leads known step [] set place h = absurd h
 no_fault_from_leads known step (n ∷ ns) set place h =
     rw (h.1, hints_fault) (elim h.2 [
@@ -54,7 +57,8 @@ no_fault_from_leads known step (n ∷ ns) set place h =
     ])
 
 -- steps with no fault all follow
-pub follow_from_no_fault : (formula : List (List ℕ)) (steps earlier : List DerivStep) → steps_fault formula earlier steps ≡ None → AllFollow formula earlier steps
+pub follow_from_no_fault : (formula : List (List ℕ)) (steps earlier : List DerivStep) → steps_fault formula earlier steps ≡ None
+    → AllFollow formula earlier steps
 follow_from_no_fault formula [] earlier h = tt
 follow_from_no_fault formula (s ∷ ss) earlier h =
     elim (cases_Option (step_fault formula earlier s (length earlier + 1))) [
@@ -64,7 +68,8 @@ follow_from_no_fault formula (s ∷ ss) earlier h =
     ]
 
 -- steps that all follow have no fault
-pub no_fault_from_follow : (formula : List (List ℕ)) (steps earlier : List DerivStep) → AllFollow formula earlier steps → steps_fault formula earlier steps ≡ None
+pub no_fault_from_follow : (formula : List (List ℕ)) (steps earlier : List DerivStep) → AllFollow formula earlier steps
+    → steps_fault formula earlier steps ≡ None
 no_fault_from_follow formula [] earlier follow = refl
 no_fault_from_follow formula (s ∷ ss) earlier follow =
     rw (no_fault_from_leads (known_clauses formula earlier) (length earlier + 1) s.hints (map negated s.clause) 1 follow.0, steps_fault)
@@ -78,12 +83,14 @@ not_refuted formula derivation (HintNotUnit step place) h r = let n = no_fault_f
 not_refuted formula derivation (NoConflict step) h r = let n = no_fault_from_follow _ _ _ r.0 in cc
 not_refuted formula derivation Memory h r = h
 
-pub refused_from_fault : (formula : Formula) (derivation : Derivation) (r : Result (Unit {0}) CheckFault) → IfErr r (λ e. e ≢ Memory → IsFirstFault formula derivation e) → IfErr r (λ e. e ≢ Memory → Refutes formula derivation → ⊥)
+pub refused_from_fault : (formula : Formula) (derivation : Derivation) (r : Result (Unit {0}) CheckFault)
+    → IfErr r (λ e. e ≢ Memory → IsFirstFault formula derivation e) → IfErr r (λ e. e ≢ Memory → Refutes formula derivation → ⊥)
 refused_from_fault formula derivation (Ok x) h = tt
 refused_from_fault formula derivation (Err e) h = λ m. not_refuted formula derivation e (h m)
 
 -- a fault of the steps is a first fault
-pub first_from_steps : (formula : Formula) (derivation : Derivation) (e : CheckFault) → e ≢ Memory → e ≢ NotEmpty → steps_fault formula.clauses [] derivation.steps ≡ Some e → IsFirstFault formula derivation e
+pub first_from_steps : (formula : Formula) (derivation : Derivation) (e : CheckFault) → e ≢ Memory → e ≢ NotEmpty
+    → steps_fault formula.clauses [] derivation.steps ≡ Some e → IsFirstFault formula derivation e
 first_from_steps formula derivation NotEmpty m n h = absurd (n refl)
 first_from_steps formula derivation (HintMissing step) m n h = h
 first_from_steps formula derivation (HintNotUnit step place) m n h = h
@@ -122,11 +129,14 @@ steps_not_end formula (s ∷ ss) earlier h =
     ]
 
 -- the steps have no fault when none is left
-pub no_fault_at_end : (formula : List (List ℕ)) (steps : List DerivStep) (at : ℕ) (o : Option CheckFault) → length steps ≤ at → steps_fault formula (take at steps) (drop at steps) ≡ o → o ≡ None
+pub no_fault_at_end : (formula : List (List ℕ)) (steps : List DerivStep) (at : ℕ) (o : Option CheckFault) → length steps ≤ at
+    → steps_fault formula (take at steps) (drop at steps) ≡ o → o ≡ None
 no_fault_at_end formula steps at o h inv = sym inv ∙ ap (steps_fault formula (take at steps)) (drop_all at steps h)
 
 -- a hint that is unit sets its literal
-pub hint_sets : (known : List (List ℕ)) (step : ℕ) (set next hints clause : List ℕ) (i h u : ℕ) (o : Option CheckFault) → i < length hints → h ≡ get_or hints i 0 → clause_named known h ≡ Some clause → Sets u ≡ effect_of set clause → SameMembers next (set ++ u ∷ []) → hints_fault known step set (drop i hints) (i + 1) ≡ o → hints_fault known step next (drop (i + 1) hints) (i + 1 + 1) ≡ o
+pub hint_sets : (known : List (List ℕ)) (step : ℕ) (set next hints clause : List ℕ) (i h u : ℕ) (o : Option CheckFault) → i < length hints
+    → h ≡ get_or hints i 0 → clause_named known h ≡ Some clause → Sets u ≡ effect_of set clause → SameMembers next (set ++ u ∷ [])
+    → hints_fault known step set (drop i hints) (i + 1) ≡ o → hints_fault known step next (drop (i + 1) hints) (i + 1 + 1) ≡ o
 hint_sets known step set next hints clause i h u o lt h_is named sets same inv =
     hints_fault-same known step next (set ++ u ∷ []) (drop (i + 1) hints) (i + 1 + 1) same
     ∙ sym (ap (λ hs. hints_fault known step set hs (i + 1)) (drop_more hints i 0 lt ∙ ap (λ q. q ∷ drop (i + 1) hints) (sym h_is))
@@ -134,14 +144,17 @@ hint_sets known step set next hints clause i h u o lt h_is named sets same inv =
     ∙ inv
 
 -- a fault of the step at that place is that of the steps
-pub fault_of_step : (formula : List (List ℕ)) (steps : List DerivStep) (at : ℕ) (s : DerivStep) (e : CheckFault) → at < length steps → s ≡ get_or steps at s → step_fault formula (take at steps) s (at + 1) ≡ Some e → steps_fault formula (take at steps) (drop at steps) ≡ Some e
+pub fault_of_step : (formula : List (List ℕ)) (steps : List DerivStep) (at : ℕ) (s : DerivStep) (e : CheckFault) → at < length steps
+    → s ≡ get_or steps at s → step_fault formula (take at steps) s (at + 1) ≡ Some e → steps_fault formula (take at steps) (drop at steps) ≡ Some e
 fault_of_step formula steps at s e lt s_is h =
     let number : step_fault formula (take at steps) s (length (take at steps) + 1) ≡ Some e =
     ap (λ n. step_fault formula (take at steps) s (n + 1)) (length-take-le at steps (omega arith)) ∙ h in
     ap (steps_fault formula (take at steps)) (drop_more steps at s lt ∙ ap (λ t. t ∷ drop (at + 1) steps) (sym s_is)) ∙ rw (number, steps_fault) refl
 
 -- a step with no fault leaves the fault to the later ones
-pub no_fault_of_step : (formula : List (List ℕ)) (steps : List DerivStep) (at : ℕ) (s : DerivStep) (o : Option CheckFault) → at < length steps → s ≡ get_or steps at s → step_fault formula (take at steps) s (at + 1) ≡ None → steps_fault formula (take at steps) (drop at steps) ≡ o → steps_fault formula (take (at + 1) steps) (drop (at + 1) steps) ≡ o
+pub no_fault_of_step : (formula : List (List ℕ)) (steps : List DerivStep) (at : ℕ) (s : DerivStep) (o : Option CheckFault) → at < length steps
+    → s ≡ get_or steps at s → step_fault formula (take at steps) s (at + 1) ≡ None → steps_fault formula (take at steps) (drop at steps) ≡ o
+    → steps_fault formula (take (at + 1) steps) (drop (at + 1) steps) ≡ o
 no_fault_of_step formula steps at s o lt s_is h inv =
     let number : step_fault formula (take at steps) s (length (take at steps) + 1) ≡ None =
     ap (λ n. step_fault formula (take at steps) s (n + 1)) (length-take-le at steps (omega arith)) ∙ h in
@@ -150,7 +163,10 @@ no_fault_of_step formula steps at s o lt s_is h inv =
     ∙ inv
 
 -- and the first fault
-pub first_of_step : (formula : Formula) (derivation : Derivation) (at : ℕ) (s : DerivStep) (e : CheckFault) → at < length derivation.steps → s ≡ get_or derivation.steps at s → steps_fault formula.clauses (take at derivation.steps) (drop at derivation.steps) ≡ steps_fault formula.clauses [] derivation.steps → (e ≢ Memory → step_fault formula.clauses (take at derivation.steps) s (at + 1) ≡ Some e) → e ≢ Memory → IsFirstFault formula derivation e
+pub first_of_step : (formula : Formula) (derivation : Derivation) (at : ℕ) (s : DerivStep) (e : CheckFault) → at < length derivation.steps
+    → s ≡ get_or derivation.steps at s → steps_fault formula.clauses (take at derivation.steps) (drop at derivation.steps) ≡ steps_fault
+    formula.clauses [] derivation.steps → (e ≢ Memory → step_fault formula.clauses (take at derivation.steps) s (at + 1) ≡ Some e) → e ≢ Memory
+    → IsFirstFault formula derivation e
 first_of_step formula derivation at s e lt s_is inv h m =
     let whole : steps_fault formula.clauses [] derivation.steps ≡ Some e = sym inv ∙ fault_of_step formula.clauses derivation.steps at s e lt s_is (h m) in
     first_from_steps formula derivation e m
@@ -158,7 +174,8 @@ first_of_step formula derivation at s e lt s_is inv h m =
     whole
 
 -- whether the last clause is empty
-pub last_empty : (steps : List DerivStep) (s : DerivStep) (c : List ℕ) (b : Bool) → Some s ≡ slice_get steps (length steps - 1) → c ≡ s.clause → b ≡ eqb (length c) 0 → (b ≡ true → EndsEmpty steps) × (EndsEmpty steps → b ≡ true)
+pub last_empty : (steps : List DerivStep) (s : DerivStep) (c : List ℕ) (b : Bool) → Some s ≡ slice_get steps (length steps - 1) → c ≡ s.clause
+    → b ≡ eqb (length c) 0 → (b ≡ true → EndsEmpty steps) × (EndsEmpty steps → b ≡ true)
 last_empty steps s c b last c_is b_is =
     let named : slice_get (map (λ t. t.clause) steps) (length steps - 1) ≡ Some c =
     slice_get-map (λ t. t.clause) steps (length steps - 1) ∙ ap (option_map (λ t. t.clause)) (sym last) ∙ ap Some (sym c_is) in (

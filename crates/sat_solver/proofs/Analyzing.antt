@@ -13,7 +13,8 @@ use Rattle.sat_solver.specs.Cuts.{FalseBy}
 pub OthersFalse-none : (set : List ℕ) (u : ℕ) → OthersFalse set [] u
 OthersFalse-none set u l h ne = absurd (false≢true (sym (is_set-nil l) ∙ h))
 
-pub OthersFalse-more : (set clause : List ℕ) (u i x : ℕ) → i < length clause → x ≡ get_or clause i 0 → OthersFalse set (take i clause) u → ((x ≡ u → ⊥) → is_set set (negated x) ≡ true) → OthersFalse set (take (i + 1) clause) u
+pub OthersFalse-more : (set clause : List ℕ) (u i x : ℕ) → i < length clause → x ≡ get_or clause i 0 → OthersFalse set (take i clause) u
+    → ((x ≡ u → ⊥) → is_set set (negated x) ≡ true) → OthersFalse set (take (i + 1) clause) u
 OthersFalse-more set clause u i x h e before here l m ne =
     let more : take (i + 1) clause ≡ take i clause ++ x ∷ [] = take_more clause i 0 h ∙ ap (λ y. take i clause ++ y ∷ []) (sym e) in
     elim (or_cases (is_set (take i clause) l) (eqb x l) (sym (is_set-push (take i clause) x l) ∙ (sym (ap (λ ys. is_set ys l) more) ∙ m))) [
@@ -22,11 +23,13 @@ OthersFalse-more set clause u i x h e before here l m ne =
           ap (λ q. is_set set (negated q)) (sym same) ∙ here (λ k. ne (sym same ∙ k))
     ]
 
-pub OtherOpen-at : (set clause : List ℕ) (u i x : ℕ) → i < length clause → x ≡ get_or clause i 0 → (x ≡ u → ⊥) × (is_set set (negated x) ≡ false) → OtherOpen set clause u
+pub OtherOpen-at : (set clause : List ℕ) (u i x : ℕ) → i < length clause → x ≡ get_or clause i 0 → (x ≡ u → ⊥) × (is_set set (negated x) ≡ false)
+    → OtherOpen set clause u
 OtherOpen-at set clause u i x h e here = (x, ap (is_set clause) e ∙ is_set-at clause i h, here.0, here.1)
 
 -- what the place of a literal's complement tells
-pub open_other_means : (set : List ℕ) (l u q place len : ℕ) → (l ≡ u → ⊥) → is_set set q ≡ ltb place len → MatchBool (leb len place) ((l ≡ u → ⊥) × (is_set set q ≡ false)) ((l ≡ u → ⊥) → is_set set q ≡ true)
+pub open_other_means : (set : List ℕ) (l u q place len : ℕ) → (l ≡ u → ⊥) → is_set set q ≡ ltb place len → MatchBool (leb len place)
+    ((l ≡ u → ⊥) × (is_set set q ≡ false)) ((l ≡ u → ⊥) → is_set set q ≡ true)
 open_other_means set l u q place len ne is =
     elim (cases_lt place len) [
       | inl lt ↦ rw (false_from_ne_true _ (λ t. let k = leb-true len place t in absurd (omega arith))) (λ _. is ∙ lt-ltb place len lt)
@@ -34,7 +37,8 @@ open_other_means set l u q place len ne is =
     ]
 
 -- at the decision, where the level starts, the cut is false by the levels below but for one literal
-pub OthersFalse-at_decision : (trail cut : List ℕ) (at : ℕ) → at < length trail → FalseBy (take (at + 1) trail) cut → OthersFalse (take at trail) cut (negated (get_or trail at 0))
+pub OthersFalse-at_decision : (trail cut : List ℕ) (at : ℕ) → at < length trail → FalseBy (take (at + 1) trail) cut → OthersFalse (take at trail) cut
+    (negated (get_or trail at 0))
 OthersFalse-at_decision trail cut at h f l m ne =
     elim (or_cases (is_set (take at trail) (negated l)) (eqb (get_or trail at 0) (negated l))
     (sym (is_set-push (take at trail) (get_or trail at 0) (negated l)) ∙ (sym (ap (λ xs. is_set xs (negated l)) (take_more trail at 0 h)) ∙ f l m))) [

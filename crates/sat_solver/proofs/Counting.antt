@@ -1,5 +1,6 @@
 -- A log of new clauses over v variables has fewer than 3 ^ v of them.
-use Rattle.std.proofs.Common.{◌≡◌, ℕ, zero, suc, ◌+◌, ◌*◌, ◌/◌, ◌%◌, ◌^◌, ◌<◌, ◌≤◌, true, false, cond, eqb, List, [], ◌∷◌, ◌++◌, map, refl, sym, ap, ◌∙◌, subst, inl, inr, arith}
+use Rattle.std.proofs.Common.{◌≡◌, ℕ, zero, suc, ◌+◌, ◌*◌, ◌/◌, ◌%◌, ◌^◌, ◌<◌, ◌≤◌, true, false, cond, eqb, List, [], ◌∷◌, ◌++◌, map, refl, sym, ap}
+use Rattle.std.proofs.Common.{◌∙◌, subst, inl, inr, arith}
 use Rattle.std.specs.List.{list_any, IsDistinct, AllByRecursion}
 use Rattle.std.proofs.lemmas.Bool.{false≢true, cases_Bool, or_cases, or_left, or_from, eqb-true, eq-eqb, ne_eqb, cases_eq, cond-true, cond-false, both_ways}
 use Rattle.std.proofs.lemmas.List.{append-nil, append_assoc, map-append, length-map}
@@ -88,7 +89,8 @@ code_digits c d (suc n) e x low high =
     ]
 
 -- the literals of a clause are those of any clause of its number
-member_from_code : (c d : List ℕ) (v : ℕ) → code c v ≡ code d v → IsDistinct eqb (map lit_var d) → ((l : ℕ) → is_set d l ≡ true → InVars v l) → (l : ℕ) → is_set d l ≡ true → is_set c l ≡ true
+member_from_code : (c d : List ℕ) (v : ℕ) → code c v ≡ code d v → IsDistinct eqb (map lit_var d) → ((l : ℕ) → is_set d l ≡ true → InVars v l)
+    → (l : ℕ) → is_set d l ≡ true → is_set c l ≡ true
 member_from_code c d v e dist in_vars l h =
     let b = in_vars l h in
     let x = l / 2 in
@@ -110,7 +112,8 @@ member_from_code c d v e dist in_vars l h =
     ]
 
 -- no clause within a new one is quiet
-within_new : (known : List (List ℕ)) (c d : List ℕ) (u : ℕ) (set : List ℕ) → IsNewBy known c u set → IsQuietUnder set d → IsDistinct eqb (map lit_var d) → ((l : ℕ) → is_set d l ≡ true → is_set c l ≡ true) → ⊥
+within_new : (known : List (List ℕ)) (c d : List ℕ) (u : ℕ) (set : List ℕ) → IsNewBy known c u set → IsQuietUnder set d
+    → IsDistinct eqb (map lit_var d) → ((l : ℕ) → is_set d l ≡ true → is_set c l ≡ true) → ⊥
 within_new known c d u set new quiet dist sub =
     elim (cases_Bool (is_set d u)) [
       | inl t ↦ quiet.1 u (open_only set d u dist t (λ l m ne. new.others l (sub l m) ne) new.complement_unset, new.unset)
@@ -120,12 +123,15 @@ within_new known c d u set new quiet dist sub =
 abbrev codes : ℕ → List DerivStep → List ℕ
 codes v steps = map (λ s. code s.clause v) steps
 
-no_code : (v : ℕ) (known : List (List ℕ)) (c : List ℕ) (u : ℕ) (set : List ℕ) → IsNewBy known c u set → (es : List DerivStep) → AllByRecursion (IsQuietUnder set) (map (λ s. s.clause) es) → AllByRecursion (λ s. IsLogged v s.clause) es → list_any (λ x. eqb x (code c v)) (codes v es) ≡ false
+no_code : (v : ℕ) (known : List (List ℕ)) (c : List ℕ) (u : ℕ) (set : List ℕ) → IsNewBy known c u set → (es : List DerivStep)
+    → AllByRecursion (IsQuietUnder set) (map (λ s. s.clause) es) → AllByRecursion (λ s. IsLogged v s.clause) es → list_any (λ x. eqb x (code c v))
+    (codes v es) ≡ false
 no_code v known c u set new [] quiet logged = refl
 no_code v known c u set new (e ∷ es) quiet logged =
     let dist = normal_distinct e.clause logged.0.normal in
     or_from _ _
-    (ne_eqb _ _ (λ same. within_new known c e.clause u set new quiet.0 dist (member_from_code c e.clause v (sym same) dist (λ l m. member_from_All (InVars v) e.clause l logged.0.in_vars m))))
+    (ne_eqb _ _ (λ same. within_new known c e.clause u set new quiet.0 dist
+    (member_from_code c e.clause v (sym same) dist (λ l m. member_from_All (InVars v) e.clause l logged.0.in_vars m))))
     (no_code v known c u set new es quiet.1 logged.1)
 
 rec_right : {X : Type 0} (P : X → Type 0) (xs ys : List X) → AllByRecursion P (xs ++ ys) → AllByRecursion P ys
@@ -139,10 +145,13 @@ rec_push P (x ∷ xs) y a p = (a.0, rec_push P xs y a.1 p)
 code_positive : (v : ℕ) (c : List ℕ) → IsLogged v c → code c v ≡ 0 → ⊥
 code_positive v [] logged e = logged.some refl
 code_positive v (x ∷ xs) logged e =
-    let there = member_from_code [] (x ∷ xs) v (code-nil v ∙ sym e) (normal_distinct (x ∷ xs) logged.normal) (λ l m. member_from_All (InVars v) (x ∷ xs) l logged.in_vars m) x (is_set-cons x xs x ∙ or_left _ _ (eq-eqb x x refl)) in
+    let there = member_from_code [] (x ∷ xs) v (code-nil v ∙ sym e) (normal_distinct (x ∷ xs) logged.normal)
+    (λ l m. member_from_All (InVars v) (x ∷ xs) l logged.in_vars m) x (is_set-cons x xs x ∙ or_left _ _ (eq-eqb x x refl)) in
     false≢true (sym (is_set-nil x) ∙ there)
 
-all_distinct : (v : ℕ) (formula : List (List ℕ)) (steps earlier : List DerivStep) → AllNew formula earlier steps → AllByRecursion (λ s. IsLogged v s.clause) earlier → AllByRecursion (λ s. IsLogged v s.clause) steps → IsDistinct eqb (0 ∷ codes v earlier) → IsDistinct eqb (0 ∷ codes v (earlier ++ steps))
+all_distinct : (v : ℕ) (formula : List (List ℕ)) (steps earlier : List DerivStep) → AllNew formula earlier steps
+    → AllByRecursion (λ s. IsLogged v s.clause) earlier → AllByRecursion (λ s. IsLogged v s.clause) steps → IsDistinct eqb (0 ∷ codes v earlier)
+    → IsDistinct eqb (0 ∷ codes v (earlier ++ steps))
 all_distinct v formula [] earlier new before now d =
     let P : List DerivStep → Type 0 = λ es. IsDistinct eqb (0 ∷ codes v es) in subst P (sym (append-nil earlier)) d
 all_distinct v formula (s ∷ ss) earlier new before now d =
@@ -150,7 +159,8 @@ all_distinct v formula (s ∷ ss) earlier new before now d =
     let Q : List ℕ → Type 0 = λ xs. IsDistinct eqb (0 ∷ xs) in
     let w = new.0 in
     let quiet = rec_right (IsQuietUnder w.1) (formula) (map (λ s. s.clause) earlier) (recursion_from_All (IsQuietUnder w.1) _ w.2.quiet) in
-    let fresh = or_from _ _ (ne_eqb 0 (code s.clause v) (λ e. code_positive v s.clause now.0 (sym e))) (no_code v _ s.clause w.0 w.1 w.2 earlier quiet before) in
+    let fresh = or_from _ _ (ne_eqb 0 (code s.clause v) (λ e. code_positive v s.clause now.0 (sym e)))
+    (no_code v _ s.clause w.0 w.1 w.2 earlier quiet before) in
     let longer = subst Q (sym (map-append (λ t. code t.clause v) earlier (s ∷ []))) (IsDistinct-push (0 ∷ codes v earlier) (code s.clause v) d fresh) in
     subst P (append_assoc earlier (s ∷ []) ss)
     (all_distinct v formula ss (earlier ++ s ∷ []) new.1 (rec_push (λ t. IsLogged v t.clause) earlier s before now.0) now.1 longer)

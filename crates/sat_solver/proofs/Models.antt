@@ -1,5 +1,6 @@
 -- Where every variable is set and no clause is false, the set literals are a model.
-use Rattle.std.proofs.Common.{◌≡◌, ℕ, ◌+◌, ◌-◌, ◌*◌, ◌/◌, ◌%◌, ◌≤◌, Bool, true, false, not, eqb, List, [], ◌∷◌, ◌++◌, map, length, get_or, refl, sym, ap, ◌∙◌, inl, inr, ◌⊎◌, arith}
+use Rattle.std.proofs.Common.{◌≡◌, ℕ, ◌+◌, ◌-◌, ◌*◌, ◌/◌, ◌%◌, ◌≤◌, Bool, true, false, not, eqb, List, [], ◌∷◌, ◌++◌, map, length, get_or, refl, sym}
+use Rattle.std.proofs.Common.{ap, ◌∙◌, inl, inr, ◌⊎◌, arith}
 use Rattle.std.specs.List.{All, IsDistinct}
 use Rattle.std.proofs.lemmas.Bool.{false≢true, cases_eq, cases_lt, or_cases, or_left, or_right, eqb-true, false_from_ne_true, both_ways}
 use Rattle.std.proofs.lemmas.List.{get_or_push, get_or_append_left, length_push}
@@ -18,7 +19,8 @@ pub record ValuesOf (set : List ℕ) (vars : ℕ) (values : List Bool) : Type 0 
 pub values_none : (set : List ℕ) → ValuesOf set 0 []
 values_none set = record { long = refl; each = λ var low high. absurd (omega arith) }
 
-pub values_more : (set : List ℕ) (n l : ℕ) (values : List Bool) (b : Bool) → ValuesOf set n values → l ≡ 2 * (n + 1) → b ≡ is_set set l → ValuesOf set (n + 1) (values ++ b ∷ [])
+pub values_more : (set : List ℕ) (n l : ℕ) (values : List Bool) (b : Bool) → ValuesOf set n values → l ≡ 2 * (n + 1) → b ≡ is_set set l
+    → ValuesOf set (n + 1) (values ++ b ∷ [])
 values_more set n l values b v l_is b_is = record {
   long = omega (arith, length_push values b, v.long);
   each = λ var low high. elim (cases_lt var (n + 1)) [
@@ -30,7 +32,8 @@ values_more set n l values b v l_is b_is = record {
 }
 
 -- a set literal is true
-lit_true-set : (set : List ℕ) (vars : ℕ) (values : List Bool) (l : ℕ) → IsDistinct eqb (map lit_var set) → ValuesOf set vars values → InVars vars l → is_set set l ≡ true → lit_true (value_in values) l ≡ true
+lit_true-set : (set : List ℕ) (vars : ℕ) (values : List Bool) (l : ℕ) → IsDistinct eqb (map lit_var set) → ValuesOf set vars values → InVars vars l
+    → is_set set l ≡ true → lit_true (value_in values) l ≡ true
 lit_true-set set vars values l d v here h =
     elim (cases_eq (l % 2) 0) [
       | inl even ↦
@@ -49,11 +52,19 @@ set_either vars set l all here =
       | inl even ↦
           let p : literal (l / 2) true ≡ l = omega arith in
           let n : literal (l / 2) false ≡ negated l = let m = negated_even l even in omega arith in
-          elim (all (l / 2) (omega (arith, here.0)) (omega (arith, here.1))) [ inl t ↦ inl (ap (is_set set) (sym p) ∙ t) | inr f ↦ inr (ap (is_set set) (sym n) ∙ f) ]
+          elim (all (l / 2) (omega (arith, here.0)) (omega (arith, here.1))) [
+            | inl t ↦ inl (ap (is_set set) (sym p) ∙ t)
+            | inr f ↦
+                inr (ap (is_set set) (sym n) ∙ f)
+          ]
       | inr odd ↦
           let p : literal (l / 2) true ≡ negated l = let m = negated_odd l odd in omega arith in
           let n : literal (l / 2) false ≡ l = omega arith in
-          elim (all (l / 2) (omega (arith, here.0)) (omega (arith, here.1))) [ inl t ↦ inr (ap (is_set set) (sym p) ∙ t) | inr f ↦ inl (ap (is_set set) (sym n) ∙ f) ]
+          elim (all (l / 2) (omega (arith, here.0)) (omega (arith, here.1))) [
+            | inl t ↦ inr (ap (is_set set) (sym p) ∙ t)
+            | inr f ↦
+                inl (ap (is_set set) (sym n) ∙ f)
+          ]
     ]
 
 clause_true-member : (v : ℕ → Bool) (c : List ℕ) (l : ℕ) → is_set c l ≡ true → lit_true v l ≡ true → clause_true v c ≡ true
@@ -69,7 +80,8 @@ open_first : (o : List ℕ) → (o ≡ [] → ⊥) → (l : ℕ) × (is_set o l 
 open_first [] h = absurd (h refl)
 open_first (x ∷ xs) h = (x, is_set_first x xs)
 
-pub model_from_set : (vars : ℕ) (clauses : List (List ℕ)) (set : List ℕ) (values : List Bool) → AllInVars vars clauses → IsQuiet clauses set → AllSet vars set → IsDistinct eqb (map lit_var set) → ValuesOf set vars values → All (λ c. clause_true (value_in values) c ≡ true) clauses
+pub model_from_set : (vars : ℕ) (clauses : List (List ℕ)) (set : List ℕ) (values : List Bool) → AllInVars vars clauses → IsQuiet clauses set
+    → AllSet vars set → IsDistinct eqb (map lit_var set) → ValuesOf set vars values → All (λ c. clause_true (value_in values) c ≡ true) clauses
 model_from_set vars clauses set values in_vars quiet all d v = λ k c h. one (get_or clauses k c) (in_vars k c h) (quiet k c h)
   where
     one : (c : List ℕ) → All (InVars vars) c → IsQuietUnder set c → clause_true (value_in values) c ≡ true

@@ -26,17 +26,23 @@ Extends-refl clauses old paired = record {
   justified = λ i low h. absurd (omega arith);
 }
 
-pub Justified-push : (clauses : List (List ℕ)) (low : ℕ) (lits reasons : List ℕ) (place u : ℕ) → length reasons ≡ length lits → Justified clauses low lits reasons → IsUnitAt clauses lits place u → Justified clauses low (lits ++ u ∷ []) (reasons ++ place ∷ [])
+pub Justified-push : (clauses : List (List ℕ)) (low : ℕ) (lits reasons : List ℕ) (place u : ℕ) → length reasons ≡ length lits
+    → Justified clauses low lits reasons → IsUnitAt clauses lits place u → Justified clauses low (lits ++ u ∷ []) (reasons ++ place ∷ [])
 Justified-push clauses low lits reasons place u paired j here i h k =
     elim (cases_lt i (length lits)) [
       | inl lt ↦
-          rw (take-append-le i lits (u ∷ []) (omega arith), get_or_append_left reasons (place ∷ []) 0 i (omega arith), get_or_append_left lits (u ∷ []) 0 i lt) (j i h lt)
+          rw (
+            take-append-le i lits (u ∷ []) (omega arith),
+            get_or_append_left reasons (place ∷ []) 0 i (omega arith),
+            get_or_append_left lits (u ∷ []) 0 i lt,
+          ) (j i h lt)
       | inr ge ↦
           let e : i ≡ length lits = omega (arith, length-append lits (u ∷ [])) in
           rw (e, take_at lits (u ∷ []) (length lits) refl, get_or_push reasons place 0 (length lits) paired, get_or_push lits u 0 (length lits) refl) here
     ]
 
-pub Extends-push : (clauses : List (List ℕ)) (old now next : Trailed) (place u : ℕ) → Extends clauses old now → next.vars ≡ now.vars → next.lits ≡ now.lits ++ u ∷ [] → next.reasons ≡ now.reasons ++ place ∷ [] → IsUnitAt clauses now.lits place u → Extends clauses old next
+pub Extends-push : (clauses : List (List ℕ)) (old now next : Trailed) (place u : ℕ) → Extends clauses old now → next.vars ≡ now.vars
+    → next.lits ≡ now.lits ++ u ∷ [] → next.reasons ≡ now.reasons ++ place ∷ [] → IsUnitAt clauses now.lits place u → Extends clauses old next
 Extends-push clauses old now next place u e vars lits reasons here = record {
   vars = vars ∙ e.vars;
   lits = rw lits (e.lits ∙ sym (take-append-le (length old.lits) now.lits (u ∷ []) e.longer));
@@ -61,15 +67,21 @@ Extends-trans clauses old now new a b = record {
         let L : List ℕ → Type 0 = λ ls. J ls now.reasons in
         let R : List ℕ → Type 0 = λ rs. J (take (length now.lits) new.lits) rs in
         subst R b.reasons (subst L b.lits at_now) in
-        rw (take-take i (length now.lits) new.lits (omega arith), get_or-take (length now.lits) new.reasons i 0 lt, get_or-take (length now.lits) new.lits i 0 lt) at moved
+        rw (
+          take-take i (length now.lits) new.lits (omega arith),
+          get_or-take (length now.lits) new.reasons i 0 lt,
+          get_or-take (length now.lits) new.lits i 0 lt,
+        ) at moved
     | inr ge ↦ b.justified i ge k
   ];
 }
 
-pub unit_in : (clauses : List (List ℕ)) (set : List ℕ) (i : ℕ) (clause : List ℕ) (u : ℕ) → i < length clauses → clause ≡ get_or clauses i clause → effect_of set clause ≡ Sets u → IsUnitAt clauses set i u
+pub unit_in : (clauses : List (List ℕ)) (set : List ℕ) (i : ℕ) (clause : List ℕ) (u : ℕ) → i < length clauses → clause ≡ get_or clauses i clause
+    → effect_of set clause ≡ Sets u → IsUnitAt clauses set i u
 unit_in clauses set i clause u h e s = (clause, slice_get_read clauses _ i clause refl h e, sets_is set _ u s)
 
-pub false_at : (clauses : List (List ℕ)) (set : List ℕ) (i : ℕ) (clause : List ℕ) → i < length clauses → clause ≡ get_or clauses i clause → effect_of set clause ≡ Falsified → IsFalseAt clauses set i
+pub false_at : (clauses : List (List ℕ)) (set : List ℕ) (i : ℕ) (clause : List ℕ) → i < length clauses → clause ≡ get_or clauses i clause
+    → effect_of set clause ≡ Falsified → IsFalseAt clauses set i
 false_at clauses set i clause h e s = (clause, slice_get_read clauses _ i clause refl h e, falsified_is set _ s)
 
 -- what a caller sees of it

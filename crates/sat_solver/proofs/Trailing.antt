@@ -1,8 +1,10 @@
 -- A trail's table of places, and where set literals stand.
-use Rattle.std.proofs.Common.{◌≡◌, ℕ, zero, suc, ◌+◌, ◌<◌, ◌≤◌, Bool, true, false, ◌||◌, eqb, ltb, List, [], ◌∷◌, ◌++◌, map, length, get_or, set, take, drop, refl, sym, ap, ◌∙◌, subst, inl, inr, ◌⊎◌, arith}
+use Rattle.std.proofs.Common.{◌≡◌, ℕ, zero, suc, ◌+◌, ◌<◌, ◌≤◌, Bool, true, false, ◌||◌, eqb, ltb, List, [], ◌∷◌, ◌++◌, map, length, get_or, set}
+use Rattle.std.proofs.Common.{take, drop, refl, sym, ap, ◌∙◌, subst, inl, inr, ◌⊎◌, arith}
 use Rattle.std.specs.List.{IsDistinct}
 use Rattle.std.proofs.lemmas.Bool.{false≢true, cases_lt, or_cases, or_left, or_right, eqb-true, false_from_ne_true, both_ways, lt-ltb, ltb-true}
-use Rattle.std.proofs.lemmas.List.{length-set, get_or-set_same, get_or-set_other, get_or_append_left, get_or_push, length_push, take-take, get_or-take, take_more, drop_more}
+use Rattle.std.proofs.lemmas.List.{length-set, get_or-set_same, get_or-set_other, get_or_append_left, get_or_push, length_push, take-take}
+use Rattle.std.proofs.lemmas.List.{get_or-take, take_more, drop_more}
 use Rattle.std.proofs.lemmas.Option.{slice_get_within}
 use Rattle.proof_log.specs.Literals.{lit_var, negated, InVars}
 use Rattle.proof_log.specs.Clauses.{is_set}
@@ -21,13 +23,16 @@ place_from_member (x ∷ xs) l h =
     ]
 
 -- the table has its place
-pub placed_at : (vars room : ℕ) (lits reasons places : List ℕ) (l : ℕ) → IsTrail vars lits reasons room places → is_set lits l ≡ true → (get_or places (lit_var l) 0 < length lits) × (get_or lits (get_or places (lit_var l) 0) 0 ≡ l)
+pub placed_at : (vars room : ℕ) (lits reasons places : List ℕ) (l : ℕ) → IsTrail vars lits reasons room places → is_set lits l ≡ true
+    → (get_or places (lit_var l) 0 < length lits) × (get_or lits (get_or places (lit_var l) 0) 0 ≡ l)
 placed_at vars room lits reasons places l t h =
     let w = place_from_member lits l h in
     let p : get_or places (lit_var l) 0 ≡ w.0 = ap (λ q. get_or places (lit_var q) 0) (sym w.2) ∙ t.placed w.0 w.1 in
     (omega (arith, w.1), ap (λ i. get_or lits i 0) p ∙ w.2)
 
-pub IsTrail-set : (vars room : ℕ) (lits reasons places : List ℕ) (l r : ℕ) → IsTrail vars lits reasons room places → InVars vars l → is_set lits l ≡ false → is_set lits (negated l) ≡ false → IsTrail vars (lits ++ l ∷ []) (reasons ++ r ∷ []) room (set places (lit_var l) (length lits))
+pub IsTrail-set : (vars room : ℕ) (lits reasons places : List ℕ) (l r : ℕ) → IsTrail vars lits reasons room places → InVars vars l
+    → is_set lits l ≡ false → is_set lits (negated l) ≡ false → IsTrail vars (lits ++ l ∷ []) (reasons ++ r ∷ []) room
+    (set places (lit_var l) (length lits))
 IsTrail-set vars room lits reasons places l r t here not_true not_false = record {
   paired = omega (arith, t.paired, length_push lits l, length_push reasons r);
   roomy = t.roomy;
@@ -52,7 +57,8 @@ IsTrail-set vars room lits reasons places l r t here not_true not_false = record
       | inr s ↦ both_ways _ not_false (ap (is_set lits) (sym s) ∙ is_set-at lits i lt)
     ]
 
-pub IsTrail-take : (vars room : ℕ) (lits reasons places : List ℕ) (n : ℕ) → IsTrail vars lits reasons room places → IsTrail vars (take n lits) (take n reasons) room places
+pub IsTrail-take : (vars room : ℕ) (lits reasons places : List ℕ) (n : ℕ) → IsTrail vars lits reasons room places → IsTrail vars (take n lits)
+    (take n reasons) room places
 IsTrail-take vars room lits reasons places n t = record {
   paired = both n lits reasons t.paired;
   roomy = t.roomy;
@@ -76,7 +82,8 @@ IsTrail-take vars room lits reasons places n t = record {
     both (suc n) (x ∷ xs) (y ∷ ys) h = omega (arith, both n xs ys (omega arith))
 
 -- an earlier and a later literal are of two variables
-pub parts_apart : (n : ℕ) (xs : List ℕ) → IsDistinct eqb (map lit_var xs) → (a b : ℕ) → is_set (take n xs) a ≡ true → is_set (drop n xs) b ≡ true → lit_var a ≡ lit_var b → ⊥
+pub parts_apart : (n : ℕ) (xs : List ℕ) → IsDistinct eqb (map lit_var xs) → (a b : ℕ) → is_set (take n xs) a ≡ true → is_set (drop n xs) b ≡ true
+    → lit_var a ≡ lit_var b → ⊥
 unfolding IsDistinct
 parts_apart zero xs d a b ha hb e = false≢true (sym (is_set-nil a) ∙ ha)
 parts_apart (suc n) [] d a b ha hb e = false≢true (sym (is_set-nil a) ∙ ha)
@@ -106,7 +113,8 @@ front_unset xs n m q h f = false_from_ne_true _ (λ t. both_ways _ f (is_set-tak
 pub at_front : (xs : List ℕ) (i n : ℕ) → i < length xs → i < n → is_set (take n xs) (get_or xs i 0) ≡ true
 at_front xs i n h lt =
     is_set-take_more (i + 1) n xs (omega arith) (get_or xs i 0)
-    (ap (λ ys. is_set ys (get_or xs i 0)) (take_more xs i 0 h) ∙ is_set-append (take i xs) (get_or xs i 0 ∷ []) (get_or xs i 0) ∙ right (is_set (take i xs) (get_or xs i 0)) (is_set_first (get_or xs i 0) []))
+    (ap (λ ys. is_set ys (get_or xs i 0)) (take_more xs i 0 h) ∙ is_set-append (take i xs) (get_or xs i 0 ∷ []) (get_or xs i 0)
+    ∙ right (is_set (take i xs) (get_or xs i 0)) (is_set_first (get_or xs i 0) []))
   where
     right : (a : Bool) {b : Bool} → b ≡ true → (a || b) ≡ true
     right true e = refl
@@ -117,7 +125,8 @@ at_back xs i n h le =
     is_set-drop_less n i xs le (get_or xs i 0) (ap (λ ys. is_set ys (get_or xs i 0)) (drop_more xs i 0 h) ∙ is_set_first (get_or xs i 0) (drop (i + 1) xs))
 
 -- so it is in no front that ends before it, nor is its complement
-pub at_not_front : (xs : List ℕ) (i n l : ℕ) → IsDistinct eqb (map lit_var xs) → i < length xs → n ≤ i → lit_var l ≡ lit_var (get_or xs i 0) → is_set (take n xs) l ≡ false
+pub at_not_front : (xs : List ℕ) (i n l : ℕ) → IsDistinct eqb (map lit_var xs) → i < length xs → n ≤ i → lit_var l ≡ lit_var (get_or xs i 0)
+    → is_set (take n xs) l ≡ false
 at_not_front xs i n l d h le e = false_from_ne_true _ (λ t. parts_apart n xs d l (get_or xs i 0) t (at_back xs i n h le) e)
 
 -- so the literal at a place is in exactly the fronts that end after it
@@ -139,7 +148,8 @@ pub in_either : (xs ys : List ℕ) (q : ℕ) → is_set (xs ++ ys) q ≡ true �
 in_either xs ys q h = or_cases (is_set xs q) (is_set ys q) (sym (is_set-append xs ys q) ∙ h)
 
 -- a reason's place, as it is read
-pub reason_within : (clauses : List (List ℕ)) (front reasons shown : List ℕ) (at u : ℕ) → shown ≡ reasons → IsUnitAt clauses front (get_or reasons at 0) u → get_or shown at 0 < length clauses
+pub reason_within : (clauses : List (List ℕ)) (front reasons shown : List ℕ) (at u : ℕ) → shown ≡ reasons → IsUnitAt clauses front
+    (get_or reasons at 0) u → get_or shown at 0 < length clauses
 reason_within clauses front reasons shown at u e unit =
     let P : List ℕ → Type 0 = λ rs. get_or rs at 0 < length clauses in
     subst P (sym e) (slice_get_within clauses _ unit.0 unit.1)

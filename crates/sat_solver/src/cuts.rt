@@ -1,5 +1,28 @@
 //! Cuts of a conflict: literals that are false together, by which the conflict comes about.
-ghost use Rattle.std.specs.Prelude.{◌≡◌, ◌≢◌, ◌+◌, ◌<◌, ◌≤◌, ◌^◌, [], ◌∷◌, ◌++◌, ◌==◌, true, filter, length, not, IfOk, MatchBool, slice_index, slice_get, Some, take, false, ℕ};
+ghost use Rattle.std.specs.Prelude.{
+  ◌≡◌,
+  ◌≢◌,
+  ◌+◌,
+  ◌<◌,
+  ◌≤◌,
+  ◌^◌,
+  [],
+  ◌∷◌,
+  ◌++◌,
+  ◌==◌,
+  true,
+  filter,
+  length,
+  not,
+  IfOk,
+  MatchBool,
+  slice_index,
+  slice_get,
+  Some,
+  take,
+  false,
+  ℕ,
+};
 ghost use Rattle.proof_log.specs.Literals.{negated};
 ghost use Rattle.proof_log.specs.Clauses.{is_set};
 ghost use Rattle.sat_solver.specs.Searches.{IsUnitAt};

@@ -1,5 +1,29 @@
 //! The steps of a search: propagate, decide, go back, learn.
-ghost use Rattle.std.specs.Prelude.{◌≡◌, ◌+◌, ◌*◌, ◌^◌, ◌<◌, ◌≤◌, ◌⊎◌, [], ◌∷◌, ◌++◌, take, length, true, false, All, MatchBool, MatchOption, IfSome, IfNone, IfOk, OnErr, slice_index, ℕ};
+ghost use Rattle.std.specs.Prelude.{
+  ◌≡◌,
+  ◌+◌,
+  ◌*◌,
+  ◌^◌,
+  ◌<◌,
+  ◌≤◌,
+  ◌⊎◌,
+  [],
+  ◌∷◌,
+  ◌++◌,
+  take,
+  length,
+  true,
+  false,
+  All,
+  MatchBool,
+  MatchOption,
+  IfSome,
+  IfNone,
+  IfOk,
+  OnErr,
+  slice_index,
+  ℕ,
+};
 ghost use Rattle.proof_log.specs.Literals.{negated, literal, InVars};
 ghost use Rattle.proof_log.specs.Clauses.{is_set, clause_true, IsNormal};
 ghost use Rattle.proof_log.specs.Derivations.{LeadsToConflict};

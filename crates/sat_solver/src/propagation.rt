@@ -1,11 +1,46 @@
 //! Unit propagation by two watched literals of each clause (Moskewicz et al., Chaff, DAC 2001).
-ghost use Rattle.std.specs.Prelude.{◌≡◌, ◌+◌, ◌*◌, ◌^◌, ◌<◌, ◌≤◌, ℕ, [], All, MatchBool, MatchOption, OnOk, IfOk, IfSome, length, set, take, slice_index, true, false};
+ghost use Rattle.std.specs.Prelude.{
+  ◌≡◌,
+  ◌+◌,
+  ◌*◌,
+  ◌^◌,
+  ◌<◌,
+  ◌≤◌,
+  ℕ,
+  [],
+  All,
+  MatchBool,
+  MatchOption,
+  OnOk,
+  IfOk,
+  IfSome,
+  length,
+  set,
+  take,
+  slice_index,
+  true,
+  false,
+};
 ghost use Rattle.proof_log.specs.Literals.{negated, InVars};
 ghost use Rattle.proof_log.specs.Clauses.{is_set, IsNormal};
 ghost use Rattle.sat_solver.specs.Searches.{AllInVars, IsQuiet, IsFalseAt};
 ghost use Rattle.sat_solver.specs.Learning.{OthersFalse};
 ghost use Rattle.sat_solver.specs.Trails.{Extends};
-ghost use Rattle.sat_solver.specs.Watches.{CanWalk, Walks, AreWalked, LookMeans, VisitMeans, IsQueued, Settles, IsNewQueue, IsAdded, HasMore, HasTrue, clause_at, watched};
+ghost use Rattle.sat_solver.specs.Watches.{
+  CanWalk,
+  Walks,
+  AreWalked,
+  LookMeans,
+  VisitMeans,
+  IsQueued,
+  Settles,
+  IsNewQueue,
+  IsAdded,
+  HasMore,
+  HasTrue,
+  clause_at,
+  watched,
+};
 
 use crate::trails::Trail;
 use proof_log::{Clause, Effect, Lit, LitSet};

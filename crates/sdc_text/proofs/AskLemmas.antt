@@ -1,5 +1,6 @@
 -- A script that is read asks about three names.
-use Rattle.std.proofs.Common.{◌≡◌, ℕ, Bool, true, false, List, [], ◌∷◌, Option, Some, None, Result, Ok, Err, IfOk, IfSome, IsSome, codes, if◌then◌else◌, refl, subst}
+use Rattle.std.proofs.Common.{◌≡◌, ℕ, Bool, true, false, List, [], ◌∷◌, Option, Some, None, Result, Ok, Err, IfOk, IfSome, IsSome, codes}
+use Rattle.std.proofs.Common.{if◌then◌else◌, refl, subst}
 use Rattle.texts.specs.Reads.{Gives, ◌>>=◌}
 use Rattle.sdc_text.specs.declared.scripts.Class.{Class}
 use Rattle.sdc_text.specs.declared.scripts.Class.TheVariants as class
@@ -20,7 +21,8 @@ after_any P None f h = tt
 after_any P (Some x) f h = h x
 
 -- and where something is known of what it gives
-after_known : {A B : Type 0} (Q : A → Type 0) (P : B → Type 0) (o : Option A) (f : A → Option B) → IfSome o Q → ((x : A) → Q x → IfSome (f x) P) → IfSome (o >>= f) P
+after_known : {A B : Type 0} (Q : A → Type 0) (P : B → Type 0) (o : Option A) (f : A → Option B) → IfSome o Q → ((x : A) → Q x → IfSome (f x) P)
+    → IfSome (o >>= f) P
 after_known Q P None f known h = tt
 after_known Q P (Some x) f known h = h x known
 
@@ -32,7 +34,8 @@ object_lone : (get : List ℕ) (sort : Class) (s : List ℕ) → IfSome (object_
 unfolding object_at
 object_lone get sort s =
     let P : List Object × List ℕ → Type 0 = λ p. IsLone sort p.0 in
-    after_any P (after (codes "[") s) _ (λ r. after_any P (after get r) _ (λ r. after_any P (after (codes " ") r) _ (λ r. after_any P (name_at r) _ (λ n. after_any P (after (codes "]") n.1) _ (λ r. (n.0, refl))))))
+    after_any P (after (codes "[") s) _ (λ r. after_any P (after get r) _
+    (λ r. after_any P (after (codes " ") r) _ (λ r. after_any P (name_at r) _ (λ n. after_any P (after (codes "]") n.1) _ (λ r. (n.0, refl))))))
 
 abbrev HasPort : What × List ℕ → Type 0
 HasPort c = (port : List ℕ) × (clock_port c.0 ≡ Some port)
@@ -40,8 +43,11 @@ HasPort c = (port : List ℕ) × (clock_port c.0 ≡ Some port)
 clock_has_port : (s : List ℕ) → IfSome (clock_at s) HasPort
 unfolding clock_at
 clock_has_port s =
-    after_any HasPort (after (codes "create_clock -name ") s) _ (λ r. after_any HasPort (name_at r) _ (λ n. after_any HasPort (after (codes " -period ") n.1) _ (λ r. after_any HasPort (after_number r) _ (λ r. after_any HasPort (after (codes " ") r) _ (λ r.
-    after_known (λ p. IsLone class.Ports p.0) HasPort (object_at (codes "get_ports") class.Ports r) _ (object_lone (codes "get_ports") class.Ports r) (λ p lone. (lone.0, rw lone.1 refl)))))))
+    after_any HasPort (after (codes "create_clock -name ") s) _ (λ r. after_any HasPort (name_at r) _
+    (λ n. after_any HasPort (after (codes " -period ") n.1) _ (λ r. after_any HasPort (after_number r) _
+    (λ r. after_any HasPort (after (codes " ") r) _ (λ r.
+    after_known (λ p. IsLone class.Ports p.0) HasPort (object_at (codes "get_ports") class.Ports r) _ (object_lone (codes "get_ports") class.Ports r)
+    (λ p lone. (lone.0, rw lone.1 refl)))))))
 
 abbrev HasEnds : What × List ℕ → Type 0
 HasEnds c = (ends : List ℕ × List ℕ) × (path_ends c.0 ≡ Some ends)
@@ -51,7 +57,8 @@ unfolding false_path_at
 path_has_ends s =
     let get = codes "get_cells" in
     let Cells : List Object × List ℕ → Type 0 = λ p. IsLone class.Cells p.0 in
-    after_any HasEnds (after (codes "set_false_path -from ") s) _ (λ r. after_known Cells HasEnds (object_at get class.Cells r) _ (object_lone get class.Cells r) (λ f from. after_any HasEnds (after (codes " -to ") f.1) _ (λ r.
+    after_any HasEnds (after (codes "set_false_path -from ") s) _ (λ r. after_known Cells HasEnds (object_at get class.Cells r) _
+    (object_lone get class.Cells r) (λ f from. after_any HasEnds (after (codes " -to ") f.1) _ (λ r.
     after_known Cells HasEnds (object_at get class.Cells r) _ (object_lone get class.Cells r) (λ t to. ((from.0, to.0), rw (from.1, to.1) refl)))))
 
 abbrev IsAsked : Script → Type 0

@@ -4,7 +4,17 @@ use Rattle.sdcv_base.specs.declared.mem_hosts.MemHost.TheInside.{Inside}
 use Rattle.sdcv_base.specs.MemHosts.{MemState}
 
 abbrev pub state_of : Inside → MemState
-state_of m = record { files = m.files.items; fails = m.fails.items; room = m.room; calls = m.calls; asked = m.asked.items; printed = m.printed.items; saved = m.saved.items; faults = m.faults }
+state_of m = record {
+  files = m.files.items;
+  fails = m.fails.items;
+  room = m.room;
+  calls = m.calls;
+  asked = m.asked.items;
+  printed =
+      m.printed.items;
+  saved = m.saved.items;
+  faults = m.faults;
+}
 
 -- there is room for all that is printed, and until something is saved for that too
 pub record HasRoom (m : Inside) : Type 0 where

@@ -1,5 +1,6 @@
 -- A host in memory, whose failures are planned.
-use Rattle.std.specs.Prelude.{◌≡◌, ◌⊎◌, ℕ, ◌+◌, ◌-◌, ◌^◌, ◌≤◌, min, Bool, true, false, ◌||◌, ◌==◌, if◌then◌else◌, nat_lt, nat_eq, List, [], ◌∷◌, ◌++◌, length, take, find, Option, None, Some, is_some, Result, Ok, Err, Vec}
+use Rattle.std.specs.Prelude.{◌≡◌, ◌⊎◌, ℕ, ◌+◌, ◌-◌, ◌^◌, ◌≤◌, min, Bool, true, false, ◌||◌, ◌==◌, if◌then◌else◌, nat_lt, nat_eq, List, [], ◌∷◌, ◌++◌}
+use Rattle.std.specs.Prelude.{length, take, find, Option, None, Some, is_some, Result, Ok, Err, Vec}
 use Rattle.std.specs.Option.{option_map}
 use Rattle.std.specs.Cmp.Lexicographic.{pointwise}
 use Rattle.std.specs.declared.alloc.Global.{Global}
@@ -76,5 +77,6 @@ save_fails m name bytes =
 
 -- the host after a save
 abbrev pub MemSaves : {T : Type 0} → MemState → List ℕ → List ℕ → Result T HostFault → MemState → Type 0
-MemSaves old name bytes (Ok _) new = (file : FileRec) × (file_of file ≡ (name, bytes)) × (new ≡ record old { calls = bumped old.calls; saved = old.saved ++ file ∷ [] })
+MemSaves old name bytes (Ok _) new = (file : FileRec) × (file_of file ≡ (name, bytes))
+    × (new ≡ record old { calls = bumped old.calls; saved = old.saved ++ file ∷ [] })
 MemSaves old name bytes (Err _) new = new ≡ record old { calls = bumped old.calls; faults = bumped old.faults }

@@ -1,7 +1,20 @@
 //! A host in memory, whose failures are planned.
 ghost use Rattle.std.specs.Prelude.{◌≡◌, IfOk, is_err, is_some, Option, Some, option_copied, length, ◌++◌, ◌∷◌, [], map, if◌then◌else◌};
 ghost use Rattle.sdcv_base.specs.Hosts.{Reads, ReadCounts, asked_by, Prints, Counts, saved_by};
-ghost use Rattle.sdcv_base.specs.MemHosts.{MemState, new_state, planned, file_named, file_of, LooksUp, mem_read, print_fails, mem_print, save_fails, MemSaves, bumped};
+ghost use Rattle.sdcv_base.specs.MemHosts.{
+  MemState,
+  new_state,
+  planned,
+  file_named,
+  file_of,
+  LooksUp,
+  mem_read,
+  print_fails,
+  mem_print,
+  save_fails,
+  MemSaves,
+  bumped,
+};
 
 use crate::{Host, HostFault, Name, ReadFault};
 use std::alloc::{AllocError, Global};

@@ -26,18 +26,23 @@ use Rattle.stretch_scan.specs.declared.stretches.Stretch.{Stretch}
 abbrev pub two : Stretch → List Cycle
 two s = s.first ∷ s.second ∷ []
 
-bad_from : (d : Design) (claim : Claim) (stale : Bool) (before c : Cycle) → IsPlainFalse claim → DiffersLate d claim c stale → IsBadFor claim.hazard d claim stale before c
+bad_from : (d : Design) (claim : Claim) (stale : Bool) (before c : Cycle) → IsPlainFalse claim → DiffersLate d claim c stale
+    → IsBadFor claim.hazard d claim stale before c
 bad_from d claim stale before c plain differs =
-    subst (λ (hazard : Bool). IsBadFor hazard d claim stale before c) (sym plain.plain) (subst (λ (kind : Kind). IsBadPlain kind claim.through d claim stale before c) (sym plain.kind) differs)
+    subst (λ (hazard : Bool). IsBadFor hazard d claim stale before c) (sym plain.plain)
+    (subst (λ (kind : Kind). IsBadPlain kind claim.through d claim stale before c) (sym plain.kind) differs)
 
-bad_gives : (d : Design) (claim : Claim) (stale : Bool) (before c : Cycle) → IsPlainFalse claim → IsBadFor claim.hazard d claim stale before c → DiffersLate d claim c stale
+bad_gives : (d : Design) (claim : Claim) (stale : Bool) (before c : Cycle) → IsPlainFalse claim → IsBadFor claim.hazard d claim stale before c
+    → DiffersLate d claim c stale
 bad_gives d claim stale before c plain bad =
-    subst (λ (kind : Kind). IsBadPlain kind claim.through d claim stale before c) plain.kind (subst (λ (hazard : Bool). IsBadFor hazard d claim stale before c) plain.plain bad)
+    subst (λ (kind : Kind). IsBadPlain kind claim.through d claim stale before c) plain.kind
+    (subst (λ (hazard : Bool). IsBadFor hazard d claim stale before c) plain.plain bad)
 
 both_of : (P : Cycle → Type 0) (s : Stretch) → P s.first → P s.second → All P (two s)
 both_of P s a b = All-cons P s.first (s.second ∷ []) a (All-cons P s.second [] b (All-nil P))
 
-next_in : (d : Design) (s : Stretch) → IsNext d s.first s.second → (t : ℕ) (before c : Cycle) → slice_get (two s) t ≡ Some before → slice_get (two s) (t + 1) ≡ Some c → IsNext d before c
+next_in : (d : Design) (s : Stretch) → IsNext d s.first s.second → (t : ℕ) (before c : Cycle) → slice_get (two s) t ≡ Some before
+    → slice_get (two s) (t + 1) ≡ Some c → IsNext d before c
 next_in d s next zero before c at then =
     let one : s.first ≡ before = cc in
     let other : s.second ≡ c = cc in
@@ -61,7 +66,9 @@ one_judged : (claim : Claim) → IsPlainFalse claim → judged_count claim.kind 
 one_judged claim plain = ap judged_count plain.kind
 
 -- a toggle with a late capture that differs answers the query
-pub answer_from : (d : Design) (claim : Claim) (s : Stretch) (late : Bool) → IsPlainFalse claim → IsReady d s → IsSimulated d s → start_bit claim.start s.second ≢ start_bit claim.start s.first → IsLateCapture d claim s.second (start_bit claim.start s.first) late → late ≢ capture d claim.end s.second → IsStepAnswer d claim 0 (two s)
+pub answer_from : (d : Design) (claim : Claim) (s : Stretch) (late : Bool) → IsPlainFalse claim → IsReady d s → IsSimulated d s
+    → start_bit claim.start s.second ≢ start_bit claim.start s.first → IsLateCapture d claim s.second (start_bit claim.start s.first) late
+    → late ≢ capture d claim.end s.second → IsStepAnswer d claim 0 (two s)
 answer_from d claim s late plain ready run toggles is_late differs =
     let one = one_judged claim plain in
     step_answer d claim 0 (two s) (is_stretch d s ready run) (omega arith) (λ offset low. absurd (omega arith))
@@ -108,7 +115,8 @@ violation_of d claim s plain v =
     let bad = bad_gives d claim v.stale v.before v.c plain v.bad in
     record {
       toggles = λ same. v.toggles.differs (ap (start_bit claim.start) second ∙ (same ∙ sym stale));
-      differs = subst (λ (c : Cycle). DiffersLate d claim c (start_bit claim.start s.first)) judged (subst (λ (bit : Bool). DiffersLate d claim v.c bit) stale bad);
+      differs = subst (λ (c : Cycle). DiffersLate d claim c (start_bit claim.start s.first)) judged
+          (subst (λ (bit : Bool). DiffersLate d claim v.c bit) stale bad);
     }
 
 clean_has_none : (d : Design) (claim : Claim) (s : Stretch) → IsClean d claim s → ¬ IsViolation d claim s
@@ -125,14 +133,17 @@ none_in_nil d s t spot (inl has) = absurd (omega (arith, has.1))
 none_in_nil d s t spot (inr same) = same
 
 -- a stretch with the same chosen bits is the simulated one
-same_stretch : (d : Design) (s0 s t : Stretch) → IsSound d → IsReady d s0 → KeepsChoice s0 s → IsSimulated d s → AreSameBut d [] s0 t → IsSimulated d t → (t.first ≡ s.first) × (t.second ≡ s.second)
+same_stretch : (d : Design) (s0 s t : Stretch) → IsSound d → IsReady d s0 → KeepsChoice s0 s → IsSimulated d s → AreSameBut d [] s0 t
+    → IsSimulated d t → (t.first ≡ s.first) × (t.second ≡ s.second)
 same_stretch d s0 s t sound ready chosen run same other =
     let state : s0.first.bits ≡ t.first.bits =
-    lists_same (length d.regs) s0.first.bits t.first.bits ready.first.bits other.first.shape.bits (λ r low. none_in_nil d s0 t (State r) (same (State r) low)) in
+    lists_same (length d.regs) s0.first.bits t.first.bits ready.first.bits other.first.shape.bits
+    (λ r low. none_in_nil d s0 t (State r) (same (State r) low)) in
     let ins : s0.first.ins ≡ t.first.ins =
     lists_same (length d.inputs) s0.first.ins t.first.ins ready.first.ins other.first.shape.ins (λ i low. none_in_nil d s0 t (First i) (same (First i) low)) in
     let second_ins : s0.second.ins ≡ t.second.ins =
-    lists_same (length d.inputs) s0.second.ins t.second.ins ready.second.ins other.second.shape.ins (λ i low. none_in_nil d s0 t (Second i) (same (Second i) low)) in
+    lists_same (length d.inputs) s0.second.ins t.second.ins ready.second.ins other.second.shape.ins
+    (λ i low. none_in_nil d s0 t (Second i) (same (Second i) low)) in
     let one : t.first ≡ s.first = settled_same d t.first s.first sound other.first run.first (sym state ∙ sym chosen.state) (sym ins ∙ sym chosen.first) in
     let next : IsNext d s.first t.second = subst (λ (c : Cycle). IsNext d c t.second) one other.next in
     let bits : t.second.bits ≡ s.second.bits =
@@ -150,7 +161,8 @@ run_of d claim t answer =
     }
 
 -- a clean stretch leaves no answer with its chosen bits
-pub none_from : (d : Design) (claim : Claim) (s0 s : Stretch) → IsSound d → IsPlainFalse claim → IsReady d s0 → KeepsChoice s0 s → IsSimulated d s → IsClean d claim s → HasNoAnswerBut d claim [] s0
+pub none_from : (d : Design) (claim : Claim) (s0 s : Stretch) → IsSound d → IsPlainFalse claim → IsReady d s0 → KeepsChoice s0 s → IsSimulated d s
+    → IsClean d claim s → HasNoAnswerBut d claim [] s0
 none_from d claim s0 s sound plain ready chosen run clean t same answer =
     let one = same_stretch d s0 s t sound ready chosen run same (run_of d claim t answer) in
     let first = subst (λ (c : Cycle). IsStepAnswer d claim 0 (c ∷ t.second ∷ [])) one.0 answer in

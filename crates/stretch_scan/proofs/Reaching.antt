@@ -57,13 +57,16 @@ inputs_of d claim a b answer =
       },
     )
 
-held_spot : (d : Design) (s t : Stretch) (spot : Spot) → IsReady d s → AreInputs d false t.first.ins → AreInputs d false t.second.ins → is_free_spot d spot ≡ false → bit_of s spot ≡ bit_of t spot
+held_spot : (d : Design) (s t : Stretch) (spot : Spot) → IsReady d s → AreInputs d false t.first.ins → AreInputs d false t.second.ins
+    → is_free_spot d spot ≡ false → bit_of s spot ≡ bit_of t spot
 held_spot d s t (State r) ready first second held = cc
 held_spot d s t (First i) ready first second held = held_same d s.first.ins t.first.ins i held ready.first_ins first
 held_spot d s t (Second i) ready first second held = held_same d s.second.ins t.second.ins i held ready.second_ins second
 
 -- where no stretch that differs at free bits alone answers the query, none does
-pub none_at_all : (d : Design) (claim : Claim) (free : List Spot) (s : Stretch) → IsPlainFalse claim → IsReady d s → ((spot : Spot) → IsSpotIn d spot → Contains free spot ⊎ (is_free_spot d spot ≡ false)) → HasNoAnswerBut d claim free s → (stretch : List Cycle) → ¬ IsStepAnswer d claim 0 stretch
+pub none_at_all : (d : Design) (claim : Claim) (free : List Spot) (s : Stretch) → IsPlainFalse claim → IsReady d s
+    → ((spot : Spot) → IsSpotIn d spot → Contains free spot ⊎ (is_free_spot d spot ≡ false)) → HasNoAnswerBut d claim free s → (stretch : List Cycle)
+    → ¬ IsStepAnswer d claim 0 stretch
 none_at_all d claim free s plain ready all none [] answer = absurd (omega (arith, answer.cycles.count))
 none_at_all d claim free s plain ready all none (a ∷ []) answer =
     absurd (omega (arith, answer.cycles.count, ap judged_count plain.kind))

@@ -44,12 +44,15 @@ reg_more d spots r low done =
       second = λ j lt. absurd (omega arith);
     }
 
-pub input_more : (d : Design) (spots : List Spot) (r i : ℕ) → i < length d.inputs → is_free d i ≡ true → SpotsDone d spots r i → SpotsDone d ((spots ++ First i ∷ []) ++ Second i ∷ []) r (i + 1)
+pub input_more : (d : Design) (spots : List Spot) (r i : ℕ) → i < length d.inputs → is_free d i ≡ true → SpotsDone d spots r i
+    → SpotsDone d ((spots ++ First i ∷ []) ++ Second i ∷ []) r (i + 1)
 input_more d spots r i low is done =
     let one = spots ++ First i ∷ [] in
     record {
-      free = All-push (IsFreeSpot d) (spots ++ First i ∷ []) (Second i) (All-push (IsFreeSpot d) spots (First i) done.free (record { in_range = low; free = is })) (record { in_range = low; free = is });
-      regs = λ q lt. Contains-append_left (spots ++ First i ∷ []) (Second i ∷ []) (State q) (Contains-append_left spots (First i ∷ []) (State q) (done.regs q lt));
+      free = All-push (IsFreeSpot d) (spots ++ First i ∷ []) (Second i)
+          (All-push (IsFreeSpot d) spots (First i) done.free (record { in_range = low; free = is })) (record { in_range = low; free = is });
+      regs = λ q lt. Contains-append_left (spots ++ First i ∷ []) (Second i ∷ []) (State q)
+          (Contains-append_left spots (First i ∷ []) (State q) (done.regs q lt));
       first =
           below_more (λ j. Contains ((spots ++ First i ∷ []) ++ Second i ∷ []) (First j) ⊎ (is_free d j ≡ false)) i
           (λ j lt. keeps d (spots ++ First i ∷ []) (Second i) (First j) j (keeps d spots (First i) (First j) j (done.first j lt)))
@@ -69,7 +72,8 @@ input_skip d spots r i held done =
       second = below_more (λ j. Contains spots (Second j) ⊎ (is_free d j ≡ false)) i done.second (inr held);
     }
 
-pub spots_all : (d : Design) (spots : List Spot) → SpotsDone d spots (length d.regs) (length d.inputs) → (spot : Spot) → IsSpotIn d spot → Contains spots spot ⊎ (is_free_spot d spot ≡ false)
+pub spots_all : (d : Design) (spots : List Spot) → SpotsDone d spots (length d.regs) (length d.inputs) → (spot : Spot) → IsSpotIn d spot
+    → Contains spots spot ⊎ (is_free_spot d spot ≡ false)
 spots_all d spots done (State r) low = inl (done.regs r low)
 spots_all d spots done (First i) low = done.first i low
 spots_all d spots done (Second i) low = done.second i low

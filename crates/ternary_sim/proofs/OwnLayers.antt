@@ -1,5 +1,6 @@
 -- A cycle is its own layers, where the start shows its own bit.
-use Rattle.std.proofs.Common.{◌≡◌, ℕ, zero, suc, ◌+◌, ◌≤◌, Bool, true, false, if◌then◌else◌, List, [], length, get_or, replicate, Option, Some, None, refl, ap, sym, ◌∙◌, arith}
+use Rattle.std.proofs.Common.{◌≡◌, ℕ, zero, suc, ◌+◌, ◌≤◌, Bool, true, false, if◌then◌else◌, List, [], length, get_or, replicate, Option, Some, None}
+use Rattle.std.proofs.Common.{refl, ap, sym, ◌∙◌, arith}
 use Rattle.std.specs.Prelude.{All, slice_get, slice_index, nat_lt}
 use Rattle.std.proofs.lemmas.List.{length-replicate, get_or-replicate}
 use Rattle.std.proofs.lemmas.List.Elements.{All-nil, All-cons}
@@ -38,22 +39,26 @@ if_same : (b x y z : Bool) → x ≡ z → y ≡ z → (if b then x else y) ≡ 
 if_same true x y z p q = p
 if_same false x y z p q = q
 
-own_pin : (sets : List (List PinRef)) (nets : List Bool) (last l : ℕ) (pin : PinRef) (n : ℕ) → l ≤ last → pin_reads false sets (own_rows nets last) l pin n ≡ bit_at nets n
+own_pin : (sets : List (List PinRef)) (nets : List Bool) (last l : ℕ) (pin : PinRef) (n : ℕ) → l ≤ last
+    → pin_reads false sets (own_rows nets last) l pin n ≡ bit_at nets n
 own_pin sets nets last zero pin n le = own_net nets last 0 n (omega arith)
 own_pin sets nets last (suc l) pin n le =
     if_same (is_in pin (get_or sets l [])) (pin_reads false sets (own_rows nets last) l pin n) (net_at false (own_rows nets last) (suc l) n) (bit_at nets n)
     (own_pin sets nets last l pin n (omega arith)) (own_net nets last (suc l) n le)
 
-outs_show : (d : Design) (c : Cycle) (start : Start) → IsSettled d c → IsStartIn d start → All (λ (o : RegOut). bit_at c.nets o.net ≡ shown o (start_bit start c)) (start_outs d start)
+outs_show : (d : Design) (c : Cycle) (start : Start) → IsSettled d c → IsStartIn d start
+    → All (λ (o : RegOut). bit_at c.nets o.net ≡ shown o (start_bit start c)) (start_outs d start)
 outs_show d c (RegStart r) settled is = of_reg (slice_get d.regs r) refl
   where
     of_reg : (found : Option Reg) → slice_get d.regs r ≡ found → All (λ (o : RegOut). bit_at c.nets o.net ≡ shown o (bit_at c.bits r)) (outs_of_reg found)
     of_reg None e = All-nil (λ (o : RegOut). bit_at c.nets o.net ≡ shown o (bit_at c.bits r))
     of_reg (Some reg) e = settled.regs r reg e
 outs_show d c (InputStart i) settled is =
-    All-cons (λ (o : RegOut). bit_at c.nets o.net ≡ shown o (bit_at c.ins i)) (record { net = slice_index d.inputs i; inverted = false }) [] (settled.inputs i is) (All-nil (λ (o : RegOut). bit_at c.nets o.net ≡ shown o (bit_at c.ins i)))
+    All-cons (λ (o : RegOut). bit_at c.nets o.net ≡ shown o (bit_at c.ins i)) (record { net = slice_index d.inputs i; inverted = false }) []
+    (settled.inputs i is) (All-nil (λ (o : RegOut). bit_at c.nets o.net ≡ shown o (bit_at c.ins i)))
 
-pub own_layers : (d : Design) (start : Start) (sets : List (List PinRef)) (c : Cycle) → IsSound d → IsSettled d c → IsStartIn d start → AreLayers value false d start sets (λ o. shown o (start_bit start c)) c.nets (own_rows c.nets (length sets))
+pub own_layers : (d : Design) (start : Start) (sets : List (List PinRef)) (c : Cycle) → IsSound d → IsSettled d c → IsStartIn d start
+    → AreLayers value false d start sets (λ o. shown o (start_bit start c)) c.nets (own_rows c.nets (length sets))
 own_layers d start sets c sound settled is =
     let last = length sets in
     let rows = own_rows c.nets last in
@@ -67,7 +72,8 @@ own_layers d start sets c sound settled is =
       gates = λ l le k g at free.
           own_net c.nets last l g.out le
           ∙ (settled.gates k g at
-          ∙ value_agrees g.func (length g.ins) (gate_pins g.ins c.nets) (layer_pins false sets rows l k g.ins) (All-at (IsGateInRange d) d.gates k g at sound.in_range.gates).func
+          ∙ value_agrees g.func (length g.ins) (gate_pins g.ins c.nets) (layer_pins false sets rows l k g.ins)
+          (All-at (IsGateInRange d) d.gates k g at sound.in_range.gates).func
           (λ i within. sym (own_pin sets c.nets last l (GateIn k i) (slice_index g.ins i) le)));
     }
 
@@ -75,15 +81,20 @@ by_test : (b x y own : Bool) → x ≡ y → (if b then x else own) ≡ (if b th
 by_test true x y own same = same
 by_test false x y own same = refl
 
-own_reg : (d : Design) (sets : List (List PinRef)) (c : Cycle) (r : ℕ) → IsSound d → (found : Option Reg) → slice_get d.regs r ≡ found → late_reg_capture sets (own_rows c.nets (length sets)) r found (bit_at c.bits r) ≡ reg_capture_in c r found
+own_reg : (d : Design) (sets : List (List PinRef)) (c : Cycle) (r : ℕ) → IsSound d → (found : Option Reg) → slice_get d.regs r ≡ found
+    → late_reg_capture sets (own_rows c.nets (length sets)) r found (bit_at c.bits r) ≡ reg_capture_in c r found
 own_reg d sets c r sound None e = refl
 own_reg d sets c r sound (Some reg) e =
     let in_range = All-at (IsRegInRange d) d.regs r reg e sound.in_range.regs in
     let own = bit_at c.bits r in
-    capture_agrees reg (length reg.ins + 1) (late_reg_pins false sets (own_rows c.nets (length sets)) r reg own) (reg_pins reg.ins c.nets own) in_range.next in_range.clear in_range.preset
-    (λ i lt. by_test (nat_lt i (length reg.ins)) (pin_reads false sets (own_rows c.nets (length sets)) (length sets) (RegIn r i) (slice_index reg.ins i)) (gate_pins reg.ins c.nets i) own (own_pin sets c.nets (length sets) (length sets) (RegIn r i) (slice_index reg.ins i) (omega arith)))
+    capture_agrees reg (length reg.ins + 1) (late_reg_pins false sets (own_rows c.nets (length sets)) r reg own) (reg_pins reg.ins c.nets own)
+    in_range.next in_range.clear in_range.preset
+    (λ i lt. by_test (nat_lt i (length reg.ins)) (pin_reads false sets (own_rows c.nets (length sets)) (length sets) (RegIn r i)
+    (slice_index reg.ins i)) (gate_pins reg.ins c.nets i) own (own_pin sets c.nets (length sets) (length sets) (RegIn r i) (slice_index reg.ins i)
+    (omega arith)))
 
 -- over its own layers an end captures what it captures in the cycle
-pub own_capture : (d : Design) (sets : List (List PinRef)) (e : End) (c : Cycle) → IsSound d → capture_over d sets (own_rows c.nets (length sets)) e c ≡ capture d e c
+pub own_capture : (d : Design) (sets : List (List PinRef)) (e : End) (c : Cycle) → IsSound d → capture_over d sets (own_rows c.nets (length sets)) e c
+    ≡ capture d e c
 own_capture d sets (RegEnd r) c sound = own_reg d sets c r sound (slice_get d.regs r) refl
 own_capture d sets (OutputEnd o) c sound = own_pin sets c.nets (length sets) (length sets) (OutPort o) (slice_index d.outputs o) (omega arith)

@@ -7,16 +7,21 @@ use Rattle.texts.specs.Reads.{each, ◌>>=◌}
 use Rattle.texts.proofs.ReadLemmas.{bind_gave}
 
 -- one more item at the end
-pub each-append : {A B : Type 0} (give : A → Option B) (xs : List A) (x : A) → each give (xs ++ x ∷ []) ≡ (each give xs >>= λ ys. give x >>= λ y. Some (ys ++ y ∷ []))
+pub each-append : {A B : Type 0} (give : A → Option B) (xs : List A) (x : A) → each give (xs ++ x ∷ []) ≡
+    (each give xs >>= λ ys. give x >>= λ y. Some (ys ++ y ∷ []))
 unfolding each
 each-append give [] x = elim (give x) as (λ o. (o >>= λ y. Some (y ∷ [])) ≡ (o >>= λ y. Some (y ∷ []))) [ None ↦ refl | Some y ↦ refl ]
 each-append {A} {B} give (a ∷ xs) x =
-    elim (give a) as (λ o. (o >>= λ y. each give (xs ++ x ∷ []) >>= λ ys. Some (y ∷ ys)) ≡ ((o >>= λ y. each give xs >>= λ ys. Some (y ∷ ys)) >>= λ ys. give x >>= λ y. Some (ys ++ y ∷ []))) [
+    elim (give a) as (λ o. (o >>= λ y. each give (xs ++ x ∷ []) >>= λ ys. Some (y ∷ ys)) ≡
+    ((o >>= λ y. each give xs >>= λ ys. Some (y ∷ ys)) >>= λ ys. give x >>= λ y. Some (ys ++ y ∷ []))) [
       | None ↦ refl
-      | Some b ↦ rw (each-append give xs x) (elim (each give xs) as (λ o. ((o >>= λ ys. give x >>= λ y. Some (ys ++ y ∷ [])) >>= λ ys. Some (b ∷ ys)) ≡ ((o >>= λ ys. Some (b ∷ ys)) >>= λ ys. give x >>= λ y. Some (ys ++ y ∷ []))) [
-        | None ↦ refl
-        | Some bs ↦ elim (give x) as (λ o. ((o >>= λ y. Some (bs ++ y ∷ [])) >>= λ ys. Some (b ∷ ys)) ≡ (o >>= λ y. Some ((b ∷ bs) ++ y ∷ []))) [ None ↦ refl | Some y ↦ refl ]
-      ])
+      | Some b ↦ rw (each-append give xs x) (elim (each give xs) as
+          (λ o. ((o >>= λ ys. give x >>= λ y. Some (ys ++ y ∷ [])) >>= λ ys. Some (b ∷ ys)) ≡ ((o >>= λ ys. Some (b ∷ ys)) >>= λ ys. give x >>= λ y.
+          Some (ys ++ y ∷ []))) [
+            | None ↦ refl
+            | Some bs ↦ elim (give x) as (λ o. ((o >>= λ y. Some (bs ++ y ∷ [])) >>= λ ys. Some (b ∷ ys)) ≡ (o >>= λ y. Some ((b ∷ bs) ++ y ∷ [])))
+                [ None ↦ refl | Some y ↦ refl ]
+          ])
     ]
 
 -- no item is asked
@@ -79,19 +84,22 @@ each_all P Q give through (x ∷ xs) ys all e =
     subst (λ l. All Q l) made (All-cons Q y zs (through x y (All-head P x xs all) first) (each_all P Q give through xs zs (All-tail P x xs all) rest))
 
 -- a first value and the rest
-pub each_cons : {A B : Type 0} (give : A → Option B) (x : A) (xs : List A) (y : B) (ys : List B) → give x ≡ Some y → each give xs ≡ Some ys → each give (x ∷ xs) ≡ Some (y ∷ ys)
+pub each_cons : {A B : Type 0} (give : A → Option B) (x : A) (xs : List A) (y : B) (ys : List B) → give x ≡ Some y → each give xs ≡ Some ys
+    → each give (x ∷ xs) ≡ Some (y ∷ ys)
 unfolding each
 each_cons give x xs y ys first rest = rw (first, rest) refl
 
 -- the values of two lists, one after the other
-pub each_both : {A B : Type 0} (give : A → Option B) (xs ys : List A) (os bs : List B) → each give xs ≡ Some os → each give ys ≡ Some bs → each give (xs ++ ys) ≡ Some (os ++ bs)
+pub each_both : {A B : Type 0} (give : A → Option B) (xs ys : List A) (os bs : List B) → each give xs ≡ Some os → each give ys ≡ Some bs
+    → each give (xs ++ ys) ≡ Some (os ++ bs)
 each_both give [] ys os bs first second = let same = each_nil give os first in second ∙ ap (λ l. Some (l ++ bs)) same
 each_both give (x ∷ xs) ys os bs first second =
     let (y, zs, one, rest, made) = each_inverted give x xs os first in
     each_cons give x (xs ++ ys) y (zs ++ bs) one (each_both give xs ys zs bs rest second) ∙ ap (λ l. Some (l ++ bs)) made
 
 -- what holds of each value that is given holds of all that are found
-pub each_holds : {A B : Type 0} (Q : B → Type 0) (give : A → Option B) → ((x : A) (y : B) → give x ≡ Some y → Q y) → (xs : List A) (ys : List B) → each give xs ≡ Some ys → All Q ys
+pub each_holds : {A B : Type 0} (Q : B → Type 0) (give : A → Option B) → ((x : A) (y : B) → give x ≡ Some y → Q y) → (xs : List A) (ys : List B)
+    → each give xs ≡ Some ys → All Q ys
 each_holds Q give through [] ys e = let same = each_nil give ys e in subst (λ l. All Q l) same (All-nil Q)
 each_holds Q give through (x ∷ xs) ys e =
     let (y, zs, first, rest, made) = each_inverted give x xs ys e in

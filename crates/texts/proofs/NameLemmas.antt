@@ -1,5 +1,6 @@
 -- Lists of names, one name on.
-use Rattle.std.proofs.Common.{◌≡◌, ℕ, ◌≤◌, Bool, true, false, not, ◌&&◌, ◌||◌, List, [], ◌∷◌, ◌++◌, length, Some, slice_get, unwrap_or, position, refl, sym, ap, ◌∙◌, add_comm, add-one, append-nil, append_assoc, subst, inl, inr, arith}
+use Rattle.std.proofs.Common.{◌≡◌, ℕ, ◌≤◌, Bool, true, false, not, ◌&&◌, ◌||◌, List, [], ◌∷◌, ◌++◌, length, Some, slice_get, unwrap_or, position}
+use Rattle.std.proofs.Common.{refl, sym, ap, ◌∙◌, add_comm, add-one, append-nil, append_assoc, subst, inl, inr, arith}
 use Rattle.std.proofs.lemmas.Bool.{lt-ltb, le-ltb, cases_lt, and_parts, or_parts, or_right, not-true}
 use Rattle.std.proofs.lemmas.Bool.Decides.{same_from_decides}
 use Rattle.std.proofs.lemmas.List.Folds.{list_any-append, list_all-append}
@@ -58,7 +59,8 @@ or_assoc false b c = refl
 pub is_among-with_names : (n : List ℕ) (xs ys : List (List ℕ)) → is_among n (with_names xs ys) ≡ (is_among n xs || is_among n ys)
 is_among-with_names n xs [] = or_none (is_among n xs)
 is_among-with_names n xs (y ∷ ys) =
-    is_among-with_names n (with_name xs y) ys ∙ ap (λ (b : Bool). b || is_among n ys) (is_among-with_name n xs y) ∙ or_assoc (is_among n xs) (bytes_eq n y) (is_among n ys)
+    is_among-with_names n (with_name xs y) ys ∙ ap (λ (b : Bool). b || is_among n ys) (is_among-with_name n xs y) ∙ or_assoc (is_among n xs)
+    (bytes_eq n y) (is_among n ys)
 
 regroup : (a b c d : Bool) → (not (a || b) && (c && not d)) ≡ ((not a && c) && not (b || d))
 regroup true b c d = refl
@@ -85,7 +87,8 @@ regroup_new false b c d = refl
 -- the test of one more new name
 pub are_new-push : (names xs : List (List ℕ)) (y : List ℕ) → are_new names (xs ++ y ∷ []) ≡ (are_new names xs && not (is_among y (with_names names xs)))
 are_new-push names xs y =
-    rw (are_distinct-push xs y, list_all-append (λ n. not (is_among n names)) xs (y ∷ []), is_among-with_names y names xs) (regroup_new (are_distinct xs) (is_among y xs) (list_all (λ n. not (is_among n names)) xs) (is_among y names))
+    rw (are_distinct-push xs y, list_all-append (λ n. not (is_among n names)) xs (y ∷ []), is_among-with_names y names xs)
+    (regroup_new (are_distinct xs) (is_among y xs) (list_all (λ n. not (is_among n names)) xs) (is_among y names))
 
 -- the names after one more
 pub with_names-push : (names xs : List (List ℕ)) (y : List ℕ) → with_names names (xs ++ y ∷ []) ≡ with_name (with_names names xs) y
@@ -105,7 +108,8 @@ unfolding are_distinct
 are_distinct-each_once xs = are_distinct-with_names [] xs refl
 
 -- a name stands at its place
-place_here : (n x : List ℕ) (xs : List (List ℕ)) (b : Bool) → bytes_eq n x ≡ b → (b ≡ false → slice_get xs (place_of n xs) ≡ Some n) → slice_get (x ∷ xs) (place_of n (x ∷ xs)) ≡ Some n
+place_here : (n x : List ℕ) (xs : List (List ℕ)) (b : Bool) → bytes_eq n x ≡ b → (b ≡ false → slice_get xs (place_of n xs) ≡ Some n)
+    → slice_get (x ∷ xs) (place_of n (x ∷ xs)) ≡ Some n
 place_here n x xs true e further = let (f, g) = bytes_eq-Decides n x in rw e (ap (λ (y : List ℕ). Some y) (sym (f e)))
 place_here n x xs false e further = rw (e, add_comm, add-one) (further refl)
 
@@ -114,10 +118,12 @@ slice_get-place_of n [] here = absurd cc
 slice_get-place_of n (x ∷ xs) here = place_here n x xs (bytes_eq n x) refl (λ e. slice_get-place_of n xs (rw e at here))
 
 -- the test of new names against names and one more
-fresh_more : (names : List (List ℕ)) (y : List ℕ) (xs : List (List ℕ)) → list_all (λ n. not (is_among n (names ++ y ∷ []))) xs ≡ (list_all (λ n. not (is_among n names)) xs && not (is_among y xs))
+fresh_more : (names : List (List ℕ)) (y : List ℕ) (xs : List (List ℕ)) → list_all (λ n. not (is_among n (names ++ y ∷ []))) xs ≡
+    (list_all (λ n. not (is_among n names)) xs && not (is_among y xs))
 fresh_more names y [] = refl
 fresh_more names y (x ∷ xs) =
-    rw (is_among-push x names y, fresh_more names y xs, bytes_eq-comm x y) (regroup (is_among x names) (bytes_eq y x) (list_all (λ n. not (is_among n names)) xs) (is_among y xs))
+    rw (is_among-push x names y, fresh_more names y xs, bytes_eq-comm x y)
+    (regroup (is_among x names) (bytes_eq y x) (list_all (λ n. not (is_among n names)) xs) (is_among y xs))
 
 regroup_cons : (a b c d : Bool) → ((not a && b) && (not c && d)) ≡ (not c && (b && (d && not a)))
 regroup_cons true b true d = refl
@@ -133,7 +139,8 @@ regroup_cons false false false d = refl
 -- the test of a first new name, and of the others after it
 pub are_new-cons : (names : List (List ℕ)) (x : List ℕ) (xs : List (List ℕ)) → are_new names (x ∷ xs) ≡ (not (is_among x names) && are_new (names ++ x ∷ []) xs)
 unfolding are_distinct
-are_new-cons names x xs = rw (fresh_more names x xs) (regroup_cons (is_among x xs) (are_distinct xs) (is_among x names) (list_all (λ n. not (is_among n names)) xs))
+are_new-cons names x xs = rw (fresh_more names x xs) (regroup_cons (is_among x xs) (are_distinct xs) (is_among x names)
+    (list_all (λ n. not (is_among n names)) xs))
 
 and_assoc : (a b c : Bool) → ((a && b) && c) ≡ (a && (b && c))
 and_assoc true b c = refl
@@ -143,7 +150,9 @@ pub are_new-append : (names xs ys : List (List ℕ)) → are_new names (xs ++ ys
 unfolding are_distinct
 are_new-append names [] ys = rw (append-nil names) refl
 are_new-append names (x ∷ xs) ys =
-    are_new-cons names x (xs ++ ys) ∙ ap (λ (b : Bool). not (is_among x names) && b) (are_new-append (names ++ x ∷ []) xs ys) ∙ rw (are_new-cons names x xs, append_assoc names (x ∷ []) xs) (sym (and_assoc (not (is_among x names)) (are_new (names ++ x ∷ []) xs) (are_new (names ++ (x ∷ xs)) ys)))
+    are_new-cons names x (xs ++ ys) ∙ ap (λ (b : Bool). not (is_among x names) && b) (are_new-append (names ++ x ∷ []) xs ys)
+    ∙ rw (are_new-cons names x xs, append_assoc names (x ∷ []) xs)
+    (sym (and_assoc (not (is_among x names)) (are_new (names ++ x ∷ []) xs) (are_new (names ++ (x ∷ xs)) ys)))
 
 list_all_true : {A : Type 0} (xs : List A) → list_all (λ (x : A). true) xs ≡ true
 list_all_true [] = refl
@@ -175,13 +184,15 @@ are_distinct_front (x ∷ xs) ys e =
     rw (here, are_distinct_front xs ys rest) refl
 
 among_middle : (front : List (List ℕ)) (x : List ℕ) (back : List (List ℕ)) → is_among x (front ++ (x ∷ back)) ≡ true
-among_middle front x back = let (f, g) = bytes_eq-Decides x x in rw (list_any-append (bytes_eq x) front (x ∷ back), g refl) (or_right (is_among x front) true refl)
+among_middle front x back = let (f, g) = bytes_eq-Decides x x in rw (list_any-append (bytes_eq x) front (x ∷ back), g refl)
+    (or_right (is_among x front) true refl)
 
 -- each name of a part is a name of the whole
 pub all_among : (front xs back : List (List ℕ)) → list_all (λ n. is_among n (front ++ (xs ++ back))) xs ≡ true
 all_among front [] back = refl
 all_among front (x ∷ xs) back =
-    rw (among_middle front x (xs ++ back)) (subst (λ (names : List (List ℕ)). list_all (λ n. is_among n names) xs ≡ true) (append_assoc front (x ∷ []) (xs ++ back)) (all_among (front ++ x ∷ []) xs back))
+    rw (among_middle front x (xs ++ back)) (subst (λ (names : List (List ℕ)). list_all (λ n. is_among n names) xs ≡ true)
+    (append_assoc front (x ∷ []) (xs ++ back)) (all_among (front ++ x ∷ []) xs back))
 
 same_test : (names : List (List ℕ)) (xs : List (List ℕ)) → list_all (λ n. is_among n (each_once names)) xs ≡ list_all (λ n. is_among n names) xs
 same_test names [] = refl

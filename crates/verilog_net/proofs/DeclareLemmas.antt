@@ -1,5 +1,6 @@
 -- What the tables of declared names are at the end of a module.
-use Rattle.std.proofs.Common.{◌≡◌, ℕ, Bool, true, false, ◌&&◌, if◌then◌else◌, List, [], ◌∷◌, ◌++◌, map, Option, Some, None, refl, sym, ap, ◌∙◌, append-nil, append_assoc}
+use Rattle.std.proofs.Common.{◌≡◌, ℕ, Bool, true, false, ◌&&◌, if◌then◌else◌, List, [], ◌∷◌, ◌++◌, map, Option, Some, None, refl, sym, ap, ◌∙◌}
+use Rattle.std.proofs.Common.{append-nil, append_assoc}
 use Rattle.std.proofs.lemmas.Bool.{and_right}
 use Rattle.std.specs.List.{flat_map, list_all}
 use Rattle.texts.specs.Names.{are_new, are_distinct}
@@ -21,7 +22,8 @@ pub items_bad : (spaces : Spaces) (x : ItemDecl) (xs : List ItemDecl) → declar
 unfolding declare_items
 items_bad spaces x xs bad = rw bad refl
 
-pub items_more : (spaces more : Spaces) (x : ItemDecl) (xs : List ItemDecl) → declare_item spaces x ≡ Some more → declare_items spaces (x ∷ xs) ≡ declare_items more xs
+pub items_more : (spaces more : Spaces) (x : ItemDecl) (xs : List ItemDecl) → declare_item spaces x ≡ Some more
+    → declare_items spaces (x ∷ xs) ≡ declare_items more xs
 unfolding declare_items
 items_more spaces more x xs good = bind_is (declare_item spaces x) (λ (s : Spaces). declare_items s xs) more good
 
@@ -40,12 +42,14 @@ grown spaces items = (spaces.0 ++ flat_map wires_in items, spaces.1 ++ names_of 
 abbrev once : Spaces → List ItemDecl → Option Spaces
 once spaces items = if lawful spaces items then Some (grown spaces items) else None
 
-wires_case : (a b ns : List (List ℕ)) (xs : List ItemDecl) → declare_items (a ++ ns, b) xs ≡ once (a ++ ns, b) xs → (v : Bool) → are_new a ns ≡ v → declare_items (a, b) (Wires ns ∷ xs) ≡ once (a, b) (Wires ns ∷ xs)
+wires_case : (a b ns : List (List ℕ)) (xs : List ItemDecl) → declare_items (a ++ ns, b) xs ≡ once (a ++ ns, b) xs → (v : Bool) → are_new a ns ≡ v
+    → declare_items (a, b) (Wires ns ∷ xs) ≡ once (a, b) (Wires ns ∷ xs)
 unfolding declare declare_item declare_items
 wires_case a b ns xs ih true e = rw (are_new-append a ns (flat_map wires_in xs), e, ← append_assoc a ns (flat_map wires_in xs)) ih
 wires_case a b ns xs ih false e = rw (are_new-append a ns (flat_map wires_in xs), e) refl
 
-inst_case : (a b : List (List ℕ)) (i : InstDecl) (xs : List ItemDecl) → declare_items (a, b ++ i.name ∷ []) xs ≡ once (a, b ++ i.name ∷ []) xs → (v w : Bool) → has_distinct_pins i ≡ v → are_new b (i.name ∷ []) ≡ w
+inst_case : (a b : List (List ℕ)) (i : InstDecl) (xs : List ItemDecl) → declare_items (a, b ++ i.name ∷ []) xs ≡ once (a, b ++ i.name ∷ []) xs
+    → (v w : Bool) → has_distinct_pins i ≡ v → are_new b (i.name ∷ []) ≡ w
     → declare_items (a, b) (Inst i ∷ xs) ≡ once (a, b) (Inst i ∷ xs)
 unfolding declare declare_item declare_items
 inst_case a b i xs ih true true p e = rw (p, are_new-append b (i.name ∷ []) (names_of xs), e, ← append_assoc b (i.name ∷ []) (names_of xs)) ih

@@ -1,5 +1,6 @@
 -- A module that keeps the static rules is plain.
-use Rattle.std.proofs.Common.{◌≡◌, ℕ, Bool, true, false, ◌&&◌, ◌++◌, if◌then◌else◌, List, [], ◌∷◌, length, map, Some, None, All, refl, sym, ap, ◌∙◌, append-nil, subst}
+use Rattle.std.proofs.Common.{◌≡◌, ℕ, Bool, true, false, ◌&&◌, ◌++◌, if◌then◌else◌, List, [], ◌∷◌, length, map, Some, None, All, refl, sym, ap, ◌∙◌}
+use Rattle.std.proofs.Common.{append-nil, subst}
 use Rattle.std.proofs.lemmas.Bool.{and_parts}
 use Rattle.std.proofs.lemmas.List.Folds.{list_all-append}
 use Rattle.std.proofs.lemmas.Option.{slice_get_within}
@@ -25,33 +26,46 @@ pub list_all-insts : (p : InstDecl → Bool) (items : List ItemDecl) → list_al
 list_all-insts p [] = refl
 list_all-insts p (x ∷ xs) = list_all-append p (insts_in x) (flat_map insts_in xs) ∙ ap (λ (b : Bool). list_all p (insts_in x) && b) (list_all-insts p xs)
 
-ports_plain : (nets : List (List ℕ)) (ps : List PortDecl) → list_all (λ n. is_among n nets) (map (λ (p : PortDecl). p.name) ps) ≡ true → All (IsPlainPort nets) (map (port_of nets) ps)
+ports_plain : (nets : List (List ℕ)) (ps : List PortDecl) → list_all (λ n. is_among n nets) (map (λ (p : PortDecl). p.name) ps) ≡ true
+    → All (IsPlainPort nets) (map (port_of nets) ps)
 ports_plain nets [] e = All-nil (IsPlainPort nets)
 ports_plain nets (p ∷ ps) e =
     let (here, rest) = and_parts (is_among p.name nets) (list_all (λ n. is_among n nets) (map (λ (p : PortDecl). p.name) ps)) e in
-    All-cons (IsPlainPort nets) (port_of nets p) (map (port_of nets) ps) (record { net = place_of p.name nets; bit = refl; its_name = slice_get-place_of p.name nets here; no_bus = refl }) (ports_plain nets ps rest)
+    All-cons (IsPlainPort nets) (port_of nets p) (map (port_of nets) ps)
+    (record { net = place_of p.name nets; bit = refl; its_name = slice_get-place_of p.name nets here; no_bus = refl }) (ports_plain nets ps rest)
 
-conns_plain : (nets : List (List ℕ)) (cs : List ConnDecl) → list_all (λ n. is_among n nets) (map (λ (c : ConnDecl). c.net) cs) ≡ true → All (IsPlainConn (length nets)) (map (conn_of nets) cs)
+conns_plain : (nets : List (List ℕ)) (cs : List ConnDecl) → list_all (λ n. is_among n nets) (map (λ (c : ConnDecl). c.net) cs) ≡ true
+    → All (IsPlainConn (length nets)) (map (conn_of nets) cs)
 conns_plain nets [] e = All-nil (IsPlainConn (length nets))
 conns_plain nets (c ∷ cs) e =
     let (here, rest) = and_parts (is_among c.net nets) (list_all (λ n. is_among n nets) (map (λ (c : ConnDecl). c.net) cs)) e in
-    All-cons (IsPlainConn (length nets)) (conn_of nets c) (map (conn_of nets) cs) (record { net = place_of c.net nets; wires = refl; below = slice_get_within nets (place_of c.net nets) c.net (slice_get-place_of c.net nets here) }) (conns_plain nets cs rest)
+    All-cons (IsPlainConn (length nets)) (conn_of nets c) (map (conn_of nets) cs)
+    (record {
+      net = place_of c.net nets;
+      wires = refl;
+      below = slice_get_within nets (place_of c.net nets) c.net
+          (slice_get-place_of c.net nets here);
+    }) (conns_plain nets cs rest)
 
 pins_same : (nets : List (List ℕ)) (cs : List ConnDecl) → map (λ (c : Conn). c.pin) (map (conn_of nets) cs) ≡ map (λ (c : ConnDecl). c.pin) cs
 pins_same nets [] = refl
 pins_same nets (c ∷ cs) = ap (λ (pins : List (List ℕ)). c.pin ∷ pins) (pins_same nets cs)
 
-items_plain : (nets : List (List ℕ)) (items : List ItemDecl) → list_all (λ n. is_among n nets) (flat_map names_in items) ≡ true → list_all has_distinct_pins (flat_map insts_in items) ≡ true
+items_plain : (nets : List (List ℕ)) (items : List ItemDecl) → list_all (λ n. is_among n nets) (flat_map names_in items) ≡ true
+    → list_all has_distinct_pins (flat_map insts_in items) ≡ true
     → All (IsPlainItem (length nets)) (map (inst_of nets) (flat_map insts_in items))
 items_plain nets [] names pins = All-nil (IsPlainItem (length nets))
 items_plain nets (Wires ns ∷ xs) names pins =
-    let (here, rest) = and_parts (list_all (λ n. is_among n nets) ns) (list_all (λ n. is_among n nets) (flat_map names_in xs)) (sym (list_all-append (λ n. is_among n nets) ns (flat_map names_in xs)) ∙ names) in
+    let (here, rest) = and_parts (list_all (λ n. is_among n nets) ns) (list_all (λ n. is_among n nets) (flat_map names_in xs))
+    (sym (list_all-append (λ n. is_among n nets) ns (flat_map names_in xs)) ∙ names) in
     items_plain nets xs rest pins
 items_plain nets (Inst i ∷ xs) names pins =
     let conns = map (λ (c : ConnDecl). c.net) i.conns in
-    let (here, rest) = and_parts (list_all (λ n. is_among n nets) conns) (list_all (λ n. is_among n nets) (flat_map names_in xs)) (sym (list_all-append (λ n. is_among n nets) conns (flat_map names_in xs)) ∙ names) in
+    let (here, rest) = and_parts (list_all (λ n. is_among n nets) conns) (list_all (λ n. is_among n nets) (flat_map names_in xs))
+    (sym (list_all-append (λ n. is_among n nets) conns (flat_map names_in xs)) ∙ names) in
     let (differ, others) = and_parts (has_distinct_pins i) (list_all has_distinct_pins (flat_map insts_in xs)) pins in
-    All-cons (IsPlainItem (length nets)) (inst_of nets i) (map (inst_of nets) (flat_map insts_in xs)) (rw (pins_same nets i.conns) differ, conns_plain nets i.conns here) (items_plain nets xs rest others)
+    All-cons (IsPlainItem (length nets)) (inst_of nets i) (map (inst_of nets) (flat_map insts_in xs))
+    (rw (pins_same nets i.conns) differ, conns_plain nets i.conns here) (items_plain nets xs rest others)
 
 ports_same : (nets : List (List ℕ)) (ps : List PortDecl) → map (λ (p : Port). p.name) (map (port_of nets) ps) ≡ map (λ (p : PortDecl). p.name) ps
 ports_same nets [] = refl
@@ -91,7 +105,9 @@ module _ (m : ModuleDecl) (once : (declares_once m && list_all has_distinct_pins
       let (declares, pins) = and_parts (declares_once m) (list_all has_distinct_pins (insts m)) once in
       let (nets, names) = and_parts (are_distinct (declared m)) (are_distinct (map (λ (i : InstDecl). i.name) (insts m))) declares in
       let standing = flat_map names_in m.items in
-      let items : list_all (λ n. is_among n (nets_of m)) standing ≡ true = subst (λ (all : List (List ℕ)). list_all (λ n. is_among n (each_once (port_names m ++ all))) standing ≡ true) (append-nil standing) (all_among-each_once (port_names m) standing []) in
+      let items : list_all (λ n. is_among n (nets_of m)) standing ≡ true =
+      subst (λ (all : List (List ℕ)). list_all (λ n. is_among n (each_once (port_names m ++ all))) standing ≡ true) (append-nil standing)
+      (all_among-each_once (port_names m) standing []) in
       record {
         ports = ports_plain (nets_of m) m.ports (all_among-each_once [] (port_names m) standing);
         items = items_plain (nets_of m) m.items items pins;
@@ -100,7 +116,8 @@ module _ (m : ModuleDecl) (once : (declares_once m && list_all has_distinct_pins
         inst_names = rw (insts_same (nets_of m) (insts m)) names;
       }
 
-plain_case : (m : ModuleDecl) (b : Bool) → (declares_once m && has_lawful_insts m) ≡ b → (found : Module) → (if b then Some (module_made m) else None) ≡ Some found → IsPlainModule found
+plain_case : (m : ModuleDecl) (b : Bool) → (declares_once m && has_lawful_insts m) ≡ b → (found : Module)
+    → (if b then Some (module_made m) else None) ≡ Some found → IsPlainModule found
 plain_case m true e found made =
     let (declares, lawful) = and_parts (declares_once m) (has_lawful_insts m) e in
     let (pins, connected) = and_parts (list_all has_distinct_pins (insts m)) (list_all (connects_among (declared m)) (insts m)) lawful in

@@ -17,18 +17,21 @@ use Rattle.verilog_net.proofs.FormLemmas.{module_of_plain}
 
 module _ (s : List ℕ) where
   -- the text is no module
-  pub none_by_grammar : (total : ℕ) (e : SyntaxFault) (r : Result Source VerFault) → reader.Fails total e (grammar.module_of s) → r ≡ Err (of_syntax e) → r ≡ Err fault.NotYet → source_of s ≡ None
+  pub none_by_grammar : (total : ℕ) (e : SyntaxFault) (r : Result Source VerFault) → reader.Fails total e (grammar.module_of s)
+      → r ≡ Err (of_syntax e) → r ≡ Err fault.NotYet → source_of s ≡ None
   unfolding source_of
   none_by_grammar total (syntax_fault.Syntax place) r h is e = rw h.0 refl
   none_by_grammar total syntax_fault.Memory r h is e = absurd cc
 
   -- it is one that breaks a static rule
-  pub none_by_rules : (m : ModuleDecl) (e : VerFault) (r : Result Source VerFault) → grammar.module_of s ≡ Some m → Fails e (module_of m) → r ≡ Err e → r ≡ Err fault.NotYet → source_of s ≡ None
+  pub none_by_rules : (m : ModuleDecl) (e : VerFault) (r : Result Source VerFault) → grammar.module_of s ≡ Some m → Fails e (module_of m) → r ≡ Err e
+      → r ≡ Err fault.NotYet → source_of s ≡ None
   unfolding source_of
   none_by_rules m fault.NotYet r read h is e = rw (read, h) refl
   none_by_rules m fault.Memory r read h is e = absurd cc
 
-  pub some_source : (m : ModuleDecl) (found : Module) → grammar.module_of s ≡ Some m → module_of m ≡ Some found → source_of s ≡ Some (record { modules = found ∷ [] })
+  pub some_source : (m : ModuleDecl) (found : Module) → grammar.module_of s ≡ Some m → module_of m ≡ Some found
+      → source_of s ≡ Some (record { modules = found ∷ [] })
   unfolding source_of
   some_source m found read made = rw (read, made) refl
 

@@ -13,13 +13,15 @@ module _ {A : Type 0} (entry : List ℕ → Read A) (close : ℕ) where
   list_bad (suc m) found s bad = rw bad refl
 
   -- the closing mark follows the entry
-  pub list_ends : (m : ℕ) (found : List A) (s : List ℕ) (x : A) (t r : List ℕ) → 0 < m → entry s ≡ Some (x, t) → mark_at close t ≡ Some r → list_from entry close m found s ≡ Some (found ++ x ∷ [], r)
+  pub list_ends : (m : ℕ) (found : List A) (s : List ℕ) (x : A) (t r : List ℕ) → 0 < m → entry s ≡ Some (x, t) → mark_at close t ≡ Some r
+      → list_from entry close m found s ≡ Some (found ++ x ∷ [], r)
   unfolding list_from
   list_ends zero found s x t r some good ends = absurd (omega arith)
   list_ends (suc m) found s x t r some good ends = bind_is (entry s) _ (x, t) good ∙ rw ends refl
 
   -- neither the closing mark nor a comma follows it
-  pub list_stuck : (m : ℕ) (found : List A) (s : List ℕ) (x : A) (t : List ℕ) → entry s ≡ Some (x, t) → mark_at close t ≡ None → mark_at 44 t ≡ None → list_from entry close m found s ≡ None
+  pub list_stuck : (m : ℕ) (found : List A) (s : List ℕ) (x : A) (t : List ℕ) → entry s ≡ Some (x, t) → mark_at close t ≡ None → mark_at 44 t ≡ None
+      → list_from entry close m found s ≡ None
   unfolding list_from
   list_stuck zero found s x t good unclosed none = refl
   list_stuck (suc m) found s x t good unclosed none = bind_is (entry s) _ (x, t) good ∙ rw unclosed (rw none refl)

@@ -38,11 +38,13 @@ gate_word x = in_table (
 
 -- words of behaviour and parameters, which no netlist of the subset has
 unfoldable pub is_behaviour : List ℕ → Bool
-is_behaviour x = list_any (bytes_eq x) (codes "always" ∷ codes "initial" ∷ codes "reg" ∷ codes "integer" ∷ codes "parameter" ∷ codes "localparam" ∷ codes "defparam" ∷ codes "specify" ∷ codes "function" ∷ codes "task" ∷ codes "generate" ∷ codes "genvar" ∷ [])
+is_behaviour x = list_any (bytes_eq x) (codes "always" ∷ codes "initial" ∷ codes "reg" ∷ codes "integer" ∷ codes "parameter" ∷ codes "localparam"
+    ∷ codes "defparam" ∷ codes "specify" ∷ codes "function" ∷ codes "task" ∷ codes "generate" ∷ codes "genvar" ∷ [])
 
 -- words of strengths, directions and three-state gates, which no netlist of the subset has
 unfoldable pub is_strength : List ℕ → Bool
-is_strength x = list_any (bytes_eq x) (codes "inout" ∷ codes "tri" ∷ codes "tri0" ∷ codes "tri1" ∷ codes "wand" ∷ codes "wor" ∷ codes "trireg" ∷ codes "bufif0" ∷ codes "bufif1" ∷ codes "notif0" ∷ codes "notif1" ∷ codes "primitive" ∷ [])
+is_strength x = list_any (bytes_eq x) (codes "inout" ∷ codes "tri" ∷ codes "tri0" ∷ codes "tri1" ∷ codes "wand" ∷ codes "wor" ∷ codes "trireg"
+    ∷ codes "bufif0" ∷ codes "bufif1" ∷ codes "notif0" ∷ codes "notif1" ∷ codes "primitive" ∷ [])
 
 -- the word that these bytes are
 unfoldable pub word_of : List ℕ → Option Word

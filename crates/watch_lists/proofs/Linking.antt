@@ -1,8 +1,10 @@
 -- Lists that are linked through a table, and what a change of one link does to them.
-use Rattle.std.proofs.Common.{◌≡◌, ℕ, zero, suc, ◌+◌, ◌<◌, ◌≤◌, true, false, eqb, ◌||◌, List, [], ◌∷◌, ◌++◌, map, length, get_or, set, replicate, refl, sym, ap, ◌∙◌, subst, inl, inr, ◌⊎◌, arith}
+use Rattle.std.proofs.Common.{◌≡◌, ℕ, zero, suc, ◌+◌, ◌<◌, ◌≤◌, true, false, eqb, ◌||◌, List, [], ◌∷◌, ◌++◌, map, length, get_or, set, replicate}
+use Rattle.std.proofs.Common.{refl, sym, ap, ◌∙◌, subst, inl, inr, ◌⊎◌, arith}
 use Rattle.std.specs.List.{list_any, IsDistinct, AllByRecursion}
 use Rattle.std.proofs.lemmas.Bool.{false≢true, cases_lt, cases_eq, eqb-false, eqb-true, ne_eqb, false_from_ne_true, both_ways, or_cases}
-use Rattle.std.proofs.lemmas.List.{length-set, length-map, get_or-set_same, get_or-set_other, get_or_append_left, get_or-replicate, length-replicate, length-append, get_or_past, ext_get_or}
+use Rattle.std.proofs.lemmas.List.{length-set, length-map, get_or-set_same, get_or-set_other, get_or_append_left, get_or-replicate, length-replicate}
+use Rattle.std.proofs.lemmas.List.{length-append, get_or_past, ext_get_or}
 use Rattle.std.proofs.lemmas.Map.Steps.{length-le_from_distinct_below}
 use Rattle.proof_log.specs.Clauses.{is_set}
 use Rattle.proof_log.proofs.Members.{is_set-nil, is_set-cons, or_both_false, is_set_first, is_set_later}
@@ -94,7 +96,8 @@ opened links heads w = record {
   long = length-map heads (walk links (length links));
   chained = λ k h. let P : List ℕ → Type 0 = λ ns. IsChain links (get_or heads k 0) ns in subst P (sym (walked links heads k h)) (w.chained k h);
   once = λ k h. let P : List ℕ → Type 0 = λ ns. IsDistinct eqb ns in subst P (sym (walked links heads k h)) (w.once k h);
-  apart = λ j k n a b x y. w.apart j k n a b (ap (λ ns. is_set ns n) (sym (walked links heads j a)) ∙ x) (ap (λ ns. is_set ns n) (sym (walked links heads k b)) ∙ y);
+  apart = λ j k n a b x y. w.apart j k n a b (ap (λ ns. is_set ns n) (sym (walked links heads j a)) ∙ x)
+      (ap (λ ns. is_set ns n) (sym (walked links heads k b)) ∙ y);
 }
 
 pub closed : (links heads : List ℕ) (ls : List (List ℕ)) → IsLists links heads ls → IsLinked links heads × (lists_of links heads ≡ ls)
@@ -141,7 +144,8 @@ IsLists-node links heads ls v s = record {
 }
 
 -- a node that is in no list becomes the first of one
-pub IsLists-push : (links heads : List ℕ) (ls : List (List ℕ)) (l n : ℕ) → IsLists links heads ls → l < length heads → n < length links → IsFree ls n → IsLists (set links n (get_or heads l 0)) (set heads l (suc n)) (set ls l (n ∷ get_or ls l []))
+pub IsLists-push : (links heads : List ℕ) (ls : List (List ℕ)) (l n : ℕ) → IsLists links heads ls → l < length heads → n < length links → IsFree ls n
+    → IsLists (set links n (get_or heads l 0)) (set heads l (suc n)) (set ls l (n ∷ get_or ls l []))
 unfolding IsDistinct
 IsLists-push links heads ls l n s here node free = record {
   long = length-set ls l (n ∷ get_or ls l []) ∙ (s.long ∙ sym (length-set heads l (suc n)));
@@ -150,13 +154,15 @@ IsLists-push links heads ls l n s here node free = record {
         let P : ℕ → List ℕ → Type 0 = λ q ns. IsChain (set links n (get_or heads l 0)) q ns in
         let Q : ℕ → Type 0 = λ i. P (get_or (set heads l (suc n)) i 0) (get_or (set ls l (n ∷ get_or ls l [])) i []) in
         subst Q (sym e) (rw (get_or-set_same heads l (suc n) 0 here, get_or-set_same ls l (n ∷ get_or ls l []) [] (omega (arith, here, s.long))) first)
-    | inr ne ↦ rw (get_or-set_other heads l k (suc n) 0 ne, get_or-set_other ls l k (n ∷ get_or ls l []) [] ne) (IsChain-set links (get_or ls k []) (get_or heads k 0) n (get_or heads l 0) (s.chained k (in_heads k h)) (free k))
+    | inr ne ↦ rw (get_or-set_other heads l k (suc n) 0 ne, get_or-set_other ls l k (n ∷ get_or ls l []) [] ne)
+        (IsChain-set links (get_or ls k []) (get_or heads k 0) n (get_or heads l 0) (s.chained k (in_heads k h)) (free k))
   ];
   once = λ k h. elim (cases_eq k l) [
     | inl e ↦
         let Q : ℕ → Type 0 = λ i. IsDistinct eqb (get_or (set ls l (n ∷ get_or ls l [])) i []) in
         let D : List ℕ → Type 0 = λ ns. IsDistinct eqb ns in
-        subst Q (sym e) (subst D (sym (get_or-set_same ls l (n ∷ get_or ls l []) [] (omega (arith, here, s.long)))) (head_fresh n (get_or ls l []) (free l), s.once l here))
+        subst Q (sym e) (subst D (sym (get_or-set_same ls l (n ∷ get_or ls l []) [] (omega (arith, here, s.long))))
+        (head_fresh n (get_or ls l []) (free l), s.once l here))
     | inr ne ↦ let D : List ℕ → Type 0 = λ ns. IsDistinct eqb ns in subst D (sym (get_or-set_other ls l k (n ∷ get_or ls l []) [] ne)) (s.once k (in_heads k h))
   ];
   apart = λ j k m a b x y. elim (member j m x) [
@@ -179,13 +185,15 @@ IsLists-push links heads ls l n s here node free = record {
         let P : ℕ → Type 0 = λ q. IsChain (set links n (get_or heads l 0)) q (get_or ls l []) in (
           refl,
           omega (arith, node, length-set links n (get_or heads l 0)),
-          subst P (sym (get_or-set_same links n (get_or heads l 0) 0 node)) (IsChain-set links (get_or ls l []) (get_or heads l 0) n (get_or heads l 0) (s.chained l here) (free l)),
+          subst P (sym (get_or-set_same links n (get_or heads l 0) 0 node))
+              (IsChain-set links (get_or ls l []) (get_or heads l 0) n (get_or heads l 0) (s.chained l here) (free l)),
         )
 
     member : (j m : ℕ) → is_set (get_or (set ls l (n ∷ get_or ls l [])) j []) m ≡ true → ((m ≡ n) × (j ≡ l)) ⊎ (is_set (get_or ls j []) m ≡ true)
     member j m x = elim (cases_eq j l) [
       | inl e ↦
-          let at_l : get_or (set ls l (n ∷ get_or ls l [])) j [] ≡ n ∷ get_or ls l [] = ap (λ i. get_or (set ls l (n ∷ get_or ls l [])) i []) e ∙ get_or-set_same ls l (n ∷ get_or ls l []) [] (omega (arith, here, s.long)) in
+          let at_l : get_or (set ls l (n ∷ get_or ls l [])) j [] ≡ n ∷ get_or ls l [] = ap (λ i. get_or (set ls l (n ∷ get_or ls l [])) i []) e
+          ∙ get_or-set_same ls l (n ∷ get_or ls l []) [] (omega (arith, here, s.long)) in
           elim (or_cases (eqb n m) (is_set (get_or ls l []) m) (sym (is_set-cons n (get_or ls l []) m) ∙ (ap (λ ns. is_set ns m) (sym at_l) ∙ x))) [
             | inl same ↦ inl (sym (eqb-true n m same), e)
             | inr r ↦ inr (ap (λ i. is_set (get_or ls i []) m) e ∙ r)
@@ -194,7 +202,8 @@ IsLists-push links heads ls l n s here node free = record {
     ]
 
 -- what stands at a link that is not 0
-pub chain_parts : (links ns : List ℕ) (link n : ℕ) → IsChain links link ns → link ≡ suc n → (rest : List ℕ) × (ns ≡ n ∷ rest) × (n < length links) × IsChain links (get_or links n 0) rest
+pub chain_parts : (links ns : List ℕ) (link n : ℕ) → IsChain links link ns → link ≡ suc n → (rest : List ℕ) × (ns ≡ n ∷ rest) × (n < length links)
+    × IsChain links (get_or links n 0) rest
 chain_parts links [] link n c e = absurd (let z = sym c ∙ e in omega arith)
 chain_parts links (m ∷ ms) link n c e =
     let same : m ≡ n = let z = sym c.0 ∙ e in omega arith in
@@ -202,7 +211,8 @@ chain_parts links (m ∷ ms) link n c e =
     (ms, ap (λ q. q ∷ ms) same, omega (arith, c.1, same), subst P same c.2)
 
 -- the first node of a list is taken out
-pub IsLists-pop : (links heads : List ℕ) (ls : List (List ℕ)) (l n : ℕ) (rest : List ℕ) → IsLists links heads ls → l < length heads → get_or ls l [] ≡ n ∷ rest → IsChain links (get_or links n 0) rest → IsLists links (set heads l (get_or links n 0)) (set ls l rest)
+pub IsLists-pop : (links heads : List ℕ) (ls : List (List ℕ)) (l n : ℕ) (rest : List ℕ) → IsLists links heads ls → l < length heads
+    → get_or ls l [] ≡ n ∷ rest → IsChain links (get_or links n 0) rest → IsLists links (set heads l (get_or links n 0)) (set ls l rest)
 unfolding IsDistinct
 IsLists-pop links heads ls l n rest s here is c = record {
   long = length-set ls l rest ∙ (s.long ∙ sym (length-set heads l (get_or links n 0)));
@@ -229,13 +239,15 @@ IsLists-pop links heads ls l n rest s here is c = record {
     member : (j m : ℕ) → is_set (get_or (set ls l rest) j []) m ≡ true → is_set (get_or ls j []) m ≡ true
     member j m x = elim (cases_eq j l) [
       | inl e ↦
-          let at_l : get_or (set ls l rest) j [] ≡ rest = ap (λ i. get_or (set ls l rest) i []) e ∙ get_or-set_same ls l rest [] (omega (arith, here, s.long)) in
+          let at_l : get_or (set ls l rest) j [] ≡ rest = ap (λ i. get_or (set ls l rest) i []) e ∙ get_or-set_same ls l rest []
+          (omega (arith, here, s.long)) in
           ap (λ i. is_set (get_or ls i []) m) e ∙ (ap (λ ns. is_set ns m) is ∙ is_set_later n rest m (ap (λ ns. is_set ns m) (sym at_l) ∙ x))
       | inr ne ↦ ap (λ ns. is_set ns m) (sym (get_or-set_other ls l j rest [] ne)) ∙ x
     ]
 
 -- and then it is in no list
-pub free_popped : (links heads : List ℕ) (ls : List (List ℕ)) (l n : ℕ) (rest : List ℕ) → IsLists links heads ls → l < length heads → get_or ls l [] ≡ n ∷ rest → IsFree (set ls l rest) n
+pub free_popped : (links heads : List ℕ) (ls : List (List ℕ)) (l n : ℕ) (rest : List ℕ) → IsLists links heads ls → l < length heads
+    → get_or ls l [] ≡ n ∷ rest → IsFree (set ls l rest) n
 unfolding IsDistinct
 free_popped links heads ls l n rest s here is k = elim (cases_eq k l) [
   | inl e ↦
@@ -244,28 +256,50 @@ free_popped links heads ls l n rest s here is k = elim (cases_eq k l) [
       let at_l : get_or (set ls l rest) k [] ≡ rest = ap (λ i. get_or (set ls l rest) i []) e ∙ get_or-set_same ls l rest [] (omega (arith, here, s.long)) in
       ap (λ ns. is_set ns n) at_l ∙ fresh_head n rest d.0
   | inr ne ↦ elim (cases_lt k (length heads)) [
-    | inl lt ↦ false_from_ne_true _ (λ t. ne (s.apart k l n lt here (ap (λ ns. is_set ns n) (sym (get_or-set_other ls l k rest [] ne)) ∙ t) (ap (λ ns. is_set ns n) is ∙ is_set_first n rest)))
+    | inl lt ↦ false_from_ne_true _ (λ t. ne (s.apart k l n lt here (ap (λ ns. is_set ns n) (sym (get_or-set_other ls l k rest [] ne)) ∙ t)
+        (ap (λ ns. is_set ns n) is ∙ is_set_first n rest)))
     | inr ge ↦ ap (λ ns. is_set ns n) (get_or_past (set ls l rest) k [] (omega (arith, ge, s.long, length-set ls l rest))) ∙ is_set-nil n
   ]
 ]
 
 -- an empty list becomes another one, which is empty then
-pub IsLists-move : (links heads : List ℕ) (ls : List (List ℕ)) (from to : ℕ) → IsLists links heads ls → from < length heads → to < length heads → get_or ls to [] ≡ [] → IsLists links (set (set heads to (get_or heads from 0)) from 0) (set (set ls to (get_or ls from [])) from [])
+pub IsLists-move : (links heads : List ℕ) (ls : List (List ℕ)) (from to : ℕ) → IsLists links heads ls → from < length heads → to < length heads
+    → get_or ls to [] ≡ [] → IsLists links (set (set heads to (get_or heads from 0)) from 0) (set (set ls to (get_or ls from [])) from [])
 unfolding IsDistinct
 IsLists-move links heads ls from to s here there empty = record {
-  long = length-set (set ls to (get_or ls from [])) from [] ∙ (length-set ls to (get_or ls from []) ∙ (s.long ∙ sym (length-set (set heads to (get_or heads from 0)) from 0 ∙ length-set heads to (get_or heads from 0))));
+  long = length-set (set ls to (get_or ls from [])) from [] ∙ (length-set ls to (get_or ls from [])
+      ∙ (s.long ∙ sym (length-set (set heads to (get_or heads from 0)) from 0 ∙ length-set heads to (get_or heads from 0))));
   chained = λ k h. elim (cases_eq k from) [
-    | inl e ↦ let Q : ℕ → Type 0 = λ i. IsChain links (get_or (set (set heads to (get_or heads from 0)) from 0) i 0) (get_or (set (set ls to (get_or ls from [])) from []) i []) in
-        subst Q (sym e) (rw (get_or-set_same (set heads to (get_or heads from 0)) from 0 0 (omega (arith, here, length-set heads to (get_or heads from 0))), list_from) refl)
+    | inl e ↦ let Q : ℕ → Type 0 = λ i. IsChain links (get_or (set (set heads to (get_or heads from 0)) from 0) i 0)
+        (get_or (set (set ls to (get_or ls from [])) from []) i []) in
+        subst Q (sym e) (rw (
+          get_or-set_same (set heads to (get_or heads from 0)) from 0 0
+              (omega (arith, here, length-set heads to (get_or heads from 0))),
+          list_from,
+        ) refl)
     | inr ne ↦ elim (cases_eq k to) [
-      | inl e ↦ rw (get_or-set_other (set heads to (get_or heads from 0)) from k 0 0 ne, list_other k ne, e, get_or-set_same heads to (get_or heads from 0) 0 there, get_or-set_same ls to (get_or ls from []) [] (omega (arith, there, s.long))) (s.chained from here)
-      | inr far ↦ rw (get_or-set_other (set heads to (get_or heads from 0)) from k 0 0 ne, list_other k ne, get_or-set_other heads to k (get_or heads from 0) 0 far, get_or-set_other ls to k (get_or ls from []) [] far) (s.chained k (in_heads k h))
+      | inl e ↦ rw (
+        get_or-set_other (set heads to (get_or heads from 0)) from k 0 0 ne,
+        list_other k ne,
+        e,
+        get_or-set_same heads to
+            (get_or heads from 0) 0 there,
+        get_or-set_same ls to (get_or ls from []) [] (omega (arith, there, s.long)),
+      ) (s.chained from here)
+      | inr far ↦ rw (
+        get_or-set_other (set heads to (get_or heads from 0)) from k 0 0 ne,
+        list_other k ne,
+        get_or-set_other heads to k
+            (get_or heads from 0) 0 far,
+        get_or-set_other ls to k (get_or ls from []) [] far,
+      ) (s.chained k (in_heads k h))
     ]
   ];
   once = λ k h. let D : List ℕ → Type 0 = λ ns. IsDistinct eqb ns in elim (cases_eq k from) [
     | inl e ↦ let Q : ℕ → Type 0 = λ i. D (get_or (set (set ls to (get_or ls from [])) from []) i []) in subst Q (sym e) (subst D (sym list_from) tt)
     | inr ne ↦ elim (cases_eq k to) [
-      | inl e ↦ subst D (sym (list_other k ne ∙ (ap (λ i. get_or (set ls to (get_or ls from [])) i []) e ∙ get_or-set_same ls to (get_or ls from []) [] (omega (arith, there, s.long))))) (s.once from here)
+      | inl e ↦ subst D (sym (list_other k ne ∙ (ap (λ i. get_or (set ls to (get_or ls from [])) i []) e
+          ∙ get_or-set_same ls to (get_or ls from []) [] (omega (arith, there, s.long))))) (s.once from here)
       | inr far ↦ subst D (sym (list_other k ne ∙ get_or-set_other ls to k (get_or ls from []) [] far)) (s.once k (in_heads k h))
     ]
   ];
@@ -290,11 +324,18 @@ IsLists-move links heads ls from to s here there empty = record {
     list_other : (k : ℕ) → (k ≡ from → ⊥) → get_or (set (set ls to (get_or ls from [])) from []) k [] ≡ get_or (set ls to (get_or ls from [])) k []
     list_other k ne = get_or-set_other (set ls to (get_or ls from [])) from k [] [] ne
 
-    member : (k m : ℕ) → is_set (get_or (set (set ls to (get_or ls from [])) from []) k []) m ≡ true → ((k ≡ to) × (is_set (get_or ls from []) m ≡ true)) ⊎ ((k ≡ from → ⊥) × (is_set (get_or ls k []) m ≡ true))
+    member : (k m : ℕ) → is_set (get_or (set (set ls to (get_or ls from [])) from []) k []) m ≡ true
+        → ((k ≡ to) × (is_set (get_or ls from []) m ≡ true)) ⊎ ((k ≡ from → ⊥) × (is_set (get_or ls k []) m ≡ true))
     member k m x = elim (cases_eq k from) [
-      | inl e ↦ absurd (false≢true (sym (is_set-nil m) ∙ (ap (λ ns. is_set ns m) (sym (ap (λ i. get_or (set (set ls to (get_or ls from [])) from []) i []) e ∙ list_from)) ∙ x)))
+      | inl e ↦ absurd (false≢true (sym (is_set-nil m) ∙ (ap (λ ns. is_set ns m)
+          (sym (ap (λ i. get_or (set (set ls to (get_or ls from [])) from []) i []) e ∙ list_from)) ∙ x)))
       | inr ne ↦ elim (cases_eq k to) [
-        | inl e ↦ inl (e, ap (λ ns. is_set ns m) (sym (list_other k ne ∙ (ap (λ i. get_or (set ls to (get_or ls from [])) i []) e ∙ get_or-set_same ls to (get_or ls from []) [] (omega (arith, there, s.long))))) ∙ x)
+        | inl e ↦ inl (
+          e,
+          ap (λ ns. is_set ns m) (sym (list_other k ne
+              ∙ (ap (λ i. get_or (set ls to (get_or ls from [])) i []) e ∙ get_or-set_same ls to (get_or ls from []) []
+              (omega (arith, there, s.long))))) ∙ x,
+        )
         | inr far ↦ inr (ne, ap (λ ns. is_set ns m) (sym (list_other k ne ∙ get_or-set_other ls to k (get_or ls from []) [] far)) ∙ x)
       ]
     ]
@@ -303,15 +344,19 @@ at_list : (links heads : List ℕ) (l : ℕ) → l < length heads → list_at (l
 at_list links heads l h = walked links heads l h
 
 pub pushed : (links heads : List ℕ) (l n : ℕ) → IsLinked links heads → l < length heads → n < length links → IsFree (lists_of links heads) n
-    → IsLinked (set links n (get_or heads l 0)) (set heads l (n + 1)) × (lists_of (set links n (get_or heads l 0)) (set heads l (n + 1)) ≡ set (lists_of links heads) l (n ∷ list_at (lists_of links heads) l))
+    → IsLinked (set links n (get_or heads l 0)) (set heads l (n + 1))
+    × (lists_of (set links n (get_or heads l 0)) (set heads l (n + 1)) ≡ set (lists_of links heads) l (n ∷ list_at (lists_of links heads) l))
 pushed links heads l n w here node free =
-    let P : ℕ → Type 0 = λ q. IsLinked (set links n (get_or heads l 0)) (set heads l q) × (lists_of (set links n (get_or heads l 0)) (set heads l q) ≡ set (lists_of links heads) l (n ∷ list_at (lists_of links heads) l)) in
+    let P : ℕ → Type 0 = λ q. IsLinked (set links n (get_or heads l 0)) (set heads l q)
+    × (lists_of (set links n (get_or heads l 0)) (set heads l q) ≡ set (lists_of links heads) l (n ∷ list_at (lists_of links heads) l)) in
     let next : suc n ≡ n + 1 = omega arith in
     subst P next (closed (set links n (get_or heads l 0)) (set heads l (suc n)) (set (lists_of links heads) l (n ∷ get_or (lists_of links heads) l []))
     (IsLists-push links heads (lists_of links heads) l n (opened links heads w) here node free))
 
 pub moved : (links heads : List ℕ) (from to : ℕ) → IsLinked links heads → from < length heads → to < length heads → list_at (lists_of links heads) to ≡ []
-    → IsLinked links (set (set heads to (get_or heads from 0)) from 0) × (lists_of links (set (set heads to (get_or heads from 0)) from 0) ≡ set (set (lists_of links heads) to (list_at (lists_of links heads) from)) from [])
+    → IsLinked links (set (set heads to (get_or heads from 0)) from 0)
+    × (lists_of links (set (set heads to (get_or heads from 0)) from 0) ≡ set
+    (set (lists_of links heads) to (list_at (lists_of links heads) from)) from [])
 moved links heads from to w here there empty =
     closed links (set (set heads to (get_or heads from 0)) from 0) (set (set (lists_of links heads) to (get_or (lists_of links heads) from [])) from [])
     (IsLists-move links heads (lists_of links heads) from to (opened links heads w) here there empty)
@@ -337,7 +382,8 @@ pub popped : (links heads : List ℕ) (l n : ℕ) → IsLinked links heads → l
 popped links heads l n w here e =
     let s = opened links heads w in
     let p = chain_parts links (get_or (lists_of links heads) l []) (get_or heads l 0) n (s.chained l here) e in
-    let made = closed links (set heads l (get_or links n 0)) (set (lists_of links heads) l p.0) (IsLists-pop links heads (lists_of links heads) l n p.0 s here p.1 p.3) in
+    let made = closed links (set heads l (get_or links n 0)) (set (lists_of links heads) l p.0)
+    (IsLists-pop links heads (lists_of links heads) l n p.0 s here p.1 p.3) in
     let P : List (List ℕ) → Type 0 = λ ls. IsFree ls n in
     record {
       node = p.2;

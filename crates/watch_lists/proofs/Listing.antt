@@ -1,7 +1,9 @@
 -- Watches in their lists, and what each move does to them.
-use Rattle.std.proofs.Common.{◌≡◌, ℕ, ◌+◌, ◌<◌, true, false, eqb, List, [], ◌∷◌, ◌++◌, length, get_or, set, replicate, sym, ap, ◌∙◌, subst, inl, inr, ◌⊎◌, arith}
+use Rattle.std.proofs.Common.{◌≡◌, ℕ, ◌+◌, ◌<◌, true, false, eqb, List, [], ◌∷◌, ◌++◌, length, get_or, set, replicate, sym, ap, ◌∙◌, subst, inl, inr}
+use Rattle.std.proofs.Common.{◌⊎◌, arith}
 use Rattle.std.proofs.lemmas.Bool.{false≢true, cases_Bool, cases_lt, cases_eq, eqb-true, both_ways, or_cases}
-use Rattle.std.proofs.lemmas.List.{length-set, get_or-set_same, get_or-set_other, get_or_append_left, get_or_push, get_or_past, get_or-replicate, length-replicate, length_push}
+use Rattle.std.proofs.lemmas.List.{length-set, get_or-set_same, get_or-set_other, get_or_append_left, get_or_push, get_or_past, get_or-replicate}
+use Rattle.std.proofs.lemmas.List.{length-replicate, length_push}
 use Rattle.proof_log.specs.Clauses.{is_set}
 use Rattle.proof_log.proofs.Members.{is_set-nil, is_set-cons, is_set_first, is_set_later}
 use Rattle.watch_lists.specs.Chains.{Linked, IsFree, list_at}
@@ -12,19 +14,23 @@ in_none : (ns : List ℕ) (n : ℕ) → ns ≡ [] → is_set ns n ≡ true → �
 in_none ns n e h = false≢true (sym (ap (λ xs. is_set xs n) e ∙ is_set-nil n) ∙ h)
 
 -- what stood in a list stands there when one more is put into some list
-still_in : (lists : List (List ℕ)) (l n k m : ℕ) → l < length lists → is_set (list_at lists k) m ≡ true → is_set (list_at (set lists l (n ∷ list_at lists l)) k) m ≡ true
+still_in : (lists : List (List ℕ)) (l n k m : ℕ) → l < length lists → is_set (list_at lists k) m ≡ true
+    → is_set (list_at (set lists l (n ∷ list_at lists l)) k) m ≡ true
 still_in lists l n k m here h = elim (cases_eq k l) [
   | inl e ↦
       let P : ℕ → Type 0 = λ i. is_set (get_or (set lists l (n ∷ get_or lists l [])) i []) m ≡ true in
-      subst P (sym e) (ap (λ ns. is_set ns m) (get_or-set_same lists l (n ∷ get_or lists l []) [] here) ∙ is_set_later n (get_or lists l []) m (ap (λ i. is_set (get_or lists i []) m) (sym e) ∙ h))
+      subst P (sym e) (ap (λ ns. is_set ns m) (get_or-set_same lists l (n ∷ get_or lists l []) [] here) ∙ is_set_later n (get_or lists l []) m
+      (ap (λ i. is_set (get_or lists i []) m) (sym e) ∙ h))
   | inr ne ↦ ap (λ ns. is_set ns m) (get_or-set_other lists l k (n ∷ get_or lists l []) [] ne) ∙ h
 ]
 
 -- who stands in a list then is that one, or stood there
-new_in : (lists : List (List ℕ)) (l n k m : ℕ) → l < length lists → is_set (list_at (set lists l (n ∷ list_at lists l)) k) m ≡ true → ((m ≡ n) × (k ≡ l)) ⊎ (is_set (list_at lists k) m ≡ true)
+new_in : (lists : List (List ℕ)) (l n k m : ℕ) → l < length lists → is_set (list_at (set lists l (n ∷ list_at lists l)) k) m ≡ true
+    → ((m ≡ n) × (k ≡ l)) ⊎ (is_set (list_at lists k) m ≡ true)
 new_in lists l n k m here h = elim (cases_eq k l) [
   | inl e ↦
-      let at_l : get_or (set lists l (n ∷ get_or lists l [])) k [] ≡ n ∷ get_or lists l [] = ap (λ i. get_or (set lists l (n ∷ get_or lists l [])) i []) e ∙ get_or-set_same lists l (n ∷ get_or lists l []) [] here in
+      let at_l : get_or (set lists l (n ∷ get_or lists l [])) k [] ≡ n ∷ get_or lists l [] =
+      ap (λ i. get_or (set lists l (n ∷ get_or lists l [])) i []) e ∙ get_or-set_same lists l (n ∷ get_or lists l []) [] here in
       elim (or_cases (eqb n m) (is_set (get_or lists l []) m) (sym (is_set-cons n (get_or lists l []) m) ∙ (ap (λ ns. is_set ns m) (sym at_l) ∙ h))) [
         | inl same ↦ inl (sym (eqb-true n m same), e)
         | inr r ↦ inr (ap (λ i. is_set (get_or lists i []) m) e ∙ r)
@@ -61,7 +67,8 @@ zero_more xs n = elim (cases_lt n (length xs)) [
   ]
 ]
 
-pub IsWatching-add : (lists : List (List ℕ)) (nodes : ℕ) (literals : List ℕ) → IsWatching lists nodes literals → IsWatching lists (nodes + 1) (literals ++ 0 ∷ [])
+pub IsWatching-add : (lists : List (List ℕ)) (nodes : ℕ) (literals : List ℕ) → IsWatching lists nodes literals → IsWatching lists (nodes + 1)
+    (literals ++ 0 ∷ [])
 IsWatching-add lists nodes literals w = record {
   some = w.some;
   long = omega (arith, w.long, length_push literals 0);
@@ -82,7 +89,8 @@ free_at lists nodes literals n w e l = elim (cases_eq l 0) [
     no : (l : ℕ) → (is_set (list_at lists l) n ≡ true → ⊥) → is_set (list_at lists l) n ≡ false
     no l f = elim (cases_Bool (is_set (list_at lists l) n)) [ inl t ↦ absurd (f t) | inr b ↦ b ]
 
-pub IsWatching-attach : (lists : List (List ℕ)) (nodes : ℕ) (literals : List ℕ) (n l : ℕ) → IsWatching lists nodes literals → n < length literals → get_or literals n 0 ≡ 0 → 0 < l → l < length lists
+pub IsWatching-attach : (lists : List (List ℕ)) (nodes : ℕ) (literals : List ℕ) (n l : ℕ) → IsWatching lists nodes literals → n < length literals
+    → get_or literals n 0 ≡ 0 → 0 < l → l < length lists
     → IsWatching (set lists l (n ∷ list_at lists l)) nodes (set literals n l)
 IsWatching-attach lists nodes literals n l w here free some low = record {
   some = omega (arith, some, low, length-set lists l (n ∷ get_or lists l []));
@@ -95,10 +103,12 @@ IsWatching-attach lists nodes literals n l w here free some low = record {
     | inl e ↦
         let P : ℕ → Type 0 = λ i. is_set (list_at (set lists l (n ∷ list_at lists l)) i) m ≡ true in
         let there : is_set (list_at (set lists l (n ∷ list_at lists l)) l) m ≡ true =
-        ap (λ ns. is_set ns m) (get_or-set_same lists l (n ∷ get_or lists l []) [] low) ∙ (ap (is_set (n ∷ get_or lists l [])) e ∙ is_set_first n (get_or lists l [])) in
+        ap (λ ns. is_set ns m) (get_or-set_same lists l (n ∷ get_or lists l []) [] low)
+        ∙ (ap (is_set (n ∷ get_or lists l [])) e ∙ is_set_first n (get_or lists l [])) in
         inl (subst P (sym (at_n m e)) there)
     | inr ne ↦
-        let P : ℕ → Type 0 = λ i. (is_set (list_at (set lists l (n ∷ list_at lists l)) i) m ≡ true) ⊎ (is_set (list_at (set lists l (n ∷ list_at lists l)) 0) m ≡ true) in
+        let P : ℕ → Type 0 = λ i. (is_set (list_at (set lists l (n ∷ list_at lists l)) i) m ≡ true) ⊎
+        (is_set (list_at (set lists l (n ∷ list_at lists l)) 0) m ≡ true) in
         subst P (sym (at_other m ne)) (elim (w.listed m (omega (arith, h, at_other m ne))) [
           | inl i ↦ inl (still_in lists l n (get_or literals m 0) m low i)
           | inr i ↦ inr (still_in lists l n 0 m low i)
@@ -134,7 +144,8 @@ pub record IsGathered (lists : List (List ℕ)) (nodes : ℕ) (literals : List �
   pub all : (n : ℕ) → get_or literals n 0 ≡ l → is_set (list_at (gathered lists l) 0) n ≡ true
   pub limit : length (gathered lists l) ≡ length lists
 
-pub gathered_from : (lists : List (List ℕ)) (nodes : ℕ) (literals : List ℕ) (l : ℕ) → IsWatching lists nodes literals → 0 < l → l < length lists → list_at lists 0 ≡ [] → IsGathered lists nodes literals l
+pub gathered_from : (lists : List (List ℕ)) (nodes : ℕ) (literals : List ℕ) (l : ℕ) → IsWatching lists nodes literals → 0 < l → l < length lists
+    → list_at lists 0 ≡ [] → IsGathered lists nodes literals l
 gathered_from lists nodes literals l w some low none = record {
   watching = record {
     some = omega (arith, w.some, size);
@@ -148,7 +159,8 @@ gathered_from lists nodes literals l w some low none = record {
       | inr i ↦ absurd (in_none (get_or lists 0 []) n none i)
     ];
     own = λ k n h i. elim (cases_eq k l) [
-      | inl e ↦ absurd (in_none (get_or (gathered lists l) k []) n (ap (λ j. get_or (gathered lists l) j []) e ∙ get_or-set_same (set lists 0 (get_or lists l [])) l [] [] (omega (arith, low, length-set lists 0 (get_or lists l [])))) i)
+      | inl e ↦ absurd (in_none (get_or (gathered lists l) k []) n (ap (λ j. get_or (gathered lists l) j []) e
+          ∙ get_or-set_same (set lists 0 (get_or lists l [])) l [] [] (omega (arith, low, length-set lists 0 (get_or lists l [])))) i)
       | inr ne ↦ w.own k n h (ap (λ ns. is_set ns n) (sym (at_other k (λ e. absurd (omega arith)) ne)) ∙ i)
     ];
     waits = λ n i. let e = w.own l n some (ap (λ ns. is_set ns n) (sym at_zero) ∙ i) in omega (arith, e, some);
@@ -170,7 +182,8 @@ gathered_from lists nodes literals l w some low none = record {
     at_other : (k : ℕ) → (k ≡ 0 → ⊥) → (k ≡ l → ⊥) → get_or (gathered lists l) k [] ≡ get_or lists k []
     at_other k nz ne = get_or-set_other (set lists 0 (get_or lists l [])) l k [] [] ne ∙ get_or-set_other lists 0 k (get_or lists l []) [] nz
 
-pub IsWatching-take : (lists : List (List ℕ)) (nodes : ℕ) (literals : List ℕ) (n : ℕ) (rest : List ℕ) → IsWatching lists nodes literals → n < length literals → list_at lists 0 ≡ n ∷ rest → IsFree (set lists 0 rest) n
+pub IsWatching-take : (lists : List (List ℕ)) (nodes : ℕ) (literals : List ℕ) (n : ℕ) (rest : List ℕ) → IsWatching lists nodes literals
+    → n < length literals → list_at lists 0 ≡ n ∷ rest → IsFree (set lists 0 rest) n
     → IsWatching (set lists 0 rest) nodes (set literals n 0)
 IsWatching-take lists nodes literals n rest w here first free = record {
   some = omega (arith, w.some, length-set lists 0 rest);
@@ -185,10 +198,11 @@ IsWatching-take lists nodes literals n rest w here first free = record {
         let P : ℕ → Type 0 = λ i. (is_set (list_at (set lists 0 rest) i) m ≡ true) ⊎ (is_set (list_at (set lists 0 rest) 0) m ≡ true) in
         subst P (sym (at_other m ne)) (elim (w.listed m (omega (arith, h, at_other m ne))) [
           | inl i ↦ inl (ap (λ ns. is_set ns m) (get_or-set_other lists 0 (get_or literals m 0) rest [] (λ e. absurd (omega (arith, h, at_other m ne)))) ∙ i)
-          | inr i ↦ inr (ap (λ ns. is_set ns m) (get_or-set_same lists 0 rest [] w.some) ∙ (elim (or_cases (eqb n m) (is_set rest m) (sym (is_set-cons n rest m) ∙ (ap (λ ns. is_set ns m) (sym first) ∙ i))) [
-            | inl same ↦ absurd (ne (sym (eqb-true n m same)))
-            | inr r ↦ r
-          ]))
+          | inr i ↦ inr (ap (λ ns. is_set ns m) (get_or-set_same lists 0 rest [] w.some)
+              ∙ (elim (or_cases (eqb n m) (is_set rest m) (sym (is_set-cons n rest m) ∙ (ap (λ ns. is_set ns m) (sym first) ∙ i))) [
+                | inl same ↦ absurd (ne (sym (eqb-true n m same)))
+                | inr r ↦ r
+              ]))
         ])
   ];
   own = λ k m h i.
@@ -215,7 +229,8 @@ pub record IsTaken (lists : List (List ℕ)) (literals : List ℕ) (new : Linked
   pub first : list_at lists 0 ≡ n ∷ list_at new.lists 0
   pub limit : length new.lists ≡ length lists
 
-pub taken_from : (lists : List (List ℕ)) (nodes : ℕ) (literals : List ℕ) (new : Linked) (n : ℕ) → IsWatching lists nodes literals → n < nodes → IsFree new.lists n
+pub taken_from : (lists : List (List ℕ)) (nodes : ℕ) (literals : List ℕ) (new : Linked) (n : ℕ) → IsWatching lists nodes literals → n < nodes
+    → IsFree new.lists n
     → (rest : List ℕ) → list_at lists 0 ≡ n ∷ rest → new ≡ record { nodes = nodes; lists = set lists 0 rest } → IsTaken lists literals new n
 taken_from lists nodes literals new n w low free rest first e =
     let ls : new.lists ≡ set lists 0 rest = ap (λ (x : Linked). x.lists) e in

@@ -1,5 +1,6 @@
 -- How the blocks of stimuli begin and go on.
-use Rattle.std.proofs.Common.{◌≡◌, ◌≢◌, ℕ, ◌+◌, ◌-◌, ◌<◌, ◌≤◌, ◌^◌, Bool, true, false, cond, List, [], ◌∷◌, ◌++◌, length, map, replicate, refl, sym, ap, ◌∙◌, append_assoc, append-nil, arith, length-append}
+use Rattle.std.proofs.Common.{◌≡◌, ◌≢◌, ℕ, ◌+◌, ◌-◌, ◌<◌, ◌≤◌, ◌^◌, Bool, true, false, cond, List, [], ◌∷◌, ◌++◌, length, map, replicate, refl, sym}
+use Rattle.std.proofs.Common.{ap, ◌∙◌, append_assoc, append-nil, arith, length-append}
 use Rattle.std.specs.Prelude.{codes}
 use Rattle.std.specs.Fmt.{decimal}
 use Rattle.std.proofs.lemmas.Fmt.{decimal_injective}
@@ -17,7 +18,8 @@ head_same number m n few fits e =
     decimal_injective m n few fits (append_cancel_left (title_of number ++ codes " cycles ") (decimal m) (decimal n) e)
 
 -- rows that come first among input lines
-pub rows_first : (all rows : List (List Bool)) (others more : List (List ℕ)) → length rows ≤ length all → map input_line all ++ others ≡ map input_line rows ++ more
+pub rows_first : (all rows : List (List Bool)) (others more : List (List ℕ)) → length rows ≤ length all → map input_line all
+    ++ others ≡ map input_line rows ++ more
     → (rest : List (List Bool)) × (all ≡ rows ++ rest) × (more ≡ map input_line rest ++ others)
 rows_first all [] others more few e = (all, refl, sym e)
 rows_first [] (r ∷ rows) others more few e = absurd (omega arith)
@@ -40,14 +42,16 @@ pub record GoesOn (count : ℕ) (state : List Bool) (rows : List (List Bool)) (s
   pub inputs_are : s.inputs ≡ rows ++ rest
   pub more_is : more ≡ map input_line rest ++ codes "end" ∷ others
 
-pub goes_on : (number count : ℕ) (state : List Bool) (rows : List (List Bool)) (s : Stimulus) (others more : List (List ℕ)) → count < 2 ^ 64 → length s.inputs < 2 ^ 64 → length rows ≤ count
+pub goes_on : (number count : ℕ) (state : List Bool) (rows : List (List Bool)) (s : Stimulus) (others more : List (List ℕ)) → count < 2 ^ 64
+    → length s.inputs < 2 ^ 64 → length rows ≤ count
     → block_lines number s ++ others ≡ first_lines number count state rows ++ more → GoesOn count state rows s others more
 goes_on number count state rows s others more few fits within e =
     let first : head_of number (length s.inputs) ≡ head_of number count = cc in
     let second : codes "state " ++ digits_of s.state ≡ codes "state " ++ digits_of state = cc in
     let tail : (map input_line s.inputs ++ codes "end" ∷ []) ++ others ≡ map input_line rows ++ more = cc in
     let count_is = head_same number (length s.inputs) count fits few first in
-    let tail' : map input_line s.inputs ++ codes "end" ∷ others ≡ map input_line rows ++ more = sym (append_assoc (map input_line s.inputs) (codes "end" ∷ []) others) ∙ tail in
+    let tail' : map input_line s.inputs ++ codes "end" ∷ others ≡ map input_line rows ++ more =
+    sym (append_assoc (map input_line s.inputs) (codes "end" ∷ []) others) ∙ tail in
     let (rest, is, left) = rows_first s.inputs rows (codes "end" ∷ others) more (omega arith) tail' in
     record {
       rest = rest;
@@ -72,11 +76,13 @@ map-append [] b = refl
 map-append (x ∷ a) b = let more = map-append a b in cc
 
 -- some block begins with these first lines
-pub starts : (number count : ℕ) (state : List Bool) (rows : List (List Bool)) → count < 2 ^ 64 → length rows ≤ count → StartsBlock number (first_lines number count state rows)
+pub starts : (number count : ℕ) (state : List Bool) (rows : List (List Bool)) → count < 2 ^ 64 → length rows ≤ count
+    → StartsBlock number (first_lines number count state rows)
 starts number count state rows fits few =
     let n = filled_count count state rows few in
     let fill : List (List Bool) = replicate (count - length rows) [] in
-    let parts : map input_line (rows ++ fill) ++ codes "end" ∷ [] ≡ map input_line rows ++ (map input_line fill ++ codes "end" ∷ []) = rw (map-append rows fill) (append_assoc (map input_line rows) (map input_line fill) (codes "end" ∷ [])) in
+    let parts : map input_line (rows ++ fill) ++ codes "end" ∷ [] ≡ map input_line rows ++ (map input_line fill ++ codes "end" ∷ []) =
+    rw (map-append rows fill) (append_assoc (map input_line rows) (map input_line fill) (codes "end" ∷ [])) in
     let first : head_of number (length (rows ++ fill)) ≡ head_of number count = ap (head_of number) n in
     record {
       s = filled count state rows;
@@ -86,7 +92,8 @@ starts number count state rows fits few =
     }
 
 -- the first line is missing
-pub stuck_head : (number next line : ℕ) (ls : List (List ℕ)) → line ≡ next → ((n : ℕ) (others : List (List ℕ)) → n < 2 ^ 64 → ls ≢ head_of number n ∷ others) → IsStuck number ls next line
+pub stuck_head : (number next line : ℕ) (ls : List (List ℕ)) → line ≡ next
+    → ((n : ℕ) (others : List (List ℕ)) → n < 2 ^ 64 → ls ≢ head_of number n ∷ others) → IsStuck number ls next line
 stuck_head number next line ls place lacks = record {
   good = [];
   rest = ls;
@@ -97,7 +104,8 @@ stuck_head number next line ls place lacks = record {
 }
 
 -- the line of the state is missing
-pub stuck_state : (number count next line : ℕ) (ls left : List (List ℕ)) → count < 2 ^ 64 → ls ≡ head_of number count ∷ left → line ≡ next + 1 → LacksRow (codes "state ") left → IsStuck number ls next line
+pub stuck_state : (number count next line : ℕ) (ls left : List (List ℕ)) → count < 2 ^ 64 → ls ≡ head_of number count ∷ left → line ≡ next + 1
+    → LacksRow (codes "state ") left → IsStuck number ls next line
 stuck_state number count next line ls left few is place lacks = record {
   good = head_of number count ∷ [];
   rest = left;
@@ -106,11 +114,18 @@ stuck_state number count next line ls left few is place lacks = record {
   starts =
       let all = starts number count [] [] few (omega arith) in
       record { s = all.s; fits = all.fits; others = (codes "state " ++ digits_of []) ∷ all.others; is = all.is };
-  stops = λ s others more fits e. (codes "state " ++ digits_of s.state, (map input_line s.inputs ++ codes "end" ∷ []) ++ others, cc, λ tail same. lacks s.state tail same);
+  stops = λ s others more fits e. (
+    codes "state " ++ digits_of s.state,
+    (map input_line s.inputs ++ codes "end" ∷ []) ++ others,
+    cc,
+    λ tail same.
+        lacks s.state tail same,
+  );
 }
 
 -- a line of input bits is missing
-pub stuck_inputs : (number count next after line : ℕ) (ls left : List (List ℕ)) (state : List Bool) → count < 2 ^ 64 → ls ≡ head_of number count ∷ (codes "state " ++ digits_of state) ∷ left → after ≡ next + 2 → LackInputs count left after line → IsStuck number ls next line
+pub stuck_inputs : (number count next after line : ℕ) (ls left : List (List ℕ)) (state : List Bool) → count < 2 ^ 64 → ls ≡ head_of number count
+    ∷ (codes "state " ++ digits_of state) ∷ left → after ≡ next + 2 → LackInputs count left after line → IsStuck number ls next line
 stuck_inputs number count next after line ls left state few is two lack = record {
   good = first_lines number count state lack.rows;
   rest = lack.rest;
@@ -133,7 +148,9 @@ stuck_inputs number count next after line ls left state few is two lack = record
         due_by on.rest others more (omega (arith, lack.few, on.count_is)) on.more_is
 
 -- the lines that were passed are those of a block
-pub whole_block : (number count : ℕ) (ls left : List (List ℕ)) (state : List Bool) (rows : List (List Bool)) → count < 2 ^ 64 → ls ≡ head_of number count ∷ (codes "state " ++ digits_of state) ∷ (map input_line rows ++ codes "end" ∷ left) → length rows ≡ count → ReadsBlock number ls (record { state = state; inputs = rows })
+pub whole_block : (number count : ℕ) (ls left : List (List ℕ)) (state : List Bool) (rows : List (List Bool)) → count < 2 ^ 64
+    → ls ≡ head_of number count ∷ (codes "state " ++ digits_of state) ∷ (map input_line rows ++ codes "end" ∷ left) → length rows ≡ count
+    → ReadsBlock number ls (record { state = state; inputs = rows })
 whole_block number count ls left state rows few is all = record {
   fits = omega arith;
   others = left;
@@ -144,7 +161,8 @@ whole_block number count ls left state rows few is all = record {
 }
 
 -- the last line is missing
-pub stuck_end : (number count next line : ℕ) (ls left : List (List ℕ)) (state : List Bool) (rows : List (List Bool)) → count < 2 ^ 64 → ls ≡ head_of number count ∷ (codes "state " ++ digits_of state) ∷ (map input_line rows ++ left) → length rows ≡ count → line ≡ next + 2 + count
+pub stuck_end : (number count next line : ℕ) (ls left : List (List ℕ)) (state : List Bool) (rows : List (List Bool)) → count < 2 ^ 64
+    → ls ≡ head_of number count ∷ (codes "state " ++ digits_of state) ∷ (map input_line rows ++ left) → length rows ≡ count → line ≡ next + 2 + count
     → ((others : List (List ℕ)) → left ≢ codes "end" ∷ others) → IsStuck number ls next line
 stuck_end number count next line ls left state rows few is all place lacks = record {
   good = first_lines number count state rows;
@@ -167,7 +185,8 @@ stuck_end number count next line ls left state rows few is all place lacks = rec
         let parts = length-append rows on.rest in
         due_by on.rest others more (omega (arith, on.count_is)) on.more_is
 
-from_by : (v : Bool) (line : List ℕ) (others found : List (List ℕ)) → length found ≤ length others → length (cond v (line ∷ others) found) ≤ length (line ∷ others)
+from_by : (v : Bool) (line : List ℕ) (others found : List (List ℕ)) → length found ≤ length others → length (cond v (line ∷ others) found) ≤ length
+    (line ∷ others)
 from_by true line others found few = omega arith
 from_by false line others found few = omega arith
 
@@ -188,7 +207,8 @@ fits_in number report s small has =
     omega arith
 
 -- a block that is stuck has no stimulus
-pub stuck_none : (number next line : ℕ) (report : List ℕ) → length report < 2 ^ 64 → IsStuck number (block_in number report) next line → (s : Stimulus) → ¬ HasFirstBlock number report s
+pub stuck_none : (number next line : ℕ) (report : List ℕ) → length report < 2 ^ 64 → IsStuck number (block_in number report) next line
+    → (s : Stimulus) → ¬ HasFirstBlock number report s
 stuck_none number next line report small stuck s has =
     let (due, after, is, other) = stuck.stops s has.others stuck.rest (fits_in number report s small has) (sym has.is ∙ stuck.cut) in
     other after is
@@ -197,7 +217,9 @@ next_same : (next due : List ℕ) (others after : List (List ℕ)) → next ∷ 
 next_same next due others after e = cc
 
 -- a report is broken where its block is stuck
-pub broken : (number next line : ℕ) (report : List ℕ) → length report < 2 ^ 64 → 0 < length (block_in number report) → next + length (block_in number report) ≡ length (lines report) + 1 → IsStuck number (block_in number report) next line → IsBrokenAt number report line
+pub broken : (number next line : ℕ) (report : List ℕ) → length report < 2 ^ 64 → 0 < length (block_in number report)
+    → next + length (block_in number report) ≡ length (lines report) + 1 → IsStuck number (block_in number report) next line
+    → IsBrokenAt number report line
 broken number next line report small some all stuck = record {
   good = stuck.good;
   rest = stuck.rest;
@@ -209,14 +231,16 @@ broken number next line report small some all stuck = record {
       omega (arith, stuck.place);
   starts = stuck.starts;
   breaks = λ first others is starts.
-      let joined : block_lines number starts.s ++ [] ≡ stuck.good ++ first ∷ starts.others = append-nil (block_lines number starts.s) ∙ starts.is ∙ append_assoc stuck.good (first ∷ []) starts.others in
+      let joined : block_lines number starts.s ++ [] ≡ stuck.good ++ first ∷ starts.others = append-nil (block_lines number starts.s) ∙ starts.is
+      ∙ append_assoc stuck.good (first ∷ []) starts.others in
       let (due, after, goes, other) = stuck.stops starts.s [] (first ∷ starts.others) starts.fits joined in
       other others (is ∙ ap (λ (x : List ℕ). x ∷ others) (next_same first due starts.others after goes));
   none = stuck_none number next line report small stuck;
 }
 
 -- two stimuli with one state and the same inputs
-stimulus_same : (a b : List Bool) (x y : List (List Bool)) → a ≡ b → x ≡ y → let s : Stimulus = record { state = a; inputs = x } in let t : Stimulus = record { state = b; inputs = y } in t ≡ s
+stimulus_same : (a b : List Bool) (x y : List (List Bool)) → a ≡ b → x ≡ y → let s : Stimulus = record { state = a; inputs = x } in let t : Stimulus =
+    record { state = b; inputs = y } in t ≡ s
 stimulus_same a b x y e f = rw (e, f) refl
 
 no_more : (rows rest all : List (List Bool)) → all ≡ rows ++ rest → length all ≡ length rows → all ≡ rows
@@ -226,9 +250,12 @@ no_more rows (r ∷ rest) all is same =
     let parts = length-append rows (r ∷ rest) in absurd (omega arith)
 
 -- a report has one stimulus of a number
-pub one_stimulus : (number : ℕ) (report : List ℕ) (s t : Stimulus) → length report < 2 ^ 64 → HasFirstBlock number report s → ReadsBlock number (block_in number report) t → t ≡ s
+pub one_stimulus : (number : ℕ) (report : List ℕ) (s t : Stimulus) → length report < 2 ^ 64 → HasFirstBlock number report s
+    → ReadsBlock number (block_in number report) t → t ≡ s
 one_stimulus number report s t small has reads =
     let fits = fits_in number report s small has in
-    let both : block_lines number s ++ has.others ≡ first_lines number (length t.inputs) t.state t.inputs ++ codes "end" ∷ reads.others = sym has.is ∙ reads.is ∙ ap (λ (x : List (List ℕ)). head_of number (length t.inputs) ∷ (codes "state " ++ digits_of t.state) ∷ x) (append_assoc (map input_line t.inputs) (codes "end" ∷ []) reads.others) in
+    let both : block_lines number s ++ has.others ≡ first_lines number (length t.inputs) t.state t.inputs ++ codes "end" ∷ reads.others = sym has.is
+    ∙ reads.is ∙ ap (λ (x : List (List ℕ)). head_of number (length t.inputs) ∷ (codes "state " ++ digits_of t.state) ∷ x)
+    (append_assoc (map input_line t.inputs) (codes "end" ∷ []) reads.others) in
     let on = goes_on number (length t.inputs) t.state t.inputs s has.others (codes "end" ∷ reads.others) reads.fits fits (omega arith) both in
     stimulus_same s.state t.state s.inputs t.inputs on.state_is (no_more t.inputs on.rest s.inputs on.inputs_are on.count_is)

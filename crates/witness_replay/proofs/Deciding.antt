@@ -28,13 +28,16 @@ told_apart false true apart = refl
 pub none_found : {P : Type 0} → ¬ P → (false ≡ true) ↔ P
 none_found none = (λ e. cc, λ p. absurd (none p))
 
-pub late_decided : (d : Design) (claim : Claim) (c : Cycle) (stale late captured : Bool) → IsLateCapture d claim c stale late → ((x : Bool) → IsLateCapture d claim c stale x → x ≡ late) → captured ≡ capture d claim.end c → IsTrue (not (beq late captured)) ↔ DiffersLate d claim c stale
+pub late_decided : (d : Design) (claim : Claim) (c : Cycle) (stale late captured : Bool) → IsLateCapture d claim c stale late
+    → ((x : Bool) → IsLateCapture d claim c stale x → x ≡ late) → captured ≡ capture d claim.end c → IsTrue (not (beq late captured)) ↔ DiffersLate d
+    claim c stale
 late_decided d claim c stale late captured is only is_captured = (
   λ yes. (late, is, λ same. differing late captured yes (same ∙ sym is_captured)),
   λ w. told_apart late captured (λ same. w.2 (only w.0 w.1 ∙ (same ∙ is_captured))),
 )
 
-pub glitch_decided : (d : Design) (claim : Claim) (c : Cycle) (t : Tern) (test : Bool) → IsTernaryCapture d claim c t → ((x : Tern) → IsTernaryCapture d claim c x → x ≡ t) → (IsTrue test ↔ (t ≡ Unknown)) → IsTrue test ↔ MayGlitch d claim c
+pub glitch_decided : (d : Design) (claim : Claim) (c : Cycle) (t : Tern) (test : Bool) → IsTernaryCapture d claim c t
+    → ((x : Tern) → IsTernaryCapture d claim c x → x ≡ t) → (IsTrue test ↔ (t ≡ Unknown)) → IsTrue test ↔ MayGlitch d claim c
 glitch_decided d claim c t test is only tells =
     (λ yes. subst (IsTernaryCapture d claim c) (tells.0 yes) is, λ glitch. tells.1 (sym (only Unknown glitch)))
 

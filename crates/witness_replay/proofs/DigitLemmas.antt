@@ -1,5 +1,6 @@
 -- Bits as digits.
-use Rattle.std.proofs.Common.{◌≡◌, ◌≢◌, ℕ, ◌==◌, ◌<◌, Bool, true, false, ◌||◌, List, [], ◌∷◌, ◌++◌, map, length, Option, Some, None, MatchOption, refl, sym, ap, ◌∙◌, arith}
+use Rattle.std.proofs.Common.{◌≡◌, ◌≢◌, ℕ, ◌==◌, ◌<◌, Bool, true, false, ◌||◌, List, [], ◌∷◌, ◌++◌, map, length, Option, Some, None, MatchOption}
+use Rattle.std.proofs.Common.{refl, sym, ap, ◌∙◌, arith}
 use Rattle.std.specs.Prelude.{codes}
 use Rattle.std.specs.List.{list_all}
 use Rattle.std.proofs.lemmas.Bool.{and_parts}
@@ -69,7 +70,8 @@ pub row_same : (word : List ℕ) (a b : List Bool) → word ++ digits_of a ≡ w
 row_same word a b e = digits_same a b (append_cancel_left word (digits_of a) (digits_of b) e)
 
 -- bits of the digits after a word are bits of its line
-pub row_from : (word line digits : List ℕ) → line ≡ word ++ digits → (o : Option (List Bool)) → MatchOption o ((bits : List Bool) → digits ≢ digits_of bits) (λ bits. digits ≡ digits_of bits)
+pub row_from : (word line digits : List ℕ) → line ≡ word ++ digits → (o : Option (List Bool))
+    → MatchOption o ((bits : List Bool) → digits ≢ digits_of bits) (λ bits. digits ≡ digits_of bits)
     → MatchOption o ((bits : List Bool) → line ≢ word ++ digits_of bits) (λ bits. line ≡ word ++ digits_of bits)
 row_from word line digits is None none = λ bits e. none bits (append_cancel_left word digits (digits_of bits) (sym is ∙ e))
 row_from word line digits is (Some bits) same = is ∙ ap (λ (x : List ℕ). word ++ x) same

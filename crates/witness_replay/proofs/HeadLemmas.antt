@@ -16,7 +16,8 @@ written_decimal n limit fits within =
     }
 
 -- digits that are those of a number are read as it
-pub read_back : (digits : List ℕ) (n limit : ℕ) (o : Option ℕ) → n < 2 ^ 64 → n ≤ limit → digits ≡ decimal n → IsSome o ↔ IsDecimal digits limit → IfSome o (λ v. v ≡ digits_value 10 digits) → o ≡ Some n
+pub read_back : (digits : List ℕ) (n limit : ℕ) (o : Option ℕ) → n < 2 ^ 64 → n ≤ limit → digits ≡ decimal n → IsSome o ↔ IsDecimal digits limit
+    → IfSome o (λ v. v ≡ digits_value 10 digits) → o ≡ Some n
 read_back digits n limit None fits within is some value =
     let none : IsSome {T = ℕ} None = some.1 (subst (λ (ds : List ℕ). IsDecimal ds limit) (sym is) (written_decimal n limit fits within)) in cc
 read_back digits n limit (Some v) fits within is some value = ap (λ (x : ℕ). Some x) (value ∙ ap (digits_value 10) is ∙ (decimal_is_IsNumeral n fits).1)

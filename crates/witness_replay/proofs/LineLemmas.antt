@@ -1,5 +1,6 @@
 -- The lines of a text.
-use Rattle.std.proofs.Common.{◌≡◌, ℕ, suc, ◌+◌, ◌<◌, ◌≤◌, ◌==◌, Bool, true, false, not, cond, List, [], ◌∷◌, ◌++◌, length, take, drop, refl, sym, ap, ◌∙◌, append_assoc, arith}
+use Rattle.std.proofs.Common.{◌≡◌, ℕ, suc, ◌+◌, ◌<◌, ◌≤◌, ◌==◌, Bool, true, false, not, cond, List, [], ◌∷◌, ◌++◌, length, take, drop, refl, sym, ap}
+use Rattle.std.proofs.Common.{◌∙◌, append_assoc, arith}
 use Rattle.std.specs.Prelude.{flat_map}
 use Rattle.std.specs.List.{onto_first, prefix_len, list_all}
 use Rattle.std.proofs.lemmas.Bool.{and_parts, not-true}
@@ -11,7 +12,8 @@ abbrev pub line_len : List ℕ → ℕ
 line_len s = prefix_len (λ b. not (b == 10)) s
 
 first_by : (v : Bool) (b : ℕ) (bs : List ℕ) → (0 < length bs → lines bs ≡ take (line_len bs) bs ∷ lines (drop 1 (drop (line_len bs) bs)))
-    → cond v ([] ∷ lines bs) (onto_first b (lines bs)) ≡ take (cond (not v) (1 + line_len bs) 0) (b ∷ bs) ∷ lines (drop 1 (drop (cond (not v) (1 + line_len bs) 0) (b ∷ bs)))
+    → cond v ([] ∷ lines bs) (onto_first b (lines bs)) ≡ take (cond (not v) (1 + line_len bs) 0) (b ∷ bs)
+    ∷ lines (drop 1 (drop (cond (not v) (1 + line_len bs) 0) (b ∷ bs)))
 unfolding lines
 first_by true b bs more = refl
 first_by false b [] more = refl
@@ -43,7 +45,8 @@ onto_append : (b : ℕ) (ls ms : List (List ℕ)) → 0 < length ls → onto_fir
 onto_append b [] ms some = absurd (omega arith)
 onto_append b (l ∷ ls) ms some = refl
 
-append_by : (v : Bool) (b : ℕ) (ls ms : List (List ℕ)) → 0 < length ls → cond v ([] ∷ (ls ++ ms)) (onto_first b (ls ++ ms)) ≡ cond v ([] ∷ ls) (onto_first b ls) ++ ms
+append_by : (v : Bool) (b : ℕ) (ls ms : List (List ℕ)) → 0 < length ls → cond v ([] ∷ (ls ++ ms)) (onto_first b (ls ++ ms)) ≡ cond v ([] ∷ ls)
+    (onto_first b ls) ++ ms
 append_by true b ls ms some = refl
 append_by false b ls ms some = onto_append b ls ms some
 
@@ -78,7 +81,8 @@ pub lines-text : (ls : List (List ℕ)) (t : List ℕ) → list_all is_inline ls
 lines-text [] t plain = refl
 lines-text (l ∷ ls) t plain =
     let (here, more) = and_parts _ _ plain in
-    rw (append_assoc (line_of l) (flat_map line_of ls) t) (lines-line l (flat_map line_of ls ++ t) here ∙ ap (λ (x : List (List ℕ)). l ∷ x) (lines-text ls t more))
+    rw (append_assoc (line_of l) (flat_map line_of ls) t) (lines-line l (flat_map line_of ls ++ t) here ∙ ap (λ (x : List (List ℕ)). l ∷ x)
+    (lines-text ls t more))
 
 lines-none : lines [] ≡ []
 unfolding lines
@@ -87,4 +91,9 @@ lines-none = refl
 -- the lines of whole lines and of a text after them
 pub lines-before : (ls : List (List ℕ)) (t : List ℕ) → lines (flat_map line_of ls ++ t) ≡ lines (flat_map line_of ls) ++ lines t
 lines-before [] t = rw lines-none refl
-lines-before (l ∷ ls) t = rw (append_assoc (line_of l) (flat_map line_of ls) t, lines-newline l (flat_map line_of ls ++ t), lines-before ls t, lines-newline l (flat_map line_of ls)) (sym (append_assoc (lines (line_of l)) (lines (flat_map line_of ls)) (lines t)))
+lines-before (l ∷ ls) t = rw (
+  append_assoc (line_of l) (flat_map line_of ls) t,
+  lines-newline l (flat_map line_of ls ++ t),
+  lines-before ls t,
+  lines-newline l (flat_map line_of ls),
+) (sym (append_assoc (lines (line_of l)) (lines (flat_map line_of ls)) (lines t)))

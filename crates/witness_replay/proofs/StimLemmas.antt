@@ -9,12 +9,16 @@ use Rattle.witness_replay.proofs.BlockLemmas.{broken, stuck_none, one_stimulus}
 use Rattle.witness_replay.proofs.WrittenLemmas.{written_first}
 
 -- a missing line makes the block stuck
-pub missing_through : (number next after : ℕ) (ls : List (List ℕ)) (missing : Type 0) → ((line : ℕ) → line ≡ after → missing → IsStuck number ls next line) → (e : StimFault) → IsMissing after missing e → IsBlockFault number ls next e
+pub missing_through : (number next after : ℕ) (ls : List (List ℕ)) (missing : Type 0)
+    → ((line : ℕ) → line ≡ after → missing → IsStuck number ls next line) → (e : StimFault) → IsMissing after missing e
+    → IsBlockFault number ls next e
 missing_through number next after ls missing stuck NoBlock h = absurd h
 missing_through number next after ls missing stuck (Form line) h = stuck line h.0 h.1
 missing_through number next after ls missing stuck Memory h = tt
 
-pub inputs_through : (number next after count : ℕ) (ls left : List (List ℕ)) → ((line : ℕ) → LackInputs count left after line → IsStuck number ls next line) → (e : StimFault) → IsInputFault count left after e → IsBlockFault number ls next e
+pub inputs_through : (number next after count : ℕ) (ls left : List (List ℕ))
+    → ((line : ℕ) → LackInputs count left after line → IsStuck number ls next line) → (e : StimFault) → IsInputFault count left after e
+    → IsBlockFault number ls next e
 inputs_through number next after count ls left stuck NoBlock h = absurd h
 inputs_through number next after count ls left stuck (Form line) h = stuck line h
 inputs_through number next after count ls left stuck Memory h = tt
@@ -30,12 +34,14 @@ module _ (number next : ℕ) (report : List ℕ) (ls : List (List ℕ)) (small :
   at_fault some all Memory h = tt
 
   -- where the report has the stimulus, it is the answer
-  pub recalls : (r : Result Stimulus StimFault) → IfOk r (ReadsBlock number ls) → IfErr r (IsBlockFault number ls next) → (s : Stimulus) → HasFirstBlock number report s → Recalls r s
+  pub recalls : (r : Result Stimulus StimFault) → IfOk r (ReadsBlock number ls) → IfErr r (IsBlockFault number ls next) → (s : Stimulus)
+      → HasFirstBlock number report s → Recalls r s
   recalls (Ok t) reads fault s has = one_stimulus number report s t small has (subst (λ (x : List (List ℕ)). ReadsBlock number x t) (sym is) reads)
   recalls (Err NoBlock) reads fault s has = absurd fault
   recalls (Err (Form line)) reads fault s has = absurd (stuck_none number next line report small (at_block line fault) s has)
   recalls (Err Memory) reads fault s has = refl
 
 -- a report without a block of the number has no stimulus
-pub none_written : (number : ℕ) (report : List ℕ) (s : Stimulus) → number < 2 ^ 64 → length report < 2 ^ 64 → block_in number report ≡ [] → ¬ IsWritten number report s
+pub none_written : (number : ℕ) (report : List ℕ) (s : Stimulus) → number < 2 ^ 64 → length report < 2 ^ 64 → block_in number report ≡ []
+    → ¬ IsWritten number report s
 none_written number report s fits small none written = let e = sym none ∙ (written_first number report s fits small written).is in cc

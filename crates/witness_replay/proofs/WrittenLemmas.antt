@@ -1,5 +1,6 @@
 -- A block that was written is the first of its report.
-use Rattle.std.proofs.Common.{◌≡◌, ℕ, suc, ◌<◌, ◌≤◌, ◌^◌, ◌==◌, Bool, true, false, not, ◌||◌, cond, List, [], ◌∷◌, ◌++◌, length, map, refl, ap, ◌∙◌, append_assoc, arith, length-append}
+use Rattle.std.proofs.Common.{◌≡◌, ℕ, suc, ◌<◌, ◌≤◌, ◌^◌, ◌==◌, Bool, true, false, not, ◌||◌, cond, List, [], ◌∷◌, ◌++◌, length, map, refl, ap, ◌∙◌}
+use Rattle.std.proofs.Common.{append_assoc, arith, length-append}
 use Rattle.std.specs.Prelude.{codes, flat_map, All, nat_eq}
 use Rattle.std.specs.List.{list_all, starts_with}
 use Rattle.std.specs.Str.{bytes_eq}
@@ -46,11 +47,16 @@ inline_rows (r ∷ rows) = rw (inline_append (codes "input ") (digits_of r) refl
 inline_head : (number count : ℕ) → number < 2 ^ 64 → count < 2 ^ 64 → is_inline (head_of number count) ≡ true
 inline_head number count small fits =
     let title = inline_append (codes "stimulus ") (decimal number) refl (inline_decimal number small) in
-    inline_append (title_of number ++ codes " cycles ") (decimal count) (inline_append (title_of number) (codes " cycles ") title refl) (inline_decimal count fits)
+    inline_append (title_of number ++ codes " cycles ") (decimal count) (inline_append (title_of number) (codes " cycles ") title refl)
+    (inline_decimal count fits)
 
 inline_block : (number : ℕ) (s : Stimulus) → number < 2 ^ 64 → length s.inputs < 2 ^ 64 → list_all is_inline (block_lines number s) ≡ true
 inline_block number s small fits =
-    rw (inline_head number (length s.inputs) small fits, inline_append (codes "state ") (digits_of s.state) refl (inline_bits s.state), inline_rows s.inputs) refl
+    rw (
+      inline_head number (length s.inputs) small fits,
+      inline_append (codes "state ") (digits_of s.state) refl (inline_bits s.state),
+      inline_rows s.inputs,
+    ) refl
 
 or-true : (a b : Bool) → b ≡ true → (a || b) ≡ true
 or-true true b e = refl
@@ -62,14 +68,16 @@ head_begins number count =
     let opening : List ℕ = title_of number ++ 32 ∷ [] in
     let line = head_of number count in
     let split : line ≡ opening ++ (codes "cycles " ++ decimal count) = simp append_assoc in
-    or-true (bytes_eq line (title_of number)) (starts_with nat_eq line opening) ((starts_is Decides-eqb line opening (starts_with nat_eq line opening) refl).1 (codes "cycles " ++ decimal count) split)
+    or-true (bytes_eq line (title_of number)) (starts_with nat_eq line opening)
+    ((starts_is Decides-eqb line opening (starts_with nat_eq line opening) refl).1 (codes "cycles " ++ decimal count) split)
 
 pub skips_by : (v : Bool) (line : List ℕ) (others found : List (List ℕ)) → v ≡ false → cond v (line ∷ others) found ≡ found
 skips_by true line others found e = cc
 skips_by false line others found e = refl
 
 -- lines at which no block begins are passed over
-skips : (title : List ℕ) (before block : List (List ℕ)) → All (λ line. begins title line ≡ false) before → from_block title (before ++ block) ≡ from_block title block
+skips : (title : List ℕ) (before block : List (List ℕ)) → All (λ line. begins title line ≡ false) before
+    → from_block title (before ++ block) ≡ from_block title block
 unfolding from_block
 skips title [] block none = refl
 skips title (line ∷ before) block none =
@@ -85,7 +93,8 @@ unfolding from_block
 stays title line others first = stays_by (begins title line) line others (from_block title others) first
 
 -- the block of these lines begins at the first of them
-pub block_here : (title opening line : List ℕ) (ls others : List (List ℕ)) → opening ≡ title ++ 32 ∷ [] → (bytes_eq line title || starts_with nat_eq line opening) ≡ true → ls ≡ line ∷ others → from_block title ls ≡ ls
+pub block_here : (title opening line : List ℕ) (ls others : List (List ℕ)) → opening ≡ title ++ 32 ∷ []
+    → (bytes_eq line title || starts_with nat_eq line opening) ≡ true → ls ≡ line ∷ others → from_block title ls ≡ ls
 block_here title opening line ls others is first cut = rw cut (stays title line others (rw is at first))
 
 skips_one : (title line : List ℕ) (others : List (List ℕ)) → begins title line ≡ false → from_block title (line ∷ others) ≡ from_block title others
@@ -93,7 +102,8 @@ unfolding from_block
 skips_one title line others none = skips_by (begins title line) line others (from_block title others) none
 
 -- it begins after the first of them
-pub block_later : (title opening line : List ℕ) (ls others : List (List ℕ)) → opening ≡ title ++ 32 ∷ [] → (bytes_eq line title || starts_with nat_eq line opening) ≡ false → ls ≡ line ∷ others → from_block title ls ≡ from_block title others
+pub block_later : (title opening line : List ℕ) (ls others : List (List ℕ)) → opening ≡ title ++ 32 ∷ []
+    → (bytes_eq line title || starts_with nat_eq line opening) ≡ false → ls ≡ line ∷ others → from_block title ls ≡ from_block title others
 block_later title opening line ls others is none cut = rw cut (skips_one title line others (rw is at none))
 
 pub no_block : (title : List ℕ) (ls : List (List ℕ)) → ls ≡ [] → from_block title ls ≡ []
@@ -125,15 +135,19 @@ written_fits number report s small written =
     omega arith
 
 -- what was written is the first block of its number
-pub written_first : (number : ℕ) (report : List ℕ) (s : Stimulus) → number < 2 ^ 64 → length report < 2 ^ 64 → IsWritten number report s → HasFirstBlock number report s
+pub written_first : (number : ℕ) (report : List ℕ) (s : Stimulus) → number < 2 ^ 64 → length report < 2 ^ 64 → IsWritten number report s
+    → HasFirstBlock number report s
 written_first number report s fits small written =
     let title = title_of number in
     let block : List (List ℕ) = block_lines number s in
     let before : List (List ℕ) = lines (flat_map line_of written.before) in
     let inline = inline_block number s fits (written_fits number report s small written) in
-    let whole : report ≡ flat_map line_of written.before ++ (block_text number s ++ written.after) = written.is ∙ append_assoc (flat_map line_of written.before) (block_text number s) written.after in
-    let cut : lines report ≡ before ++ (block ++ lines written.after) = ap lines whole ∙ lines-before written.before (block_text number s ++ written.after) ∙ ap (λ (x : List (List ℕ)). before ++ x) (lines-text block written.after inline) in
+    let whole : report ≡ flat_map line_of written.before ++ (block_text number s ++ written.after) = written.is
+    ∙ append_assoc (flat_map line_of written.before) (block_text number s) written.after in
+    let cut : lines report ≡ before ++ (block ++ lines written.after) = ap lines whole ∙ lines-before written.before
+    (block_text number s ++ written.after) ∙ ap (λ (x : List (List ℕ)). before ++ x) (lines-text block written.after inline) in
     record {
       others = lines written.after;
-      is = ap (from_block title) cut ∙ skips title before (block ++ lines written.after) written.none ∙ stays title (head_of number (length s.inputs)) _ (head_begins number (length s.inputs));
+      is = ap (from_block title) cut ∙ skips title before (block ++ lines written.after) written.none
+          ∙ stays title (head_of number (length s.inputs)) _ (head_begins number (length s.inputs));
     }

@@ -26,7 +26,8 @@ fn is_head(line: &[u8], title: &[u8], opening: &[u8]) -> bool
 /// The lines from the first one on at which a block of this title begins.
 fn first_block<'a>(report: Lines<'a>, title: &[u8], opening: &[u8]) -> Option<Lines<'a>>
     requires { opening.now ≡ title.now ++ 32 ∷ [] }
-    ensures left { MatchOption result (from_block title.now (left report.entry) ≡ []) (λ block. (from_block title.now (left report.entry) ≡ left block) × (0 < length (left block))) }
+    ensures left { MatchOption result (from_block title.now (left report.entry) ≡ [])
+        (λ block. (from_block title.now (left report.entry) ≡ left block) × (0 < length (left block))) }
     ensures number { MatchOption result ⊤ (λ block. next_number block + length (left block) ≡ next_number report.entry + length (left report.entry)) }
 {
     let mut block = report;
@@ -42,7 +43,8 @@ fn first_block<'a>(report: Lines<'a>, title: &[u8], opening: &[u8]) -> Option<Li
 
 /// The lines of a report from the first block of this number on.
 fn find_block(alloc: Global, report: &[u8], number: u64) -> Result<Option<Lines<'_>>, AllocError>
-    ensures left { IfOk result (λ o. MatchOption o (block_in number report.now ≡ []) (λ block. (block_in number report.now ≡ left block) × (0 < length (left block)))) }
+    ensures left { IfOk result (λ o. MatchOption o (block_in number report.now ≡ []) (λ block. (block_in number report.now ≡ left block)
+        × (0 < length (left block)))) }
     ensures number { IfOk result (λ o. MatchOption o ⊤ (λ block. next_number block + length (left block) ≡ length (lines report.now) + 1)) }
 {
     let mut title = Vec::new(alloc);
@@ -82,7 +84,8 @@ fn head_count(alloc: Global, line: &[u8], number: u64) -> Result<Option<u64>, Al
 fn take_head(alloc: Global, lines: &mut Lines<'_>, number: u64) -> Result<u64, StimFault>
     ensures ok { IfOk result (λ n. left lines.old ≡ head_of number n ∷ left lines.new) }
     ensures number { OnOk result (next_number lines.new ≡ next_number lines.old + 1) }
-    ensures err { IfErr result (IsMissing (next_number lines.old) ((n : ℕ) (others : List (List ℕ)) → n < 2 ^ 64 → left lines.old ≢ head_of number n ∷ others)) }
+    ensures err { IfErr result (IsMissing (next_number lines.old) ((n : ℕ) (others : List (List ℕ)) → n < 2 ^ 64 → left lines.old ≢ head_of number n
+        ∷ others)) }
 {
     let line = lines.due_line()?;
     head_count(alloc, line, number)?.ok_or(StimFault::Form(lines.number()))

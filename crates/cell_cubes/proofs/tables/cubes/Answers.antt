@@ -11,11 +11,14 @@ pow-count-requires c = let most : 3 ^ c.args.places ≤ 3 ^ 7 = pow-le-pow_right
 
 pub args_of-requires : goal.args_of-requires
 args_of-requires c =
-    let len = ap length (c.as_slice.ensures ∙ c.in_ok-fixed.ensures) ∙ length-terns c.args.places c.loop-w.w in record { few = omega (arith, len, c.requires.few) }
+    let len = ap length (c.as_slice.ensures ∙ c.in_ok-fixed.ensures) ∙ length-terns c.args.places c.loop-w.w in
+    record { few = omega (arith, len, c.requires.few) }
 
 pub apply-value-requires : goal.apply-value-requires
 apply-value-requires c = IsOver-weaker c.args.places 7 c.args.func.now c.requires.few c.requires.over
 
 pub loop-w-preserved : goal.loop-w-preserved
 loop-w-preserved c =
-    cubes_more c.args.func.now c.args.places c.loop-w.w c.loop-w.found.items _ c.in_ok-fixed.fixed _ c.apply-value.result c.requires.few c.requires.over c.in_ok-fixed.ensures (λ i lt. c.args_of.ensures i lt ∙ ap (λ ts. slice_index_or ts i Zero) c.as_slice.ensures) c.apply-value.ensures.value c.loop-w.invariant c.in_ok-push_known.ensures
+    cubes_more c.args.func.now c.args.places c.loop-w.w c.loop-w.found.items _ c.in_ok-fixed.fixed _ c.apply-value.result c.requires.few
+    c.requires.over c.in_ok-fixed.ensures (λ i lt. c.args_of.ensures i lt ∙ ap (λ ts. slice_index_or ts i Zero) c.as_slice.ensures)
+    c.apply-value.ensures.value c.loop-w.invariant c.in_ok-push_known.ensures

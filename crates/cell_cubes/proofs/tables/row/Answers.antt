@@ -10,7 +10,13 @@ pub loop-i-preserved : goal.loop-i-preserved
 loop-i-preserved c =
     let (before, rest) = c.loop-i.invariant in
     let step = row_more c.args.places c.args.number c.loop-i.i c.loop-i.rest (search rules) rest in (
-      λ j lt. rw (c.set.ensures j lt, take_at (row_bits c.args.places c.args.number) c.loop-i.i j false (omega (arith, length-row c.args.places c.args.number)), step.0, before j lt) refl,
+      λ j lt. rw (
+        c.set.ensures j lt,
+        take_at (row_bits c.args.places c.args.number) c.loop-i.i j false
+            (omega (arith, length-row c.args.places c.args.number)),
+        step.0,
+        before j lt,
+      ) refl,
       step.1,
     )
 

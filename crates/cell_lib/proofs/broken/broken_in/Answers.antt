@@ -5,11 +5,13 @@ use Rattle.cell_lib.proofs.broken.broken_in.Goals as goal
 
 pub returns-then-is_some : goal.returns-then-is_some
 returns-then-is_some c =
-    sym (c.loop-group.invariant ∙ first_found broken_in_cell c.args.groups.now c.loop-group.group-index c.group-item.result c.loop-group-test.true c.group-item.is c.in_ok-place.place (sym c.in_ok-place.ensures) (sym c.is_some.ensures ∙ c.if-is_some.true))
+    sym (c.loop-group.invariant ∙ first_found broken_in_cell c.args.groups.now c.loop-group.group-index c.group-item.result c.loop-group-test.true
+    c.group-item.is c.in_ok-place.place (sym c.in_ok-place.ensures) (sym c.is_some.ensures ∙ c.if-is_some.true))
 
 pub loop-group-preserved : goal.loop-group-preserved
 loop-group-preserved c =
-    c.loop-group.invariant ∙ first_missed broken_in_cell c.args.groups.now c.loop-group.group-index c.group-item.result c.loop-group-test.true c.group-item.is c.in_ok-place.place (sym c.in_ok-place.ensures) (sym c.is_some.ensures ∙ c.if-is_some.false)
+    c.loop-group.invariant ∙ first_missed broken_in_cell c.args.groups.now c.loop-group.group-index c.group-item.result c.loop-group-test.true
+    c.group-item.is c.in_ok-place.place (sym c.in_ok-place.ensures) (sym c.is_some.ensures ∙ c.if-is_some.false)
 
 pub returns : goal.returns
 returns c = sym (c.loop-group.invariant ∙ first_end broken_in_cell c.args.groups.now c.loop-group.group-index c.loop-group-test.false)

@@ -12,14 +12,16 @@ returns-then-branch c =
     let a = c.attribute-item.result in
     let kind = c.args.part.now.kind in
     let broken : is_broken kind a ≡ true = sym c.in_ok-is_broken.ensures ∙ c.if-branch.true in
-    sym (c.loop-attribute.invariant ∙ first_hit (broken_attribute kind) _ c.loop-attribute.attribute-index a c.loop-attribute-test.true c.attribute-item.is a.value.offset (rw broken refl))
+    sym (c.loop-attribute.invariant ∙ first_hit (broken_attribute kind) _ c.loop-attribute.attribute-index a c.loop-attribute-test.true
+    c.attribute-item.is a.value.offset (rw broken refl))
 
 pub loop-attribute-preserved : goal.loop-attribute-preserved
 loop-attribute-preserved c =
     let a = c.attribute-item.result in
     let kind = c.args.part.now.kind in
     let whole : is_broken kind a ≡ false = sym c.in_ok-is_broken.ensures ∙ c.if-branch.false in
-    c.loop-attribute.invariant ∙ first_miss (broken_attribute kind) _ c.loop-attribute.attribute-index a c.loop-attribute-test.true c.attribute-item.is (rw whole refl)
+    c.loop-attribute.invariant ∙ first_miss (broken_attribute kind) _ c.loop-attribute.attribute-index a c.loop-attribute-test.true
+    c.attribute-item.is (rw whole refl)
 
 pub returns : goal.returns
 returns c = sym (c.loop-attribute.invariant ∙ first_end (broken_attribute c.args.part.now.kind) _ c.loop-attribute.attribute-index c.loop-attribute-test.false)

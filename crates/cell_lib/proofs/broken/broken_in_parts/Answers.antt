@@ -5,11 +5,13 @@ use Rattle.cell_lib.proofs.broken.broken_in_parts.Goals as goal
 
 pub returns-then-is_some : goal.returns-then-is_some
 returns-then-is_some c =
-    sym (c.loop-part.invariant ∙ first_found broken_in_part c.args.parts.now c.loop-part.part-index c.part-item.result c.loop-part-test.true c.part-item.is c.in_ok-place.place (sym c.in_ok-place.ensures) (sym c.is_some.ensures ∙ c.if-is_some.true))
+    sym (c.loop-part.invariant ∙ first_found broken_in_part c.args.parts.now c.loop-part.part-index c.part-item.result c.loop-part-test.true
+    c.part-item.is c.in_ok-place.place (sym c.in_ok-place.ensures) (sym c.is_some.ensures ∙ c.if-is_some.true))
 
 pub loop-part-preserved : goal.loop-part-preserved
 loop-part-preserved c =
-    c.loop-part.invariant ∙ first_missed broken_in_part c.args.parts.now c.loop-part.part-index c.part-item.result c.loop-part-test.true c.part-item.is c.in_ok-place.place (sym c.in_ok-place.ensures) (sym c.is_some.ensures ∙ c.if-is_some.false)
+    c.loop-part.invariant ∙ first_missed broken_in_part c.args.parts.now c.loop-part.part-index c.part-item.result c.loop-part-test.true
+    c.part-item.is c.in_ok-place.place (sym c.in_ok-place.ensures) (sym c.is_some.ensures ∙ c.if-is_some.false)
 
 pub returns : goal.returns
 returns c = sym (c.loop-part.invariant ∙ first_end broken_in_part c.args.parts.now c.loop-part.part-index c.loop-part-test.false)

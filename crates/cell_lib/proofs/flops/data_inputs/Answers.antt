@@ -11,4 +11,5 @@ pub loop-name-preserved : goal.loop-name-preserved
 loop-name-preserved c =
     let n = c.name-item.result in
     let clock = c.args.clock.now in
-    c.in_ok-add_data.ensures ∙ ap (λ (t : List (List ℕ)). with_data clock t n) c.loop-name.invariant ∙ sym (data_more clock c.args.inputs.now c.loop-name.name-index n c.loop-name-test.true c.name-item.is)
+    c.in_ok-add_data.ensures ∙ ap (λ (t : List (List ℕ)). with_data clock t n) c.loop-name.invariant
+    ∙ sym (data_more clock c.args.inputs.now c.loop-name.name-index n c.loop-name-test.true c.name-item.is)

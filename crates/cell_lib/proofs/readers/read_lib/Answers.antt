@@ -22,21 +22,28 @@ returns-in-Some-twice-clause-value c =
     let groups = c.in_ok-groups.groups in
     let name = c.in-Some-twice.name in
     let whole : broken_in groups ≡ None = rw c.as_slice.ensures at (sym c.in_ok-broken.ensures ∙ none_left c.in_ok-broken.broken c.in_default.not-Some) in
-    let found : StandsTwice name (names c.as_slice-2.result.now) = match_some (are_distinct (names c.as_slice-2.result.now) ≡ true) (λ n. StandsTwice n (names c.as_slice-2.result.now)) c.in_ok-twice.twice name c.in-Some-twice.is c.in_ok-twice.ensures in
-    let stands : StandsTwice name (names groups) = rw c.as_slice-2.ensures at found in
-    (made_of c.args.text.now groups c.in_ok-groups.ensures ∙ twice_makes_none groups whole (twice_differ name (names groups) stands), groups, c.in_ok-groups.ensures, stands)
+    let found : StandsTwice name (names c.as_slice-2.result.now) = match_some (are_distinct (names c.as_slice-2.result.now) ≡ true)
+    (λ n. StandsTwice n (names c.as_slice-2.result.now)) c.in_ok-twice.twice name c.in-Some-twice.is c.in_ok-twice.ensures in
+    let stands : StandsTwice name (names groups) = rw c.as_slice-2.ensures at found in (
+      made_of c.args.text.now groups c.in_ok-groups.ensures ∙ twice_makes_none groups whole (twice_differ name (names groups) stands),
+      groups,
+      c.in_ok-groups.ensures,
+      stands,
+    )
 
 pub returns-clause-value : goal.returns-clause-value
 returns-clause-value c =
     let groups = c.in_ok-groups.groups in
     let whole : broken_in groups ≡ None = rw c.as_slice.ensures at (sym c.in_ok-broken.ensures ∙ none_left c.in_ok-broken.broken c.in_default.not-Some) in
-    let found = match_none (are_distinct (names c.as_slice-2.result.now) ≡ true) (λ n. StandsTwice n (names c.as_slice-2.result.now)) c.in_ok-twice.twice c.in_default-twice.not-Some c.in_ok-twice.ensures in
+    let found = match_none (are_distinct (names c.as_slice-2.result.now) ≡ true) (λ n. StandsTwice n (names c.as_slice-2.result.now))
+    c.in_ok-twice.twice c.in_default-twice.not-Some c.in_ok-twice.ensures in
     let differ : are_distinct (names groups) ≡ true = rw c.as_slice-2.ensures at found in
     rw (c.in_ok-cells.ensures, c.as_slice-3.ensures) (made_of c.args.text.now groups c.in_ok-groups.ensures ∙ made_all groups whole differ)
 
 pub returns-clause-lawful : goal.returns-clause-lawful
 returns-clause-lawful c =
     let groups = c.in_ok-groups.groups in
-    let found = match_none (are_distinct (names c.as_slice-2.result.now) ≡ true) (λ n. StandsTwice n (names c.as_slice-2.result.now)) c.in_ok-twice.twice c.in_default-twice.not-Some c.in_ok-twice.ensures in
+    let found = match_none (are_distinct (names c.as_slice-2.result.now) ≡ true) (λ n. StandsTwice n (names c.as_slice-2.result.now))
+    c.in_ok-twice.twice c.in_default-twice.not-Some c.in_ok-twice.ensures in
     let differ : are_distinct (names groups) ≡ true = rw c.as_slice-2.ensures at found in
     rw (c.in_ok-cells.ensures, c.as_slice-3.ensures) (made_lawful groups differ)

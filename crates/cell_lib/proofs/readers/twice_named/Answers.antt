@@ -21,6 +21,7 @@ loop-group-preserved c =
     let absent : is_among g.name c.loop-group.table ≡ false = not-true _ (sym c.in_ok-add.ensures.fresh ∙ c.if-not-branch.false) in
     let grown : c.add.new.self ≡ c.loop-group.table ++ g.name ∷ [] = c.in_ok-add.ensures.ok ∙ rw absent refl in
     record {
-      table = grown ∙ ap (λ (t : List (List ℕ)). t ++ g.name ∷ []) c.loop-group.invariant.table ∙ sym (names_more c.args.groups.now c.loop-group.group-index g c.loop-group-test.true c.group-item.is);
+      table = grown ∙ ap (λ (t : List (List ℕ)). t ++ g.name ∷ []) c.loop-group.invariant.table
+          ∙ sym (names_more c.args.groups.now c.loop-group.group-index g c.loop-group-test.true c.group-item.is);
       distinct = rw grown (still_distinct c.loop-group.table g.name c.loop-group.invariant.distinct absent);
     }

@@ -16,6 +16,8 @@ loop-i-preserved c =
     let whole : List ℕ = chosen c.args.zeros.now c.args.ones.now (map tern_of (row_bits n c.args.row)) in
     ap (λ (ls : List ℕ). ls ++ chosen (drop (i + 1) c.args.zeros.now) (drop (i + 1) c.args.ones.now) later) c.in_ok-push.ensures.ok
     ∙ (elim c.if-rest-eq1.branch [
-      | then-rest-eq1 w ↦ one_more c.loop-i.lits.items c.args.zeros.now c.args.ones.now whole left later i c.if-rest-eq1.l c.loop-i-test.true c.requires (cc) (row_one n i c.loop-i.rest c.loop-i-test.true w.if-rest-eq1.true) c.loop-i.invariant
-      | else-rest-eq1 w ↦ zero_more c.loop-i.lits.items c.args.zeros.now c.args.ones.now whole left later i c.if-rest-eq1.l c.loop-i-test.true c.requires (cc) (row_zero n i c.loop-i.rest c.loop-i-test.true w.if-rest-eq1.false) c.loop-i.invariant
+      | then-rest-eq1 w ↦ one_more c.loop-i.lits.items c.args.zeros.now c.args.ones.now whole left later i c.if-rest-eq1.l c.loop-i-test.true
+          c.requires (cc) (row_one n i c.loop-i.rest c.loop-i-test.true w.if-rest-eq1.true) c.loop-i.invariant
+      | else-rest-eq1 w ↦ zero_more c.loop-i.lits.items c.args.zeros.now c.args.ones.now whole left later i c.if-rest-eq1.l c.loop-i-test.true
+          c.requires (cc) (row_zero n i c.loop-i.rest c.loop-i-test.true w.if-rest-eq1.false) c.loop-i.invariant
     ])

@@ -7,19 +7,24 @@ use Rattle.cnf_encode.proofs.clauses.push_exclusive.Goals as goal
 
 pub push_clause-requires : goal.push_clause-requires
 push_clause-requires c =
-    HasKeys-same c.args.frames.now (c.lit.result ∷ c.args.x ∷ c.args.y ∷ []) (lit false c.args.z ∷ c.args.x ∷ c.args.y ∷ []) (cc) (exclusive_keys c.args.frames.now c.args.z c.args.x c.args.y c.requires).0
+    HasKeys-same c.args.frames.now (c.lit.result ∷ c.args.x ∷ c.args.y ∷ []) (lit false c.args.z ∷ c.args.x ∷ c.args.y ∷ []) (cc)
+    (exclusive_keys c.args.frames.now c.args.z c.args.x c.args.y c.requires).0
 
 pub push_clause-requires-2 : goal.push_clause-requires-2
 push_clause-requires-2 c =
-    HasKeys-same c.args.frames.now (c.lit-2.result ∷ c.opposite.result ∷ c.opposite-2.result ∷ []) (lit false c.args.z ∷ opposite c.args.x ∷ opposite c.args.y ∷ []) (cc) (exclusive_keys c.args.frames.now c.args.z c.args.x c.args.y c.requires).1
+    HasKeys-same c.args.frames.now (c.lit-2.result ∷ c.opposite.result ∷ c.opposite-2.result ∷ [])
+    (lit false c.args.z ∷ opposite c.args.x ∷ opposite c.args.y ∷ []) (cc)
+    (exclusive_keys c.args.frames.now c.args.z c.args.x c.args.y c.requires).1
 
 pub push_clause-requires-3 : goal.push_clause-requires-3
 push_clause-requires-3 c =
-    HasKeys-same c.args.frames.now (c.lit-3.result ∷ c.opposite-3.result ∷ c.args.y ∷ []) (lit true c.args.z ∷ opposite c.args.x ∷ c.args.y ∷ []) (cc) (exclusive_keys c.args.frames.now c.args.z c.args.x c.args.y c.requires).2
+    HasKeys-same c.args.frames.now (c.lit-3.result ∷ c.opposite-3.result ∷ c.args.y ∷ []) (lit true c.args.z ∷ opposite c.args.x ∷ c.args.y ∷ []) (cc)
+    (exclusive_keys c.args.frames.now c.args.z c.args.x c.args.y c.requires).2
 
 pub push_clause-requires-4 : goal.push_clause-requires-4
 push_clause-requires-4 c =
-    HasKeys-same c.args.frames.now (c.lit-4.result ∷ c.args.x ∷ c.opposite-4.result ∷ []) (lit true c.args.z ∷ c.args.x ∷ opposite c.args.y ∷ []) (cc) (exclusive_keys c.args.frames.now c.args.z c.args.x c.args.y c.requires).3
+    HasKeys-same c.args.frames.now (c.lit-4.result ∷ c.args.x ∷ c.opposite-4.result ∷ []) (lit true c.args.z ∷ c.args.x ∷ opposite c.args.y ∷ []) (cc)
+    (exclusive_keys c.args.frames.now c.args.z c.args.x c.args.y c.requires).3
 
 pub returns : goal.returns
 returns c =

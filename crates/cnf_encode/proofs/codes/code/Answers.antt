@@ -8,7 +8,8 @@ prove-unreachable-requires c =
     omega (arith, is.2)
 
 pub new-requires-clause-from : goal.new-requires-clause-from
-new-requires-clause-from c = (number_is c.args.frames.now c.args.l.now.key c.unwrap-number.result c.requires (sym c.number.ensures.value ∙ c.unwrap-number.ensures)).1
+new-requires-clause-from c = (number_is c.args.frames.now c.args.l.now.key c.unwrap-number.result c.requires
+    (sym c.number.ensures.value ∙ c.unwrap-number.ensures)).1
 
 pub returns : goal.returns
 returns c =

@@ -14,25 +14,31 @@ use Rattle.cnf_encode.proofs.cycles.list_bit.Goals as goal
 pub push_plain-requires-clause-few : goal.push_plain-requires-clause-few
 push_plain-requires-clause-few c =
     subst (λ (reads : List KeyLit). length reads ≤ 7) (sym c.in_ok-push_own.ensures)
-    (own_few c.args.design.now c.args.reg.now c.bit_lit-2.result c.in_ok-reads.reads c.requires.reg (ap length c.in_ok-reads.ensures ∙ length-map c.args.reg.now.ins (read_base c.args.design.now c.args.cycle)))
+    (own_few c.args.design.now c.args.reg.now c.bit_lit-2.result c.in_ok-reads.reads c.requires.reg
+    (ap length c.in_ok-reads.ensures ∙ length-map c.args.reg.now.ins (read_base c.args.design.now c.args.cycle)))
 
 pub push_plain-requires-clause-over : goal.push_plain-requires-clause-over
 push_plain-requires-clause-over c =
     subst (λ (reads : List KeyLit). IsOver (length reads) c.in_ok-func.func) (sym c.in_ok-push_own.ensures)
-    (own_over c.args.design.now c.args.reg.now c.in_ok-func.func c.bit_lit-2.result c.in_ok-reads.reads c.requires.reg (ap length c.in_ok-reads.ensures ∙ length-map c.args.reg.now.ins (read_base c.args.design.now c.args.cycle)) c.in_ok-func.ensures.places c.in_ok-func.ensures.over)
+    (own_over c.args.design.now c.args.reg.now c.in_ok-func.func c.bit_lit-2.result c.in_ok-reads.reads c.requires.reg
+    (ap length c.in_ok-reads.ensures ∙ length-map c.args.reg.now.ins (read_base c.args.design.now c.args.cycle)) c.in_ok-func.ensures.places
+    c.in_ok-func.ensures.over)
 
 pub push_plain-requires-clause-keys : goal.push_plain-requires-clause-keys
 push_plain-requires-clause-keys c =
-    let is = bit_is c.args.design.now c.args.cycle c.args.r c.args.reg.now c.in_ok-func.func c.push_own.new.reads c.in_ok-reads.reads c.bit_lit-2.result c.bit_lit.result
+    let is = bit_is c.args.design.now c.args.cycle c.args.r c.args.reg.now c.in_ok-func.func c.push_own.new.reads c.in_ok-reads.reads
+    c.bit_lit-2.result c.bit_lit.result
     c.in_ok-func.ensures.value c.in_ok-push_own.ensures c.in_ok-reads.ensures c.bit_lit-2.ensures c.bit_lit.ensures in
     let needed : has_key c.args.frames.now (bit_key c.args.design.now (c.args.cycle + 1) c.args.r) ≡ true =
     ap (λ (l : KeyLit). has_key c.args.frames.now l.key) (sym c.bit_lit.ensures) ∙ sym c.is_needed.ensures ∙ c.if-not-is_needed.false in
     subst (λ (def : Definition). HasKeys c.args.frames.now def.clauses) (sym is)
-    (Closed-clauses (bit_definition Rows c.args.design.now c.args.cycle c.args.r c.args.reg.now) c.requires.closed (one_needed c.args.frames.now (bit_key c.args.design.now (c.args.cycle + 1) c.args.r) needed))
+    (Closed-clauses (bit_definition Rows c.args.design.now c.args.cycle c.args.r c.args.reg.now) c.requires.closed
+    (one_needed c.args.frames.now (bit_key c.args.design.now (c.args.cycle + 1) c.args.r) needed))
 
 pub returns : goal.returns
 returns c =
-    let is = bit_is c.args.design.now c.args.cycle c.args.r c.args.reg.now c.in_ok-func.func c.push_own.new.reads c.in_ok-reads.reads c.bit_lit-2.result c.bit_lit.result
+    let is = bit_is c.args.design.now c.args.cycle c.args.r c.args.reg.now c.in_ok-func.func c.push_own.new.reads c.in_ok-reads.reads
+    c.bit_lit-2.result c.bit_lit.result
     c.in_ok-func.ensures.value c.in_ok-push_own.ensures c.in_ok-reads.ensures c.bit_lit-2.ensures c.bit_lit.ensures in
     let needed : has_key c.args.frames.now (bit_key c.args.design.now (c.args.cycle + 1) c.args.r) ≡ true =
     ap (λ (l : KeyLit). has_key c.args.frames.now l.key) (sym c.bit_lit.ensures) ∙ sym c.is_needed.ensures ∙ c.if-not-is_needed.false in

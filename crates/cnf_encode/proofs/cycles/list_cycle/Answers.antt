@@ -28,7 +28,9 @@ pub item-regs-requires : goal.item-regs-requires
 item-regs-requires c = omega (arith, c.requires.cone.of.bits.count, c.requires.cone.lt)
 
 pub list_gates-requires-clause-gates : goal.list_gates-requires-clause-gates
-list_gates-requires-clause-gates c = gate_places c.args.design.now c.args.frames.now c.args.cycle c.args.cone.now c.item-gates.result.now c.requires.cone c.item-gates.ensures
+list_gates-requires-clause-gates c = gate_places c.args.design.now c.args.frames.now c.args.cycle c.args.cone.now c.item-gates.result.now
+    c.requires.cone c.item-gates.ensures
 
 pub list_bits-requires-clause-regs : goal.list_bits-requires-clause-regs
-list_bits-requires-clause-regs c = bit_places c.args.design.now c.args.frames.now c.args.cycle c.args.cone.now c.item-regs.result.now c.requires.cone c.item-regs.ensures
+list_bits-requires-clause-regs c = bit_places c.args.design.now c.args.frames.now c.args.cycle c.args.cone.now c.item-regs.result.now c.requires.cone
+    c.item-regs.ensures

@@ -10,24 +10,32 @@ use Rattle.cnf_encode.proofs.Captures.{late_few, late_over, plain_reg_is}
 use Rattle.cnf_encode.proofs.ends.list_plain_reg.Goals as goal
 
 pub push_plain-requires-clause-few : goal.push_plain-requires-clause-few
-push_plain-requires-clause-few c = late_few c.args.design.now c.args.claim.now c.args.tables.now.moved c.args.cycle 0 true c.args.r c.args.reg.now c.in_ok-reads.reads c.requires.reg c.in_ok-reads.ensures
+push_plain-requires-clause-few c = late_few c.args.design.now c.args.claim.now c.args.tables.now.moved c.args.cycle 0 true c.args.r c.args.reg.now
+    c.in_ok-reads.reads c.requires.reg c.in_ok-reads.ensures
 
 pub push_plain-requires-clause-over : goal.push_plain-requires-clause-over
 push_plain-requires-clause-over c =
-    late_over c.args.design.now c.args.claim.now c.args.tables.now.moved c.args.cycle 0 true c.args.r c.args.reg.now c.in_ok-func.func c.in_ok-reads.reads c.requires.reg c.in_ok-reads.ensures c.in_ok-func.ensures.places c.in_ok-func.ensures.over
+    late_over c.args.design.now c.args.claim.now c.args.tables.now.moved c.args.cycle 0 true c.args.r c.args.reg.now c.in_ok-func.func
+    c.in_ok-reads.reads c.requires.reg c.in_ok-reads.ensures c.in_ok-func.ensures.places c.in_ok-func.ensures.over
 
 pub push_plain-requires-clause-keys : goal.push_plain-requires-clause-keys
 push_plain-requires-clause-keys c =
-    let is = plain_reg_is c.args.design.now c.args.claim.now c.args.tables.now.moved c.args.cycle c.args.r c.args.reg.now c.in_ok-func.func c.in_ok-reads.reads c.late_keys.result.0 c.in_ok-func.ensures.value c.in_ok-reads.ensures c.late_keys.ensures.high in
+    let is = plain_reg_is c.args.design.now c.args.claim.now c.args.tables.now.moved c.args.cycle c.args.r c.args.reg.now c.in_ok-func.func
+    c.in_ok-reads.reads c.late_keys.result.0 c.in_ok-func.ensures.value c.in_ok-reads.ensures c.late_keys.ensures.high in
     let out = late_key c.args.design.now c.args.claim.now c.args.cycle 0 in
-    let needed : has_key c.args.frames.now out ≡ true = ap (λ (k : Key). has_key c.args.frames.now k) (sym c.late_keys.ensures.high) ∙ sym c.is_needed.ensures ∙ c.if-not-is_needed.false in
+    let needed : has_key c.args.frames.now out ≡ true = ap (λ (k : Key). has_key c.args.frames.now k) (sym c.late_keys.ensures.high)
+    ∙ sym c.is_needed.ensures ∙ c.if-not-is_needed.false in
     subst (λ (def : Definition). HasKeys c.args.frames.now def.clauses) (sym is)
-    (Closed-clauses (plain_reg Rows c.args.design.now c.args.claim.now c.args.tables.now.moved c.args.cycle c.args.r c.args.reg.now) c.requires.closed (one_needed c.args.frames.now out needed))
+    (Closed-clauses (plain_reg Rows c.args.design.now c.args.claim.now c.args.tables.now.moved c.args.cycle c.args.r c.args.reg.now) c.requires.closed
+    (one_needed c.args.frames.now out needed))
 
 pub returns : goal.returns
 returns c =
-    let is = plain_reg_is c.args.design.now c.args.claim.now c.args.tables.now.moved c.args.cycle c.args.r c.args.reg.now c.in_ok-func.func c.in_ok-reads.reads c.late_keys.result.0 c.in_ok-func.ensures.value c.in_ok-reads.ensures c.late_keys.ensures.high in
+    let is = plain_reg_is c.args.design.now c.args.claim.now c.args.tables.now.moved c.args.cycle c.args.r c.args.reg.now c.in_ok-func.func
+    c.in_ok-reads.reads c.late_keys.result.0 c.in_ok-func.ensures.value c.in_ok-reads.ensures c.late_keys.ensures.high in
     let out = late_key c.args.design.now c.args.claim.now c.args.cycle 0 in
-    let needed : has_key c.args.frames.now out ≡ true = ap (λ (k : Key). has_key c.args.frames.now k) (sym c.late_keys.ensures.high) ∙ sym c.is_needed.ensures ∙ c.if-not-is_needed.false in
-    Lists-needed c.args.frames.now (plain_reg Rows c.args.design.now c.args.claim.now c.args.tables.now.moved c.args.cycle c.args.r c.args.reg.now) c.args.clauses.now c.push_plain.new.clauses (one_needed c.args.frames.now out needed)
+    let needed : has_key c.args.frames.now out ≡ true = ap (λ (k : Key). has_key c.args.frames.now k) (sym c.late_keys.ensures.high)
+    ∙ sym c.is_needed.ensures ∙ c.if-not-is_needed.false in
+    Lists-needed c.args.frames.now (plain_reg Rows c.args.design.now c.args.claim.now c.args.tables.now.moved c.args.cycle c.args.r c.args.reg.now)
+    c.args.clauses.now c.push_plain.new.clauses (one_needed c.args.frames.now out needed)
     (subst (λ (def : Definition). Adds c.args.frames.now def.clauses c.args.clauses.now c.push_plain.new.clauses) is c.in_ok-push_plain.ensures)

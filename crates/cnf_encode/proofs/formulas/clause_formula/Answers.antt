@@ -18,7 +18,10 @@ list_clause_cycles-requires-clause-closed c =
 pub push_asked-requires : goal.push_asked-requires
 push_asked-requires c =
     let any : Query = asking c.args.design.now c.clause_span-span.result.live c.clause_span-span.result.cycles (Breaks c.args.clause.now) in
-    record { keys = asked_keys (definitions Rows any []) c.in_ok-asked.asked c.in_ok-frames.frames (c.in_ok-frames.ensures any c.args.clause.now refl refl refl) }
+    record {
+      keys = asked_keys (definitions Rows any []) c.in_ok-asked.asked c.in_ok-frames.frames
+          (c.in_ok-frames.ensures any c.args.clause.now refl refl refl);
+    }
 
 pub returns-clause-exact : goal.returns-clause-exact
 returns-clause-exact c =
@@ -32,12 +35,17 @@ returns-clause-exact c =
       cycles_are = c.problem_of.ensures.cycles ∙ c.clause_span-span.ensures.cycles;
       few = c.problem_of.ensures.few;
     } in
-    let needed : AreNeeded (definitions Rows q []) c.in_ok-asked.asked c.in_ok-frames.frames = c.in_ok-frames.ensures (clause_query c.args.design.now c.args.inv.now c.args.clause.now c.args.phase c.args.depth) c.args.clause.now refl (sym c.clause_span-span.ensures.cycles) refl in
+    let needed : AreNeeded (definitions Rows q []) c.in_ok-asked.asked c.in_ok-frames.frames =
+    c.in_ok-frames.ensures (clause_query c.args.design.now c.args.inv.now c.args.clause.now c.args.phase c.args.depth) c.args.clause.now refl
+    (sym c.clause_span-span.ensures.cycles) refl in
     let lists : Lists c.in_ok-frames.frames (definitions Rows q []) c.new-clauses.result c.list_clause_cycles.new.clauses =
-    subst (λ (n : ℕ). Lists c.in_ok-frames.frames (flat_map (clause_cycle c.args.design.now q.live) (below n)) c.new-clauses.result c.list_clause_cycles.new.clauses) c.clause_span-span.ensures.cycles
-    (subst (λ (n : ℕ). Lists c.in_ok-frames.frames (flat_map (clause_cycle c.args.design.now n) (below c.clause_span-span.result.cycles)) c.new-clauses.result c.list_clause_cycles.new.clauses) c.clause_span-span.ensures.live c.in_ok-list_clause_cycles.ensures) in
+    subst (λ (n : ℕ). Lists c.in_ok-frames.frames (flat_map (clause_cycle c.args.design.now q.live) (below n)) c.new-clauses.result
+    c.list_clause_cycles.new.clauses) c.clause_span-span.ensures.cycles
+    (subst (λ (n : ℕ). Lists c.in_ok-frames.frames (flat_map (clause_cycle c.args.design.now n) (below c.clause_span-span.result.cycles))
+    c.new-clauses.result c.list_clause_cycles.new.clauses) c.clause_span-span.ensures.live c.in_ok-list_clause_cycles.ensures) in
     let is : IsMade q [] c.problem_of.result =
-    made q [] c.problem_of.result c.in_ok-frames.frames c.in_ok-asked.asked c.new-clauses.result c.list_clause_cycles.new.clauses c.push_asked.new.clauses refl of needed c.in_ok-asked.ensures.asked c.new-clauses.ensures lists c.in_ok-push_asked.ensures in
+    made q [] c.problem_of.result c.in_ok-frames.frames c.in_ok-asked.asked c.new-clauses.result c.list_clause_cycles.new.clauses
+    c.push_asked.new.clauses refl of needed c.in_ok-asked.ensures.asked c.new-clauses.ensures lists c.in_ok-push_asked.ensures in
     made_exact q [] c.problem_of.result is
 
 pub returns-clause-normal : goal.returns-clause-normal
@@ -52,12 +60,17 @@ returns-clause-normal c =
       cycles_are = c.problem_of.ensures.cycles ∙ c.clause_span-span.ensures.cycles;
       few = c.problem_of.ensures.few;
     } in
-    let needed : AreNeeded (definitions Rows q []) c.in_ok-asked.asked c.in_ok-frames.frames = c.in_ok-frames.ensures (clause_query c.args.design.now c.args.inv.now c.args.clause.now c.args.phase c.args.depth) c.args.clause.now refl (sym c.clause_span-span.ensures.cycles) refl in
+    let needed : AreNeeded (definitions Rows q []) c.in_ok-asked.asked c.in_ok-frames.frames =
+    c.in_ok-frames.ensures (clause_query c.args.design.now c.args.inv.now c.args.clause.now c.args.phase c.args.depth) c.args.clause.now refl
+    (sym c.clause_span-span.ensures.cycles) refl in
     let lists : Lists c.in_ok-frames.frames (definitions Rows q []) c.new-clauses.result c.list_clause_cycles.new.clauses =
-    subst (λ (n : ℕ). Lists c.in_ok-frames.frames (flat_map (clause_cycle c.args.design.now q.live) (below n)) c.new-clauses.result c.list_clause_cycles.new.clauses) c.clause_span-span.ensures.cycles
-    (subst (λ (n : ℕ). Lists c.in_ok-frames.frames (flat_map (clause_cycle c.args.design.now n) (below c.clause_span-span.result.cycles)) c.new-clauses.result c.list_clause_cycles.new.clauses) c.clause_span-span.ensures.live c.in_ok-list_clause_cycles.ensures) in
+    subst (λ (n : ℕ). Lists c.in_ok-frames.frames (flat_map (clause_cycle c.args.design.now q.live) (below n)) c.new-clauses.result
+    c.list_clause_cycles.new.clauses) c.clause_span-span.ensures.cycles
+    (subst (λ (n : ℕ). Lists c.in_ok-frames.frames (flat_map (clause_cycle c.args.design.now n) (below c.clause_span-span.result.cycles))
+    c.new-clauses.result c.list_clause_cycles.new.clauses) c.clause_span-span.ensures.live c.in_ok-list_clause_cycles.ensures) in
     let is : IsMade q [] c.problem_of.result =
-    made q [] c.problem_of.result c.in_ok-frames.frames c.in_ok-asked.asked c.new-clauses.result c.list_clause_cycles.new.clauses c.push_asked.new.clauses refl of needed c.in_ok-asked.ensures.asked c.new-clauses.ensures lists c.in_ok-push_asked.ensures in
+    made q [] c.problem_of.result c.in_ok-frames.frames c.in_ok-asked.asked c.new-clauses.result c.list_clause_cycles.new.clauses
+    c.push_asked.new.clauses refl of needed c.in_ok-asked.ensures.asked c.new-clauses.ensures lists c.in_ok-push_asked.ensures in
     made_normal q [] c.problem_of.result is
 
 pub returns-clause-complete : goal.returns-clause-complete
@@ -72,10 +85,16 @@ returns-clause-complete c =
       cycles_are = c.problem_of.ensures.cycles ∙ c.clause_span-span.ensures.cycles;
       few = c.problem_of.ensures.few;
     } in
-    let needed : AreNeeded (definitions Rows q []) c.in_ok-asked.asked c.in_ok-frames.frames = c.in_ok-frames.ensures (clause_query c.args.design.now c.args.inv.now c.args.clause.now c.args.phase c.args.depth) c.args.clause.now refl (sym c.clause_span-span.ensures.cycles) refl in
+    let needed : AreNeeded (definitions Rows q []) c.in_ok-asked.asked c.in_ok-frames.frames =
+    c.in_ok-frames.ensures (clause_query c.args.design.now c.args.inv.now c.args.clause.now c.args.phase c.args.depth) c.args.clause.now refl
+    (sym c.clause_span-span.ensures.cycles) refl in
     let lists : Lists c.in_ok-frames.frames (definitions Rows q []) c.new-clauses.result c.list_clause_cycles.new.clauses =
-    subst (λ (n : ℕ). Lists c.in_ok-frames.frames (flat_map (clause_cycle c.args.design.now q.live) (below n)) c.new-clauses.result c.list_clause_cycles.new.clauses) c.clause_span-span.ensures.cycles
-    (subst (λ (n : ℕ). Lists c.in_ok-frames.frames (flat_map (clause_cycle c.args.design.now n) (below c.clause_span-span.result.cycles)) c.new-clauses.result c.list_clause_cycles.new.clauses) c.clause_span-span.ensures.live c.in_ok-list_clause_cycles.ensures) in
+    subst (λ (n : ℕ). Lists c.in_ok-frames.frames (flat_map (clause_cycle c.args.design.now q.live) (below n)) c.new-clauses.result
+    c.list_clause_cycles.new.clauses) c.clause_span-span.ensures.cycles
+    (subst (λ (n : ℕ). Lists c.in_ok-frames.frames (flat_map (clause_cycle c.args.design.now n) (below c.clause_span-span.result.cycles))
+    c.new-clauses.result c.list_clause_cycles.new.clauses) c.clause_span-span.ensures.live c.in_ok-list_clause_cycles.ensures) in
     let is : IsMade q [] c.problem_of.result =
-    made q [] c.problem_of.result c.in_ok-frames.frames c.in_ok-asked.asked c.new-clauses.result c.list_clause_cycles.new.clauses c.push_asked.new.clauses refl of needed c.in_ok-asked.ensures.asked c.new-clauses.ensures lists c.in_ok-push_asked.ensures in
-    clause_complete c.args.design.now c.args.inv.now c.args.clause.now c.args.phase c.args.depth [] c.problem_of.result c.requires.sound c.requires.name c.requires.names is
+    made q [] c.problem_of.result c.in_ok-frames.frames c.in_ok-asked.asked c.new-clauses.result c.list_clause_cycles.new.clauses
+    c.push_asked.new.clauses refl of needed c.in_ok-asked.ensures.asked c.new-clauses.ensures lists c.in_ok-push_asked.ensures in
+    clause_complete c.args.design.now c.args.inv.now c.args.clause.now c.args.phase c.args.depth [] c.problem_of.result c.requires.sound
+    c.requires.name c.requires.names is

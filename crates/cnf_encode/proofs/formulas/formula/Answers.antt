@@ -19,7 +19,10 @@ list_claim_cycles-requires-clause-closed c =
 pub push_asked-requires : goal.push_asked-requires
 push_asked-requires c =
     let any : Query = asking c.args.design.now c.claim_span-span.result.live c.claim_span-span.result.cycles (Violates c.args.claim.now 0 0) in
-    record { keys = asked_keys (definitions Rows any c.in_ok-tables.tables.moved) c.in_ok-asked.asked c.in_ok-frames.frames (c.in_ok-frames.ensures any 0 0 refl refl refl) }
+    record {
+      keys = asked_keys (definitions Rows any c.in_ok-tables.tables.moved) c.in_ok-asked.asked c.in_ok-frames.frames
+          (c.in_ok-frames.ensures any 0 0 refl refl refl);
+    }
 
 pub returns-clause-exact : goal.returns-clause-exact
 returns-clause-exact c =
@@ -33,12 +36,19 @@ returns-clause-exact c =
       cycles_are = c.problem_of.ensures.cycles ∙ c.claim_span-span.ensures.cycles;
       few = c.problem_of.ensures.few;
     } in
-    let needed : AreNeeded (definitions Rows q c.in_ok-tables.tables.moved) c.in_ok-asked.asked c.in_ok-frames.frames = c.in_ok-frames.ensures (claim_query c.args.design.now c.args.claim.now c.args.phase c.args.depth c.args.inv.now) c.args.depth (only_in_step c.args.phase c.args.depth) refl (sym c.claim_span-span.ensures.cycles) refl in
+    let needed : AreNeeded (definitions Rows q c.in_ok-tables.tables.moved) c.in_ok-asked.asked c.in_ok-frames.frames =
+    c.in_ok-frames.ensures (claim_query c.args.design.now c.args.claim.now c.args.phase c.args.depth c.args.inv.now) c.args.depth
+    (only_in_step c.args.phase c.args.depth) refl (sym c.claim_span-span.ensures.cycles) refl in
     let lists : Lists c.in_ok-frames.frames (definitions Rows q c.in_ok-tables.tables.moved) c.new-clauses.result c.list_claim_cycles.new.clauses =
-    subst (λ (n : ℕ). Lists c.in_ok-frames.frames (flat_map (claim_cycle c.args.design.now c.args.claim.now c.in_ok-tables.tables.moved q.live) (below n)) c.new-clauses.result c.list_claim_cycles.new.clauses) c.claim_span-span.ensures.cycles
-    (subst (λ (n : ℕ). Lists c.in_ok-frames.frames (flat_map (claim_cycle c.args.design.now c.args.claim.now c.in_ok-tables.tables.moved n) (below c.claim_span-span.result.cycles)) c.new-clauses.result c.list_claim_cycles.new.clauses) c.claim_span-span.ensures.live c.in_ok-list_claim_cycles.ensures) in
+    subst (λ (n : ℕ). Lists c.in_ok-frames.frames (flat_map (claim_cycle c.args.design.now c.args.claim.now c.in_ok-tables.tables.moved q.live)
+    (below n)) c.new-clauses.result c.list_claim_cycles.new.clauses) c.claim_span-span.ensures.cycles
+    (subst (λ (n : ℕ). Lists c.in_ok-frames.frames (flat_map (claim_cycle c.args.design.now c.args.claim.now c.in_ok-tables.tables.moved n)
+    (below c.claim_span-span.result.cycles)) c.new-clauses.result c.list_claim_cycles.new.clauses) c.claim_span-span.ensures.live
+    c.in_ok-list_claim_cycles.ensures) in
     let is : IsMade q c.in_ok-tables.tables.moved c.problem_of.result =
-    made q c.in_ok-tables.tables.moved c.problem_of.result c.in_ok-frames.frames c.in_ok-asked.asked c.new-clauses.result c.list_claim_cycles.new.clauses c.push_asked.new.clauses c.in_ok-tables.ensures.moved of needed c.in_ok-asked.ensures.asked c.new-clauses.ensures lists c.in_ok-push_asked.ensures in
+    made q c.in_ok-tables.tables.moved c.problem_of.result c.in_ok-frames.frames c.in_ok-asked.asked c.new-clauses.result
+    c.list_claim_cycles.new.clauses c.push_asked.new.clauses c.in_ok-tables.ensures.moved of needed c.in_ok-asked.ensures.asked
+    c.new-clauses.ensures lists c.in_ok-push_asked.ensures in
     made_exact q c.in_ok-tables.tables.moved c.problem_of.result is
 
 pub returns-clause-normal : goal.returns-clause-normal
@@ -53,12 +63,19 @@ returns-clause-normal c =
       cycles_are = c.problem_of.ensures.cycles ∙ c.claim_span-span.ensures.cycles;
       few = c.problem_of.ensures.few;
     } in
-    let needed : AreNeeded (definitions Rows q c.in_ok-tables.tables.moved) c.in_ok-asked.asked c.in_ok-frames.frames = c.in_ok-frames.ensures (claim_query c.args.design.now c.args.claim.now c.args.phase c.args.depth c.args.inv.now) c.args.depth (only_in_step c.args.phase c.args.depth) refl (sym c.claim_span-span.ensures.cycles) refl in
+    let needed : AreNeeded (definitions Rows q c.in_ok-tables.tables.moved) c.in_ok-asked.asked c.in_ok-frames.frames =
+    c.in_ok-frames.ensures (claim_query c.args.design.now c.args.claim.now c.args.phase c.args.depth c.args.inv.now) c.args.depth
+    (only_in_step c.args.phase c.args.depth) refl (sym c.claim_span-span.ensures.cycles) refl in
     let lists : Lists c.in_ok-frames.frames (definitions Rows q c.in_ok-tables.tables.moved) c.new-clauses.result c.list_claim_cycles.new.clauses =
-    subst (λ (n : ℕ). Lists c.in_ok-frames.frames (flat_map (claim_cycle c.args.design.now c.args.claim.now c.in_ok-tables.tables.moved q.live) (below n)) c.new-clauses.result c.list_claim_cycles.new.clauses) c.claim_span-span.ensures.cycles
-    (subst (λ (n : ℕ). Lists c.in_ok-frames.frames (flat_map (claim_cycle c.args.design.now c.args.claim.now c.in_ok-tables.tables.moved n) (below c.claim_span-span.result.cycles)) c.new-clauses.result c.list_claim_cycles.new.clauses) c.claim_span-span.ensures.live c.in_ok-list_claim_cycles.ensures) in
+    subst (λ (n : ℕ). Lists c.in_ok-frames.frames (flat_map (claim_cycle c.args.design.now c.args.claim.now c.in_ok-tables.tables.moved q.live)
+    (below n)) c.new-clauses.result c.list_claim_cycles.new.clauses) c.claim_span-span.ensures.cycles
+    (subst (λ (n : ℕ). Lists c.in_ok-frames.frames (flat_map (claim_cycle c.args.design.now c.args.claim.now c.in_ok-tables.tables.moved n)
+    (below c.claim_span-span.result.cycles)) c.new-clauses.result c.list_claim_cycles.new.clauses) c.claim_span-span.ensures.live
+    c.in_ok-list_claim_cycles.ensures) in
     let is : IsMade q c.in_ok-tables.tables.moved c.problem_of.result =
-    made q c.in_ok-tables.tables.moved c.problem_of.result c.in_ok-frames.frames c.in_ok-asked.asked c.new-clauses.result c.list_claim_cycles.new.clauses c.push_asked.new.clauses c.in_ok-tables.ensures.moved of needed c.in_ok-asked.ensures.asked c.new-clauses.ensures lists c.in_ok-push_asked.ensures in
+    made q c.in_ok-tables.tables.moved c.problem_of.result c.in_ok-frames.frames c.in_ok-asked.asked c.new-clauses.result
+    c.list_claim_cycles.new.clauses c.push_asked.new.clauses c.in_ok-tables.ensures.moved of needed c.in_ok-asked.ensures.asked
+    c.new-clauses.ensures lists c.in_ok-push_asked.ensures in
     made_normal q c.in_ok-tables.tables.moved c.problem_of.result is
 
 pub returns-clause-complete : goal.returns-clause-complete
@@ -73,13 +90,22 @@ returns-clause-complete c =
       cycles_are = c.problem_of.ensures.cycles ∙ c.claim_span-span.ensures.cycles;
       few = c.problem_of.ensures.few;
     } in
-    let needed : AreNeeded (definitions Rows q c.in_ok-tables.tables.moved) c.in_ok-asked.asked c.in_ok-frames.frames = c.in_ok-frames.ensures (claim_query c.args.design.now c.args.claim.now c.args.phase c.args.depth c.args.inv.now) c.args.depth (only_in_step c.args.phase c.args.depth) refl (sym c.claim_span-span.ensures.cycles) refl in
+    let needed : AreNeeded (definitions Rows q c.in_ok-tables.tables.moved) c.in_ok-asked.asked c.in_ok-frames.frames =
+    c.in_ok-frames.ensures (claim_query c.args.design.now c.args.claim.now c.args.phase c.args.depth c.args.inv.now) c.args.depth
+    (only_in_step c.args.phase c.args.depth) refl (sym c.claim_span-span.ensures.cycles) refl in
     let lists : Lists c.in_ok-frames.frames (definitions Rows q c.in_ok-tables.tables.moved) c.new-clauses.result c.list_claim_cycles.new.clauses =
-    subst (λ (n : ℕ). Lists c.in_ok-frames.frames (flat_map (claim_cycle c.args.design.now c.args.claim.now c.in_ok-tables.tables.moved q.live) (below n)) c.new-clauses.result c.list_claim_cycles.new.clauses) c.claim_span-span.ensures.cycles
-    (subst (λ (n : ℕ). Lists c.in_ok-frames.frames (flat_map (claim_cycle c.args.design.now c.args.claim.now c.in_ok-tables.tables.moved n) (below c.claim_span-span.result.cycles)) c.new-clauses.result c.list_claim_cycles.new.clauses) c.claim_span-span.ensures.live c.in_ok-list_claim_cycles.ensures) in
+    subst (λ (n : ℕ). Lists c.in_ok-frames.frames (flat_map (claim_cycle c.args.design.now c.args.claim.now c.in_ok-tables.tables.moved q.live)
+    (below n)) c.new-clauses.result c.list_claim_cycles.new.clauses) c.claim_span-span.ensures.cycles
+    (subst (λ (n : ℕ). Lists c.in_ok-frames.frames (flat_map (claim_cycle c.args.design.now c.args.claim.now c.in_ok-tables.tables.moved n)
+    (below c.claim_span-span.result.cycles)) c.new-clauses.result c.list_claim_cycles.new.clauses) c.claim_span-span.ensures.live
+    c.in_ok-list_claim_cycles.ensures) in
     let is : IsMade q c.in_ok-tables.tables.moved c.problem_of.result =
-    made q c.in_ok-tables.tables.moved c.problem_of.result c.in_ok-frames.frames c.in_ok-asked.asked c.new-clauses.result c.list_claim_cycles.new.clauses c.push_asked.new.clauses c.in_ok-tables.ensures.moved of needed c.in_ok-asked.ensures.asked c.new-clauses.ensures lists c.in_ok-push_asked.ensures in
-    claim_complete c.args.design.now c.args.claim.now c.args.phase c.args.depth c.args.inv.now c.in_ok-tables.tables.moved c.problem_of.result c.requires.sound c.requires.fits c.requires.names is
+    made q c.in_ok-tables.tables.moved c.problem_of.result c.in_ok-frames.frames c.in_ok-asked.asked c.new-clauses.result
+    c.list_claim_cycles.new.clauses c.push_asked.new.clauses c.in_ok-tables.ensures.moved of needed c.in_ok-asked.ensures.asked
+    c.new-clauses.ensures lists c.in_ok-push_asked.ensures in
+    claim_complete c.args.design.now c.args.claim.now c.args.phase c.args.depth c.args.inv.now c.in_ok-tables.tables.moved c.problem_of.result
+    c.requires.sound c.requires.fits c.requires.names is
 
 pub list_claim_cycles-requires-clause-starts : goal.list_claim_cycles-requires-clause-starts
-list_claim_cycles-requires-clause-starts c = starts_are c.args.design.now c.args.claim.now c.in_ok-tables.tables c.in_ok-starts.starts c.in_ok-tables.ensures c.in_ok-starts.ensures
+list_claim_cycles-requires-clause-starts c = starts_are c.args.design.now c.args.claim.now c.in_ok-tables.tables c.in_ok-starts.starts
+    c.in_ok-tables.ensures c.in_ok-starts.ensures

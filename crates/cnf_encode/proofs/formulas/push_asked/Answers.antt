@@ -19,5 +19,7 @@ loop-k-preserved c =
     let lits : List KeyLit = c.item.result.now in
     let one : Adds c.args.frames.now (lits ∷ []) c.loop-k.clauses c.push_clause.new.clauses =
     subst (λ (ls : List KeyLit). Adds c.args.frames.now (ls ∷ []) c.loop-k.clauses c.push_clause.new.clauses) c.as_slice.ensures c.in_ok-push_clause.ensures in
-    subst (λ (more : List (List KeyLit)). Adds c.args.frames.now more c.args.clauses.now c.push_clause.new.clauses) (sym (take_at c.args.asked.now c.loop-k.k lits c.item.ensures).0)
-    (Adds-append c.args.frames.now (take c.loop-k.k c.args.asked.now) (lits ∷ []) c.args.clauses.now c.loop-k.clauses c.push_clause.new.clauses c.loop-k.invariant one)
+    subst (λ (more : List (List KeyLit)). Adds c.args.frames.now more c.args.clauses.now c.push_clause.new.clauses)
+    (sym (take_at c.args.asked.now c.loop-k.k lits c.item.ensures).0)
+    (Adds-append c.args.frames.now (take c.loop-k.k c.args.asked.now) (lits ∷ []) c.args.clauses.now c.loop-k.clauses c.push_clause.new.clauses
+    c.loop-k.invariant one)

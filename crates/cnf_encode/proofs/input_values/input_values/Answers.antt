@@ -15,5 +15,6 @@ loop-i-preserved c =
     let within : setting.input < length c.loop-i.values = omega (arith, low, c.loop-i.invariant.len) in
     rw c.put.ensures (record {
       len = length-set c.loop-i.values setting.input (Some setting.value) ∙ c.loop-i.invariant.len;
-      values = values_back c.args.settings.now c.loop-i.values c.len-count.result c.loop-i.i setting c.loop-i-test.true c.at-setting.ensures within c.loop-i.invariant.values;
+      values = values_back c.args.settings.now c.loop-i.values c.len-count.result c.loop-i.i setting c.loop-i-test.true c.at-setting.ensures within
+          c.loop-i.invariant.values;
     })

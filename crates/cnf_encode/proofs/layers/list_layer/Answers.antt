@@ -8,4 +8,5 @@ use Rattle.cnf_encode.proofs.layers.list_layer.Goals as goal
 pub list_layer_gates-requires-clause-closed : goal.list_layer_gates-requires-clause-closed
 list_layer_gates-requires-clause-closed c =
     Closed-right (start_units c.args.design.now c.args.claim.now c.args.cycle c.args.layer)
-    (flat_map (λ (defs : List Definition). defs) (numbered (layer_gate Rows c.args.design.now c.args.claim.now c.args.tables.now.moved c.args.cycle c.args.layer) 0 c.args.design.now.gates)) c.requires.closed
+    (flat_map (λ (defs : List Definition). defs) (numbered (layer_gate Rows c.args.design.now c.args.claim.now c.args.tables.now.moved c.args.cycle
+    c.args.layer) 0 c.args.design.now.gates)) c.requires.closed

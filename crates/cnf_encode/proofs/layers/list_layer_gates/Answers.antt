@@ -10,12 +10,14 @@ use Rattle.cnf_encode.proofs.layers.list_layer_gates.Goals as goal
 
 pub item-requires : goal.item-requires
 item-requires c =
-    let low = place_below c.args.frames.now c.args.cycle (gate_points c.args.design.now) c.args.gates.now c.loop-j.j c.at-k.result c.requires.gates c.at-k.ensures in
+    let low = place_below c.args.frames.now c.args.cycle (gate_points c.args.design.now) c.args.gates.now c.loop-j.j c.at-k.result c.requires.gates
+    c.at-k.ensures in
     omega (arith, low, length-map c.args.design.now.gates (λ (g : Gate). g.out))
 
 pub list_layer_gate-requires-clause-closed : goal.list_layer_gate-requires-clause-closed
 list_layer_gate-requires-clause-closed c =
-    Closed-flat_numbered (layer_gate Rows c.args.design.now c.args.claim.now c.args.tables.now.moved c.args.cycle c.args.layer) c.args.design.now.gates c.at-k.result c.item.result.now c.item.ensures c.requires.closed
+    Closed-flat_numbered (layer_gate Rows c.args.design.now c.args.claim.now c.args.tables.now.moved c.args.cycle c.args.layer)
+    c.args.design.now.gates c.at-k.result c.item.result.now c.item.ensures c.requires.closed
 
 pub loop-j-preserved : goal.loop-j-preserved
 loop-j-preserved c =
@@ -24,4 +26,5 @@ loop-j-preserved c =
     (Lists-same (sym (at_place_is f c.args.design.now.gates c.at-k.result c.item.result.now c.item.ensures)) c.in_ok-list_layer_gate.ensures)
 
 pub returns : goal.returns
-returns c = Lists-layer_gates c.args.design.now c.args.claim.now c.args.tables.now.moved c.args.frames.now c.args.cycle c.args.layer c.args.gates.now c.loop-j.j c.requires.gates (omega arith) c.loop-j.invariant
+returns c = Lists-layer_gates c.args.design.now c.args.claim.now c.args.tables.now.moved c.args.frames.now c.args.cycle c.args.layer c.args.gates.now
+    c.loop-j.j c.requires.gates (omega arith) c.loop-j.invariant

@@ -8,4 +8,5 @@ use Rattle.cnf_encode.proofs.layers.list_layer_gates.Given as goal
 
 abbrev pub invariant-loop-j : goal.invariant-loop-j
 invariant-loop-j l =
-    Lists l.frames (flat_map (at_place (layer_gate Rows l.design l.claim l.tables.moved l.cycle l.layer) l.design.gates) (take l.j l.gates)) l.fn.clauses l.clauses
+    Lists l.frames (flat_map (at_place (layer_gate Rows l.design l.claim l.tables.moved l.cycle l.layer) l.design.gates) (take l.j l.gates))
+    l.fn.clauses l.clauses

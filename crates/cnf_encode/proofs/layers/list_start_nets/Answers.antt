@@ -9,7 +9,10 @@ use Rattle.cnf_encode.proofs.layers.list_start_nets.Goals as goal
 
 pub list_start_net-requires : goal.list_start_net-requires
 list_start_net-requires c =
-    record { closed = Closed-flat (start_net c.args.cycle) c.args.starts.now c.at.result (in_place c.at.result c.args.starts.now c.loop-j.j c.at.ensures) c.requires.closed }
+    record {
+      closed = Closed-flat (start_net c.args.cycle) c.args.starts.now c.at.result
+          (in_place c.at.result c.args.starts.now c.loop-j.j c.at.ensures) c.requires.closed;
+    }
 
 pub loop-j-preserved : goal.loop-j-preserved
 loop-j-preserved c =

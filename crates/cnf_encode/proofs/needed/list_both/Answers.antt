@@ -5,4 +5,5 @@ use Rattle.cnf_encode.proofs.needed.list_both.Goals as goal
 
 pub push_both-requires : goal.push_both-requires
 push_both-requires c =
-    Closed-clauses (both c.args.z c.args.x c.args.y) c.requires.closed (one_needed c.args.frames.now c.args.z (sym c.is_needed.ensures ∙ c.if-not-is_needed.false))
+    Closed-clauses (both c.args.z c.args.x c.args.y) c.requires.closed
+    (one_needed c.args.frames.now c.args.z (sym c.is_needed.ensures ∙ c.if-not-is_needed.false))

@@ -5,4 +5,5 @@ use Rattle.cnf_encode.proofs.needed.list_exclusive.Goals as goal
 
 pub push_exclusive-requires : goal.push_exclusive-requires
 push_exclusive-requires c =
-    Closed-clauses (exclusive c.args.z c.args.x c.args.y) c.requires.closed (one_needed c.args.frames.now c.args.z (sym c.is_needed.ensures ∙ c.if-not-is_needed.false))
+    Closed-clauses (exclusive c.args.z c.args.x c.args.y) c.requires.closed
+    (one_needed c.args.frames.now c.args.z (sym c.is_needed.ensures ∙ c.if-not-is_needed.false))

@@ -7,7 +7,8 @@ use Rattle.cnf_encode.proofs.points.list_stales.Goals as goal
 pub list_stale-requires-clause-closed : goal.list_stale-requires-clause-closed
 list_stale-requires-clause-closed c =
     let end = c.saturating_sub-r-end.ensures ∙ ap (λ n. n - 1) c.judged_count.ensures in
-    Closed-map_below (stale_definition c.args.design.now c.args.claim.now.start c.args.cycle) (judged_count c.args.claim.now.kind - 1) c.loop-r.r (subst (λ n. c.loop-r.r < n) end c.loop-r-test.true) c.requires.closed
+    Closed-map_below (stale_definition c.args.design.now c.args.claim.now.start c.args.cycle) (judged_count c.args.claim.now.kind - 1) c.loop-r.r
+    (subst (λ n. c.loop-r.r < n) end c.loop-r-test.true) c.requires.closed
 
 pub loop-r-preserved : goal.loop-r-preserved
 loop-r-preserved c =

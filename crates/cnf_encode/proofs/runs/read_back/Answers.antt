@@ -13,7 +13,8 @@ returns-clause-answers c =
     let d = c.args.design.now in
     let problem = c.args.problem.now in
     let values = c.args.model.now.values in
-    let is = is_read_back d problem.frames values problem.live problem.cycles c.in_ok-stimulus.stimulus c.in_ok-cycles.cycles c.in_ok-stimulus.ensures c.in_ok-cycles.ensures.linked c.in_ok-cycles.ensures.stands in
+    let is = is_read_back d problem.frames values problem.live problem.cycles c.in_ok-stimulus.stimulus c.in_ok-cycles.cycles c.in_ok-stimulus.ensures
+    c.in_ok-cycles.ensures.linked c.in_ok-cycles.ensures.stands in
     λ q asks of. (run_answers d q problem c.args.model.now c.in_ok-cycles.cycles c.requires.sound asks of c.requires.model is).0
 
 pub returns-clause-agrees : goal.returns-clause-agrees
@@ -22,7 +23,8 @@ returns-clause-agrees c =
     let problem = c.args.problem.now in
     let values = c.args.model.now.values in
     let made = c.requires.made in
-    let is = is_read_back d problem.frames values problem.live problem.cycles c.in_ok-stimulus.stimulus c.in_ok-cycles.cycles c.in_ok-stimulus.ensures c.in_ok-cycles.ensures.linked c.in_ok-cycles.ensures.stands in
+    let is = is_read_back d problem.frames values problem.live problem.cycles c.in_ok-stimulus.stimulus c.in_ok-cycles.cycles c.in_ok-stimulus.ensures
+    c.in_ok-cycles.ensures.linked c.in_ok-cycles.ensures.stands in
     (run_answers d made.query problem c.args.model.now c.in_ok-cycles.cycles c.requires.sound made.asks made.is c.requires.model is).1
 
 pub returns-clause-rails : goal.returns-clause-rails
@@ -30,7 +32,8 @@ returns-clause-rails c =
     let d = c.args.design.now in
     let problem = c.args.problem.now in
     let values = c.args.model.now.values in
-    let is = is_read_back d problem.frames values problem.live problem.cycles c.in_ok-stimulus.stimulus c.in_ok-cycles.cycles c.in_ok-stimulus.ensures c.in_ok-cycles.ensures.linked c.in_ok-cycles.ensures.stands in
+    let is = is_read_back d problem.frames values problem.live problem.cycles c.in_ok-stimulus.stimulus c.in_ok-cycles.cycles c.in_ok-stimulus.ensures
+    c.in_ok-cycles.ensures.linked c.in_ok-cycles.ensures.stands in
     λ q asks hazard of. run_rails d q problem c.args.model.now c.in_ok-cycles.cycles c.requires.sound asks hazard of c.requires.model is
 
 pub returns-clause-zeros : goal.returns-clause-zeros
@@ -38,5 +41,6 @@ returns-clause-zeros c =
     let d = c.args.design.now in
     let problem = c.args.problem.now in
     let values = c.args.model.now.values in
-    let is = is_read_back d problem.frames values problem.live problem.cycles c.in_ok-stimulus.stimulus c.in_ok-cycles.cycles c.in_ok-stimulus.ensures c.in_ok-cycles.ensures.linked c.in_ok-cycles.ensures.stands in
+    let is = is_read_back d problem.frames values problem.live problem.cycles c.in_ok-stimulus.stimulus c.in_ok-cycles.cycles c.in_ok-stimulus.ensures
+    c.in_ok-cycles.ensures.linked c.in_ok-cycles.ensures.stands in
     run_zeros d problem.frames values problem.live problem.cycles c.in_ok-cycles.cycles is

@@ -48,8 +48,10 @@ loop-w-preserved c =
     value_at cell (length reads) c.in_ok-values.values.items w c.index.result.now rows (omega arith) c.index.ensures in
     let last : c.code-value.result ≡ code_of keys (lit (on_list cell (row_bits (length reads) w)) c.args.out) =
     c.code-value.ensures ∙ ap (code_of keys) (c.lit.ensures ∙ ap (λ (b : Bool). lit b c.args.out) row) in
-    rows_more keys (cube_clause reads (lit true c.args.out)) (row_cube cell (length reads)) w _ c.args.clauses.now c.loop-w.clauses c.push_row.new.clauses c.loop-w.invariant
-    (plain_row keys cell reads c.args.out w c.as_slice-in-loop-w.result.now c.as_slice-in-loop-w-2.result.now c.code-value.result zeros ones last) c.in_ok-push_row.ensures
+    rows_more keys (cube_clause reads (lit true c.args.out)) (row_cube cell (length reads)) w _ c.args.clauses.now c.loop-w.clauses
+    c.push_row.new.clauses c.loop-w.invariant
+    (plain_row keys cell reads c.args.out w c.as_slice-in-loop-w.result.now c.as_slice-in-loop-w-2.result.now c.code-value.result zeros ones last)
+    c.in_ok-push_row.ensures
 
 pub returns : goal.returns
 returns c =
@@ -59,4 +61,5 @@ returns c =
     subst (λ (n : ℕ). AreRowValues cell n c.in_ok-values.values.items) c.len.ensures c.in_ok-values.ensures in
     let many : length c.in_ok-values.values.items ≡ 2 ^ length reads = length-values cell (length reads) c.in_ok-values.values.items rows in
     let done : c.loop-w.w ≡ 2 ^ length reads = omega arith in
-    subst (λ (n : ℕ). Adds c.args.frames.now (map (cube_clause reads (lit true c.args.out)) (map (row_cube cell (length reads)) (below n))) c.args.clauses.now c.loop-w.clauses) done c.loop-w.invariant
+    subst (λ (n : ℕ). Adds c.args.frames.now (map (cube_clause reads (lit true c.args.out)) (map (row_cube cell (length reads)) (below n)))
+    c.args.clauses.now c.loop-w.clauses) done c.loop-w.invariant

@@ -20,8 +20,17 @@ push_must-requires c =
     let cell : (ℕ → Bool) → Bool = value c.args.func.now in
     let may = map (may_clause c.args.hs.now c.args.ls.now (lit true c.args.high) (lit true c.args.low)) (row_cubes cell (length c.args.hs.now)) in
     let must = map (must_clause c.args.hs.now c.args.ls.now (lit true c.args.high) (lit true c.args.low)) (constant_cubes cell (length c.args.hs.now)) in
-    let reads = rails_reads c.args.frames.now cell c.args.hs.now c.args.ls.now (lit true c.args.high) (lit true c.args.low) c.requires.long (HasKeys-left c.args.frames.now may must c.requires.keys) in
-    record { few = c.requires.few; long = c.requires.long; over = c.requires.over; hs = reads.0; ls = reads.1; keys = HasKeys-right c.args.frames.now may must c.requires.keys }
+    let reads = rails_reads c.args.frames.now cell c.args.hs.now c.args.ls.now (lit true c.args.high) (lit true c.args.low) c.requires.long
+    (HasKeys-left c.args.frames.now may must c.requires.keys) in
+    record {
+      few = c.requires.few;
+      long = c.requires.long;
+      over = c.requires.over;
+      hs = reads.0;
+      ls = reads.1;
+      keys =
+          HasKeys-right c.args.frames.now may must c.requires.keys;
+    }
 
 pub returns : goal.returns
 returns c =

@@ -15,6 +15,16 @@ returns c =
     IfOk-weaker c.inv_formula.result _ (IsMadeFor d)
     (λ p exact. record {
       query = q;
-      asks = inr record { clause = first.0; phase = c.args.phase; depth = c.args.depth; inv = c.args.inv.now; name = All-at (NamesRegs d) c.args.inv.now 0 first.0 first.1 c.requires.names; few = c.requires.few; names = c.requires.names; is = refl };
+      asks = inr record {
+        clause = first.0;
+        phase = c.args.phase;
+        depth = c.args.depth;
+        inv = c.args.inv.now;
+        name =
+            All-at (NamesRegs d) c.args.inv.now 0 first.0 first.1 c.requires.names;
+        few = c.requires.few;
+        names = c.requires.names;
+        is = refl;
+      };
       is = exact first.0 first.1;
     }) c.inv_formula.ensures.exact

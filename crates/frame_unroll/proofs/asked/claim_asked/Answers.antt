@@ -13,4 +13,5 @@ returns-clause-within c =
     let claim = c.args.claim.now in
     let inv = c.args.inv.now in
     let asked : c.push_bad.new.asked ≡ asked_clauses (claim_query d claim c.args.phase c.args.depth inv) = grind (arith, common_steps) in
-    subst (AreWithin d (live_of d c.args.phase + c.args.depth + 1 + judged_count claim.kind)) (sym asked) (claim_within d claim c.args.phase c.args.depth inv c.requires.fits c.requires.names)
+    subst (AreWithin d (live_of d c.args.phase + c.args.depth + 1 + judged_count claim.kind)) (sym asked)
+    (claim_within d claim c.args.phase c.args.depth inv c.requires.fits c.requires.names)

@@ -12,4 +12,5 @@ returns-clause-within c =
     let clause = c.args.clause.now in
     let inv = c.args.inv.now in
     let asked : c.push_broken.new.asked ≡ asked_clauses (clause_query d inv clause c.args.phase c.args.depth) = grind (arith, common_steps) in
-    subst (AreWithin d (live_of d c.args.phase + c.args.depth + 1)) (sym asked) (broken_within d inv clause c.args.phase c.args.depth c.requires.name c.requires.names)
+    subst (AreWithin d (live_of d c.args.phase + c.args.depth + 1)) (sym asked)
+    (broken_within d inv clause c.args.phase c.args.depth c.requires.name c.requires.names)

@@ -10,7 +10,8 @@ loop-i-init c = record { len = refl; shown = λ n. outs_none c.args.outs.now c.a
 
 pub put-requires : goal.put-requires
 put-requires c =
-    let low = mapped_below net_of (length c.args.drivers.now) c.args.outs.now (c.len-count.result - 1 - c.loop-i.i) c.at-out.result c.at-out.ensures c.requires in
+    let low = mapped_below net_of (length c.args.drivers.now) c.args.outs.now (c.len-count.result - 1 - c.loop-i.i) c.at-out.result c.at-out.ensures
+    c.requires in
     omega (arith, low, c.loop-i.invariant.len)
 
 pub loop-i-preserved : goal.loop-i-preserved
@@ -19,7 +20,8 @@ loop-i-preserved c =
     let low = mapped_below net_of (length c.args.drivers.now) c.args.outs.now (c.len-count.result - 1 - c.loop-i.i) out c.at-out.ensures c.requires in
     rw c.put.ensures (record {
       len = length-set c.loop-i.drivers out.net (Bit c.args.reg out.inverted) ∙ c.loop-i.invariant.len;
-      shown = outs_back c.args.outs.now c.args.reg c.args.drivers.now c.loop-i.drivers c.len-count.result c.loop-i.i out c.loop-i-test.true c.at-out.ensures (omega (arith, low, c.loop-i.invariant.len)) c.loop-i.invariant.shown;
+      shown = outs_back c.args.outs.now c.args.reg c.args.drivers.now c.loop-i.drivers c.len-count.result c.loop-i.i out c.loop-i-test.true
+          c.at-out.ensures (omega (arith, low, c.loop-i.invariant.len)) c.loop-i.invariant.shown;
     })
 
 pub returns-clause-shown : goal.returns-clause-shown

@@ -14,5 +14,6 @@ returns c =
     let found = c.args.found.now.keys in
     let rails : ℕ → List KeyLit = λ rail. reg_rail d claim moved c.args.cycle rail c.args.reg reg in
     let whole = ap (λ (keys : List Key). with_keys keys (rails 1)) c.in_ok-add_reg_rail.ensures
-    ∙ (sym (rails_two claim found rails c.if-not-claim.false) ∙ sym (ap (with_keys found) (reg_late-rows d claim moved c.args.cycle c.args.reg reg c.item-register.ensures))) in
+    ∙ (sym (rails_two claim found rails c.if-not-claim.false) ∙ sym
+    (ap (with_keys found) (reg_late-rows d claim moved c.args.cycle c.args.reg reg c.item-register.ensures))) in
     subst (λ (keys : List Key). OnOk c.add_reg_rail-2.result (c.add_reg_rail-2.new.found.keys ≡ keys)) whole c.add_reg_rail-2.ensures

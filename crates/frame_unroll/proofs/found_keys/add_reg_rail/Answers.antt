@@ -17,7 +17,8 @@ returns c =
     let reg = c.args.reg.now in
     let found = c.args.found.now.keys in
     let last = length claim.through + 1 in
-    let pins : ℕ → List KeyLit = λ layer. numbered (λ i n. read_pin d claim c.args.tables.now.moved row.cycle layer row.rail (RegIn c.args.number i) n) 0 reg.ins in
+    let pins : ℕ → List KeyLit = λ layer. numbered (λ i n. read_pin d claim c.args.tables.now.moved row.cycle layer row.rail
+    (RegIn c.args.number i) n) 0 reg.ins in
     let bit : KeyLit = lit true (bit_key d row.cycle c.args.number) in
     let reads : List KeyLit = with_own reg bit (pins last) in
     let own : Key = late_key d claim row.cycle row.rail in

@@ -18,8 +18,11 @@ loop-next-preserved c =
     let next = c.loop-next.next in
     let here : Key = get_or c.as_slice.result.now next (key 0 0 0 0) in
     let at : slice_get found next ≡ Some here =
-    subst (λ (keys : List Key). slice_get keys next ≡ Some here) c.as_slice.ensures.keys (slice_get-get_or c.as_slice.result.now next (key 0 0 0 0) (omega (arith, ap (length {A = Key}) c.as_slice.ensures.keys))) in
-    subst (λ (keys : List Key). Reaches reads start keys (next + 1)) (sym c.in_ok-add_clause_reads.ensures) (reaches_more reads start found next here at c.loop-next.invariant)
+    subst (λ (keys : List Key). slice_get keys next ≡ Some here) c.as_slice.ensures.keys
+    (slice_get-get_or c.as_slice.result.now next (key 0 0 0 0) (omega (arith, ap (length {A = Key}) c.as_slice.ensures.keys))) in
+    subst (λ (keys : List Key). Reaches reads start keys (next + 1)) (sym c.in_ok-add_clause_reads.ensures)
+    (reaches_more reads start found next here at c.loop-next.invariant)
 
 pub returns : goal.returns
-returns c = reaches_all (clause_reads c.args.design.now c.args.cycles) c.args.found.now.keys c.loop-next.found.keys c.loop-next.next (omega arith) c.loop-next.invariant
+returns c = reaches_all (clause_reads c.args.design.now c.args.cycles) c.args.found.now.keys c.loop-next.found.keys c.loop-next.next
+    (omega arith) c.loop-next.invariant

@@ -11,8 +11,10 @@ returns-then-key-eq0 t c =
     let key = c.args.key in
     c.flip_if.ensures ∙ (ap (flipped (key.rail == 1)) c.base_lit-base.ensures
     ∙ sym (elim c.then-key-eq0.branch [
-      | then-key-eq0-via-then-key-eq0 w ↦ read_first c.args.design.now c.args.claim.now c.args.tables.now.moved key.cycle key.layer key.rail key.point (omega (arith, w.if-key-eq0.true))
-      | then-key-eq0-via-else-key-eq0+then-not-at w ↦ read_unmoved c.args.design.now c.args.claim.now c.args.tables.now.moved key.cycle (key.layer - 1) key.layer key.rail key.point w.item.result.now (omega (arith, w.if-key-eq0.false)) w.item.ensures w.if-not-at.ensures
+      | then-key-eq0-via-then-key-eq0 w ↦ read_first c.args.design.now c.args.claim.now c.args.tables.now.moved key.cycle key.layer key.rail key.point
+          (omega (arith, w.if-key-eq0.true))
+      | then-key-eq0-via-else-key-eq0+then-not-at w ↦ read_unmoved c.args.design.now c.args.claim.now c.args.tables.now.moved key.cycle
+          (key.layer - 1) key.layer key.rail key.point w.item.result.now (omega (arith, w.if-key-eq0.false)) w.item.ensures w.if-not-at.ensures
     ]))
 
 pub returns-then-is_held : goal.returns-then-is_held
@@ -23,11 +25,13 @@ returns-then-is_held t c =
     let key = c.args.key in
     let next : key.layer ≡ suc (key.layer - 1) = omega arith in
     ◌∙◌ {b = read d claim moved key.cycle (key.layer - 1) key.rail key.point} c.net_lit.ensures
-    (sym (read_held d claim moved key.cycle (key.layer - 1) key.layer key.rail key.point c.item.result.now next c.item.ensures c.if-not-at.ensures (sym c.if-is_held.ensures)))
+    (sym (read_held d claim moved key.cycle (key.layer - 1) key.layer key.rail key.point c.item.result.now next c.item.ensures c.if-not-at.ensures
+    (sym c.if-is_held.ensures)))
 
 pub returns : goal.returns
 returns t c =
     let key = c.args.key in
     let next : key.layer ≡ suc (key.layer - 1) = omega arith in
     c.late_net_lit.ensures
-    ∙ sym (read_free c.args.design.now c.args.claim.now c.args.tables.now.moved key.cycle (key.layer - 1) key.layer key.rail key.point c.item.result.now next c.item.ensures c.if-not-at.ensures (sym c.if-is_held.ensures))
+    ∙ sym (read_free c.args.design.now c.args.claim.now c.args.tables.now.moved key.cycle (key.layer - 1) key.layer key.rail key.point
+    c.item.result.now next c.item.ensures c.if-not-at.ensures (sym c.if-is_held.ensures))

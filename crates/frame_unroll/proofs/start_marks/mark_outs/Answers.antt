@@ -18,5 +18,6 @@ loop-o-preserved c =
     let low = mapped_below net_of (length c.args.marks.now) c.args.outs.now c.loop-o.o c.at.result c.at.ensures c.requires in
     rw c.put.ensures (record {
       len = length-set c.loop-o.marks c.at.result.net true ∙ c.loop-o.invariant.len;
-      marks = outs_more c.args.outs.now c.args.marks.now c.loop-o.marks c.loop-o.o c.at.result c.at.ensures (omega (arith, low, c.loop-o.invariant.len)) c.loop-o.invariant.marks;
+      marks = outs_more c.args.outs.now c.args.marks.now c.loop-o.marks c.loop-o.o c.at.result c.at.ensures
+          (omega (arith, low, c.loop-o.invariant.len)) c.loop-o.invariant.marks;
     })

@@ -8,7 +8,8 @@ use Rattle.lib_func.proofs.functions.whole.Goals as goal
 pub returns-in_err-found : goal.returns-in_err-found
 returns-in_err-found c =
     let p = err_from_is_err_and c.from_residual.result c.from_residual.ensures.1 in
-    rw (p.1, p.2) (fails_through c.in_err-found.field-0.0 _ _ c.in_err-found.ensures.value (λ bad. function_none c.args.text.now (rw c.new-c.ensures.rest at bad)))
+    rw (p.1, p.2) (fails_through c.in_err-found.field-0.0 _ _ c.in_err-found.ensures.value
+    (λ bad. function_none c.args.text.now (rw c.new-c.ensures.rest at bad)))
 
 pub returns-in-None : goal.returns-in-None
 returns-in-None c =

@@ -31,4 +31,5 @@ loop-count-preserved c =
 pub returns-clause-value : goal.returns-clause-value
 returns-clause-value c =
     let most = ap length c.rest-most.ensures in
-    rw (← most) (sym (c.loop-count.invariant.told ∙ marks_all c.args.mark c.loop-count.count _ (rest c.loop-count.c) c.loop-count-test.false c.loop-count.auto.count-end))
+    rw (← most) (sym (c.loop-count.invariant.told ∙ marks_all c.args.mark c.loop-count.count _ (rest c.loop-count.c) c.loop-count-test.false
+    c.loop-count.auto.count-end))

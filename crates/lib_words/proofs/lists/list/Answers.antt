@@ -8,7 +8,8 @@ use Rattle.lib_words.proofs.lists.list.Goals as goal
 pub returns-then-try_mark-clause-value : goal.returns-then-try_mark-clause-value
 returns-then-try_mark-clause-value g c =
     let (m, room, told) = c.items.invariant.told in
-    told ∙ list_ends c.args.close c.args.between (g.G.Gather.adds c.args.room) c.items.found _ (rest c.items.c) m (omega arith) (sym c.if-try_mark.ensures.value) ∙ rw c.if-try_mark.ensures.rest refl
+    told ∙ list_ends c.args.close c.args.between (g.G.Gather.adds c.args.room) c.items.found _ (rest c.items.c) m (omega arith)
+    (sym c.if-try_mark.ensures.value) ∙ rw c.if-try_mark.ensures.rest refl
 
 pub items-preserved-then-try_mark-2 : goal.items-preserved-then-try_mark-2
 items-preserved-then-try_mark-2 g c =
@@ -16,7 +17,8 @@ items-preserved-then-try_mark-2 g c =
     let same = c.if-try_mark.ensures.rest in
     let len = ap length same in
     let less = c.if-try_mark-2.ensures.shorter refl in
-    let (n, one, step) = list_parted c.args.close c.args.between (g.G.Gather.adds c.args.room) c.items.found (length (text_of c.args.c.now)) (rest c.items.c) m (omega arith) (sym c.if-try_mark.ensures.value) (sym (rw same at c.if-try_mark-2.ensures.value)) in
+    let (n, one, step) = list_parted c.args.close c.args.between (g.G.Gather.adds c.args.room) c.items.found (length (text_of c.args.c.now))
+    (rest c.items.c) m (omega arith) (sym c.if-try_mark.ensures.value) (sym (rw same at c.if-try_mark-2.ensures.value)) in
     record {
       text = c.if-try_mark-2.ensures.text ∙ c.if-try_mark.ensures.text ∙ c.items.invariant.text;
       within = omega arith;
@@ -31,7 +33,9 @@ items-preserved g c =
     let text = c.if-try_mark-2.ensures.text ∙ c.if-try_mark.ensures.text ∙ c.items.invariant.text in
     let len = ap length same_again in
     let less = c.in_ok-add.ensures.shorter in
-    let (n, one, step) = list_more c.args.close c.args.between (g.G.Gather.adds c.args.room) c.items.found (length (text_of c.args.c.now)) (rest c.items.c) m _ _ (omega arith) (sym c.if-try_mark.ensures.value) (sym (rw same at c.if-try_mark-2.ensures.value)) (rw (same_again, text) at c.in_ok-add.ensures.value) in
+    let (n, one, step) = list_more c.args.close c.args.between (g.G.Gather.adds c.args.room) c.items.found (length (text_of c.args.c.now))
+    (rest c.items.c) m _ _ (omega arith) (sym c.if-try_mark.ensures.value) (sym (rw same at c.if-try_mark-2.ensures.value))
+    (rw (same_again, text) at c.in_ok-add.ensures.value) in
     record {
       text = c.in_ok-add.ensures.text ∙ text;
       within = omega arith;
@@ -45,4 +49,7 @@ returns-in_err-add-clause-value g c =
     let same_again = c.if-try_mark-2.ensures.rest ∙ same in
     let text = c.if-try_mark-2.ensures.text ∙ c.if-try_mark.ensures.text ∙ c.items.invariant.text in
     let p = err_from_is_err_and c.from_residual.result c.from_residual.ensures.1 in
-    rw (p.1, p.2) (fails_through _ _ (ap length text) c.in_err-add.field-0.0 _ _ c.in_err-add.ensures.value (λ why bad. told ∙ list_bad c.args.close c.args.between (g.G.Gather.adds c.args.room) c.items.found (length (text_of c.args.c.now)) (rest c.items.c) m why (omega arith) (sym c.if-try_mark.ensures.value) (sym (rw same at c.if-try_mark-2.ensures.value)) (rw (same_again, text) at bad)))
+    rw (p.1, p.2) (fails_through _ _ (ap length text) c.in_err-add.field-0.0 _ _ c.in_err-add.ensures.value
+    (λ why bad. told ∙ list_bad c.args.close c.args.between (g.G.Gather.adds c.args.room) c.items.found (length (text_of c.args.c.now))
+    (rest c.items.c) m why (omega arith) (sym c.if-try_mark.ensures.value) (sym (rw same at c.if-try_mark-2.ensures.value))
+    (rw (same_again, text) at bad)))

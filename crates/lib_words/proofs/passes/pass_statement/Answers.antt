@@ -24,13 +24,16 @@ pub returns-in_err-opened-2-clause-value : goal.returns-in_err-opened-2-clause-v
 returns-in_err-opened-2-clause-value c =
     let (m, room, told) = c.steps.invariant.told in
     let p = err_from_is_err_and c.from_residual-in_err-opened-2.result c.from_residual-in_err-opened-2.ensures.1 in
-    rw (p.1, p.2) (fails_through _ _ (ap length c.steps.invariant.text) c.in_err-opened-2.field-0.0 _ _ c.in_err-opened-2.ensures.value (λ why bad. told ∙ passed_bad c.args.room m c.steps.opened (length (text_of c.args.c.now)) (rest c.steps.c) why (omega arith) c.steps-test.true (rw c.steps.invariant.text at bad)))
+    rw (p.1, p.2) (fails_through _ _ (ap length c.steps.invariant.text) c.in_err-opened-2.field-0.0 _ _ c.in_err-opened-2.ensures.value
+    (λ why bad. told ∙ passed_bad c.args.room m c.steps.opened (length (text_of c.args.c.now)) (rest c.steps.c) why
+    (omega arith) c.steps-test.true (rw c.steps.invariant.text at bad)))
 
 pub steps-preserved : goal.steps-preserved
 steps-preserved c =
     let (m, room, told) = c.steps.invariant.told in
     let less = c.in_ok-opened-2.ensures.shorter in
-    let (n, one, step) = passed_more c.args.room m c.steps.opened (length (text_of c.args.c.now)) (rest c.steps.c) _ _ (omega arith) c.steps-test.true (rw c.steps.invariant.text at c.in_ok-opened-2.ensures.value) in
+    let (n, one, step) = passed_more c.args.room m c.steps.opened (length (text_of c.args.c.now)) (rest c.steps.c) _ _ (omega arith) c.steps-test.true
+    (rw c.steps.invariant.text at c.in_ok-opened-2.ensures.value) in
     record {
       text = c.in_ok-opened-2.ensures.text ∙ c.steps.invariant.text;
       within = omega arith;

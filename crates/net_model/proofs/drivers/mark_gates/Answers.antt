@@ -11,7 +11,8 @@ returns-in-Some-clause-err c =
     let d = c.args.design.now in
     let range = All-at (IsGateInRange d) d.gates c.loop-k.k c.item-gate.result.now c.item-gate.ensures c.requires.range.gates in
     let low = All-contains (λ n. n < d.nets) c.item-gate.result.now.ins c.in-Some.field-0 range.ins c.in-Some.ensures.listed in
-    out_of_order d c.loop-k.marks c.loop-k.k c.item-gate.result.now c.in-Some.field-0 c.item-gate.ensures c.in-Some.ensures.listed low c.in-Some.ensures.all c.loop-k.invariant
+    out_of_order d c.loop-k.marks c.loop-k.k c.item-gate.result.now c.in-Some.field-0 c.item-gate.ensures c.in-Some.ensures.listed low
+    c.in-Some.ensures.all c.loop-k.invariant
 
 pub mark-requires : goal.mark-requires
 mark-requires c =
@@ -29,7 +30,8 @@ pub loop-k-preserved : goal.loop-k-preserved
 loop-k-preserved c =
     let d = c.args.design.now in
     let range = All-at (IsGateInRange d) d.gates c.loop-k.k c.item-gate.result.now c.item-gate.ensures c.requires.range.gates in
-    rw c.mark.ensures.now (gates_marked_more d c.loop-k.marks c.loop-k.k c.item-gate.result.now c.item-gate.ensures range.ins range.out c.in_default.ensures.all (sym c.mark.ensures.was ∙ c.if-mark.false) c.loop-k.invariant)
+    rw c.mark.ensures.now (gates_marked_more d c.loop-k.marks c.loop-k.k c.item-gate.result.now c.item-gate.ensures range.ins range.out
+    c.in_default.ensures.all (sym c.mark.ensures.was ∙ c.if-mark.false) c.loop-k.invariant)
 
 pub returns-clause-order : goal.returns-clause-order
 returns-clause-order c =

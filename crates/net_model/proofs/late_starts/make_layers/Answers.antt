@@ -11,8 +11,10 @@ loop-l-init g c =
     let base = c.put_base_row in
     let late = c.put_late in
     let gates = c.settle_layer in
-    let lens : (m : ℕ) → m ≤ length claim.through → length (row_at gates.new.rows m) ≡ d.nets = λ m le. length-ChangesRow 0 late.new.rows gates.new.rows gates.ensures.kept m
-    ∙ (length-ChangesRow 0 base.new.rows late.new.rows late.ensures.kept m ∙ (length-ChangesRow 0 c.args.rows.now base.new.rows base.ensures.kept m ∙ c.requires.lens m le)) in
+    let lens : (m : ℕ) → m ≤ length claim.through → length (row_at gates.new.rows m) ≡ d.nets = λ m le.
+    length-ChangesRow 0 late.new.rows gates.new.rows gates.ensures.kept m
+    ∙ (length-ChangesRow 0 base.new.rows late.new.rows late.ensures.kept m
+    ∙ (length-ChangesRow 0 c.args.rows.now base.new.rows base.ensures.kept m ∙ c.requires.lens m le)) in
     record {
       count = gates.ensures.kept.count ∙ (late.ensures.kept.count ∙ base.ensures.kept.count);
       lens = lens;
@@ -31,8 +33,10 @@ loop-l-preserved g c =
     let layer = c.loop-l.l + 1 in
     let base = c.put_base_row-in-loop-l in
     let gates = c.settle_layer-in-loop-l in
-    let made_lens : (m : ℕ) → m ≤ length claim.through → length (row_at base.new.rows m) ≡ d.nets = λ m le. length-ChangesRow layer c.loop-l.rows base.new.rows base.ensures.kept m ∙ c.loop-l.invariant.lens m le in
-    let lens : (m : ℕ) → m ≤ length claim.through → length (row_at gates.new.rows m) ≡ d.nets = λ m le. length-ChangesRow layer base.new.rows gates.new.rows gates.ensures.kept m ∙ made_lens m le in
+    let made_lens : (m : ℕ) → m ≤ length claim.through → length (row_at base.new.rows m) ≡ d.nets = λ m le.
+    length-ChangesRow layer c.loop-l.rows base.new.rows base.ensures.kept m ∙ c.loop-l.invariant.lens m le in
+    let lens : (m : ℕ) → m ≤ length claim.through → length (row_at gates.new.rows m) ≡ d.nets = λ m le.
+    length-ChangesRow layer base.new.rows gates.new.rows gates.ensures.kept m ∙ made_lens m le in
     record {
       count = gates.ensures.kept.count ∙ (base.ensures.kept.count ∙ c.loop-l.invariant.count);
       lens = lens;

@@ -6,12 +6,15 @@ use Rattle.net_model.proofs.late_starts.put_late_reg.Goals as goal
 
 pub put_in-requires-clause-place : goal.put_in-requires-clause-place
 put_in-requires-clause-place g c =
-    let low = reg_out_in_range c.args.design.now c.args.r c.item-reg.result.now c.loop-o.o c.at-out.result c.requires.sound c.item-reg.ensures c.at-out.ensures in
+    let low = reg_out_in_range c.args.design.now c.args.r c.item-reg.result.now c.loop-o.o c.at-out.result c.requires.sound c.item-reg.ensures
+    c.at-out.ensures in
     omega arith
 
 pub loop-o-preserved : goal.loop-o-preserved
 loop-o-preserved g c =
-    rw c.put_in.ensures (late_more (g.V.Value.bit_value false) c.args.value c.args.inverted c.args.design.now c.args.r c.item-reg.result.now c.args.rows.now c.loop-o.rows c.loop-o.o c.at-out.result _ c.requires.sound (omega arith) (omega arith) c.item-reg.ensures c.at-out.ensures (search rules) c.loop-o.invariant)
+    rw c.put_in.ensures (late_more (g.V.Value.bit_value false) c.args.value c.args.inverted c.args.design.now c.args.r c.item-reg.result.now
+    c.args.rows.now c.loop-o.rows c.loop-o.o c.at-out.result _ c.requires.sound (omega arith) (omega arith) c.item-reg.ensures c.at-out.ensures
+    (search rules) c.loop-o.invariant)
 
 pub returns-clause-late : goal.returns-clause-late
 returns-clause-late g c =

@@ -7,8 +7,13 @@ use Rattle.net_model.proofs.layers.settle_layer.Goals.{then-not-is_held, else-no
 pub loop-k-preserved : goal.loop-k-preserved
 loop-k-preserved g c =
     elim c.if-not-is_held.branch [
-      | then-not-is_held w ↦ rw (w.rows-is, w.put_in.ensures) (layer_more g.V.Value.applied g.met.V.Value.reads_places (g.V.Value.bit_value false) c.args.design.now c.args.sets.now c.args.layer c.args.rows.now c.loop-k.rows c.loop-k.k c.item-gate.result.now w.layer_value-value.result c.requires.sound (omega arith) c.item-gate.ensures (sym c.is_held.ensures ∙ w.if-not-is_held.true) w.layer_value-value.ensures c.loop-k.invariant)
-      | else-not-is_held w ↦ rw w.rows-is (layer_skip g.V.Value.applied (g.V.Value.bit_value false) c.args.design.now c.args.sets.now c.args.layer c.args.rows.now c.loop-k.rows c.loop-k.k c.item-gate.result.now c.item-gate.ensures (sym c.is_held.ensures ∙ w.if-not-is_held.false) c.loop-k.invariant)
+      | then-not-is_held w ↦ rw (w.rows-is, w.put_in.ensures) (layer_more g.V.Value.applied g.met.V.Value.reads_places (g.V.Value.bit_value false)
+          c.args.design.now c.args.sets.now c.args.layer c.args.rows.now c.loop-k.rows c.loop-k.k c.item-gate.result.now w.layer_value-value.result
+          c.requires.sound (omega arith) c.item-gate.ensures (sym c.is_held.ensures ∙ w.if-not-is_held.true) w.layer_value-value.ensures
+          c.loop-k.invariant)
+      | else-not-is_held w ↦ rw w.rows-is (layer_skip g.V.Value.applied (g.V.Value.bit_value false) c.args.design.now c.args.sets.now c.args.layer
+          c.args.rows.now c.loop-k.rows c.loop-k.k c.item-gate.result.now c.item-gate.ensures (sym c.is_held.ensures ∙ w.if-not-is_held.false)
+          c.loop-k.invariant)
     ]
 
 pub returns-clause-gates : goal.returns-clause-gates

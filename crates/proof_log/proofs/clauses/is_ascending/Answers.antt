@@ -13,10 +13,12 @@ returns-then-var-before c =
       λ t. cc,
       λ w. elim c.then-var-before.branch [
         | then-var-before-via-then-var-before b ↦
-            absurd (not_normal c.args.vars c.args.lits.now c.loop-l.l-index c.loop-l.before c.l-item.result (omega arith) l_is (omega (arith, c.var-var.ensures.value, c.var-var.ensures.from)) c.loop-l.invariant
+            absurd (not_normal c.args.vars c.args.lits.now c.loop-l.l-index c.loop-l.before c.l-item.result (omega arith) l_is
+            (omega (arith, c.var-var.ensures.value, c.var-var.ensures.from)) c.loop-l.invariant
             (omega (arith, b.if-var-before.true, c.var-var.ensures.value)) w.0)
         | then-var-before-via-else-var-before+then-var-vars b ↦
-            absurd (not_in_vars c.args.vars c.args.lits.now c.loop-l.l-index c.l-item.result (omega arith) l_is (omega (arith, b.if-var-vars.true, c.var-var.ensures.value)) w.1)
+            absurd (not_in_vars c.args.vars c.args.lits.now c.loop-l.l-index c.l-item.result (omega arith) l_is
+            (omega (arith, b.if-var-vars.true, c.var-var.ensures.value)) w.1)
       ],
     )
 
@@ -25,7 +27,8 @@ loop-l-preserved c =
     let l_is = get_or_read c.args.lits.now c.loop-l.l-index c.l-item.result (omega arith) c.l-item.is 0 in
     let P : ℕ → Type 0 = IsNormalSoFar c.args.vars c.args.lits.now (c.loop-l.l-index + 1) in
     subst P (sym c.var-var.ensures.value)
-    (so_far_more c.args.vars c.args.lits.now c.loop-l.l-index c.loop-l.before c.l-item.result (omega arith) l_is (omega (arith, c.var-var.ensures.value, c.var-var.ensures.from))
+    (so_far_more c.args.vars c.args.lits.now c.loop-l.l-index c.loop-l.before c.l-item.result (omega arith) l_is
+    (omega (arith, c.var-var.ensures.value, c.var-var.ensures.from))
     (omega (arith, c.var-var.ensures.value, c.if-var-before.false)) (omega (arith, c.var-var.ensures.value, c.if-var-vars.false)) c.loop-l.invariant)
 
 pub returns : goal.returns

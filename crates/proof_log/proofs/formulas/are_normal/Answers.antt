@@ -12,8 +12,10 @@ loop-clause-preserved c =
     let V : List ℕ → Type 0 = All (InVars c.args.vars) in
     let here = c.is_normal.ensures.0 c.if-not-is_normal.false in
     record {
-      normal = All-more N c.args.clauses.now c.loop-clause.clause-index c.clause-item.result (omega arith) c.loop-clause.invariant.normal (subst N c.clause-item.is here.0);
-      in_vars = All-more V c.args.clauses.now c.loop-clause.clause-index c.clause-item.result (omega arith) c.loop-clause.invariant.in_vars (subst V c.clause-item.is here.1);
+      normal = All-more N c.args.clauses.now c.loop-clause.clause-index c.clause-item.result (omega arith) c.loop-clause.invariant.normal
+          (subst N c.clause-item.is here.0);
+      in_vars = All-more V c.args.clauses.now c.loop-clause.clause-index c.clause-item.result (omega arith) c.loop-clause.invariant.in_vars
+          (subst V c.clause-item.is here.1);
     }
 
 pub returns : goal.returns

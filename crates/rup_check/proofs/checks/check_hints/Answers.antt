@@ -6,5 +6,7 @@ use Rattle.rup_check.proofs.checks.check_hints.Goals as goal
 
 pub loop-i-preserved : goal.loop-i-preserved
 loop-i-preserved c =
-    hint_sets (known_clauses c.args.formula.now c.args.earlier.now) c.args.number c.loop-i.set c.set.new.self c.args.hints.now c.in-Some.clause.now c.loop-i.i (get_or c.args.hints.now c.loop-i.i 0) c.in-Sets.u _
-    (omega arith) refl c.in-Some.ensures c.in-Sets.ensures (λ q. c.in_ok-set-in-Sets.ensures q ∙ sym (is_set-push c.loop-i.set c.in-Sets.u q)) c.loop-i.invariant
+    hint_sets (known_clauses c.args.formula.now c.args.earlier.now) c.args.number c.loop-i.set c.set.new.self c.args.hints.now c.in-Some.clause.now
+    c.loop-i.i (get_or c.args.hints.now c.loop-i.i 0) c.in-Sets.u _
+    (omega arith) refl c.in-Some.ensures c.in-Sets.ensures (λ q. c.in_ok-set-in-Sets.ensures q ∙ sym (is_set-push c.loop-i.set c.in-Sets.u q))
+    c.loop-i.invariant

@@ -9,14 +9,16 @@ use Rattle.sat_solver.proofs.cuts.resolve_to_unit.Goals as goal
 
 pub bounds-clauses-reason : goal.bounds-clauses-reason
 bounds-clauses-reason c =
-    reason_within c.args.clauses.now _ c.args.trail.now.reasons c.reasons.result.now c.loop-alloc.at _ c.reasons.ensures.value (c.requires.justified c.loop-alloc.at (omega (arith, c.loop-alloc-test.ensures)) c.loop-alloc.invariant.within)
+    reason_within c.args.clauses.now _ c.args.trail.now.reasons c.reasons.result.now c.loop-alloc.at _ c.reasons.ensures.value
+    (c.requires.justified c.loop-alloc.at (omega (arith, c.loop-alloc-test.ensures)) c.loop-alloc.invariant.within)
 
 pub offset_bounds-clauses-reason : goal.offset_bounds-clauses-reason
 offset_bounds-clauses-reason c = let within = bounds-clauses-reason c in search rules
 
 pub resolve-requires : goal.resolve-requires
 resolve-requires c =
-    let within = reason_within c.args.clauses.now _ c.args.trail.now.reasons c.reasons.result.now c.loop-alloc.at _ c.reasons.ensures.value (c.requires.justified c.loop-alloc.at (omega (arith, c.loop-alloc-test.ensures)) c.loop-alloc.invariant.within) in
+    let within = reason_within c.args.clauses.now _ c.args.trail.now.reasons c.reasons.result.now c.loop-alloc.at _ c.reasons.ensures.value
+    (c.requires.justified c.loop-alloc.at (omega (arith, c.loop-alloc-test.ensures)) c.loop-alloc.invariant.within) in
     search rules
 
 pub loop-alloc-init : goal.loop-alloc-init
@@ -25,7 +27,8 @@ loop-alloc-init c =
     record {
       from = omega (arith, c.len-at.ensures.value, c.requires.within);
       within = omega (arith, c.len-at.ensures.value, c.requires.within);
-      state = walk_start c.args.clauses.now c.args.trail.now.lits c.args.cut.now.lits.items c.args.cut.now.hints.items (c.len-at.result - 1 + 1) n c.requires.cut;
+      state = walk_start c.args.clauses.now c.args.trail.now.lits c.args.cut.now.lits.items c.args.cut.now.hints.items (c.len-at.result - 1 + 1) n
+          c.requires.cut;
     }
 
 pub loop-alloc-preserved : goal.loop-alloc-preserved
@@ -42,7 +45,8 @@ loop-alloc-preserved c =
     get_or_read c.lits.result.now at p (subst L (sym c.lits.ensures.value) below) c.index-lits-at.is 0 ∙ ap (λ xs. get_or xs at 0) c.lits.ensures.value in
     let U : ℕ → Type 0 = λ q. IsUnitAt c.args.clauses.now (take at trail) place q in
     let V : ℕ → Type 0 = λ n. IsUnitAt c.args.clauses.now (take at trail) n (get_or trail at 0) in
-    let R : List ℕ → Type 0 = λ ls. ResolvedAt c.loop-alloc.cut.lits.items c.loop-alloc.cut.hints.items p place ls c.resolve.new.self.lits.items c.resolve.new.self.hints.items in
+    let R : List ℕ → Type 0 = λ ls. ResolvedAt c.loop-alloc.cut.lits.items c.loop-alloc.cut.hints.items p place ls c.resolve.new.self.lits.items
+    c.resolve.new.self.hints.items in
     let S : ℕ → Type 0 = λ n. CutState c.args.clauses.now (take n trail) [] (drop n trail) c.resolve.new.self.lits.items c.resolve.new.self.hints.items in
     let next : at ≡ at - 1 + 1 = omega (arith, above) in
     let shown : get_or c.args.trail.now.reasons at 0 ≡ place = ap (λ rs. get_or rs at 0) (sym c.reasons.ensures.value) in
@@ -51,7 +55,8 @@ loop-alloc-preserved c =
       from = omega (arith, above);
       within = omega (arith, below);
       state = subst S next
-          (walk_step c.args.clauses.now trail at c.loop-alloc.cut.lits.items c.resolve.new.self.lits.items c.loop-alloc.cut.hints.items c.resolve.new.self.hints.items c.index-clauses-reason.result p place
+          (walk_step c.args.clauses.now trail at c.loop-alloc.cut.lits.items c.resolve.new.self.lits.items c.loop-alloc.cut.hints.items
+          c.resolve.new.self.hints.items c.index-clauses-reason.result p place
           c.lits.ensures.distinct below p_is (subst U (sym p_is) (subst V shown unit))
           (slice_get_read c.args.clauses.now _ place c.index-clauses-reason.result refl within c.index-clauses-reason.is)
           (subst R c.as_slice.ensures c.in_ok-resolve.ensures)

@@ -20,7 +20,8 @@ loop-place-preserved c =
     let A : List ℕ → Type 0 = λ xs. IsAdded c.loop-place.place xs c.loop-place.queue c.add_clause.new.self in
     let a = subst A c.as_slice.ensures c.in_ok-add_clause.ensures in
     record {
-      watches = AreWatches-added c.args.vars c.args.clauses.now c.index-clauses-place.result c.loop-place.place c.loop-place.queue c.add_clause.new.self (omega arith) c.index-clauses-place.is c.requires.normal c.requires.in_vars i.watches a;
+      watches = AreWatches-added c.args.vars c.args.clauses.now c.index-clauses-place.result c.loop-place.place c.loop-place.queue
+          c.add_clause.new.self (omega arith) c.index-clauses-place.is c.requires.normal c.requires.in_vars i.watches a;
       limit = a.limit ∙ i.limit;
       waiting = a.waiting ∙ i.waiting;
       done = a.done ∙ i.done;

@@ -22,7 +22,8 @@ loop-l-preserved c =
 
 pub returns-then-is_open_other : goal.returns-then-is_open_other
 returns-then-is_open_other c = (
-  ap (is_set c.args.lits.now) (get_or_read c.args.lits.now c.loop-l.l-index c.l-item.result (omega arith) c.l-item.is 0) ∙ is_set-at c.args.lits.now c.loop-l.l-index (omega arith),
+  ap (is_set c.args.lits.now) (get_or_read c.args.lits.now c.loop-l.l-index c.l-item.result (omega arith) c.l-item.is 0)
+      ∙ is_set-at c.args.lits.now c.loop-l.l-index (omega arith),
   c.if-is_open_other.ensures.0,
   ap (λ n. is_set (take n c.args.trail.now.lits) (negated c.l-item.result)) (sym c.floor_of-floor.ensures) ∙ c.if-is_open_other.ensures.1,
 )

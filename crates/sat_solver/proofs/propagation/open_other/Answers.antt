@@ -15,7 +15,8 @@ loop-l-preserved c =
 
 pub returns-then-is_open : goal.returns-then-is_open
 returns-then-is_open c = (
-  ap (is_set c.args.clause.now) (get_or_read c.args.clause.now c.loop-l.l-index c.l-item.result (omega arith) c.l-item.is 0) ∙ is_set-at c.args.clause.now c.loop-l.l-index (omega arith),
+  ap (is_set c.args.clause.now) (get_or_read c.args.clause.now c.loop-l.l-index c.l-item.result (omega arith) c.l-item.is 0)
+      ∙ is_set-at c.args.clause.now c.loop-l.l-index (omega arith),
   c.if-is_open.ensures.0,
   c.if-is_open.ensures.1,
 )

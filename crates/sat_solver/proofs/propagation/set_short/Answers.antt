@@ -19,7 +19,8 @@ set-requires-clause-not_false c = sets_unset c.args.trail.now.lits c.as_slice-cl
 
 pub returns-in-Sets-clause-extends : goal.returns-in-Sets-clause-extends
 returns-in-Sets-clause-extends c =
-    Extends-push c.args.clauses.now c.args.trail.now c.args.trail.now c.set.new.self c.args.place c.in-Sets.u (Extends-refl c.args.clauses.now c.args.trail.now c.len-len.ensures.paired)
+    Extends-push c.args.clauses.now c.args.trail.now c.args.trail.now c.set.new.self c.args.place c.in-Sets.u
+    (Extends-refl c.args.clauses.now c.args.trail.now c.len-len.ensures.paired)
     c.set.ensures.vars c.set.ensures.lits c.set.ensures.reasons
     (unit_in c.args.clauses.now c.args.trail.now.lits c.args.place c.index-clauses-place.result c.in-Sets.u c.requires.within c.index-clauses-place.is
     (sym (c.in-Sets.ensures ∙ ap (effect_of c.args.trail.now.lits) c.as_slice-clause.ensures)))
@@ -41,7 +42,8 @@ returns-in-Neither-clause-holds c = λ few.
     let P : List ℕ → Type 0 = λ xs. HasTrue c.args.trail.now.lits xs in
     let at : c.as_slice-clause.result.now ≡ clause_at c.args.clauses.now c.args.place =
     c.as_slice-clause.ensures ∙ (c.index-clauses-place.is ∙ get_or_default c.args.clauses.now c.args.place c.index-clauses-place.result [] c.requires.within) in
-    subst P at (short_true c.args.trail.now.lits c.as_slice-clause.result.now (omega (arith, ap length at, few)) (neither_quiet c.args.trail.now.lits c.as_slice-clause.result.now (sym c.in-Neither.ensures)))
+    subst P at (short_true c.args.trail.now.lits c.as_slice-clause.result.now (omega (arith, ap length at, few))
+    (neither_quiet c.args.trail.now.lits c.as_slice-clause.result.now (sym c.in-Neither.ensures)))
 
 pub returns-in-Neither-clause-extends : goal.returns-in-Neither-clause-extends
 returns-in-Neither-clause-extends c = Extends-refl c.args.clauses.now c.args.trail.now c.len-len.ensures.paired

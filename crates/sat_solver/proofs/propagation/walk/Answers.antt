@@ -24,7 +24,8 @@ pub loop-place-preserved : goal.loop-place-preserved
 loop-place-preserved c =
     let e = c.in-Next.ensures in
     record {
-      walks = Walks-trans c.args.clauses.now c.args.falsified c.args.trail.now c.args.watches.now c.loop-place.trail c.loop-place.watches c.visit_one.new.trail c.visit_one.new.watches c.loop-place.invariant.walks e.0;
+      walks = Walks-trans c.args.clauses.now c.args.falsified c.args.trail.now c.args.watches.now c.loop-place.trail c.loop-place.watches
+          c.visit_one.new.trail c.visit_one.new.watches c.loop-place.invariant.walks e.0;
       walked = λ done few k. e.2 done (omega (arith, c.loop-place.invariant.walks.extends.longer)) (c.loop-place.invariant.walked done few k);
     }
 
@@ -40,5 +41,6 @@ put_back-requires-clause-waits c = c.in-Conflict.ensures.0.can.waits
 pub returns-in-Conflict-clause-walks : goal.returns-in-Conflict-clause-walks
 returns-in-Conflict-clause-walks c =
     Walks-drained c.args.clauses.now c.args.falsified c.args.trail.now c.args.watches.now c.visit_one.new.trail c.visit_one.new.watches c.put_back.new.watches
-    (Walks-trans c.args.clauses.now c.args.falsified c.args.trail.now c.args.watches.now c.loop-place.trail c.loop-place.watches c.visit_one.new.trail c.visit_one.new.watches c.loop-place.invariant.walks c.in-Conflict.ensures.0)
+    (Walks-trans c.args.clauses.now c.args.falsified c.args.trail.now c.args.watches.now c.loop-place.trail c.loop-place.watches c.visit_one.new.trail
+    c.visit_one.new.watches c.loop-place.invariant.walks c.in-Conflict.ensures.0)
     c.put_back.ensures

@@ -21,12 +21,14 @@ returns-then-is_any_violated-clause-same t c =
     let split : c.args.free.now ≡ spot ∷ rest = c.in-Some.ensures.cases.0 in
     let moved : AreSameBut d rest (written c.args.stretch.now spot false) c.is_any_violated.new.stretch =
     subst (λ (s : Stretch). AreSameBut d rest s c.is_any_violated.new.stretch) c.write.ensures.written c.is_any_violated.ensures.same in
-    subst (λ (spots : List Spot). AreSameBut d spots c.args.stretch.now c.is_any_violated.new.stretch) (sym split) (widened d spot rest c.args.stretch.now c.is_any_violated.new.stretch false moved)
+    subst (λ (spots : List Spot). AreSameBut d spots c.args.stretch.now c.is_any_violated.new.stretch) (sym split)
+    (widened d spot rest c.args.stretch.now c.is_any_violated.new.stretch false moved)
 
 pub is_any_violated-requires-2 : goal.is_any_violated-requires-2
 is_any_violated-requires-2 t c =
     let split : c.args.free.now ≡ c.in-Some.spot.now ∷ c.in-Some.rest.now = c.in-Some.ensures.cases.0 in
-    let free = All-tail (IsFreeSpot c.args.design.now) c.in-Some.spot.now c.in-Some.rest.now (subst (All (IsFreeSpot c.args.design.now)) split c.requires.free) in
+    let free = All-tail (IsFreeSpot c.args.design.now) c.in-Some.spot.now c.in-Some.rest.now
+    (subst (All (IsFreeSpot c.args.design.now)) split c.requires.free) in
     (search rules, (c.requires.sound, (c.requires.fits, (c.requires.plain, (free, (c.write-2.ensures.ready, c.is_any_violated.ensures.room))))))
 
 pub returns-clause-same : goal.returns-clause-same
@@ -42,7 +44,8 @@ returns-clause-same t c =
     let second : AreSameBut d rest (written middle spot true) end_ =
     subst (λ (s : Stretch). AreSameBut d rest s end_) c.write-2.ensures.written c.is_any_violated-2.ensures.same in
     subst (λ (spots : List Spot). AreSameBut d spots c.args.stretch.now end_) (sym split)
-    (same_chain d (spot ∷ rest) c.args.stretch.now middle end_ (widened d spot rest c.args.stretch.now middle false first) (widened d spot rest middle end_ true second))
+    (same_chain d (spot ∷ rest) c.args.stretch.now middle end_ (widened d spot rest c.args.stretch.now middle false first)
+    (widened d spot rest middle end_ true second))
 
 pub returns-clause-no : goal.returns-clause-no
 returns-clause-no t c clean =

@@ -6,7 +6,8 @@ use Rattle.stretch_scan.proofs.searches.is_violated.Goals as goal
 
 pub returns-then-start_bit-stale-clause-no : goal.returns-then-start_bit-stale-clause-no
 returns-then-start_bit-stale-clause-no c clean =
-    none_from c.args.design.now c.args.claim.now c.args.stretch.now c.run_stretch.new.stretch c.requires.sound c.requires.plain c.requires.ready c.run_stretch.ensures.chosen c.run_stretch.ensures.run
+    none_from c.args.design.now c.args.claim.now c.args.stretch.now c.run_stretch.new.stretch c.requires.sound c.requires.plain c.requires.ready
+    c.run_stretch.ensures.chosen c.run_stretch.ensures.run
     (inl (sym c.start_bit.ensures ∙ (same_bits c.start_bit.result c.start_bit-stale.result c.if-start_bit-stale.true ∙ c.start_bit-stale.ensures)))
 
 pub returns-clause-yes : goal.returns-clause-yes
@@ -26,7 +27,9 @@ pub returns-clause-no : goal.returns-clause-no
 returns-clause-no c clean =
     let s = c.run_stretch.new.stretch in
     let captured = not_differing c.layer_capture-late.result c.capture.result clean ∙ c.capture.ensures in
-    none_from c.args.design.now c.args.claim.now c.args.stretch.now s c.requires.sound c.requires.plain c.requires.ready c.run_stretch.ensures.chosen c.run_stretch.ensures.run
+    none_from c.args.design.now c.args.claim.now c.args.stretch.now s c.requires.sound c.requires.plain c.requires.ready c.run_stretch.ensures.chosen
+    c.run_stretch.ensures.run
     (inr (λ late is_late.
-    c.layer_capture-late.ensures.only late (subst (λ (bit : Bool). IsLateCapture c.args.design.now c.args.claim.now s.second bit late) (sym c.start_bit-stale.ensures) is_late)
+    c.layer_capture-late.ensures.only late (subst (λ (bit : Bool). IsLateCapture c.args.design.now c.args.claim.now s.second bit late)
+    (sym c.start_bit-stale.ensures) is_late)
     ∙ captured))

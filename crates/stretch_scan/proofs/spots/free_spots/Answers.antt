@@ -15,12 +15,15 @@ loop-input-preserved c =
     elim c.if-is_free.branch [
       | then-is_free+in_ok-push-2+in_ok-push-3 w ↦
           rw (w.spots-is, w.in_ok-push-3.ensures.items, w.in_ok-push-2.ensures.items)
-          (input_more c.args.design.now c.loop-input.spots.items (length c.args.design.now.regs) c.loop-input.input (omega arith) (sym c.is_free.ensures ∙ w.if-is_free.true) c.loop-input.invariant)
+          (input_more c.args.design.now c.loop-input.spots.items (length c.args.design.now.regs) c.loop-input.input (omega arith)
+          (sym c.is_free.ensures ∙ w.if-is_free.true) c.loop-input.invariant)
       | else-is_free w ↦
-          rw w.spots-is (input_skip c.args.design.now c.loop-input.spots.items (length c.args.design.now.regs) c.loop-input.input (sym c.is_free.ensures ∙ w.if-is_free.false) c.loop-input.invariant)
+          rw w.spots-is (input_skip c.args.design.now c.loop-input.spots.items (length c.args.design.now.regs) c.loop-input.input
+          (sym c.is_free.ensures ∙ w.if-is_free.false) c.loop-input.invariant)
     ]
 
 pub returns-clause-all : goal.returns-clause-all
 returns-clause-all c =
     let all : c.loop-input.input ≡ length c.args.design.now.inputs = omega arith in
-    spots_all c.args.design.now c.loop-input.spots.items (subst (SpotsDone c.args.design.now c.loop-input.spots.items (length c.args.design.now.regs)) all c.loop-input.invariant)
+    spots_all c.args.design.now c.loop-input.spots.items (subst (SpotsDone c.args.design.now c.loop-input.spots.items (length c.args.design.now.regs))
+    all c.loop-input.invariant)

@@ -17,4 +17,5 @@ loop-i-preserved c =
 
 pub returns-clause-value : goal.returns-clause-value
 returns-clause-value c =
-    sym (c.loop-i.invariant ∙ closed_none c.args.a c.args.b c.loop-i.i (drop c.loop-i.i c.args.text.now) (omega (arith, length-drop c.loop-i.i c.args.text.now)))
+    sym (c.loop-i.invariant ∙ closed_none c.args.a c.args.b c.loop-i.i (drop c.loop-i.i c.args.text.now)
+    (omega (arith, length-drop c.loop-i.i c.args.text.now)))

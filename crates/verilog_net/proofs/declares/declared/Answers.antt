@@ -20,7 +20,8 @@ returns-in_err-declare_items c =
     let p = err_from_is_err_and c.from_residual-in_err-declare_items.result c.from_residual-in_err-declare_items.ensures.1 in
     let ports = rw (c.new-nets.ensures, c.as_slice.ensures) at c.in_ok-declare_all.ensures in
     let told = rw (c.new-insts.ensures, c.as_slice-2.ensures) at c.in_err-declare_items.ensures in
-    rw (p.1, p.2) (fails_through c.in_err-declare_items.field-0.0 (declare_items (c.declare_all.new.table, []) m.items) _ told (λ bad. sym (declared_is m) ∙ bind_is (declare [] (port_names m)) (after_items m) c.declare_all.new.table ports ∙ rw bad refl))
+    rw (p.1, p.2) (fails_through c.in_err-declare_items.field-0.0 (declare_items (c.declare_all.new.table, []) m.items) _ told
+    (λ bad. sym (declared_is m) ∙ bind_is (declare [] (port_names m)) (after_items m) c.declare_all.new.table ports ∙ rw bad refl))
 
 pub returns : goal.returns
 returns c =

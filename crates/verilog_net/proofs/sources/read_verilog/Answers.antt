@@ -12,10 +12,12 @@ returns-in_err-decl-clause-not_yet c =
 pub returns-in_err-module-clause-not_yet : goal.returns-in_err-module-clause-not_yet
 returns-in_err-module-clause-not_yet c =
     let p = err_from_is_err_and c.from_residual-in_err-module.result c.from_residual-in_err-module.ensures.1 in
-    none_by_rules c.args.text.now c.in_ok-decl.decl c.in_err-module.field-0.0 c.from_residual-in_err-module.result c.in_ok-decl.ensures c.in_err-module.ensures (p.1 ∙ ap (λ (e : VerFault). Err e) p.2)
+    none_by_rules c.args.text.now c.in_ok-decl.decl c.in_err-module.field-0.0 c.from_residual-in_err-module.result c.in_ok-decl.ensures
+    c.in_err-module.ensures (p.1 ∙ ap (λ (e : VerFault). Err e) p.2)
 
 pub returns-clause-ok : goal.returns-clause-ok
-returns-clause-ok c = rw c.in_ok-modules.ensures (some_source c.args.text.now c.in_ok-decl.decl c.in_ok-module.module c.in_ok-decl.ensures c.in_ok-module.ensures)
+returns-clause-ok c = rw c.in_ok-modules.ensures (some_source c.args.text.now c.in_ok-decl.decl c.in_ok-module.module c.in_ok-decl.ensures
+    c.in_ok-module.ensures)
 
 pub returns-clause-first_form : goal.returns-clause-first_form
 returns-clause-first_form c = rw c.in_ok-modules.ensures (lone_plain c.in_ok-decl.decl c.in_ok-module.module c.in_ok-module.ensures)

@@ -14,7 +14,9 @@ pub returns-in_err-item-clause-value : goal.returns-in_err-item-clause-value
 returns-in_err-item-clause-value c =
     let (m, room, told) = c.items.invariant.told in
     let p = err_from_is_err_and c.from_residual.result c.from_residual.ensures.1 in
-    rw (p.1, p.2) (fails_through _ _ (ap length (c.take_token-token.ensures.text ∙ c.items.invariant.text)) c.in_err-item.field-0.0 _ _ c.in_err-item.ensures.value (λ bad. told ∙ items_bad c.items.found (rest c.items.c) _ _ (sym c.take_token-token.ensures.value) m (sym c.is_last.ensures ∙ c.if-is_last.false) bad))
+    rw (p.1, p.2) (fails_through _ _ (ap length (c.take_token-token.ensures.text ∙ c.items.invariant.text)) c.in_err-item.field-0.0 _ _
+    c.in_err-item.ensures.value (λ bad. told ∙ items_bad c.items.found (rest c.items.c) _ _ (sym c.take_token-token.ensures.value) m
+    (sym c.is_last.ensures ∙ c.if-is_last.false) bad))
 
 pub items-smaller : goal.items-smaller
 items-smaller c = let less = c.in_ok-item.ensures.shorter in omega arith
@@ -23,7 +25,8 @@ pub items-preserved : goal.items-preserved
 items-preserved c =
     let (m, room, told) = c.items.invariant.told in
     let less = c.in_ok-item.ensures.shorter in
-    let (k, one, step) = items_more c.items.found (rest c.items.c) _ _ (sym c.take_token-token.ensures.value) m _ _ (omega arith) (sym c.is_last.ensures ∙ c.if-is_last.false) c.in_ok-item.ensures.value in
+    let (k, one, step) = items_more c.items.found (rest c.items.c) _ _ (sym c.take_token-token.ensures.value) m _ _ (omega arith)
+    (sym c.is_last.ensures ∙ c.if-is_last.false) c.in_ok-item.ensures.value in
     record {
       text = c.in_ok-item.ensures.text ∙ c.take_token-token.ensures.text ∙ c.items.invariant.text;
       within = omega arith;

@@ -13,7 +13,9 @@ returns-in-Some c =
     let digits = c.in-Some.digits.now in
     let is = strip_prefix_is Decides-eqb line word c.strip_prefix.result c.strip_prefix.ensures.cases in
     let cut : line ≡ word ++ digits = rw c.in-Some.is at is in
-    IfOk-weaker c.bits_of.result (λ (o : Option (List Bool)). MatchOption o ((bits : List Bool) → digits ≢ digits_of bits) (λ bits. digits ≡ digits_of bits)) (λ (o : Option (List Bool)). MatchOption o ((bits : List Bool) → line ≢ word ++ digits_of bits) (λ bits. line ≡ word ++ digits_of bits)) (row_from word line digits cut) c.bits_of.ensures
+    IfOk-weaker c.bits_of.result (λ (o : Option (List Bool)). MatchOption o ((bits : List Bool) → digits ≢ digits_of bits)
+    (λ bits. digits ≡ digits_of bits)) (λ (o : Option (List Bool)). MatchOption o ((bits : List Bool) → line ≢ word ++ digits_of bits)
+    (λ bits. line ≡ word ++ digits_of bits)) (row_from word line digits cut) c.bits_of.ensures
 
 pub returns-in-None : goal.returns-in-None
 returns-in-None c =

@@ -18,4 +18,5 @@ returns c =
     let digits = c.in_ok-strip_prefix.field-0.now in
     let is = strip_prefix_is Decides-eqb c.args.line.now front c.strip_prefix.result c.strip_prefix.ensures.cases in
     let cut : c.args.line.now ≡ front ++ digits = rw c.in_ok-strip_prefix.was at is in
-    λ n fits e. read_back digits n _ c.read_decimal.result fits (omega arith) (append_cancel_left front digits (decimal n) (sym cut ∙ e)) c.read_decimal.ensures.some c.read_decimal.ensures.value
+    λ n fits e. read_back digits n _ c.read_decimal.result fits (omega arith) (append_cancel_left front digits (decimal n) (sym cut ∙ e))
+    c.read_decimal.ensures.some c.read_decimal.ensures.value

@@ -20,16 +20,20 @@ returns-clause-err c =
     let small : length report < 2 ^ 64 = omega arith in
     let found = rw c.in_ok-block.ensures.ok_part at c.in_ok-find_block.ensures.left in
     let total = rw c.in_ok-block.ensures.ok_part at c.in_ok-find_block.ensures.number in
-    IfErr-weaker c.read_block.result (IsBlockFault number (left block) (next_number block)) (IsStimCause number report) (at_fault number (next_number block) report (left block) small found.0 found.1 total) c.read_block.ensures.err
+    IfErr-weaker c.read_block.result (IsBlockFault number (left block) (next_number block)) (IsStimCause number report)
+    (at_fault number (next_number block) report (left block) small found.0 found.1 total) c.read_block.ensures.err
 
 pub returns-clause-only : goal.returns-clause-only
 returns-clause-only c =
     let small : length c.args.report.now < 2 ^ 64 = omega arith in
     let found = rw c.in_ok-block.ensures.ok_part at c.in_ok-find_block.ensures.left in
-    recalls c.args.number (next_number c.in_ok-block.block) c.args.report.now (left c.in_ok-block.block) small found.0 c.read_block.result c.read_block.ensures.ok c.read_block.ensures.err
+    recalls c.args.number (next_number c.in_ok-block.block) c.args.report.now (left c.in_ok-block.block) small found.0 c.read_block.result
+    c.read_block.ensures.ok c.read_block.ensures.err
 
 pub returns-clause-back : goal.returns-clause-back
 returns-clause-back c =
     let small : length c.args.report.now < 2 ^ 64 = omega arith in
     let found = rw c.in_ok-block.ensures.ok_part at c.in_ok-find_block.ensures.left in
-    λ s written. recalls c.args.number (next_number c.in_ok-block.block) c.args.report.now (left c.in_ok-block.block) small found.0 c.read_block.result c.read_block.ensures.ok c.read_block.ensures.err s (written_first c.args.number c.args.report.now s c.ranges.number.fits small written)
+    λ s written. recalls c.args.number (next_number c.in_ok-block.block) c.args.report.now (left c.in_ok-block.block) small found.0
+    c.read_block.result c.read_block.ensures.ok c.read_block.ensures.err s
+    (written_first c.args.number c.args.report.now s c.ranges.number.fits small written)

@@ -7,11 +7,13 @@ use Rattle.cnf_encode.proofs.cones.Cone.of.Goals as goal
 
 pub input_values-requires : goal.input_values-requires
 input_values-requires c =
-    subst (λ (inputs : List ℕ). AllBelow (length inputs) (setting_inputs c.args.design.now.fixed)) (sym c.as_slice-inputs.ensures) (fixed_below c.args.design.now c.requires.sound)
+    subst (λ (inputs : List ℕ). AllBelow (length inputs) (setting_inputs c.args.design.now.fixed)) (sym c.as_slice-inputs.ensures)
+    (fixed_below c.args.design.now c.requires.sound)
 
 pub input_values-requires-2 : goal.input_values-requires-2
 input_values-requires-2 c =
-    subst (λ (inputs : List ℕ). AllBelow (length inputs) (setting_inputs c.args.design.now.resets)) (sym c.as_slice-inputs.ensures) (resets_below c.args.design.now c.requires.sound)
+    subst (λ (inputs : List ℕ). AllBelow (length inputs) (setting_inputs c.args.design.now.resets)) (sym c.as_slice-inputs.ensures)
+    (resets_below c.args.design.now c.requires.sound)
 
 pub point_rows-requires-clause-once : goal.point_rows-requires-clause-once
 point_rows-requires-clause-once c = subst StandOnce (sym c.as_slice-inputs.ensures) (inputs_once c.args.design.now c.requires.sound)
@@ -26,7 +28,8 @@ point_rows-requires-2-clause-once c = subst StandOnce (sym (c.deref.ensures.valu
 pub point_rows-requires-3-clause-below : goal.point_rows-requires-3-clause-below
 point_rows-requires-3-clause-below c =
     subst (λ (n : ℕ). AllBelow (c.args.design.now.nets + n) c.deref-2.result.now) (sym c.len.ensures)
-    (subst (AllBelow (c.args.design.now.nets + length c.args.design.now.regs)) (sym (c.deref-2.ensures.value ∙ c.in_ok-bits.ensures)) (bits_below c.args.design.now))
+    (subst (AllBelow (c.args.design.now.nets + length c.args.design.now.regs)) (sym (c.deref-2.ensures.value ∙ c.in_ok-bits.ensures))
+    (bits_below c.args.design.now))
 
 pub point_rows-requires-3-clause-once : goal.point_rows-requires-3-clause-once
 point_rows-requires-3-clause-once c = subst StandOnce (sym (c.deref-2.ensures.value ∙ c.in_ok-bits.ensures)) (bits_once c.args.design.now)

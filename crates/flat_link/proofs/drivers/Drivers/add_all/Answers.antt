@@ -11,8 +11,11 @@ loop-net-preserved c =
     let i : ℕ = c.loop-net.net-index in
     let here : i < length nets = c.loop-net-test.true in
     let (self, told) = c.loop-net.invariant in
-    let (fresh, grew) = added_is _ _ _ c.in_ok-add.ensures in
-    (sym grew ∙ grown_by c.args.self.now c.loop-net.self nets i here self, told ∙ new_more c.loop-net.self nets i here fresh ∙ ap (λ s. are_new s (drop (i + 1) nets)) grew)
+    let (fresh, grew) = added_is _ _ _ c.in_ok-add.ensures in (
+      sym grew ∙ grown_by c.args.self.now c.loop-net.self nets i here self,
+      told ∙ new_more c.loop-net.self nets i here fresh
+          ∙ ap (λ s. are_new s (drop (i + 1) nets)) grew,
+    )
 
 pub returns-in_err-add : goal.returns-in_err-add
 returns-in_err-add c =

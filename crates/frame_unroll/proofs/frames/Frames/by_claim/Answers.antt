@@ -28,7 +28,8 @@ in_order-requires c k has =
     let start = c.in_ok-add_clauses.ensures ∙ ap (λ (keys : List Key). with_clauses keys asked) c.new-found.ensures.empty in
     let within = subst (AreKeysWithin d c.args.cycles) (sym start) (start_within d c.args.cycles asked c.requires.within) in
     small_within d c.args.cycles k c.requires.sound c.requires.cycles
-    (claim_keys_within d claim c.args.tables.now.moved c.args.cycles c.add_clauses.new.found.keys c.requires.sound c.requires.fits within k (c.in_ok-reach_of_claim.ensures.only k has))
+    (claim_keys_within d claim c.args.tables.now.moved c.args.cycles c.add_clauses.new.found.keys c.requires.sound c.requires.fits within k
+    (c.in_ok-reach_of_claim.ensures.only k has))
 
 pub returns : goal.returns
 returns c =
@@ -40,11 +41,14 @@ returns c =
     let found = c.reach_of_claim.new.found.keys in
     let start = c.in_ok-add_clauses.ensures ∙ ap (λ (keys : List Key). with_clauses keys asked) c.new-found.ensures.empty in
     let reached = subst (λ (keys : List Key). AreReached (claim_reads d claim moved cycles) keys found) start c.in_ok-reach_of_claim.ensures in
-    let needed : (keys : List Key) → AreAscending found keys → (q : Query) (offset clean : ℕ) → q.design ≡ d → q.cycles ≡ cycles → q.question ≡ Violates claim offset clean → AreNeeded (definitions Rows q moved) asked keys =
+    let needed : (keys : List Key) → AreAscending found keys → (q : Query) (offset clean : ℕ) → q.design ≡ d → q.cycles ≡ cycles
+    → q.question ≡ Violates claim offset clean → AreNeeded (definitions Rows q moved) asked keys =
     λ keys sorted q offset clean of_design of_cycles asks.
     let sound = subst IsSound (sym of_design) c.requires.sound in
     let fits = subst (λ (e : Design). Fits e claim) (sym of_design) c.requires.fits in
-    let there = subst (λ (e : Design). AreReached (claim_reads e claim moved q.cycles) (with_clauses [] asked) found) (sym of_design) (subst (λ (n : ℕ). AreReached (claim_reads d claim moved n) (with_clauses [] asked) found) (sym of_cycles) reached) in
+    let there = subst (λ (e : Design). AreReached (claim_reads e claim moved q.cycles) (with_clauses [] asked) found) (sym of_design)
+    (subst (λ (n : ℕ). AreReached (claim_reads d claim moved n) (with_clauses [] asked) found) (sym of_cycles) reached) in
     needed_from_reached (definitions Rows q moved) asked (claim_reads q.design claim moved q.cycles) found keys
     (reads_used q claim offset clean moved sound fits asks) (used_read q claim offset clean moved sound fits asks) there sorted in
-    IfOk-weaker c.in_order.result (AreAscending found) (λ keys. (q : Query) (offset clean : ℕ) → q.design ≡ d → q.cycles ≡ cycles → q.question ≡ Violates claim offset clean → AreNeeded (definitions Rows q moved) asked keys) needed c.in_order.ensures
+    IfOk-weaker c.in_order.result (AreAscending found) (λ keys. (q : Query) (offset clean : ℕ) → q.design ≡ d → q.cycles ≡ cycles
+    → q.question ≡ Violates claim offset clean → AreNeeded (definitions Rows q moved) asked keys) needed c.in_order.ensures

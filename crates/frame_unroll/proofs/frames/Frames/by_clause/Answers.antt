@@ -31,9 +31,12 @@ returns c =
     let found = c.reach_of_clause.new.found.keys in
     let start = c.in_ok-add_clauses.ensures ∙ ap (λ (keys : List Key). with_clauses keys asked) c.new-found.ensures.empty in
     let reached = subst (λ (keys : List Key). AreReached (clause_reads d cycles) keys found) start c.in_ok-reach_of_clause.ensures in
-    let needed : (keys : List Key) → AreAscending found keys → (q : Query) (clause : InvClause) → q.design ≡ d → q.cycles ≡ cycles → q.question ≡ Breaks clause → AreNeeded (definitions Rows q []) asked keys =
+    let needed : (keys : List Key) → AreAscending found keys → (q : Query) (clause : InvClause) → q.design ≡ d → q.cycles ≡ cycles
+    → q.question ≡ Breaks clause → AreNeeded (definitions Rows q []) asked keys =
     λ keys sorted q clause of_design of_cycles asks.
-    let there = subst (λ (e : Design). AreReached (clause_reads e q.cycles) (with_clauses [] asked) found) (sym of_design) (subst (λ (n : ℕ). AreReached (clause_reads d n) (with_clauses [] asked) found) (sym of_cycles) reached) in
+    let there = subst (λ (e : Design). AreReached (clause_reads e q.cycles) (with_clauses [] asked) found) (sym of_design)
+    (subst (λ (n : ℕ). AreReached (clause_reads d n) (with_clauses [] asked) found) (sym of_cycles) reached) in
     needed_from_reached (definitions Rows q []) asked (clause_reads q.design q.cycles) found keys
     (clause_reads_used q clause [] asks) (clause_used_read q clause [] (subst IsSound (sym of_design) c.requires.sound) asks) there sorted in
-    IfOk-weaker c.in_order.result (AreAscending found) (λ keys. (q : Query) (clause : InvClause) → q.design ≡ d → q.cycles ≡ cycles → q.question ≡ Breaks clause → AreNeeded (definitions Rows q []) asked keys) needed c.in_order.ensures
+    IfOk-weaker c.in_order.result (AreAscending found) (λ keys. (q : Query) (clause : InvClause) → q.design ≡ d → q.cycles ≡ cycles
+    → q.question ≡ Breaks clause → AreNeeded (definitions Rows q []) asked keys) needed c.in_order.ensures

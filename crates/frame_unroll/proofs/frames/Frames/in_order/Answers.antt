@@ -7,7 +7,8 @@ invariant_of-result c =
     let found = c.args.found.keys in
     let keys = c.sort.new.self.keys in
     let moved = c.in_ok-sort.ensures.reordered.0 in
-    few_small keys (λ k has. c.requires k (Contains-permutation keys found k (IsPermutation-sym found keys moved) has)) (ascend_from_sorted keys c.in_ok-sort.ensures.sorted c.in_ok-sort.ensures.unique)
+    few_small keys (λ k has. c.requires k (Contains-permutation keys found k (IsPermutation-sym found keys moved) has))
+    (ascend_from_sorted keys c.in_ok-sort.ensures.sorted c.in_ok-sort.ensures.unique)
 
 pub returns : goal.returns
 returns c =

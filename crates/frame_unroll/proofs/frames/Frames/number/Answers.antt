@@ -16,5 +16,6 @@ pub returns-clause-inverse : goal.returns-clause-inverse
 returns-clause-inverse c n is =
     let keys : List Key = c.args.self.now in
     let k : Key = c.args.key.now in
-    let value = sym (number-found keys k c.in_ok-place.place (ap (position (same_key k)) (sym c.self.view_is) ∙ sym c.get_index_of.ensures.index ∙ c.in_ok-place.was)) in
+    let value = sym (number-found keys k c.in_ok-place.place (ap (position (same_key k)) (sym c.self.view_is) ∙ sym c.get_index_of.ensures.index
+    ∙ c.in_ok-place.was)) in
     key-numbered keys k n (sym value ∙ is)

@@ -14,15 +14,20 @@ pub returns : goal.returns
 returns c =
     let d = c.args.design.now in
     let asked = c.in_ok-asked.asked in
-    let Needed : List Key → Type 0 = λ keys. (p : Query) (clause : InvClause) → p.design ≡ d → p.cycles ≡ c.clause_span-span.result.cycles → p.question ≡ Breaks clause → AreNeeded (definitions Rows p []) asked keys in
-    let Framed : List Key → Type 0 = λ keys. (clause : InvClause) → slice_get c.args.inv.now c.args.place ≡ Some clause → AreFramesOf (clause_query d c.args.inv.now clause c.args.phase c.args.depth) keys in
+    let Needed : List Key → Type 0 = λ keys. (p : Query) (clause : InvClause) → p.design ≡ d → p.cycles ≡ c.clause_span-span.result.cycles
+    → p.question ≡ Breaks clause → AreNeeded (definitions Rows p []) asked keys in
+    let Framed : List Key → Type 0 = λ keys. (clause : InvClause) → slice_get c.args.inv.now c.args.place ≡ Some clause
+    → AreFramesOf (clause_query d c.args.inv.now clause c.args.phase c.args.depth) keys in
     let framed : (keys : List Key) → Needed keys → Framed keys = λ keys needed clause at.
-    let same : c.index-inv-place.result ≡ clause = c.index-inv-place.is ∙ get_or_from_slice_get c.args.inv.now c.args.place clause c.index-inv-place.result at in
+    let same : c.index-inv-place.result ≡ clause = c.index-inv-place.is ∙ get_or_from_slice_get c.args.inv.now c.args.place clause
+    c.index-inv-place.result at in
     let q = clause_query d c.args.inv.now clause c.args.phase c.args.depth in
-    let asks : asked ≡ asked_clauses q = c.in_ok-asked.ensures.asked ∙ ap (λ (x : InvClause). asked_clauses (clause_query d c.args.inv.now x c.args.phase c.args.depth)) same in
+    let asks : asked ≡ asked_clauses q = c.in_ok-asked.ensures.asked
+    ∙ ap (λ (x : InvClause). asked_clauses (clause_query d c.args.inv.now x c.args.phase c.args.depth)) same in
     record {
       moved = [];
       are_moved = refl;
-      are_needed = subst (λ (ls : List (List KeyLit)). AreNeeded (definitions Rows q []) ls keys) asks (needed q clause refl (sym c.clause_span-span.ensures.cycles) refl);
+      are_needed = subst (λ (ls : List (List KeyLit)). AreNeeded (definitions Rows q []) ls keys) asks
+          (needed q clause refl (sym c.clause_span-span.ensures.cycles) refl);
     } in
     IfOk-weaker c.by_clause.result Needed Framed framed c.by_clause.ensures

@@ -16,5 +16,6 @@ invariant_of-self c =
     let some = rw (← c.self.view_is) at c.requires in
     let within : c.len-last.result - 1 < length c.self.inside.trail.items = omega (arith, c.self.inside.trail.ok.0) in
     rw (c.truncate.ensures.items, c.truncate.ensures.capacity, c.index-2.ensures.value)
-    (IsAssignment-unset _ _ c.self.inside.marks.items c.self.inside.trail.items (c.len-last.result - 1) c.index.result.now c.self.invariant (omega (arith, c.self.inside.trail.ok.0))
+    (IsAssignment-unset _ _ c.self.inside.marks.items c.self.inside.trail.items (c.len-last.result - 1) c.index.result.now c.self.invariant
+    (omega (arith, c.self.inside.trail.ok.0))
     (get_or_read c.self.inside.trail.items (c.len-last.result - 1) c.index.result.now within c.index.ensures 0))

@@ -22,6 +22,7 @@ returns-then-not-is_set c = λ q.
 
 pub returns-in_ok-insert : goal.returns-in_ok-insert
 returns-in_ok-insert c = λ q.
-    ap (λ xs. is_set (c.self.inside.assigned.lits ++ xs) q) (c.in_ok-insert.ensures.keys ∙ ap (insert_key nat_cmp c.self.inside.others.keys) c.index.ensures.value)
+    ap (λ xs. is_set (c.self.inside.assigned.lits ++ xs) q) (c.in_ok-insert.ensures.keys ∙ ap (insert_key nat_cmp c.self.inside.others.keys)
+    c.index.ensures.value)
     ∙ set_others c.self.inside.assigned.lits c.self.inside.others.keys c.args.l q
     ∙ ap (λ xs. is_set xs q || (c.args.l == q)) c.self.view_is

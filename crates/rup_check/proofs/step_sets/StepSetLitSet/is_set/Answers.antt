@@ -8,7 +8,8 @@ use Rattle.rup_check.proofs.step_sets.StepSetLitSet.is_set.Goals as goal
 pub returns-then-is_set : goal.returns-then-is_set
 returns-then-is_set c =
     let lits = c.self.inside.assigned.lits in
-    c.if-is_set.true ∙ sym (ap (λ xs. is_set xs c.args.l) (sym c.self.view_is) ∙ is_set-append lits c.self.inside.others.keys c.args.l ∙ or_left _ _ (sym c.is_set.ensures ∙ c.if-is_set.true))
+    c.if-is_set.true ∙ sym (ap (λ xs. is_set xs c.args.l) (sym c.self.view_is) ∙ is_set-append lits c.self.inside.others.keys c.args.l
+    ∙ or_left _ _ (sym c.is_set.ensures ∙ c.if-is_set.true))
 
 pub returns-else-is_set : goal.returns-else-is_set
 returns-else-is_set c =

@@ -6,12 +6,31 @@ use Rattle.sat_solver.proofs.engines.Engine.decide.Goals as goal
 pub push_reserved-requires : goal.push_reserved-requires
 push_reserved-requires c =
     let e = c.self.inside in
-    omega (arith, levels_few e.clauses.items e.trail e.starts.items c.self.invariant.0.search, c.self.invariant.1, e.starts.ok.0, c.set.ensures.few, c.set.ensures.vars, ap length c.set.ensures.lits, length_push e.trail.lits c.in_ok-l.l)
+    omega (
+      arith,
+      levels_few e.clauses.items e.trail e.starts.items c.self.invariant.0.search,
+      c.self.invariant.1,
+      e.starts.ok.0,
+      c.set.ensures.few,
+      c.set.ensures.vars,
+      ap length c.set.ensures.lits,
+      length_push e.trail.lits c.in_ok-l.l,
+    )
 
 pub push_reserved-requires-2 : goal.push_reserved-requires-2
 push_reserved-requires-2 c =
     let e = c.self.inside in
-    omega (arith, levels_few e.clauses.items e.trail e.starts.items c.self.invariant.0.search, c.self.invariant.0.levels, c.self.invariant.2, e.walks.ok.0, c.set.ensures.few, c.set.ensures.vars, ap length c.set.ensures.lits, length_push e.trail.lits c.in_ok-l.l)
+    omega (
+      arith,
+      levels_few e.clauses.items e.trail e.starts.items c.self.invariant.0.search,
+      c.self.invariant.0.levels,
+      c.self.invariant.2,
+      e.walks.ok.0,
+      c.set.ensures.few,
+      c.set.ensures.vars,
+      ap length c.set.ensures.lits,
+      length_push e.trail.lits c.in_ok-l.l,
+    )
 
 pub invariant_of-self : goal.invariant_of-self
 invariant_of-self c =

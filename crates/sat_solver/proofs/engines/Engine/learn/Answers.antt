@@ -22,7 +22,8 @@ pub second_watch-second-requires-clause-falsified : goal.second_watch-second-req
 second_watch-second-requires-clause-falsified c = λ l m ne.
     let e = c.self.inside in
     let r = c.in_ok-learnt.learnt in
-    let learnt = learnt_shown e.trail.vars e.clauses.items _ e.trail.lits e.starts.items _ r.step r.level r.unit c.deref.ensures.value c.deref-2.ensures.value c.in_ok-learnt.ensures in
+    let learnt = learnt_shown e.trail.vars e.clauses.items _ e.trail.lits e.starts.items _ r.step r.level r.unit c.deref.ensures.value
+    c.deref-2.ensures.value c.in_ok-learnt.ensures in
     is_set-take (get_or e.starts.items r.level 0) e.trail.lits (negated l)
     (learnt.back.falsified l (ap (λ xs. is_set xs l) (sym (c.as_slice-2.ensures ∙ c.in_ok-clause.ensures)) ∙ m) ne)
 
@@ -48,9 +49,11 @@ pub watch-requires-clause-second_low : goal.watch-requires-clause-second_low
 watch-requires-clause-second_low c =
     let e = c.self.inside in
     let r = c.in_ok-learnt.learnt in
-    let learnt = learnt_shown e.trail.vars e.clauses.items _ e.trail.lits e.starts.items _ r.step r.level r.unit c.deref.ensures.value c.deref-2.ensures.value c.in_ok-learnt.ensures in
+    let learnt = learnt_shown e.trail.vars e.clauses.items _ e.trail.lits e.starts.items _ r.step r.level r.unit c.deref.ensures.value
+    c.deref-2.ensures.value c.in_ok-learnt.ensures in
     let V : List ℕ → Type 0 = λ xs. All (InVars e.trail.vars) xs in
-    second_low e.trail.vars c.provide.new.self.watches.limit (take (level_floor c.deref-4.result.now r.level) e.trail.lits) c.as_slice-2.result.now r.unit c.second_watch-second.result c.second_watch-second.ensures
+    second_low e.trail.vars c.provide.new.self.watches.limit (take (level_floor c.deref-4.result.now r.level) e.trail.lits) c.as_slice-2.result.now
+    r.unit c.second_watch-second.result c.second_watch-second.ensures
     (subst V (sym (c.as_slice-2.ensures ∙ c.in_ok-clause.ensures)) learnt.in_vars) (c.provide.ensures.more.limit ∙ c.self.invariant.0.queued.limit)
 
 pub set-requires-clause-in_vars : goal.set-requires-clause-in_vars
@@ -64,8 +67,10 @@ set-requires-clause-not_true c =
     let r = c.in_ok-learnt.learnt in
     let starts = c.self.inside.starts.items in
     let lits = c.self.inside.trail.lits in
-    let learnt = learnt_shown c.self.inside.trail.vars c.self.inside.clauses.items _ lits starts _ r.step r.level r.unit c.deref.ensures.value c.deref-2.ensures.value c.in_ok-learnt.ensures in
-    let from_is : c.index-from.result.now ≡ get_or starts r.level 0 = get_or_read starts r.level c.index-from.result.now learnt.back.below c.index-from.ensures 0 in
+    let learnt = learnt_shown c.self.inside.trail.vars c.self.inside.clauses.items _ lits starts _ r.step r.level r.unit c.deref.ensures.value
+    c.deref-2.ensures.value c.in_ok-learnt.ensures in
+    let from_is : c.index-from.result.now ≡ get_or starts r.level 0 = get_or_read starts r.level c.index-from.result.now learnt.back.below
+    c.index-from.ensures 0 in
     let u = unit_unset_at c.self.inside.clauses.items c.self.inside.trail starts r.step r.level r.unit c.self.invariant.0.search learnt in
     ap (λ xs. is_set xs r.unit) (c.truncate.ensures.lits ∙ ap (λ n. take n lits) from_is) ∙ u.0
 
@@ -74,8 +79,10 @@ set-requires-clause-not_false c =
     let r = c.in_ok-learnt.learnt in
     let starts = c.self.inside.starts.items in
     let lits = c.self.inside.trail.lits in
-    let learnt = learnt_shown c.self.inside.trail.vars c.self.inside.clauses.items _ lits starts _ r.step r.level r.unit c.deref.ensures.value c.deref-2.ensures.value c.in_ok-learnt.ensures in
-    let from_is : c.index-from.result.now ≡ get_or starts r.level 0 = get_or_read starts r.level c.index-from.result.now learnt.back.below c.index-from.ensures 0 in
+    let learnt = learnt_shown c.self.inside.trail.vars c.self.inside.clauses.items _ lits starts _ r.step r.level r.unit c.deref.ensures.value
+    c.deref-2.ensures.value c.in_ok-learnt.ensures in
+    let from_is : c.index-from.result.now ≡ get_or starts r.level 0 = get_or_read starts r.level c.index-from.result.now learnt.back.below
+    c.index-from.ensures 0 in
     let u = unit_unset_at c.self.inside.clauses.items c.self.inside.trail starts r.step r.level r.unit c.self.invariant.0.search learnt in
     ap (λ xs. is_set xs (negated r.unit)) (c.truncate.ensures.lits ∙ ap (λ n. take n lits) from_is) ∙ u.1
 
@@ -88,10 +95,13 @@ invariant_of-self-2 c =
     let walks = e.walks.items in
     let t = e.trail in
     let learnt = learnt_shown t.vars clauses _ t.lits starts _ r.step r.level r.unit c.deref.ensures.value c.deref-2.ensures.value c.in_ok-learnt.ensures in
-    let from_is : c.index-from.result.now ≡ get_or starts r.level 0 = get_or_read starts r.level c.index-from.result.now learnt.back.below c.index-from.ensures 0 in
-    let walk_is : c.index.result.now ≡ get_or walks r.level 0 = get_or_read walks r.level c.index.result.now (omega (arith, learnt.back.below, c.self.invariant.0.levels)) c.index.ensures 0 in
+    let from_is : c.index-from.result.now ≡ get_or starts r.level 0 = get_or_read starts r.level c.index-from.result.now learnt.back.below
+    c.index-from.ensures 0 in
+    let walk_is : c.index.result.now ≡ get_or walks r.level 0 = get_or_read walks r.level c.index.result.now
+    (omega (arith, learnt.back.below, c.self.invariant.0.levels)) c.index.ensures 0 in
     let clauses_are : c.push_reserved.new.self.items ≡ clauses ++ r.step.clause ∷ [] =
-    c.push_reserved.ensures.items ∙ ap (λ cs. cs ++ c.in_ok-clause.clause ∷ []) c.in_ok-reserve.ensures.items ∙ ap (λ x. clauses ++ x ∷ []) c.in_ok-clause.ensures in
+    c.push_reserved.ensures.items ∙ ap (λ cs. cs ++ c.in_ok-clause.clause ∷ []) c.in_ok-reserve.ensures.items
+    ∙ ap (λ x. clauses ++ x ∷ []) c.in_ok-clause.ensures in
     let place_is : c.len-place.result ≡ length clauses = omega (arith, c.len-place.ensures, c.in_ok-reserve.ensures.len, e.clauses.ok.0) in
     let vars_are : c.set.new.self.vars ≡ t.vars = c.set.ensures.vars ∙ c.truncate.ensures.vars in
     let second = c.second_watch-second.result in
@@ -99,7 +109,8 @@ invariant_of-self-2 c =
     let C : List ℕ → Type 0 = λ xs. IsSecond (take (level_floor starts r.level) t.lits) xs r.unit second in
     let A : ℕ → Type 0 = λ k. ArePut c.provide.new.self.watches.literals c.watch.new.self.watches.literals k r.unit second in
     rw (clauses_are, c.truncate-2.ensures.items, c.truncate-3.ensures.items) (
-      IsEngine-learn clauses t c.set.new.self starts walks e.queue c.provide.new.self c.watch.new.self r.step r.level r.unit second c.self.invariant.0 learnt c.provide.ensures.more
+      IsEngine-learn clauses t c.set.new.self starts walks e.queue c.provide.new.self c.watch.new.self r.step r.level r.unit second c.self.invariant.0
+          learnt c.provide.ensures.more
           (omega (arith, c.in_ok-provide.ensures.room, place_is))
           (subst C (c.as_slice-2.ensures ∙ c.in_ok-clause.ensures) (subst S c.deref-4.ensures.value c.second_watch-second.ensures))
           (subst A place_is c.watch.ensures.watched)
@@ -115,5 +126,6 @@ pub returns-clause-learnt : goal.returns-clause-learnt
 returns-clause-learnt c =
     let e = c.self.inside in
     let r = c.in_ok-learnt.learnt in
-    let learnt = learnt_shown e.trail.vars e.clauses.items _ e.trail.lits e.starts.items _ r.step r.level r.unit c.deref.ensures.value c.deref-2.ensures.value c.in_ok-learnt.ensures in
+    let learnt = learnt_shown e.trail.vars e.clauses.items _ e.trail.lits e.starts.items _ r.step r.level r.unit c.deref.ensures.value
+    c.deref-2.ensures.value c.in_ok-learnt.ensures in
     rw (← c.self.view_is) learnt

@@ -15,7 +15,8 @@ loop-var-preserved c =
     let low = c.loop-var.auto.var in
     let n : c.loop-var.var - 1 + 1 ≡ c.loop-var.var + 1 - 1 = omega arith in
     subst P (sym c.in_ok-push.ensures.ok)
-    (subst Q n (values_more lits (c.loop-var.var - 1) c.new.result c.loop-var.values c.is_set.result c.loop-var.invariant (omega (arith, c.new.ensures)) c.is_set.ensures))
+    (subst Q n (values_more lits (c.loop-var.var - 1) c.new.result c.loop-var.values c.is_set.result c.loop-var.invariant
+    (omega (arith, c.new.ensures)) c.is_set.ensures))
 
 pub returns-clause-long : goal.returns-clause-long
 returns-clause-long c =
@@ -29,5 +30,6 @@ returns-clause-model c =
     let all : c.loop-var.var - 1 ≡ t.vars = omega (arith, c.vars-var-end.ensures.value) in
     let V : ℕ → Type 0 = λ n. ValuesOf t.lits n c.loop-var.values in
     rw (← c.self.view_is)
-    (model_from_set t.vars c.self.inside.clauses.items t.lits c.loop-var.values c.self.invariant.0.search.in_vars (rw (← c.self.view_is) at c.requires.quiet) (rw (← c.self.view_is) at c.requires.set)
+    (model_from_set t.vars c.self.inside.clauses.items t.lits c.loop-var.values c.self.invariant.0.search.in_vars
+    (rw (← c.self.view_is) at c.requires.quiet) (rw (← c.self.view_is) at c.requires.set)
     c.lits-lits.ensures.distinct (subst V all c.loop-var.invariant))

@@ -14,7 +14,8 @@ gather-requires-clause-below c =
     let at = c.args.self.now.done in
     let p = c.index-lits-self.result in
     let L : List ℕ → Type 0 = λ xs. at < length xs in
-    let p_is : p ≡ get_or lits at 0 = get_or_read c.lits.result.now at p (subst L (sym c.lits.ensures.value) c.requires.within) c.index-lits-self.is 0 ∙ ap (λ xs. get_or xs at 0) c.lits.ensures.value in
+    let p_is : p ≡ get_or lits at 0 = get_or_read c.lits.result.now at p (subst L (sym c.lits.ensures.value) c.requires.within) c.index-lits-self.is 0
+    ∙ ap (λ xs. get_or xs at 0) c.lits.ensures.value in
     let holds : is_set lits p ≡ true = ap (is_set lits) p_is ∙ is_set-at lits at c.requires.within in
     let V : ℕ → Type 0 = InVars c.args.trail.now.vars in
     let v = in_vars_back c.args.trail.now.vars (negated p) (subst V (sym (negated-negated p)) (c.lits.ensures.in_vars p holds)) in
@@ -26,14 +27,17 @@ walk-requires c =
     let at = c.args.self.now.done in
     let p = c.index-lits-self.result in
     let L : List ℕ → Type 0 = λ xs. at < length xs in
-    let p_is : p ≡ get_or lits at 0 = get_or_read c.lits.result.now at p (subst L (sym c.lits.ensures.value) c.requires.within) c.index-lits-self.is 0 ∙ ap (λ xs. get_or xs at 0) c.lits.ensures.value in
+    let p_is : p ≡ get_or lits at 0 = get_or_read c.lits.result.now at p (subst L (sym c.lits.ensures.value) c.requires.within) c.index-lits-self.is 0
+    ∙ ap (λ xs. get_or xs at 0) c.lits.ensures.value in
     let holds : is_set lits p ≡ true = ap (is_set lits) p_is ∙ is_set-at lits at c.requires.within in
-    gathered_can c.args.clauses.now c.args.trail.now c.args.self.now c.gather.new.self p c.negated-falsified.result c.requires.in_vars c.requires.normal c.requires.queued holds c.negated-falsified.ensures
+    gathered_can c.args.clauses.now c.args.trail.now c.args.self.now c.gather.new.self p c.negated-falsified.result c.requires.in_vars
+    c.requires.normal c.requires.queued holds c.negated-falsified.ensures
     c.gather.ensures.limit c.gather.ensures.literals (λ n h. c.gather.ensures.on n h ∙ c.index.ensures.value)
 
 pub returns-in-Some-clause-settles : goal.returns-in-Some-clause-settles
 returns-in-Some-clause-settles c =
-    walk_conflicts c.args.clauses.now c.args.trail.now c.walk.new.trail c.args.self.now c.gather.new.self c.walk.new.watches c.negated-falsified.result c.requires.queued c.gather.ensures.literals c.walk.ensures.walks c.walk.ensures.none_waits
+    walk_conflicts c.args.clauses.now c.args.trail.now c.walk.new.trail c.args.self.now c.gather.new.self c.walk.new.watches
+    c.negated-falsified.result c.requires.queued c.gather.ensures.literals c.walk.ensures.walks c.walk.ensures.none_waits
 
 pub returns-in-None-clause-settles : goal.returns-in-None-clause-settles
 returns-in-None-clause-settles c =
@@ -41,6 +45,9 @@ returns-in-None-clause-settles c =
     let at = c.args.self.now.done in
     let p = c.index-lits-self.result in
     let L : List ℕ → Type 0 = λ xs. at < length xs in
-    let p_is : p ≡ get_or lits at 0 = get_or_read c.lits.result.now at p (subst L (sym c.lits.ensures.value) c.requires.within) c.index-lits-self.is 0 ∙ ap (λ xs. get_or xs at 0) c.lits.ensures.value in
-    walk_settles c.args.clauses.now c.args.trail.now c.walk.new.trail c.args.self.now c.gather.new.self c.walk.new.watches p c.negated-falsified.result c.requires.queued c.requires.within p_is c.negated-falsified.ensures
-    c.gather.ensures.literals (λ n e. c.gather.ensures.all n (e ∙ sym c.index.ensures.value)) c.walk.ensures.walks c.walk.ensures.none_waits c.in-None.ensures.walked
+    let p_is : p ≡ get_or lits at 0 = get_or_read c.lits.result.now at p (subst L (sym c.lits.ensures.value) c.requires.within) c.index-lits-self.is 0
+    ∙ ap (λ xs. get_or xs at 0) c.lits.ensures.value in
+    walk_settles c.args.clauses.now c.args.trail.now c.walk.new.trail c.args.self.now c.gather.new.self c.walk.new.watches p
+    c.negated-falsified.result c.requires.queued c.requires.within p_is c.negated-falsified.ensures
+    c.gather.ensures.literals (λ n e. c.gather.ensures.all n (e ∙ sym c.index.ensures.value)) c.walk.ensures.walks c.walk.ensures.none_waits
+    c.in-None.ensures.walked

@@ -6,4 +6,5 @@ use Rattle.texts.proofs.tables.NameTable.place.Goals as goal
 
 pub returns : goal.returns
 returns c =
-    c.unwrap_or.ensures ∙ rw (c.get_index_of.ensures.index, c.len.ensures.len) (unwrap_or-position (bytes_eq c.args.name.now) c.self.inside.names.keys ∙ ap (λ (names : List (List ℕ)). place_of c.args.name.now names) c.self.view_is)
+    c.unwrap_or.ensures ∙ rw (c.get_index_of.ensures.index, c.len.ensures.len) (unwrap_or-position (bytes_eq c.args.name.now) c.self.inside.names.keys
+    ∙ ap (λ (names : List (List ℕ)). place_of c.args.name.now names) c.self.view_is)

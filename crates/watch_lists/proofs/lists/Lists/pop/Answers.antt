@@ -30,7 +30,8 @@ invariant_of-self c =
     let head : c.index-head.result.now ≡ get_or heads c.args.list 0 = get_or_read heads c.args.list c.index-head.result.now here c.index-head.ensures 0 in
     let some : get_or heads c.args.list 0 ≡ suc (c.index-head.result.now - 1) = omega (arith, head, c.if-head-eq0.false) in
     let p = popped links heads c.args.list (c.index-head.result.now - 1) c.self.invariant here some in
-    let link : c.index.result.now ≡ get_or links (c.index-head.result.now - 1) 0 = get_or_read links (c.index-head.result.now - 1) c.index.result.now p.node c.index.ensures 0 in
+    let link : c.index.result.now ≡ get_or links (c.index-head.result.now - 1) 0 = get_or_read links (c.index-head.result.now - 1) c.index.result.now
+    p.node c.index.ensures 0 in
     rw link p.linked
 
 pub returns : goal.returns
@@ -41,5 +42,6 @@ returns c =
     let head : c.index-head.result.now ≡ get_or heads c.args.list 0 = get_or_read heads c.args.list c.index-head.result.now here c.index-head.ensures 0 in
     let some : get_or heads c.args.list 0 ≡ suc (c.index-head.result.now - 1) = omega (arith, head, c.if-head-eq0.false) in
     let p = popped links heads c.args.list (c.index-head.result.now - 1) c.self.invariant here some in
-    let link : c.index.result.now ≡ get_or links (c.index-head.result.now - 1) 0 = get_or_read links (c.index-head.result.now - 1) c.index.result.now p.node c.index.ensures 0 in
+    let link : c.index.result.now ≡ get_or links (c.index-head.result.now - 1) 0 = get_or_read links (c.index-head.result.now - 1) c.index.result.now
+    p.node c.index.ensures 0 in
     rw (← c.self.view_is, link) (p.node, p.free, (p.rest.0, p.rest.1, ap (λ ls. record { nodes = length links; lists = ls }) p.rest.2))
