@@ -1,0 +1,5 @@
+pub mod Solving
+pub mod Worked
+pub mod WorkedModules
+mod WorkedRefusals
+mod WorkedScan

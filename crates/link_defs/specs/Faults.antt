@@ -1,0 +1,174 @@
+-- Why a source gives no design: what each refusal says.
+use Rattle.std.specs.Prelude.{◌≡◌, ◌≢◌, ℕ, ◌<◌, ◌==◌, Bool, true, false, List, [], ◌∷◌, ◌++◌, length, map}
+use Rattle.std.specs.Prelude.{Contains, Some, None, slice_get, count_by}
+use Rattle.sdcv_base.specs.declared.limits.LimitName.{LimitName}
+use Rattle.sdcv_base.specs.declared.limits.LimitName.TheVariants as what
+use Rattle.net_model.specs.declared.netlist.Reg.{Reg}
+use Rattle.verilog_net.specs.declared.sources.Source.{Source}
+use Rattle.verilog_net.specs.declared.sources.Module.{Module}
+use Rattle.verilog_net.specs.declared.sources.Port.{Port}
+use Rattle.verilog_net.specs.declared.sources.Item.{Item}
+use Rattle.verilog_net.specs.declared.sources.Item.TheVariants as item
+use Rattle.verilog_net.specs.declared.sources.Conn.{Conn}
+use Rattle.verilog_net.specs.declared.sources.Wire.TheVariants as wire
+use Rattle.verilog_syntax.specs.declared.declarations.Dir.TheVariants as dir
+use Rattle.cell_types.specs.declared.libraries.Library.{Library}
+use Rattle.cell_types.specs.declared.libraries.Cell.{Cell}
+use Rattle.cell_types.specs.declared.libraries.CellKind.TheVariants as kind
+use Rattle.link_defs.specs.declared.circuits.Part.TheVariants as part
+use Rattle.link_defs.specs.declared.circuits.Circuit.{Circuit}
+use Rattle.link_defs.specs.declared.options.LinkOptions.{LinkOptions}
+use Rattle.link_defs.specs.declared.options.Setting.{Setting}
+use Rattle.link_defs.specs.declared.faults.LinkFault.{LinkFault}
+use Rattle.link_defs.specs.declared.faults.LinkFault.TheVariants as fault
+use Rattle.link_defs.specs.Hierarchy.{module_of, cell_of, wires_of, tops, IsRecursive}
+use Rattle.link_defs.specs.Flatten.{Flat, Located, flat_of, full_names}
+use Rattle.link_defs.specs.Circuits.{PortBit, circuit_of, input_bits, output_bits, data_bits, clock_bits, regs_of, all_gates, all_drivers}
+use Rattle.link_defs.specs.Circuits.{all_reads, all_data, OnTree, IsTree, IsOnCycle}
+use Rattle.link_defs.specs.Designs.{equations, drivers_by}
+use Rattle.link_defs.specs.CellNames.{Leaf, leaves, out_pins, clock_pins}
+
+-- an instance of the flat netlist: its reference, its full name and its connections
+pub record IsInstance (flat : Flat) (cell full : List ℕ) (conns : List Conn) : Type 0 where
+  pub at : Located
+  pub name : List ℕ
+  pub stands : Contains flat.items at
+  pub item_is : at.item ≡ item.Inst cell name conns
+  pub full_is : full ≡ at.scope.prefix ++ name
+
+-- a cell's pins: those that must be connected, and all
+abbrev pub in_pins : Cell → List (List ℕ)
+in_pins c = c.inputs ++ clock_pins c.kind
+
+-- all pins of a cell
+abbrev pub all_pins : Cell → List (List ℕ)
+all_pins c = in_pins c ++ out_pins c.kind ++ c.power
+
+-- the full name of a pin
+abbrev pub pin_of : List ℕ → List ℕ → List ℕ
+pin_of full pin = full ++ 47 ∷ pin
+
+-- an instance of this module
+abbrev pub IsOfModule : Source → Flat → Module → List ℕ → List Conn → Type 0
+IsOfModule s flat m full conns = (cell : List ℕ) × IsInstance flat cell full conns × (module_of s cell ≡ Some m)
+
+-- an instance of this cell, where no module has the name
+abbrev pub IsOfCell : Source → Library → Flat → Cell → List ℕ → List Conn → Type 0
+IsOfCell s lib flat c full conns = (cell : List ℕ) × IsInstance flat cell full conns × (module_of s cell ≡ None) × (cell_of lib cell ≡ Some c)
+
+-- an instance of a cell that can be modelled: no pin of another is looked at
+abbrev pub IsOfModelled : Source → Library → Flat → Cell → List ℕ → List Conn → Type 0
+IsOfModelled s lib flat c full conns = IsOfCell s lib flat c full conns × (c.kind ≢ kind.Other)
+
+-- a connection to a pin that isn't there
+pub data IsUnknownPin (s : Source) (lib : Library) (flat : Flat) : List ℕ → Type 0 where
+  Of_module : (m : Module) (full : List ℕ) (conns : List Conn) (c : Conn) → IsOfModule s flat m full conns → Contains conns c
+      → (Contains (map (λ (p : Port). p.name) m.ports) c.pin → ⊥) → IsUnknownPin s lib flat (pin_of full c.pin)
+  Of_cell : (cell : Cell) (full : List ℕ) (conns : List Conn) (c : Conn) → IsOfModelled s lib flat cell full conns → Contains conns c
+      → (Contains (all_pins cell) c.pin → ⊥) → IsUnknownPin s lib flat (pin_of full c.pin)
+
+-- an input or clock pin of a cell, or the first bit of an input port, that nothing is connected to
+pub data IsOpenInput (s : Source) (lib : Library) (flat : Flat) : List ℕ → Type 0 where
+  Port_open : (m : Module) (full : List ℕ) (conns : List Conn) (p : Port) (bit : ℕ) (name : List ℕ) → IsOfModule s flat m full conns
+      → Contains m.ports p → p.dir ≡ dir.Input
+      → wires_of conns p.name ≡ [] → slice_get p.bits 0 ≡ Some bit → slice_get m.nets bit ≡ Some name → IsOpenInput s lib flat (pin_of full name)
+  Pin_open : (cell : Cell) (full pin : List ℕ) (conns : List Conn) → IsOfModelled s lib flat cell full conns → Contains (in_pins cell) pin
+      → wires_of conns pin ≡ [] → IsOpenInput s lib flat (pin_of full pin)
+
+-- two drivers of one net, or a constant that is connected to an output
+pub data HasManyDrivers (s : Source) (lib : Library) (flat : Flat) (c : Circuit) : List ℕ → Type 0 where
+  Twice : (name : List ℕ) (net : ℕ) → Contains (full_names flat) (name, net) → 1 < count_by (λ m. m == net) (all_drivers c) → HasManyDrivers s lib flat c name
+  Port_tied : (m : Module) (full : List ℕ) (conns : List Conn) (p : Port) (bit : Bool) → IsOfModule s flat m full conns → Contains m.ports p
+      → p.dir ≡ dir.Output
+      → Contains (wires_of conns p.name) (wire.Const bit) → HasManyDrivers s lib flat c (pin_of full p.name)
+  Pin_tied : (cell : Cell) (full pin : List ℕ) (conns : List Conn) (bit : Bool) → IsOfModelled s lib flat cell full conns → Contains (out_pins cell.kind) pin
+      → Contains (wires_of conns pin) (wire.Const bit) → HasManyDrivers s lib flat c (pin_of full pin)
+
+-- a list has the name at two places
+abbrev pub StandsTwice : List (List ℕ) → List ℕ → Type 0
+StandsTwice names name = (i j : ℕ) × (i < j) × (slice_get names i ≡ Some name) × (slice_get names j ≡ Some name)
+
+-- the names of bits
+abbrev pub bit_names : List PortBit → List (List ℕ)
+bit_names bits = map (λ (b : PortBit). b.port.name) bits
+
+-- two cells, two port bits, or two nets that something drives or reads, with one full name
+pub data Clashes (s : Source) (lib : Library) (flat : Flat) (top : Module) (c : Circuit) (name : List ℕ) : Type 0 where
+  Cells : StandsTwice (map (λ (l : Leaf). l.name) (leaves s lib flat)) name → Clashes s lib flat top c name
+  Ports : StandsTwice (bit_names (input_bits top ++ output_bits top)) name → Clashes s lib flat top c name
+  Nets : (n m : ℕ) → n ≢ m → Contains (full_names flat) (name, n) → Contains (full_names flat) (name, m)
+      → Contains (all_drivers c ++ all_reads c) n → Contains (all_drivers c ++ all_reads c) m → Clashes s lib flat top c name
+
+-- modules, cells and primitives, counted where they stand
+abbrev pub is_instance : Item → Bool
+is_instance (item.Inst cell name conns) = true
+is_instance (item.Prim k name outs ins) = true
+is_instance (item.Copy to from) = false
+
+-- the item is an instance, wherever it stands
+abbrev pub is_counted : Located → Bool
+is_counted at = is_instance at.item
+
+-- a primitive of more inputs than six
+abbrev pub IsWidePrim : Item → Type 0
+IsWidePrim (item.Inst cell name conns) = ⊥
+IsWidePrim (item.Prim k name outs ins) = 6 < length ins
+IsWidePrim (item.Copy to from) = ⊥
+
+-- a cell or primitive with more input pins than six is used
+pub data HasManyPins (s : Source) (lib : Library) (flat : Flat) : Type 0 where
+  Of_cell : (cell : Cell) (full : List ℕ) (conns : List Conn) → IsOfModelled s lib flat cell full conns → 6 < length cell.inputs → HasManyPins s lib flat
+  Of_prim : (at : Located) → Contains flat.items at → IsWidePrim at.item → HasManyPins s lib flat
+
+-- a count above its limit; the number is the limit and 1
+pub data IsAboveLimit (s : Source) (lib : Library) (flat : Flat) (c : Circuit) : LimitName → ℕ → Type 0 where
+  Nets : (tree : List Bool) → IsTree c tree → 200000 < length (drivers_by c (equations tree c)) → IsAboveLimit s lib flat c what.Nets 200001
+  Regs : 20000 < length (regs_of c) → IsAboveLimit s lib flat c what.Registers 20001
+  Inputs : 2000 < length c.inputs → IsAboveLimit s lib flat c what.Inputs 2001
+  Outputs : 20000 < length c.outputs → IsAboveLimit s lib flat c what.Outputs 20001
+  Instances : 1000000 < count_by is_counted flat.items → IsAboveLimit s lib flat c what.Instances 1000001
+  Pins : HasManyPins s lib flat → IsAboveLimit s lib flat c what.Pins 7
+
+-- the names of the inputs that are given a value
+abbrev pub set_names : LinkOptions → List (List ℕ)
+set_names o = map (λ (x : Setting). x.name) (o.fixed ++ o.resets)
+
+-- a clock name that is no input bit, or a fixed or reset name that is no data input or is given twice
+pub data IsBadSetting (top : Module) (o : LinkOptions) (name : List ℕ) : Type 0 where
+  No_clock : o.clock ≡ Some name → clock_bits o.clock top ≡ [] → IsBadSetting top o name
+  No_input : Contains (set_names o) name → (Contains (bit_names (data_bits o.clock top)) name → ⊥) → IsBadSetting top o name
+  Twice : StandsTwice (set_names o) name → IsBadSetting top o name
+
+-- what a refusal says of the flat netlist below the top module
+abbrev pub IsFlatCause : Source → Library → LinkOptions → Module → Flat → Circuit → LinkFault → Type 0
+IsFlatCause s lib o top flat c (fault.UnknownCell cell) = (full : List ℕ) × (conns : List Conn) × IsInstance flat cell full conns
+    × (module_of s cell ≡ None) × (cell_of lib cell ≡ None)
+IsFlatCause s lib o top flat c (fault.UnsupportedCell cell) =
+    (full : List ℕ) × (conns : List Conn) × (found : Cell) × IsOfCell s lib flat found full conns × (found.name ≡ cell) × (found.kind ≡ kind.Other)
+IsFlatCause s lib o top flat c (fault.UnknownPin pin) = IsUnknownPin s lib flat pin
+IsFlatCause s lib o top flat c (fault.OpenInput pin) = IsOpenInput s lib flat pin
+IsFlatCause s lib o top flat c (fault.Undriven name) = (net : ℕ) × Contains (full_names flat) (name, net) × Contains (all_reads c) net
+    × (Contains (all_drivers c) net → ⊥)
+IsFlatCause s lib o top flat c (fault.ManyDrivers name) = HasManyDrivers s lib flat c name
+IsFlatCause s lib o top flat c (fault.Loop name) = (net : ℕ) × Contains (full_names flat) (name, net) × IsOnCycle (all_gates c) net
+IsFlatCause s lib o top flat c (fault.NotTheClock name) =
+    (l : Leaf) × (clock : ℕ) × (reg : Reg) × Contains (leaves s lib flat) l × (l.name ≡ name) × (l.part ≡ part.Flop clock reg) × (OnTree c clock false → ⊥)
+IsFlatCause s lib o top flat c (fault.ClockAsData name) = (net : ℕ) × (odd : Bool) × Contains (full_names flat) (name, net)
+    × Contains (all_data c) net × OnTree c net odd
+IsFlatCause s lib o top flat c (fault.NameClash name) = Clashes s lib flat top c name
+IsFlatCause s lib o top flat c (fault.Limit kind number) = IsAboveLimit s lib flat c kind number
+IsFlatCause s lib o top flat c (fault.BadSetting name) = IsBadSetting top o name
+IsFlatCause s lib o top flat c (fault.Recursive name) = IsRecursive s name
+IsFlatCause s lib o top flat c (fault.NoTop number) = ⊥
+IsFlatCause s lib o top flat c fault.Memory = Unit {0}
+
+-- what a refusal says; want of memory alone is free
+abbrev pub IsCause : Source → Library → LinkOptions → LinkFault → Type 0
+IsCause s lib o (fault.NoTop number) = (length (tops s) ≡ number) × (number ≢ 1)
+IsCause s lib o (fault.Recursive name) = IsRecursive s name
+IsCause s lib o fault.Memory = Unit {0}
+IsCause s lib o f = (top : Module) × (tops s ≡ top ∷ []) × IsFlatCause s lib o top (flat_of s lib top) (circuit_of s lib top o.clock) f
+
+-- no refusal but that of memory has its cause
+abbrev pub IsFaultless : Source → Library → LinkOptions → Type 0
+IsFaultless s lib o = (f : LinkFault) → f ≢ fault.Memory → IsCause s lib o f → ⊥

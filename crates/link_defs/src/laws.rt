@@ -1,0 +1,15 @@
+//! The law of linking. It is the contract of a call that does nothing, for callers that cite it.
+ghost use Rattle.std.specs.Prelude.{Bool, List};
+ghost use Rattle.net_model.specs.Netlist.{IsSound};
+ghost use Rattle.net_model.specs.declared.netlist.Gate.{Gate as GateRecord};
+ghost use Rattle.link_defs.specs.Designs.{IsDesignOf, AreSolutions};
+
+use crate::circuits::Circuit;
+use net_model::Design;
+
+/// The settled cycles of a sound design of a flat netlist are exactly the solutions of the netlist's equations with the
+/// same register and input bits, and what its registers capture is what the netlist's flops do.
+pub fn solutions_are(circuit: &Circuit, design: &Design)
+    ensures { (tree : List Bool) (order : List GateRecord) → IsDesignOf circuit.now tree order design.now → IsSound design.now
+        → AreSolutions circuit.now tree order design.now }
+{}

@@ -1,0 +1,19 @@
+//! What linking is: the flat netlist of a source, its equations over nets, the design and the names that stand for
+//! them, and the cause of each refusal. The crates that link a source are judged by these words.
+//!
+//! Read `specs/Flatten.antt` first (the instances of a source and the net of each of their names), then `Parts` (what
+//! the items read and drive), `Circuits` (drivers, readers, the clock tree, cycles), `Designs` (the design and its
+//! solutions), `CellNames` and `Faults`. `proofs/Worked.antt` has netlists that these definitions link, by computing.
+#![tactic(auto)]
+
+mod circuits;
+mod faults;
+mod laws;
+mod names;
+mod options;
+
+pub use circuits::{Circuit, Part};
+pub use faults::LinkFault;
+pub use laws::solutions_are;
+pub use names::{CellName, Linked, Names, NetName, PinName, PinRole, PortName};
+pub use options::{LinkOptions, Setting};
