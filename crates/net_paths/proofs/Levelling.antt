@@ -38,11 +38,11 @@ at_least_is : (a b : ℕ) (o : Option ℕ) → o ≡ Some b → IsAtLeast a o �
 at_least_is a b None e at = absurd at
 at_least_is a b (Some c) e at = let same : c ≡ b = grind arith in omega (arith, same, at)
 
-at_least_some : (a : ℕ) (o : Option ℕ) → IsAtLeast a o → (b : ℕ) × (o ≡ Some b) × (a ≤ b)
+pub at_least_some : (a : ℕ) (o : Option ℕ) → IsAtLeast a o → (b : ℕ) × (o ≡ Some b) × (a ≤ b)
 at_least_some a None at = absurd at
 at_least_some a (Some b) at = (b, refl, at)
 
-none_is_no_level : (n : ℕ) → None ≡ Some n → ⊥
+pub none_is_no_level : (n : ℕ) → None ≡ Some n → ⊥
 none_is_no_level n e = grind arith
 
 some_same : {A : Type 0} (x y : A) → Some x ≡ Some y → x ≡ y
@@ -104,7 +104,7 @@ reg_outs_are_sources d r None net at (i, below, is) = absurd (omega arith)
 reg_outs_are_sources d r (Some reg) net at has = flat_has reg_nets d.regs r reg net at has
 
 -- the nets of a start are driven by inputs and registers
-start_is_source : (d : Design) (start : Start) (net : ℕ) → IsStartIn d start → Contains (start_nets d start) net → Contains (source_nets d) net
+pub start_is_source : (d : Design) (start : Start) (net : ℕ) → IsStartIn d start → Contains (start_nets d start) net → Contains (source_nets d) net
 start_is_source d (RegStart r) net fits has = Contains-append_right d.inputs (flat_map reg_nets d.regs) net
     (reg_outs_are_sources d r (slice_get d.regs r) net refl has)
 start_is_source d (InputStart i) net fits has =
@@ -114,7 +114,7 @@ start_is_source d (InputStart i) net fits has =
 source_before : (d : Design) (k net : ℕ) → Contains (source_nets d) net → Contains (before d k) net
 source_before d k net has = Contains-append_left (source_nets d) (gate_nets (take k d.gates)) net has
 
-out_in_range : (d : Design) (k : ℕ) (g : Gate) → IsSound d → slice_get d.gates k ≡ Some g → g.out < d.nets
+pub out_in_range : (d : Design) (k : ℕ) (g : Gate) → IsSound d → slice_get d.gates k ≡ Some g → g.out < d.nets
 out_in_range d k g sound at = (All-at (IsGateInRange d) d.gates k g at sound.in_range.gates).out
 
 -- a net that is driven before the next gate is driven before this one, or is its output

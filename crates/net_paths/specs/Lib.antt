@@ -1,1 +1,6 @@
 pub mod Levels
+pub mod Readers
+pub mod Cones
+pub mod Those
+pub mod Searches
+pub mod Launches

@@ -1,13 +1,22 @@
-//! Whether a path of pins leads from a start to an end and meets the through sets in their order.
+//! Whether a path of pins leads from a start to an end and meets the through sets in their order, and to which ends
+//! paths lead from a start.
 //!
 //! Read `paths.rt`: `has_path` looks at each gate once, in the design's order, and keeps for each net how many sets a
 //! path to it can have met (`specs/Levels.antt`). More sets met are never worse, so the greatest number is enough.
+//! `searches.rt`: `Search::ends_from` finds all ends of a start in its cone (`cones.rt`), the nets to which paths lead from
+//! it, without a look at the rest of the design.
 #![tactic(auto)]
 
+mod cones;
+mod ends;
+mod launches;
 mod levels;
 mod paths;
+mod readers;
+mod searches;
 mod sets;
 #[cfg(test)]
 mod tests;
 
 pub use paths::has_path;
+pub use searches::Search;

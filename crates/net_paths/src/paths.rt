@@ -29,7 +29,13 @@ pub fn has_path(
     Ok(meets_at_end(design, through, &levels, end))
 }
 
-fn meets_at_end(design: &Design, sets: &Seq<PinSet>, levels: &Seq<Option<usize>>, end: &End) -> bool
+/// Whether a path to a net of these levels goes on to a pin of the end and meets all sets.
+pub(crate) fn meets_at_end(
+    design: &Design,
+    sets: &Seq<PinSet>,
+    levels: &Seq<Option<usize>>,
+    end: &End,
+) -> bool
     requires sound { IsSound design.now }
     requires end { IsEndIn design.now end.now }
     requires len { length levels.now ≡ design.now.nets }
