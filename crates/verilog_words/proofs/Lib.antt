@@ -1,1 +1,7 @@
+pub mod BlankLemmas
+pub mod ConstantLemmas
+pub mod FrontLemmas
+pub mod NumberLemmas
+pub mod ReadLemmas
 pub mod TokenLemmas
+pub mod WordLemmas

@@ -1,2 +1,9 @@
-pub mod Words
+pub mod Blanks
+pub mod Codes
+pub mod Constants
+pub mod Marks
+pub mod Names
+pub mod Numbers
+pub mod Reads
 pub mod Tokens
+pub mod Words

@@ -5,9 +5,11 @@ use Rattle.std.specs.List.{list_any}
 use Rattle.std.specs.Str.{bytes_eq}
 use Rattle.verilog_words.specs.declared.words.Word.{Word}
 use Rattle.verilog_words.specs.declared.words.Word.TheVariants as word
+use Rattle.verilog_words.specs.declared.gates.PrimKind.{PrimKind}
+use Rattle.verilog_words.specs.declared.gates.PrimKind.TheVariants as gate
 
--- the word beside these bytes in a table
-abbrev pub in_table : List (List ℕ × Word) → List ℕ → Option Word
+-- what stands beside these bytes in a table
+abbrev pub in_table : {A : Type 0} → List (List ℕ × A) → List ℕ → Option A
 in_table rows x = option_map (λ row. row.1) (find (λ row. bytes_eq x row.0) rows)
 
 -- words of modules, ports, nets and assignments
@@ -24,16 +26,16 @@ module_word x = in_table (
     ∷ []) x
 
 -- the gate primitives
-unfoldable pub gate_word : List ℕ → Option Word
+unfoldable pub gate_word : List ℕ → Option PrimKind
 gate_word x = in_table (
-    (codes "and", word.And)
-    ∷ (codes "nand", word.Nand)
-    ∷ (codes "or", word.Or)
-    ∷ (codes "nor", word.Nor)
-    ∷ (codes "xor", word.Xor)
-    ∷ (codes "xnor", word.Xnor)
-    ∷ (codes "buf", word.Buf)
-    ∷ (codes "not", word.Not)
+    (codes "and", gate.And)
+    ∷ (codes "nand", gate.Nand)
+    ∷ (codes "or", gate.Or)
+    ∷ (codes "nor", gate.Nor)
+    ∷ (codes "xor", gate.Xor)
+    ∷ (codes "xnor", gate.Xnor)
+    ∷ (codes "buf", gate.Buf)
+    ∷ (codes "not", gate.Not)
     ∷ []) x
 
 -- words of behaviour and parameters, which no netlist of the subset has
@@ -48,4 +50,4 @@ is_strength x = list_any (bytes_eq x) (codes "inout" ∷ codes "tri" ∷ codes "
 
 -- the word that these bytes are
 unfoldable pub word_of : List ℕ → Option Word
-word_of x = option_or (module_word x) (option_or (gate_word x) (if is_behaviour x || is_strength x then Some word.Unsupported else None))
+word_of x = option_or (module_word x) (option_or (option_map word.Gate (gate_word x)) (if is_behaviour x || is_strength x then Some word.Unsupported else None))

@@ -1,13 +1,31 @@
-//! The words and marks of a Verilog netlist (IEEE 1364-2005, clause 3).
+//! The words of structural Verilog (IEEE 1364-2005, clause 3): from bytes to names, words, marks, numbers and constants.
 //!
-//! Here white space is space, tab and newline, and a token is a word of the subset, a simple identifier or a single
-//! byte. `take_token` is the call to read first; which tokens make a netlist is left to the crate above.
+//! Each call takes one token and passes over what stands after it: white space, comments, attributes, and directives
+//! where a line begins (`skip_blanks`). A fault lies at the byte at which a token cannot go on. Which tokens make a netlist
+//! is left to the crate above. `take_token` and `try_mark` are the tokens of the first form alone, with white space before
+//! them.
 #![tactic(auto)]
 
+mod blanks;
+mod constants;
+mod faults;
+mod gates;
+mod marks;
+mod names;
+mod numbers;
 #[cfg(test)]
 mod tests;
 mod tokens;
 mod words;
 
+pub use blanks::skip_blanks;
+pub use constants::take_constant;
+pub use faults::SyntaxFault;
+pub use gates::PrimKind;
+pub use marks::{expect_mark, expect_open, is_next, opens_list, refused, try_pass};
+pub use names::{
+    begins_name, expect_word, has_word, identifier, next_word, skip_identifier, take_name, try_word,
+};
+pub use numbers::{begins_number, take_number};
 pub use tokens::{Token, take_token, try_mark};
 pub use words::{Word, word_of};

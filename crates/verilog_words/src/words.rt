@@ -3,6 +3,8 @@ ghost use Rattle.std.specs.Prelude.{◌≡◌};
 ghost use Rattle.std.specs.Str.{bytes_eq};
 ghost use Rattle.verilog_words.specs.Words as spec;
 
+use crate::gates::PrimKind;
+
 /// A word of the subset.
 #[derive(Clone, Copy, Debug, PartialEq, Eq)]
 pub enum Word {
@@ -14,14 +16,7 @@ pub enum Word {
     Supply0,
     Supply1,
     Assign,
-    And,
-    Nand,
-    Or,
-    Nor,
-    Xor,
-    Xnor,
-    Buf,
-    Not,
+    Gate(PrimKind),
     /// A word that begins a construct outside the subset.
     Unsupported,
 }
@@ -58,25 +53,25 @@ fn module_word(name: &[u8]) -> Option<Word>
 }
 
 #[tactic(auto, unfolding(crate::specs::Words::gate_word))]
-fn gate_word(name: &[u8]) -> Option<Word>
+fn gate_word(name: &[u8]) -> Option<PrimKind>
     ensures { result ≡ spec.gate_word name.now }
 {
     if is(name, "and") {
-        Some(Word::And)
+        Some(PrimKind::And)
     } else if is(name, "nand") {
-        Some(Word::Nand)
+        Some(PrimKind::Nand)
     } else if is(name, "or") {
-        Some(Word::Or)
+        Some(PrimKind::Or)
     } else if is(name, "nor") {
-        Some(Word::Nor)
+        Some(PrimKind::Nor)
     } else if is(name, "xor") {
-        Some(Word::Xor)
+        Some(PrimKind::Xor)
     } else if is(name, "xnor") {
-        Some(Word::Xnor)
+        Some(PrimKind::Xnor)
     } else if is(name, "buf") {
-        Some(Word::Buf)
+        Some(PrimKind::Buf)
     } else if is(name, "not") {
-        Some(Word::Not)
+        Some(PrimKind::Not)
     } else {
         None
     }
@@ -126,8 +121,8 @@ pub fn word_of(name: &[u8]) -> Option<Word>
     if let Some(word) = module_word(name) {
         return Some(word);
     }
-    if let Some(word) = gate_word(name) {
-        return Some(word);
+    if let Some(kind) = gate_word(name) {
+        return Some(Word::Gate(kind));
     }
     if is_behaviour(name) || is_strength(name) {
         return Some(Word::Unsupported);

@@ -1,0 +1,12 @@
+-- Refusals of one rule that go through to another.
+use Rattle.std.proofs.Common.{◌≡◌, ℕ, Result, Err}
+use Rattle.verilog_words.specs.declared.faults.SyntaxFault.{SyntaxFault}
+use Rattle.verilog_words.specs.declared.faults.SyntaxFault.TheVariants as fault
+use Rattle.verilog_words.specs.Reads.{Fails}
+
+-- what is refused where its part is, in a text of the same length
+pub fails_through : {A B : Type 0} (old new : ℕ) → old ≡ new → (e : SyntaxFault) (a : Result A SyntaxFault) (b : Result B SyntaxFault) → Fails old e a
+    → ((why : SyntaxFault) → a ≡ Err why → b ≡ Err why) → Fails new e b
+fails_through old new same (fault.Syntax place) a b h f = (f (fault.Syntax place) h.0, rw (← same) h.1)
+fails_through old new same (fault.Unsupported place word) a b h f = (f (fault.Unsupported place word) h.0, rw (← same) h.1)
+fails_through old new same fault.Memory a b h f = tt

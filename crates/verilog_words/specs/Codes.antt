@@ -1,0 +1,73 @@
+-- The marks of the grammar, by their codes.
+use Rattle.std.specs.Prelude.{ℕ}
+
+abbrev pub newline : ℕ
+newline = 10
+
+-- `$`
+abbrev pub dollar : ℕ
+dollar = 36
+
+-- `'`
+abbrev pub apostrophe : ℕ
+apostrophe = 39
+
+-- `(`
+abbrev pub left_paren : ℕ
+left_paren = 40
+
+-- `)`
+abbrev pub right_paren : ℕ
+right_paren = 41
+
+-- `*`
+abbrev pub star : ℕ
+star = 42
+
+-- `,`
+abbrev pub comma : ℕ
+comma = 44
+
+-- `.`
+abbrev pub dot : ℕ
+dot = 46
+
+-- `/`
+abbrev pub slash : ℕ
+slash = 47
+
+-- `:`
+abbrev pub colon : ℕ
+colon = 58
+
+-- `;`
+abbrev pub semicolon : ℕ
+semicolon = 59
+
+-- `=`
+abbrev pub equals : ℕ
+equals = 61
+
+-- `[`
+abbrev pub left_bracket : ℕ
+left_bracket = 91
+
+-- a backslash
+abbrev pub backslash : ℕ
+backslash = 92
+
+-- `]`
+abbrev pub right_bracket : ℕ
+right_bracket = 93
+
+-- `_`
+abbrev pub underscore : ℕ
+underscore = 95
+
+-- `{`
+abbrev pub left_brace : ℕ
+left_brace = 123
+
+-- `}`
+abbrev pub right_brace : ℕ
+right_brace = 125

@@ -1,0 +1,36 @@
+//! Why a text is no row of modules.
+ghost use Rattle.std.specs.Prelude.{◌≡◌};
+ghost use Rattle.verilog_words.specs.declared.faults.SyntaxFault.TheVariants as fault;
+
+use sdcv_base::Name;
+use std::alloc::{AllocError, AllocFailed};
+use thiserror::Error;
+
+/// Why a text is no row of modules. Offsets count bytes from 0.
+#[derive(Debug, Drop, Error)]
+pub enum SyntaxFault {
+    /// The text breaks the grammar there. The offset is at most the text's length.
+    #[error("byte {0}: no netlist goes on like this")]
+    Syntax(usize),
+    /// A word of behaviour, or another one that is left out, begins an item there, or stands where a module could begin.
+    #[error("byte {0}: {1} begins nothing that a netlist has")]
+    Unsupported(usize, Name),
+    #[error("out of memory")]
+    Memory,
+}
+
+impl From<AllocError> for SyntaxFault {
+    ghost from_gives = { λ _ e. e ≡ fault.Memory };
+
+    fn from(_: AllocError) -> SyntaxFault {
+        SyntaxFault::Memory
+    }
+}
+
+impl<T: Drop> From<AllocFailed<T>> for SyntaxFault {
+    ghost from_gives = { λ _ e. e ≡ fault.Memory };
+
+    fn from(_: AllocFailed<T>) -> SyntaxFault {
+        SyntaxFault::Memory
+    }
+}
