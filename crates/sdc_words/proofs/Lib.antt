@@ -1,0 +1,6 @@
+pub mod BraceLemmas
+pub mod LineLemmas
+pub mod BlankLemmas
+pub mod PieceLemmas
+pub mod ReadLemmas
+pub mod WordLemmas

@@ -1,0 +1,9 @@
+pub mod Blanks
+pub mod Braces
+pub mod Commands
+pub mod Lines
+pub mod Marks
+pub mod Pieces
+pub mod Reads
+pub mod Texts
+pub mod Words

@@ -1,0 +1,42 @@
+//! Why a text is no list of commands.
+ghost use Rattle.std.specs.Prelude.{◌≡◌, length};
+ghost use Rattle.sdcv_base.specs.Cursors.{rest, text_of};
+ghost use Rattle.texts.specs.Rules.{offset_of};
+ghost use Rattle.sdc_words.specs.declared.faults.WordFault.TheVariants as fault;
+
+use sdcv_base::Cursor;
+use std::alloc::{AllocError, AllocFailed};
+use thiserror::Error;
+
+/// Why a text is no list of commands. Offsets count bytes from 0.
+#[derive(Debug, Drop, Error)]
+pub enum WordFault {
+    /// No word goes on there like this. The offset is at most the text's length.
+    #[error("byte {0}: no SDC command goes on like this")]
+    Syntax(usize),
+    #[error("out of memory")]
+    Memory,
+}
+
+impl From<AllocError> for WordFault {
+    ghost from_gives = { λ _ e. e ≡ fault.Memory };
+
+    fn from(_: AllocError) -> WordFault {
+        WordFault::Memory
+    }
+}
+
+impl<T: Drop> From<AllocFailed<T>> for WordFault {
+    ghost from_gives = { λ _ e. e ≡ fault.Memory };
+
+    fn from(_: AllocFailed<T>) -> WordFault {
+        WordFault::Memory
+    }
+}
+
+/// The text breaks the grammar here.
+pub fn refused(c: &Cursor<'_>) -> WordFault
+    ensures { result ≡ fault.Syntax (offset_of (length (text_of c.now)) (rest c.now)) }
+{
+    WordFault::Syntax(c.place())
+}

@@ -1,0 +1,25 @@
+//! The words of an SDC text's commands (SDC 2.1, in the words of Tcl): from bytes to pieces, without any variable's value.
+//!
+//! `Commands` goes through a text command by command, each with its line; it is the type to read first. Brackets stand among
+//! the words as marks, so a command is one flat list whatever its nesting. Before that `cleaned` leaves out the carriage
+//! returns before newlines, and `original` tells where a byte stood. What a command is, and the values of its words, are
+//! left to the crates above; `matched_len` is for the lists in them.
+#![tactic(auto)]
+
+mod blanks;
+mod braces;
+mod commands;
+mod faults;
+mod lines;
+mod pieces;
+mod plain_words;
+#[cfg(test)]
+mod tests;
+mod word_lists;
+mod words;
+
+pub use braces::matched_len;
+pub use commands::Commands;
+pub use faults::WordFault;
+pub use lines::{cleaned, original};
+pub use words::{Piece, RawCommand, Word};
