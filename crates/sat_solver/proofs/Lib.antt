@@ -10,3 +10,4 @@ pub mod Counting
 pub mod Logging
 pub mod Watching
 pub mod Queueing
+pub mod Deciding

@@ -23,6 +23,27 @@ use Rattle.sat_solver.proofs.Watching.{KeepsHalves-set, Halves-kept, place_withi
 use Rattle.sat_solver.proofs.Levels.{IsSearch-extends, IsSearch-decide, IsSearch-back}
 use Rattle.sat_solver.proofs.AtConflict.{IsSearch-learn, unit_unset_at}
 
+-- no literal is set, and no level is open
+pub IsEngine-start : (clauses : List (List ℕ)) (vars : ℕ) (q : Queue) → AllInVars vars clauses → All IsNormal clauses
+    → IsQueued clauses (record { vars = vars; lits = []; reasons = [] }) q
+    → IsEngine clauses (record { vars = vars; lits = []; reasons = [] }) [] [] q
+IsEngine-start clauses vars q in_vars normal queued = record {
+  search = record {
+    in_vars = in_vars;
+    ordered = λ j k lt h. absurd (omega (arith, h));
+    deep = λ k h. absurd (omega (arith, h));
+    within = λ k h. absurd (omega (arith, h));
+    quiet = λ k h. absurd (omega (arith, h));
+    paired = refl;
+    justified = λ i h. absurd (omega (arith, h));
+  };
+  normal = normal;
+  queued = queued;
+  levels = refl;
+  low = λ k h. absurd (omega (arith, h));
+  below = λ k h. absurd (omega (arith, h));
+}
+
 -- the queue is worked off
 pub IsEngine-settle : (clauses : List (List ℕ)) (t new : Trailed) (starts walks : List ℕ) (q new_q : Queue) → IsEngine clauses t starts walks q
     → Settles clauses t q new new_q → IsEngine clauses new starts walks new_q

@@ -1,8 +1,10 @@
 -- What an engine keeps between its calls.
-use Rattle.std.specs.Prelude.{◌≡◌, ℕ, zero, suc, All, ◌<◌, ◌≤◌, ◌⊎◌, List, length, take, slice_index}
-use Rattle.sat_solver.specs.Searches.{AllInVars, IsQuiet, IsUnitAt}
+use Rattle.std.specs.Prelude.{◌≡◌, ℕ, zero, suc, true, All, ◌<◌, ◌≤◌, ◌⊎◌, List, length, take, slice_index}
+use Rattle.sat_solver.specs.Searches.{AllInVars, IsQuiet, IsUnitAt, IsUnset}
 use Rattle.sat_solver.specs.Trails.{Trailed}
-use Rattle.proof_log.specs.Clauses.{IsNormal}
+use Rattle.proof_log.specs.Literals.{lit_var}
+use Rattle.proof_log.specs.Clauses.{is_set, IsNormal}
+use Rattle.decision_heap.specs.Heaps.{Waiting}
 use Rattle.sat_solver.specs.Watches.{IsQueued, Halves}
 use Rattle.sat_solver.specs.declared.propagation.Queue.{Queue}
 
@@ -28,6 +30,11 @@ pub record IsEngine (clauses : List (List ℕ)) (t : Trailed) (starts walks : Li
   pub low : (k : ℕ) → k < length starts → slice_index walks k ≤ slice_index starts k
   pub below : (k : ℕ) → k < length starts
       → Halves q.watches.literals (take (slice_index walks k) t.lits) (take (slice_index starts k) t.lits)
+
+-- each unset variable waits for a decision
+pub record AreWaiting (count : ℕ) (lits : List ℕ) (w : Waiting) : Type 0 where
+  pub vars : w.vars ≡ count
+  pub waits : (l : ℕ) → IsUnset count lits l → is_set w.inside (lit_var l) ≡ true
 
 -- where the level below that one begins, 0 for the lowest
 abbrev pub level_floor : List ℕ → ℕ → ℕ

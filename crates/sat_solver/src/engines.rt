@@ -67,14 +67,15 @@ pub struct Engine {
 impl Model for Engine {
     ghost use Rattle.std.specs.Prelude.{vec_capacity, ◌+◌, ◌≤◌};
     ghost use Rattle.sat_solver.specs.Searches.{Search, search_of};
-    ghost use Rattle.sat_solver.specs.Engines.{IsEngine};
+    ghost use Rattle.sat_solver.specs.Engines.{IsEngine, AreWaiting};
 
     ghost Value = { Search };
 
     ghost view = { λ e. search_of e.trail.vars e.clauses.items e.trail.lits e.starts.items };
 
     ghost invariant = { λ e. IsEngine e.clauses.items e.trail e.starts.items e.walks.items e.queue
-        × (e.trail.vars + 1 ≤ vec_capacity e.starts) × (e.trail.vars + 1 ≤ vec_capacity e.walks) };
+        × (e.trail.vars + 1 ≤ vec_capacity e.starts) × (e.trail.vars + 1 ≤ vec_capacity e.walks)
+        × AreWaiting e.trail.vars e.trail.lits e.activities.waiting };
 }
 
 impl Engine {
@@ -136,7 +137,7 @@ impl Engine {
             ≡ record self.old { lits = self.old.lits ++ l ∷ []; starts = self.old.starts ++ length self.old.lits ∷ [] }) }
         ensures few { IfSome result (λ l. length self.new.lits ≤ self.new.vars + 1) }
     {
-        let l = best_unset(&self.trail, &self.activities)?;
+        let l = self.activities.next_unset(&self.trail)?;
         let start = self.trail.len();
         self.trail.set(l, 0);
         self.starts.push_reserved(start);
@@ -153,7 +154,7 @@ impl Engine {
     {
         if level < self.starts.len() {
             let from = self.starts[level];
-            self.activities.keep_phases(&self.trail, from);
+            self.activities.release(&self.trail, from);
             self.trail.truncate(from);
             self.queue.done = self.walks[level];
             self.starts.truncate(level);
@@ -184,7 +185,7 @@ impl Engine {
             .raise_hints(&self.clauses, learnt.step.hints.as_slice());
         let second = second_watch(&self.trail, &self.starts, clause.as_slice(), &learnt);
         let from = self.starts[learnt.level];
-        self.activities.keep_phases(&self.trail, from);
+        self.activities.release(&self.trail, from);
         self.trail.truncate(from);
         self.queue.done = self.walks[learnt.level];
         self.starts.truncate(learnt.level);
@@ -244,30 +245,4 @@ fn queue_of(alloc: Global, vars: u32, clauses: &[Clause]) -> Result<Queue, Alloc
         queue.add_clause(place, clause.as_slice())?;
     }
     Ok(queue)
-}
-
-/// The unset variable of the greatest score, as the literal of its phase.
-fn best_unset(trail: &Trail, activities: &Activities) -> Option<Lit>
-    ensures none { IfNone result (AllSet trail.now.vars trail.now.lits) }
-    ensures some { IfSome result (λ l. IsUnset trail.now.vars trail.now.lits l) }
-{
-    let mut best = None;
-    for var in 1..trail.vars() + 1 {
-        let l = activities.literal(var);
-        if is_unset(trail, l) {
-            best = Some(activities.better(best, l));
-        }
-    }
-    best
-}
-
-fn is_unset(trail: &Trail, l: Lit) -> bool
-    ensures { MatchBool result
-        ((is_set trail.now.lits l ≡ false) × (is_set trail.now.lits (negated l) ≡ false))
-        ((is_set trail.now.lits l ≡ true) ⊎ (is_set trail.now.lits (negated l) ≡ true)) }
-{
-    if trail.is_set(l) {
-        return false;
-    }
-    !trail.is_set(l.negated())
 }

@@ -1,8 +1,7 @@
-use crate::{Answer, Engine, solve};
+use crate::{Answer, Engine, Learnt, solve};
 use proof_log::{Clause, Formula, Lit};
 use sdcv_base::Seq;
 use std::alloc::{AllocError, Global};
-use std::process::Abort;
 use std::test::Fail;
 
 // A literal as DIMACS writes it: a variable, negative for its complement.
@@ -15,13 +14,17 @@ fn lit(number: i32) -> Lit {
     }
 }
 
+fn clause(alloc: Global, numbers: &[i32]) -> Result<Clause, AllocError> {
+    let lits = numbers.iter().map(|n| lit(*n)).collect(alloc)?;
+    Ok(Clause {
+        lits: Seq::from_vec(lits),
+    })
+}
+
 fn formula(alloc: Global, vars: u32, clauses: &[&[i32]]) -> Result<Formula, AllocError> {
     let mut list = Seq::new(alloc);
     for numbers in clauses {
-        let lits = numbers.iter().map(|n| lit(*n)).collect(alloc)?;
-        list.push(Clause {
-            lits: Seq::from_vec(lits),
-        })?;
+        list.push(clause(alloc, numbers)?)?;
     }
     Ok(Formula {
         vars,
@@ -29,19 +32,59 @@ fn formula(alloc: Global, vars: u32, clauses: &[&[i32]]) -> Result<Formula, Allo
     })
 }
 
-// How many steps an answer has, or none for a model.
-fn answer_of(
-    rt: &impl Abort,
-    alloc: Global,
-    formula: &Formula,
-    budget: u64,
-) -> Result<(&'static str, usize), AllocError> {
-    assert!(rt; formula.is_normal());
-    Ok(match solve(alloc, formula, budget)? {
-        Answer::Sat(model) => ("sat", model.values.len()),
-        Answer::Unsat(derivation) => ("unsat", derivation.steps.len()),
-        Answer::Spent(log) => ("spent", log.steps.len()),
-    })
+// What is found of a formula.
+#[derive(Clone, Copy, Debug, PartialEq, Eq)]
+enum Found {
+    NotNormal,
+    Model,
+    Refuted,
+    Spent,
+}
+
+// What is found, and in how many steps.
+fn told(alloc: Global, formula: &Formula, budget: u64) -> Result<(Found, usize), AllocError> {
+    if !formula.is_normal() {
+        return Ok((Found::NotNormal, 0));
+    }
+    match solve(alloc, formula, budget)? {
+        Answer::Sat(_) => Ok((Found::Model, 0)),
+        Answer::Unsat(derivation) => Ok((Found::Refuted, derivation.steps.len())),
+        Answer::Spent(log) => Ok((Found::Spent, log.steps.len())),
+    }
+}
+
+// The engine after a decision: what it learns, or none where there is no conflict.
+fn learnt(alloc: Global, engine: &mut Engine) -> Result<Option<Learnt>, AllocError> {
+    if engine.propagate().is_none() {
+        let _decision = engine.decide();
+    }
+    let conflict = engine.propagate();
+    if engine.level() == 0 {
+        return Ok(None);
+    }
+    match conflict {
+        Some(place) => Ok(Some(engine.learn(alloc, place)?)),
+        None => Ok(None),
+    }
+}
+
+// How many different variables are decided, of so many without clauses, at most so often.
+fn decided(alloc: Global, engine: &mut Engine, vars: u32, times: u32) -> Result<usize, AllocError> {
+    let mut seen = vec![in alloc; false; vars as usize + 1]?;
+    let mut count = 0usize;
+    for _ in 0..times {
+        if engine.propagate().is_none() {
+            if let Some(l) = engine.decide() {
+                if let Some(there) = seen.get_mut(l.var() as usize) {
+                    if !*there {
+                        *there = true;
+                        count = count.saturating_add(1);
+                    }
+                }
+            }
+        }
+    }
+    Ok(count)
 }
 
 const BOTH_IN_ALL_SIGNS: &[&[i32]] = &[&[1, 2], &[1, -2], &[-1, 2], &[-1, -2]];
@@ -86,34 +129,27 @@ const FOUR_PIGEONS: &[&[i32]] = &[
 ];
 
 // Known by hand; pigeons never fit into fewer holes.
+const CASES: [(u32, &[&[i32]], Found); 8] = [
+    (0, &[], Found::Model),
+    (0, &[&[]], Found::Refuted),
+    (2, &[&[1, 2]], Found::Model),
+    (2, BOTH_IN_ALL_SIGNS, Found::Refuted),
+    (
+        5,
+        &[&[-1, 2], &[-2, 3], &[-3, 4], &[-4, 5], &[1]],
+        Found::Model,
+    ),
+    (2, &[&[1], &[-1]], Found::Refuted),
+    (6, THREE_PIGEONS, Found::Refuted),
+    (12, FOUR_PIGEONS, Found::Refuted),
+];
+
 #[test]
 fn formulas_have_a_model_or_none(rt: HostRuntime) -> Result<(), Fail> {
-    let alloc = rt.alloc();
-    let cases: [(u32, &[&[i32]], &str); 8] = [
-        (0, &[], "sat"),
-        (0, &[&[]], "unsat"),
-        (2, &[&[1, 2]], "sat"),
-        (2, BOTH_IN_ALL_SIGNS, "unsat"),
-        (5, &[&[-1, 2], &[-2, 3], &[-3, 4], &[-4, 5], &[1]], "sat"),
-        (2, &[&[1], &[-1]], "unsat"),
-        (6, THREE_PIGEONS, "unsat"),
-        (12, FOUR_PIGEONS, "unsat"),
-    ];
-    for (vars, clauses, want) in cases {
-        let f = formula(alloc, vars, clauses)?;
-        let (what, _count) = answer_of(&rt, alloc, &f, 1000)?;
-        assert!(rt; what == want, "{what} of {clauses:?}");
-    }
-    let empty = formula(alloc, 0, &[&[]])?;
-    assert!(rt; empty.is_normal());
-    let Answer::Unsat(derivation) = solve(alloc, &empty, 10)? else {
-        assert!(rt; false, "an empty clause is false");
-        return Ok(());
-    };
-    assert_eq!(rt; derivation.steps.len(), 1);
-    for step in derivation.steps.as_slice() {
-        assert!(rt; step.clause.as_slice().is_empty());
-        assert!(rt; step.hints.as_slice() == [1].as_slice());
+    for (vars, clauses, want) in CASES {
+        let f = formula(rt.alloc(), vars, clauses)?;
+        let (what, _steps) = told(rt.alloc(), &f, 1000)?;
+        assert_eq!(rt; what, want);
     }
     Ok(())
 }
@@ -122,11 +158,60 @@ fn formulas_have_a_model_or_none(rt: HostRuntime) -> Result<(), Fail> {
 // unit yet.
 #[test]
 fn a_spent_budget_gives_as_many_steps(rt: HostRuntime) -> Result<(), Fail> {
-    let alloc = rt.alloc();
-    let f = formula(alloc, 12, FOUR_PIGEONS)?;
-    let (what, count) = answer_of(&rt, alloc, &f, 1)?;
-    assert!(rt; what == "spent");
-    assert_eq!(rt; count, 1);
+    let f = formula(rt.alloc(), 12, FOUR_PIGEONS)?;
+    let (what, steps) = told(rt.alloc(), &f, 1)?;
+    assert_eq!(rt; what, Found::Spent);
+    assert_eq!(rt; steps, 1);
+    Ok(())
+}
+
+// Each variable implies the next one; the clauses of the odd ones come first, then those of the
+// even ones from the last back, so that a scan in either direction sets only a few literals.
+const LAST: i32 = 1_000_000;
+
+fn implication(alloc: Global, var: i32) -> Result<Clause, AllocError> {
+    clause(alloc, &[var.wrapping_neg(), var.wrapping_add(1)])
+}
+
+fn chain(alloc: Global) -> Result<Formula, AllocError> {
+    let mut clauses = Seq::new(alloc);
+    for k in 0..LAST / 2 {
+        clauses.push(implication(alloc, k.wrapping_mul(2).wrapping_add(1))?)?;
+    }
+    for k in 1..LAST / 2 {
+        clauses.push(implication(alloc, LAST.wrapping_sub(k.wrapping_mul(2)))?)?;
+    }
+    clauses.push(clause(alloc, &[1])?)?;
+    clauses.push(clause(alloc, &[-LAST])?)?;
+    Ok(Formula {
+        vars: 1_000_000,
+        clauses,
+    })
+}
+
+// Units alone refute it, in one step.
+#[test]
+fn a_chain_of_a_million_is_refuted(rt: HostRuntime) -> Result<(), Fail> {
+    let f = chain(rt.alloc())?;
+    let (what, steps) = told(rt.alloc(), &f, 1)?;
+    assert_eq!(rt; what, Found::Refuted);
+    assert_eq!(rt; steps, 1);
+    Ok(())
+}
+
+// A million variables without clauses are decided one by one.
+#[test]
+fn a_million_variables_are_decided(rt: HostRuntime) -> Result<(), Fail> {
+    let f = formula(rt.alloc(), 1_000_000, &[])?;
+    if f.is_normal() {
+        let mut engine = Engine::load(rt.alloc(), &f)?;
+        assert_eq!(rt;
+            decided(rt.alloc(), &mut engine, 1_000_000, 1_000_001)?,
+            1_000_000
+        );
+        return Ok(());
+    }
+    assert!(rt; false);
     Ok(())
 }
 
@@ -134,54 +219,35 @@ fn a_spent_budget_gives_as_many_steps(rt: HostRuntime) -> Result<(), Fail> {
 // by the two clauses that have the complement.
 #[test]
 fn a_decision_is_learnt_to_be_wrong(rt: HostRuntime) -> Result<(), Fail> {
-    let alloc = rt.alloc();
-    let f = formula(alloc, 2, BOTH_IN_ALL_SIGNS)?;
-    assert!(rt; f.is_normal());
-    let mut engine = Engine::load(alloc, &f)?;
-    assert_eq!(rt; engine.propagate(), None);
-    if engine.propagate().is_none() {
-        let decided = engine.decide();
-        assert_eq!(rt; engine.level(), 1);
-        let conflict = engine.propagate();
-        if let (Some(decision), Some(place)) = (decided, conflict) {
-            if engine.level() > 0 {
-                let learnt = engine.learn(alloc, place)?;
-                assert_eq!(rt; learnt.unit, decision.negated());
-                assert_eq!(rt; learnt.level, 0);
-                assert!(rt; learnt.step.clause.as_slice() == [learnt.unit].as_slice());
-                assert_eq!(rt; learnt.step.hints.len(), 2);
-                assert_eq!(rt; engine.level(), 0);
-                assert!(rt; engine.propagate().is_some());
-                return Ok(());
-            }
+    let f = formula(rt.alloc(), 2, BOTH_IN_ALL_SIGNS)?;
+    if f.is_normal() {
+        let mut engine = Engine::load(rt.alloc(), &f)?;
+        if let Some(learnt) = learnt(rt.alloc(), &mut engine)? {
+            assert_eq!(rt; learnt.level, 0);
+            assert_eq!(rt; learnt.step.clause.as_slice().len(), 1);
+            assert_eq!(rt; learnt.step.hints.len(), 2);
+            assert!(rt; engine.propagate().is_some());
+            return Ok(());
         }
     }
-    assert!(rt; false, "no conflict");
+    assert!(rt; false);
     Ok(())
 }
 
-// Three variables without clauses are decided one by one, and a level that is left can be decided
-// again.
+// A level that is left can be decided again.
 #[test]
 fn levels_are_opened_and_left(rt: HostRuntime) -> Result<(), Fail> {
-    let alloc = rt.alloc();
-    let f = formula(alloc, 3, &[])?;
-    assert!(rt; f.is_normal());
-    let mut engine = Engine::load(alloc, &f)?;
-    let mut decided = 0usize;
-    for _ in 0..5 {
-        if engine.propagate().is_none() && engine.decide().is_some() {
-            decided = engine.level();
+    let f = formula(rt.alloc(), 3, &[])?;
+    if f.is_normal() {
+        let mut engine = Engine::load(rt.alloc(), &f)?;
+        assert_eq!(rt; decided(rt.alloc(), &mut engine, 3, 5)?, 3);
+        if engine.level() == 3 {
+            engine.backjump(1);
+            assert_eq!(rt; decided(rt.alloc(), &mut engine, 3, 1)?, 1);
+            assert_eq!(rt; engine.level(), 2);
+            return Ok(());
         }
     }
-    assert_eq!(rt; decided, 3);
-    if engine.level() > 1 {
-        engine.backjump(1);
-    }
-    assert_eq!(rt; engine.level(), 1);
-    if engine.propagate().is_none() {
-        assert!(rt; engine.decide().is_some());
-    }
-    assert_eq!(rt; engine.level(), 2);
+    assert!(rt; false);
     Ok(())
 }

@@ -31,4 +31,5 @@ invariant_of-self c =
           (ap (λ n. record { watches = e.queue.watches; done = n; looked = e.queue.looked }) walk_is),
       omega (arith, c.truncate.ensures.vars, c.truncate-then-level-len.ensures.capacity, c.self.invariant.1),
       omega (arith, c.truncate.ensures.vars, c.truncate-then-level-len-2.ensures.capacity, c.self.invariant.2),
+      rw (c.truncate.ensures.vars, c.truncate.ensures.lits) c.release.ensures,
     )

@@ -32,12 +32,13 @@ push_reserved-requires-2 c =
       length_push e.trail.lits c.in_ok-l.l,
     )
 
-pub invariant_of-self : goal.invariant_of-self
-invariant_of-self c =
+pub invariant_of-self-2 : goal.invariant_of-self-2
+invariant_of-self-2 c =
     let e = c.self.inside in
     rw (c.push_reserved.ensures.items, c.push_reserved-2.ensures.items, c.len-start.ensures.value) (
       IsEngine-decide e.clauses.items e.trail c.set.new.self e.starts.items e.walks.items e.queue c.in_ok-l.l 0 c.self.invariant.0
           (rw (← c.self.view_is) at c.requires) c.set.ensures.vars c.set.ensures.lits c.set.ensures.reasons,
       omega (arith, c.set.ensures.vars, c.push_reserved.ensures.capacity, c.self.invariant.1),
       omega (arith, c.set.ensures.vars, c.push_reserved-2.ensures.capacity, c.self.invariant.2),
+      rw (c.set.ensures.vars, c.set.ensures.lits) c.in_ok-l.ensures.1,
     )

@@ -7,6 +7,8 @@ use Rattle.proof_log.proofs.Members.{is_set-take}
 use Rattle.sat_solver.specs.Engines.{level_floor}
 use Rattle.sat_solver.proofs.AtConflict.{unit_unset_at, unit_in_vars, learnt_shown}
 use Rattle.sat_solver.proofs.Queueing.{IsSecond, ArePut, IsEngine-more, IsEngine-learn, second_low}
+use Rattle.sat_solver.proofs.Trailing.{in_left}
+use Rattle.sat_solver.proofs.Deciding.{AreWaiting-more}
 use Rattle.sat_solver.proofs.engines.Engine.learn.Goals as goal
 
 pub invariant_of-self-in_err-provide : goal.invariant_of-self-in_err-provide
@@ -16,6 +18,7 @@ invariant_of-self-in_err-provide c =
       IsEngine-more e.clauses.items e.trail e.starts.items e.walks.items e.queue c.provide.new.self c.self.invariant.0 c.provide.ensures.more,
       c.self.invariant.1,
       c.self.invariant.2,
+      c.self.invariant.3,
     )
 
 pub second_watch-second-requires-clause-falsified : goal.second_watch-second-requires-clause-falsified
@@ -120,6 +123,8 @@ invariant_of-self-2 c =
           ∙ ap (λ n. take (get_or starts r.level 0) t.reasons ++ n ∷ []) place_is),
       omega (arith, vars_are, c.truncate-2.ensures.capacity, c.self.invariant.1),
       omega (arith, vars_are, c.truncate-3.ensures.capacity, c.self.invariant.2),
+      rw (vars_are, c.set.ensures.lits) (AreWaiting-more t.vars c.truncate.new.self.lits (c.truncate.new.self.lits ++ r.unit ∷ [])
+          c.release.new.self.waiting (in_left c.truncate.new.self.lits (r.unit ∷ [])) (rw c.truncate.ensures.lits c.release.ensures)),
     )
 
 pub returns-clause-learnt : goal.returns-clause-learnt

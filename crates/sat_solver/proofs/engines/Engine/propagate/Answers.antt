@@ -1,5 +1,6 @@
 use Rattle.std.proofs.Common.{arith}
 use Rattle.sat_solver.proofs.Queueing.{IsEngine-settle}
+use Rattle.sat_solver.proofs.Deciding.{AreWaiting-extends}
 use Rattle.sat_solver.proofs.Settling.{Propagates-from_extends}
 use Rattle.sat_solver.proofs.engines.Engine.propagate.Goals as goal
 
@@ -19,6 +20,7 @@ invariant_of-self c =
       IsEngine-settle e.clauses.items e.trail _ e.starts.items e.walks.items e.queue _ c.self.invariant.0 s.settles,
       omega (arith, s.settles.extends.vars, c.self.invariant.1),
       omega (arith, s.settles.extends.vars, c.self.invariant.2),
+      AreWaiting-extends e.clauses.items e.trail _ e.activities.waiting s.settles.extends c.self.invariant.3,
     )
 
 pub returns-clause-propagates : goal.returns-clause-propagates
