@@ -8,8 +8,8 @@ use Rattle.verilog_net.specs.declared.sources.Module.{Module}
 use Rattle.verilog_net.specs.declared.sources.Port.{Port}
 use Rattle.verilog_net.specs.declared.sources.Item.{Item}
 use Rattle.verilog_net.specs.declared.sources.Item.TheVariants as item
-use Rattle.verilog_net.specs.declared.sources.PrimKind.{PrimKind}
-use Rattle.verilog_net.specs.declared.sources.PrimKind.TheVariants as prim
+use Rattle.verilog_words.specs.declared.gates.PrimKind.{PrimKind}
+use Rattle.verilog_words.specs.declared.gates.PrimKind.TheVariants as prim
 use Rattle.verilog_net.specs.declared.sources.Conn.{Conn}
 use Rattle.verilog_net.specs.declared.sources.Wire.{Wire}
 use Rattle.verilog_net.specs.declared.sources.Wire.TheVariants as wire

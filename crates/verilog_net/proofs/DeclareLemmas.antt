@@ -7,10 +7,10 @@ use Rattle.texts.specs.Names.{are_new, are_distinct}
 use Rattle.texts.specs.Reads.{◌>>=◌}
 use Rattle.texts.proofs.NameLemmas.{are_new-append, are_new_none}
 use Rattle.texts.proofs.ReadLemmas.{bind_is}
-use Rattle.verilog_syntax.specs.declared.declarations.InstDecl.{InstDecl}
-use Rattle.verilog_syntax.specs.declared.declarations.ItemDecl.{ItemDecl}
-use Rattle.verilog_syntax.specs.declared.declarations.ItemDecl.TheVariants.{Wires, Inst}
-use Rattle.verilog_syntax.specs.declared.declarations.ModuleDecl.{ModuleDecl}
+use Rattle.verilog_syntax.specs.declared.first_declarations.InstDecl.{InstDecl}
+use Rattle.verilog_syntax.specs.declared.first_declarations.ItemDecl.{ItemDecl}
+use Rattle.verilog_syntax.specs.declared.first_declarations.ItemDecl.TheVariants.{Wires, Inst}
+use Rattle.verilog_syntax.specs.declared.first_declarations.ModuleDecl.{ModuleDecl}
 use Rattle.verilog_net.specs.Rules.{wires_in, insts_in, has_distinct_pins, port_names, declared, declares_once, insts}
 use Rattle.verilog_net.specs.Declares.{declare, declare_item, declare_items, declared_of, Spaces}
 

@@ -8,12 +8,12 @@ use Rattle.std.proofs.lemmas.List.Elements.{All-nil, All-cons}
 use Rattle.std.specs.List.{flat_map, list_all}
 use Rattle.texts.specs.Names.{is_among, place_of, are_distinct, each_once}
 use Rattle.texts.proofs.NameLemmas.{slice_get-place_of, are_distinct_front, are_distinct-each_once, all_among-each_once}
-use Rattle.verilog_syntax.specs.declared.declarations.PortDecl.{PortDecl}
-use Rattle.verilog_syntax.specs.declared.declarations.ConnDecl.{ConnDecl}
-use Rattle.verilog_syntax.specs.declared.declarations.InstDecl.{InstDecl}
-use Rattle.verilog_syntax.specs.declared.declarations.ItemDecl.{ItemDecl}
-use Rattle.verilog_syntax.specs.declared.declarations.ItemDecl.TheVariants.{Wires, Inst}
-use Rattle.verilog_syntax.specs.declared.declarations.ModuleDecl.{ModuleDecl}
+use Rattle.verilog_syntax.specs.declared.first_declarations.PortDecl.{PortDecl}
+use Rattle.verilog_syntax.specs.declared.first_declarations.ConnDecl.{ConnDecl}
+use Rattle.verilog_syntax.specs.declared.first_declarations.InstDecl.{InstDecl}
+use Rattle.verilog_syntax.specs.declared.first_declarations.ItemDecl.{ItemDecl}
+use Rattle.verilog_syntax.specs.declared.first_declarations.ItemDecl.TheVariants.{Wires, Inst}
+use Rattle.verilog_syntax.specs.declared.first_declarations.ModuleDecl.{ModuleDecl}
 use Rattle.verilog_net.specs.declared.sources.Port.{Port}
 use Rattle.verilog_net.specs.declared.sources.Conn.{Conn}
 use Rattle.verilog_net.specs.declared.sources.Module.{Module}

@@ -1,11 +1,11 @@
 -- From a text through its declarations to a netlist.
 use Rattle.std.proofs.Common.{◌≡◌, ℕ, List, [], ◌∷◌, Some, None, Result, Err, refl}
 use Rattle.std.proofs.lemmas.List.Elements.{All-nil, All-cons}
-use Rattle.verilog_syntax.specs.declared.declarations.ModuleDecl.{ModuleDecl}
-use Rattle.verilog_syntax.specs.declared.faults.SyntaxFault.{SyntaxFault}
-use Rattle.verilog_syntax.specs.declared.faults.SyntaxFault.TheVariants as syntax_fault
-use Rattle.verilog_syntax.specs.Fails as reader
-use Rattle.verilog_syntax.specs.Modules as grammar
+use Rattle.verilog_syntax.specs.declared.first_declarations.ModuleDecl.{ModuleDecl}
+use Rattle.verilog_syntax.specs.declared.first_faults.SyntaxFault.{SyntaxFault}
+use Rattle.verilog_syntax.specs.declared.first_faults.SyntaxFault.TheVariants as syntax_fault
+use Rattle.verilog_syntax.specs.FirstFails as reader
+use Rattle.verilog_syntax.specs.FirstModules as grammar
 use Rattle.verilog_net.specs.declared.faults.VerFault.{VerFault}
 use Rattle.verilog_net.specs.declared.faults.VerFault.TheVariants as fault
 use Rattle.verilog_net.specs.declared.sources.Module.{Module}

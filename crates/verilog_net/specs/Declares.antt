@@ -3,9 +3,9 @@ use Rattle.std.specs.Prelude.{ℕ, ◌&&◌, if◌then◌else◌, List, [], ◌�
 use Rattle.std.specs.List.{list_all}
 use Rattle.texts.specs.Names.{are_new}
 use Rattle.texts.specs.Reads.{◌>>=◌}
-use Rattle.verilog_syntax.specs.declared.declarations.ItemDecl.{ItemDecl}
-use Rattle.verilog_syntax.specs.declared.declarations.ItemDecl.TheVariants.{Wires, Inst}
-use Rattle.verilog_syntax.specs.declared.declarations.ModuleDecl.{ModuleDecl}
+use Rattle.verilog_syntax.specs.declared.first_declarations.ItemDecl.{ItemDecl}
+use Rattle.verilog_syntax.specs.declared.first_declarations.ItemDecl.TheVariants.{Wires, Inst}
+use Rattle.verilog_syntax.specs.declared.first_declarations.ModuleDecl.{ModuleDecl}
 use Rattle.verilog_net.specs.Rules.{declared, declares_once, has_distinct_pins, insts}
 
 -- the names, with further ones that are all new

@@ -1,7 +1,7 @@
 -- Where a fault of a netlist is right.
 use Rattle.std.specs.Prelude.{◌≡◌, Option, None}
-use Rattle.verilog_syntax.specs.declared.faults.SyntaxFault.{SyntaxFault}
-use Rattle.verilog_syntax.specs.declared.faults.SyntaxFault.TheVariants as syntax_fault
+use Rattle.verilog_syntax.specs.declared.first_faults.SyntaxFault.{SyntaxFault}
+use Rattle.verilog_syntax.specs.declared.first_faults.SyntaxFault.TheVariants as syntax_fault
 use Rattle.verilog_net.specs.declared.faults.VerFault.{VerFault}
 use Rattle.verilog_net.specs.declared.faults.VerFault.TheVariants as fault
 

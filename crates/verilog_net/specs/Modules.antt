@@ -2,12 +2,12 @@
 use Rattle.std.specs.Prelude.{ℕ, false, ◌&&◌, if◌then◌else◌, List, [], ◌∷◌, ◌++◌, map, Option, Some, None}
 use Rattle.std.specs.List.{flat_map}
 use Rattle.texts.specs.Names.{each_once, place_of}
-use Rattle.verilog_syntax.specs.declared.declarations.PortDecl.{PortDecl}
-use Rattle.verilog_syntax.specs.declared.declarations.ConnDecl.{ConnDecl}
-use Rattle.verilog_syntax.specs.declared.declarations.InstDecl.{InstDecl}
-use Rattle.verilog_syntax.specs.declared.declarations.ItemDecl.{ItemDecl}
-use Rattle.verilog_syntax.specs.declared.declarations.ItemDecl.TheVariants.{Wires, Inst}
-use Rattle.verilog_syntax.specs.declared.declarations.ModuleDecl.{ModuleDecl}
+use Rattle.verilog_syntax.specs.declared.first_declarations.PortDecl.{PortDecl}
+use Rattle.verilog_syntax.specs.declared.first_declarations.ConnDecl.{ConnDecl}
+use Rattle.verilog_syntax.specs.declared.first_declarations.InstDecl.{InstDecl}
+use Rattle.verilog_syntax.specs.declared.first_declarations.ItemDecl.{ItemDecl}
+use Rattle.verilog_syntax.specs.declared.first_declarations.ItemDecl.TheVariants.{Wires, Inst}
+use Rattle.verilog_syntax.specs.declared.first_declarations.ModuleDecl.{ModuleDecl}
 use Rattle.verilog_net.specs.declared.sources.Wire.TheVariants as wire
 use Rattle.verilog_net.specs.declared.sources.Port.{Port}
 use Rattle.verilog_net.specs.declared.sources.Conn.{Conn}

@@ -2,10 +2,10 @@
 use Rattle.std.specs.Prelude.{ℕ, Bool, ◌&&◌, List, [], ◌∷◌, ◌++◌, map}
 use Rattle.std.specs.List.{flat_map, list_all}
 use Rattle.texts.specs.Names.{is_among, are_distinct}
-use Rattle.verilog_syntax.specs.declared.declarations.InstDecl.{InstDecl}
-use Rattle.verilog_syntax.specs.declared.declarations.ItemDecl.{ItemDecl}
-use Rattle.verilog_syntax.specs.declared.declarations.ItemDecl.TheVariants.{Wires, Inst}
-use Rattle.verilog_syntax.specs.declared.declarations.ModuleDecl.{ModuleDecl}
+use Rattle.verilog_syntax.specs.declared.first_declarations.InstDecl.{InstDecl}
+use Rattle.verilog_syntax.specs.declared.first_declarations.ItemDecl.{ItemDecl}
+use Rattle.verilog_syntax.specs.declared.first_declarations.ItemDecl.TheVariants.{Wires, Inst}
+use Rattle.verilog_syntax.specs.declared.first_declarations.ModuleDecl.{ModuleDecl}
 
 -- the names that an item declares as wires
 abbrev pub wires_in : ItemDecl → List (List ℕ)

@@ -3,7 +3,7 @@ use Rattle.std.specs.Prelude.{◌≡◌, ℕ, ◌<◌, false, List, [], ◌∷�
 use Rattle.std.specs.List.{flat_map}
 use Rattle.texts.specs.Names.{are_distinct}
 use Rattle.texts.specs.Reads.{◌>>=◌}
-use Rattle.verilog_syntax.specs.Modules as grammar
+use Rattle.verilog_syntax.specs.FirstModules as grammar
 use Rattle.verilog_net.specs.declared.sources.Wire.TheVariants as wire
 use Rattle.verilog_net.specs.declared.sources.Port.{Port}
 use Rattle.verilog_net.specs.declared.sources.Conn.{Conn}

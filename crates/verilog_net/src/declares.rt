@@ -9,7 +9,7 @@ use crate::faults::VerFault;
 use std::alloc::{AllocError, Global};
 use std::slice;
 use texts::{NameTable, Named};
-use verilog_syntax::{InstDecl, ItemDecl, ModuleDecl};
+use verilog_syntax::first_declarations::{InstDecl, ItemDecl, ModuleDecl};
 
 /// The names that a module declares as nets. It refuses a name that is declared twice, of a net or of an instance, and
 /// an instance that names a pin twice.

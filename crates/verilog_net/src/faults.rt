@@ -5,7 +5,7 @@ ghost use Rattle.verilog_net.specs.Fails.{of_syntax};
 
 use std::alloc::{AllocError, AllocFailed};
 use thiserror::Error;
-use verilog_syntax::SyntaxFault;
+use verilog_syntax::first_faults::SyntaxFault;
 
 /// Why a text is no netlist.
 #[derive(Debug, Drop, Error)]

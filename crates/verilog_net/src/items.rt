@@ -8,7 +8,7 @@ use crate::sources::{Conn, Item, Port, Wire};
 use sdcv_base::Seq;
 use std::alloc::{AllocError, Global};
 use texts::NameTable;
-use verilog_syntax::{ConnDecl, InstDecl, ItemDecl, PortDecl};
+use verilog_syntax::first_declarations::{ConnDecl, InstDecl, ItemDecl, PortDecl};
 
 pub fn ports(alloc: Global, nets: &NameTable, ports: &[PortDecl]) -> Result<Seq<Port>, AllocError>
     ensures { IfOk result (λ found. found ≡ map (spec.port_of nets.now) ports.now) }

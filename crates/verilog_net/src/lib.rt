@@ -14,5 +14,6 @@ mod sources;
 mod tests;
 
 pub use faults::VerFault;
-pub use sources::{Conn, Item, Module, Port, PrimKind, Source, Wire, read_verilog};
+pub use sources::{Conn, Item, Module, Port, Source, Wire, read_verilog};
 pub use verilog_syntax::Dir;
+pub use verilog_words::PrimKind;

@@ -11,7 +11,7 @@ use crate::nets::{are_connections_declared, nets};
 use crate::sources::Module;
 use sdcv_base::Seq;
 use std::alloc::{AllocError, Global};
-use verilog_syntax::ModuleDecl;
+use verilog_syntax::first_declarations::ModuleDecl;
 
 /// The module that these declarations make. `NotYet` comes exactly where they break a static rule.
 pub fn module(alloc: Global, decl: &ModuleDecl) -> Result<Module, VerFault>

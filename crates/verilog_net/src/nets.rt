@@ -7,7 +7,7 @@ ghost use Rattle.verilog_net.specs.Modules as spec;
 
 use std::alloc::{AllocError, Global};
 use texts::NameTable;
-use verilog_syntax::{ConnDecl, InstDecl, ItemDecl, ModuleDecl};
+use verilog_syntax::first_declarations::{ConnDecl, InstDecl, ItemDecl, ModuleDecl};
 
 /// The nets, each at its number.
 pub fn nets(alloc: Global, decl: &ModuleDecl) -> Result<NameTable, AllocError>

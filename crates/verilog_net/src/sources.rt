@@ -6,7 +6,9 @@ use crate::faults::VerFault;
 use crate::modules::module;
 use sdcv_base::{Name, Seq};
 use std::alloc::Global;
-use verilog_syntax::{Dir, read_module};
+use verilog_syntax::Dir;
+use verilog_syntax::first_modules::read_module;
+use verilog_words::PrimKind;
 
 /// What a pin or an assignment reads: a constant, or a net of the module by its number.
 #[derive(Clone, Copy, Debug, PartialEq, Eq)]
@@ -22,19 +24,6 @@ pub struct Port {
     pub dir: Dir,
     pub bits: Seq<usize>,
     pub bus: bool,
-}
-
-/// A gate primitive.
-#[derive(Clone, Copy, Debug, PartialEq, Eq)]
-pub enum PrimKind {
-    And,
-    Nand,
-    Or,
-    Nor,
-    Xor,
-    Xnor,
-    Buf,
-    Not,
 }
 
 /// The connection of a pin, the most significant bit first. An open one has no wires.

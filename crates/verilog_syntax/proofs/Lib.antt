@@ -1,3 +1,5 @@
-pub mod FailLemmas
+pub mod ExprLemmas
+pub mod FirstFailLemmas
+pub mod FirstListLemmas
+pub mod FirstModuleLemmas
 pub mod ListLemmas
-pub mod ModuleLemmas

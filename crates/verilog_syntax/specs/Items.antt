@@ -1,56 +1,165 @@
--- Ports, and the items of a module.
-use Rattle.std.specs.Prelude.{ℕ, List, Option, Some, None}
-use Rattle.std.specs.Option.{option_map}
-use Rattle.texts.specs.Reads.{Read, ◌>>=◌}
-use Rattle.verilog_words.specs.declared.words.Word.TheVariants as word_is
-use Rattle.verilog_words.specs.Tokens.{Tok, word, name, token, mark_at}
-use Rattle.verilog_syntax.specs.declared.declarations.Dir.{Dir}
-use Rattle.verilog_syntax.specs.declared.declarations.Dir.TheVariants.{Input, Output}
-use Rattle.verilog_syntax.specs.declared.declarations.PortDecl.{PortDecl}
+-- The items of a module.
+use Rattle.std.specs.Prelude.{ℕ, true, false, Bool, ◌&&◌, if◌then◌else◌, List, [], ◌∷◌, ◌++◌, Option, None, Some, Ok, Err}
+use Rattle.std.specs.List.{list_any}
+use Rattle.texts.specs.Rules.{◌>>=◌, offset_of}
+use Rattle.verilog_words.specs.declared.faults.SyntaxFault.TheVariants as fault
+use Rattle.verilog_words.specs.declared.gates.PrimKind.{PrimKind}
+use Rattle.verilog_words.specs.declared.gates.PrimKind.TheVariants as prim
+use Rattle.verilog_words.specs.declared.words.Word.{Word}
+use Rattle.verilog_words.specs.declared.words.Word.TheVariants as word
+use Rattle.verilog_words.specs.Codes.{comma, dot, equals, left_paren, right_paren, semicolon}
+use Rattle.verilog_words.specs.Marks.{is_next, after_mark, mark_at, open_at}
+use Rattle.verilog_words.specs.Names.{identifier, next_word, after_identifier, name_at}
+use Rattle.verilog_words.specs.Reads.{After, Rule, refused}
+use Rattle.verilog_syntax.specs.declared.declarations.AssignDecl.{AssignDecl}
 use Rattle.verilog_syntax.specs.declared.declarations.ConnDecl.{ConnDecl}
 use Rattle.verilog_syntax.specs.declared.declarations.InstDecl.{InstDecl}
 use Rattle.verilog_syntax.specs.declared.declarations.ItemDecl.{ItemDecl}
-use Rattle.verilog_syntax.specs.declared.declarations.ItemDecl.TheVariants.{Wires, Inst}
-use Rattle.verilog_syntax.specs.Names.{name_at}
-use Rattle.verilog_syntax.specs.Lists.{list_at, list_or_none}
+use Rattle.verilog_syntax.specs.declared.declarations.ItemDecl.TheVariants as item
+use Rattle.verilog_syntax.specs.declared.declarations.NetKind.{NetKind}
+use Rattle.verilog_syntax.specs.declared.declarations.NetKind.TheVariants as net
+use Rattle.verilog_syntax.specs.declared.declarations.Part.{Part}
+use Rattle.verilog_syntax.specs.declared.declarations.Part.TheVariants as part
+use Rattle.verilog_syntax.specs.declared.declarations.PartDecl.{PartDecl}
+use Rattle.verilog_syntax.specs.declared.declarations.PrimDecl.{PrimDecl}
+use Rattle.verilog_syntax.specs.declared.declarations.TermDecl.{TermDecl}
+use Rattle.verilog_syntax.specs.declared.prims.Prims.{Prims}
+use Rattle.verilog_syntax.specs.declared.prims.Terms.{Terms}
+use Rattle.verilog_syntax.specs.Exprs.{expr_at}
+use Rattle.verilog_syntax.specs.Lists.{list_at}
+use Rattle.verilog_syntax.specs.Parts.{range_or_none}
+use Rattle.verilog_syntax.specs.Ports.{ports_at}
 
--- `input` or `output`
-abbrev pub dir_of : Tok → Option Dir
-dir_of (word word_is.Input) = Some Input
-dir_of (word word_is.Output) = Some Output
-dir_of _ = None
+abbrev pub adds_name : List (List ℕ) → Rule (List (List ℕ))
+adds_name found total s = name_at total s >>= λ n. Ok (found ++ n.0 ∷ [], n.1)
 
-unfoldable pub dir_at : List ℕ → Read Dir
-dir_at s = option_map (λ d. (d, (token s).1)) (dir_of (token s).0)
+-- a declaration of nets after its word: a range or none, names, and `;`
+unfoldable pub nets_at : NetKind → Rule ItemDecl
+nets_at kind total s = do
+  r ← range_or_none total s
+  l ← list_at semicolon adds_name [] total r.1
+  Ok (item.Nets kind r.0 l.0, l.1)
 
--- a direction and a name
-unfoldable pub port_at : List ℕ → Read PortDecl
-port_at s = do
-  d ← dir_at s
-  n ← name_at d.1
-  Some (record { dir = d.0; name = n.0 }, n.1)
+-- a target, `=` and an expression
+unfoldable pub adds_assign : List AssignDecl → Rule (List AssignDecl)
+adds_assign found total s = do
+  t ← expr_at false total s
+  r ← mark_at equals total t.1
+  v ← expr_at true total r
+  Ok (found ++ record { target = t.0; value = v.0 } ∷ [], v.1)
 
--- `.`, the pin, `(`, the net, `)`
-unfoldable pub conn_at : List ℕ → Read ConnDecl
-conn_at s = do
-  r ← mark_at 46 s
-  p ← name_at r
-  r ← mark_at 40 p.1
-  n ← name_at r
-  r ← mark_at 41 n.1
-  Some (record { pin = p.0; net = n.0 }, r)
+-- assignments after their word, up to `;`
+unfoldable pub assigns_at : Rule ItemDecl
+assigns_at total s = list_at semicolon adds_assign [] total s >>= λ l. Ok (item.Assigns l.0, l.1)
 
--- after the cell: the instance's name, its connections in parentheses, `;`
-unfoldable pub inst_at : List ℕ → List ℕ → Read InstDecl
-inst_at cell s = do
-  n ← name_at s
-  r ← mark_at 40 n.1
-  l ← list_or_none conn_at 41 r
-  r ← mark_at 59 l.1
-  Some (record { cell = cell; name = n.0; conns = l.0 }, r)
+-- all terminals of it but the last are outputs; else the first alone is
+abbrev pub has_outputs : PrimKind → Bool
+has_outputs prim.Buf = true
+has_outputs prim.Not = true
+has_outputs _ = false
 
--- an item by its first token, and the text after that: `wire` and names up to `;`, or an instance
-unfoldable pub item_at : Tok → List ℕ → Read ItemDecl
-item_at (word word_is.Wire) s = option_map (λ l. (Wires l.0, l.1)) (list_at name_at 59 s)
-item_at (name cell) s = option_map (λ i. (Inst i.0, i.1)) (inst_at cell s)
-item_at _ s = None
+abbrev pub is_bits : PartDecl → Bool
+is_bits p = elim p.part [ part.Net name select ↦ false | part.Bits bits ↦ true ]
+
+abbrev pub with_out : Terms → TermDecl → Terms
+with_out found t = record found { outs = found.outs ++ t ∷ [] }
+
+abbrev pub with_in : Terms → TermDecl → Terms
+with_in found t = record found { ins = found.ins ++ t ∷ [] }
+
+-- a further terminal: where several may be outputs, one before a comma is, and holds no constant
+unfoldable pub adds_term : Terms → Rule Terms
+adds_term found total s = expr_at true total s >>= λ t.
+    if has_outputs found.kind && is_next comma t.1 then
+    (if list_any is_bits t.0.parts then refused total t.1 else Ok (with_out found t.0, t.1))
+    else Ok (with_in found t.0, t.1)
+
+-- the terminals after the `(`: an output first, and one more at least
+unfoldable pub terms_at : PrimKind → Rule Terms
+terms_at kind total s = do
+  t ← expr_at false total s
+  r ← mark_at comma total t.1
+  list_at right_paren adds_term (record { kind = kind; outs = t.0 ∷ []; ins = [] }) total r
+
+-- a name, unless a `(` comes next
+unfoldable pub name_or_none : Rule (Option (List ℕ))
+name_or_none total s = if is_next left_paren s then Ok (None, s) else (name_at total s >>= λ n. Ok (Some n.0, n.1))
+
+abbrev pub with_prim : Prims → PrimDecl → Prims
+with_prim found p = record found { list = found.list ++ p ∷ [] }
+
+-- an instance of a primitive: its name or none, and its terminals
+unfoldable pub adds_prim : Prims → Rule Prims
+adds_prim found total s = do
+  n ← name_or_none total s
+  r ← open_at total n.1
+  t ← terms_at found.kind total r
+  Ok (with_prim found (record { name = n.0; outs = t.0.outs; ins = t.0.ins }), t.1)
+
+-- instances of a primitive after its word, up to `;`
+unfoldable pub prims_at : PrimKind → Rule ItemDecl
+prims_at kind total s = list_at semicolon adds_prim (record { kind = kind; list = [] }) total s >>= λ l. Ok (item.Prims kind l.0.list, l.1)
+
+-- after the `(` of a connection: an expression or none, and `)`
+unfoldable pub parts_or_none : Rule (Option (List PartDecl))
+parts_or_none total s = if is_next right_paren s then Ok (None, after_mark s) else do
+  e ← expr_at true total s
+  r ← mark_at right_paren total e.1
+  Ok (Some e.0.parts, r)
+
+-- `.`, a pin, `(`, an expression or none, `)`
+unfoldable pub adds_conn : List ConnDecl → Rule (List ConnDecl)
+adds_conn found total s = do
+  d ← mark_at dot total s
+  n ← name_at total d
+  r ← open_at total n.1
+  e ← parts_or_none total r
+  Ok (found ++ record { offset = offset_of total s; pin = n.0; parts = e.0 } ∷ [], e.1)
+
+-- connections after their `(`, none or more
+unfoldable pub conns_at : Rule (List ConnDecl)
+conns_at total s = if is_next right_paren s then Ok ([], after_mark s) else list_at right_paren adds_conn [] total s
+
+-- an instance: its name, and its connections in parentheses
+unfoldable pub adds_inst : List InstDecl → Rule (List InstDecl)
+adds_inst found total s = do
+  n ← name_at total s
+  r ← open_at total n.1
+  l ← conns_at total r
+  Ok (found ++ record { name = n.0; conns = l.0 } ∷ [], l.1)
+
+-- the name of a cell or module, its instances, and `;`
+unfoldable pub insts_at : Rule ItemDecl
+insts_at total s = do
+  n ← name_at total s
+  l ← list_at semicolon adds_inst [] total n.1
+  Ok (item.Insts n.0 l.0, l.1)
+
+-- an item that this word begins
+unfoldable pub word_item_at : Word → Rule ItemDecl
+word_item_at word.Input total s = ports_at total s >>= λ l. Ok (item.Ports l.0, l.1)
+word_item_at word.Output total s = ports_at total s >>= λ l. Ok (item.Ports l.0, l.1)
+word_item_at word.Wire total s = nets_at net.Wire total (after_identifier s)
+word_item_at word.Supply0 total s = nets_at net.Supply0 total (after_identifier s)
+word_item_at word.Supply1 total s = nets_at net.Supply1 total (after_identifier s)
+word_item_at word.Assign total s = assigns_at total (after_identifier s)
+word_item_at (word.Gate kind) total s = prims_at kind total (after_identifier s)
+word_item_at _ total s = refused total s
+
+abbrev pub is_left_out : Option Word → Bool
+is_left_out (Some word.Unsupported) = true
+is_left_out _ = false
+
+-- a word that is left out is told with its place
+unfoldable pub supported_at : ℕ → List ℕ → After
+supported_at total s = if is_left_out (next_word s) then Err (fault.Unsupported (offset_of total s) (identifier s)) else Ok s
+
+-- an item: by its word, or instances of the cell or module of a name
+unfoldable pub item_at : Rule ItemDecl
+item_at total s = supported_at total s >>= λ r. elim (next_word r) [
+  | Some w ↦ word_item_at w total r
+  | None ↦ insts_at total r
+]
+
+abbrev pub adds_item : List ItemDecl → Rule (List ItemDecl)
+adds_item found total s = item_at total s >>= λ i. Ok (found ++ i.0 ∷ [], i.1)

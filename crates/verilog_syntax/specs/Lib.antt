@@ -1,5 +1,11 @@
-pub mod Fails
+pub mod Exprs
+pub mod FirstFails
+pub mod FirstItems
+pub mod FirstLists
+pub mod FirstModules
+pub mod FirstNames
 pub mod Items
 pub mod Lists
 pub mod Modules
-pub mod Names
+pub mod Parts
+pub mod Ports

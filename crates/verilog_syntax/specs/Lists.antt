@@ -1,23 +1,26 @@
--- Lists of entries with commas between them, up to a closing mark.
-use Rattle.std.specs.Prelude.{ℕ, zero, suc, List, [], ◌∷◌, ◌++◌, length, Some, None}
-use Rattle.texts.specs.Reads.{Read, ◌>>=◌}
-use Rattle.verilog_words.specs.Tokens.{mark_at}
+-- Lists of items with commas between them, and rows of items that follow one another.
+use Rattle.std.specs.Prelude.{ℕ, zero, suc, Bool, if◌then◌else◌, List, length, Ok}
+use Rattle.texts.specs.Rules.{◌>>=◌}
+use Rattle.verilog_words.specs.Codes.{comma}
+use Rattle.verilog_words.specs.Marks.{is_next, after_mark, mark_at}
+use Rattle.verilog_words.specs.Reads.{Rule, refused}
 
--- the rest of a list of fewer than n entries, after those found; an entry has a byte at least
-unfoldable pub list_from : {A : Type 0} → (List ℕ → Read A) → ℕ → ℕ → List A → List ℕ → Read (List A)
-list_from entry close zero found s = None
-list_from entry close (suc n) found s = entry s >>= λ p. elim (mark_at close p.1) [
-  | Some r ↦ Some (found ++ p.0 ∷ [], r)
-  | None ↦ mark_at 44 p.1 >>= λ r. list_from entry close n (found ++ p.0 ∷ []) r
-]
+-- one item or more with a comma between two, up to the closing mark; each adds to what was found before it; of at most n
+unfoldable pub list_from : {A : Type 0} → ℕ → (A → Rule A) → ℕ → A → Rule A
+list_from close adds zero found total s = refused total s
+list_from close adds (suc n) found total s = adds found total s >>= λ p.
+    if is_next close p.1 then Ok (p.0, after_mark p.1)
+    else (mark_at comma total p.1 >>= λ r. list_from close adds n p.0 total r)
 
--- one entry or more
-abbrev pub list_at : {A : Type 0} → (List ℕ → Read A) → ℕ → List ℕ → Read (List A)
-list_at entry close s = list_from entry close (length s) [] s
+-- each item has a byte at least
+abbrev pub list_at : {A : Type 0} → ℕ → (A → Rule A) → A → Rule A
+list_at close adds found total s = list_from close adds (suc (length s)) found total s
 
--- none or more
-unfoldable pub list_or_none : {A : Type 0} → (List ℕ → Read A) → ℕ → List ℕ → Read (List A)
-list_or_none entry close s = elim (mark_at close s) [
-  | Some r ↦ Some ([], r)
-  | None ↦ list_at entry close s
-]
+-- items up to where they end; each adds to what was found before it; of fewer than n
+unfoldable pub row_from : {A : Type 0} → (List ℕ → Bool) → (A → Rule A) → ℕ → A → Rule A
+row_from ends adds zero found total s = refused total s
+row_from ends adds (suc n) found total s = if ends s then Ok (found, s) else (adds found total s >>= λ p. row_from ends adds n p.0 total p.1)
+
+-- each item has a byte at least
+abbrev pub row_at : {A : Type 0} → (List ℕ → Bool) → (A → Rule A) → A → Rule A
+row_at ends adds found total s = row_from ends adds (suc (length s)) found total s

@@ -1,51 +1,39 @@
--- A module, and the text that is one.
-use Rattle.std.specs.Prelude.{ℕ, zero, suc, Bool, true, false, if◌then◌else◌, List, [], ◌∷◌, ◌++◌, length, Option, Some, None}
-use Rattle.texts.specs.Reads.{Read, ◌>>=◌}
-use Rattle.verilog_words.specs.declared.words.Word.TheVariants as word_is
-use Rattle.verilog_words.specs.Tokens.{Tok, word, ended, token, mark_at}
+-- Modules, and the text that is a row of them.
+use Rattle.std.specs.Prelude.{ℕ, true, Bool, ◌==◌, List, [], ◌∷◌, ◌++◌, length, Result, Ok, codes}
+use Rattle.texts.specs.Rules.{◌>>=◌}
+use Rattle.verilog_words.specs.declared.faults.SyntaxFault.{SyntaxFault}
+use Rattle.verilog_words.specs.Blanks.{after_blanks}
+use Rattle.verilog_words.specs.Codes.{semicolon}
+use Rattle.verilog_words.specs.Marks.{mark_at}
+use Rattle.verilog_words.specs.Names.{has_word, word_at, name_at}
+use Rattle.verilog_words.specs.Reads.{Rule}
 use Rattle.verilog_syntax.specs.declared.declarations.ItemDecl.{ItemDecl}
 use Rattle.verilog_syntax.specs.declared.declarations.ModuleDecl.{ModuleDecl}
-use Rattle.verilog_syntax.specs.Names.{name_at}
-use Rattle.verilog_syntax.specs.Lists.{list_or_none}
-use Rattle.verilog_syntax.specs.Items.{port_at, item_at}
+use Rattle.verilog_syntax.specs.Items.{supported_at, adds_item}
+use Rattle.verilog_syntax.specs.Lists.{row_at}
+use Rattle.verilog_syntax.specs.Ports.{head_at}
 
-abbrev pub is_first : Tok → Bool
-is_first (word word_is.Module) = true
-is_first _ = false
+abbrev pub ends_module : List ℕ → Bool
+ends_module s = has_word (codes "endmodule") s
 
-abbrev pub is_last : Tok → Bool
-is_last (word word_is.Endmodule) = true
-is_last _ = false
+-- `module`, a name, a port list or none, `;`, items, `endmodule`
+unfoldable pub module_at : Rule ModuleDecl
+module_at total s = do
+  b ← supported_at total s
+  t ← word_at (codes "module") total b
+  n ← name_at total t
+  h ← head_at total n.1
+  r ← mark_at semicolon total h.1
+  i ← row_at ends_module adds_item [] total r
+  e ← word_at (codes "endmodule") total i.1
+  Ok (record { name = n.0; head = h.0; items = i.0 }, e)
 
-abbrev pub is_ended : Tok → Bool
-is_ended ended = true
-is_ended _ = false
+abbrev pub adds_module : List ModuleDecl → Rule (List ModuleDecl)
+adds_module found total s = module_at total s >>= λ m. Ok (found ++ m.0 ∷ [], m.1)
 
--- after the word `module`
-unfoldable pub begun_at : List ℕ → Option (List ℕ)
-begun_at s = if is_first (token s).0 then Some (token s).1 else None
+abbrev pub ends_text : List ℕ → Bool
+ends_text s = length s == 0
 
--- the rest of fewer than n items, after those found, up to `endmodule`; an item has a byte at least
-unfoldable pub items_from : ℕ → List ItemDecl → List ℕ → Read (List ItemDecl)
-items_from zero found s = None
-items_from (suc n) found s =
-    if is_last (token s).0 then Some (found, (token s).1)
-    else (item_at (token s).0 (token s).1 >>= λ p. items_from n (found ++ p.0 ∷ []) p.1)
-
-abbrev pub items_at : List ℕ → Read (List ItemDecl)
-items_at s = items_from (suc (length s)) [] s
-
--- `module`, its name, its ports in parentheses, `;`, items, `endmodule`
-unfoldable pub module_at : List ℕ → Read ModuleDecl
-module_at s = do
-  r ← begun_at s
-  n ← name_at r
-  r ← mark_at 40 n.1
-  p ← list_or_none port_at 41 r
-  r ← mark_at 59 p.1
-  i ← items_at r
-  Some (record { name = n.0; ports = p.0; items = i.0 }, i.1)
-
--- the module that a whole text is
-unfoldable pub module_of : List ℕ → Option ModuleDecl
-module_of s = module_at s >>= λ m. if is_ended (token m.1).0 then Some m.0 else None
+-- the modules that a whole text is, or the fault that the text has
+unfoldable pub modules_of : List ℕ → Result (List ModuleDecl) SyntaxFault
+modules_of text = row_at ends_text adds_module [] (length text) (after_blanks true text) >>= λ m. Ok m.0

@@ -1,100 +1,80 @@
-//! Ports, and the items of a module.
-ghost use Rattle.std.specs.Prelude.{◌≡◌, ◌<◌, length, OnOk};
+//! The items of a module.
+ghost use Rattle.std.specs.Prelude.{◌≡◌, ◌<◌, length, OnOk, Some};
 ghost use Rattle.sdcv_base.specs.Cursors.{rest, text_of};
-ghost use Rattle.verilog_words.specs.Tokens.{tok_of};
-ghost use Rattle.texts.specs.Reads.{Gives};
-ghost use Rattle.verilog_syntax.specs.Fails.{Fails};
-ghost use Rattle.verilog_syntax.specs.Names.{name_at};
+ghost use Rattle.texts.specs.Rules.{Gives, Reads};
+ghost use Rattle.verilog_words.specs.Names.{identifier_len, next_word as spec_next_word};
+ghost use Rattle.verilog_words.specs.Reads.{Fails};
 ghost use Rattle.verilog_syntax.specs.Items as spec;
 
-use crate::declarations::{ConnDecl, Dir, InstDecl, ItemDecl, PortDecl};
-use crate::faults::SyntaxFault;
-use crate::lists::{Entry, list, list_or_none};
-use crate::marks::{expect_mark, take_name};
-use sdcv_base::{Cursor, Name};
+use crate::assigns::take_assigns;
+use crate::declarations::{ItemDecl, NetKind};
+use crate::insts::take_insts;
+use crate::lists::Gather;
+use crate::nets::take_nets;
+use crate::ports::take_ports;
+use crate::prims::take_prims;
+use sdcv_base::{Cursor, Name, Seq};
 use std::alloc::Global;
-use verilog_words::{Token, Word, take_token};
+use verilog_words::{SyntaxFault, Word, identifier, next_word, refused, skip_identifier};
 
-impl Entry for Name {
-    ghost reads = { name_at };
-
-    fn read(alloc: Global, c: &mut Cursor<'_>) -> Result<Self, SyntaxFault> {
-        take_name(alloc, c)
-    }
-}
-
-#[tactic(auto, unfolding(crate::specs::Items::dir_at))]
-fn dir(c: &mut Cursor<'_>) -> Result<Dir, SyntaxFault>
-    ensures value { Gives (Fails (length (text_of c.old))) (λ d. (d, rest c.new)) result (spec.dir_at (rest c.old)) }
+/// Takes an item that this word begins.
+#[tactic(auto, unfolding(crate::specs::Items::word_item_at))]
+fn take_word_item(alloc: Global, c: &mut Cursor<'_>, word: Word) -> Result<ItemDecl, SyntaxFault>
+    requires { 0 < identifier_len (rest c.old) }
+    ensures value { Reads c.old c.new Fails (λ i. i) result (spec.word_item_at word) }
     ensures text { text_of c.new ≡ text_of c.old }
     ensures shorter { OnOk result (length (rest c.new) < length (rest c.old)) }
 {
-    let place = c.place();
-    match take_token(c) {
-        Token::Word(Word::Input) => Ok(Dir::Input),
-        Token::Word(Word::Output) => Ok(Dir::Output),
-        _ => Err(SyntaxFault::Syntax(place)),
+    if matches!(word, Word::Input | Word::Output) {
+        return Ok(ItemDecl::Ports(take_ports(alloc, c)?));
+    }
+    let fault = refused(c);
+    skip_identifier(c);
+    match word {
+        Word::Wire => take_nets(alloc, c, NetKind::Wire),
+        Word::Supply0 => take_nets(alloc, c, NetKind::Supply0),
+        Word::Supply1 => take_nets(alloc, c, NetKind::Supply1),
+        Word::Assign => take_assigns(alloc, c),
+        Word::Gate(kind) => take_prims(alloc, c, kind),
+        _ => Err(fault),
     }
 }
 
-/// `input NAME` or `output NAME`.
-impl Entry for PortDecl {
-    ghost reads = { spec.port_at };
-
-    #[tactic(auto, unfolding(crate::specs::Items::port_at))]
-    fn read(alloc: Global, c: &mut Cursor<'_>) -> Result<Self, SyntaxFault> {
-        let dir = dir(c)?;
-        let name = take_name(alloc, c)?;
-        Ok(PortDecl { dir, name })
-    }
-}
-
-/// `.PIN(NAME)`.
-impl Entry for ConnDecl {
-    ghost reads = { spec.conn_at };
-
-    #[tactic(auto, unfolding(crate::specs::Items::conn_at))]
-    fn read(alloc: Global, c: &mut Cursor<'_>) -> Result<Self, SyntaxFault> {
-        expect_mark(c, b'.')?;
-        let pin = take_name(alloc, c)?;
-        expect_mark(c, b'(')?;
-        let net = take_name(alloc, c)?;
-        expect_mark(c, b')')?;
-        Ok(ConnDecl { pin, net })
-    }
-}
-
-/// What follows the name of the cell: `NAME (CONNECTIONS);`.
-#[tactic(auto, unfolding(crate::specs::Items::inst_at))]
-fn inst(alloc: Global, c: &mut Cursor<'_>, cell: &[u8]) -> Result<InstDecl, SyntaxFault>
-    ensures value { Gives (Fails (length (text_of c.old))) (λ i. (i, rest c.new)) result (spec.inst_at cell.now (rest c.old)) }
-    ensures text { text_of c.new ≡ text_of c.old }
-    ensures shorter { OnOk result (length (rest c.new) < length (rest c.old)) }
+/// Refuses a word that is left out, with its place, where it comes next.
+#[tactic(auto, unfolding(crate::specs::Items::supported_at))]
+pub fn expect_supported(alloc: Global, c: &Cursor<'_>) -> Result<(), SyntaxFault>
+    ensures { Gives (Fails (length (text_of c.now))) (λ _. rest c.now) result (spec.supported_at (length (text_of c.now)) (rest c.now)) }
 {
-    let name = take_name(alloc, c)?;
-    expect_mark(c, b'(')?;
-    let conns = list_or_none(alloc, c, b')')?;
-    expect_mark(c, b';')?;
-    let cell = Name::new(alloc, cell)?;
-    Ok(InstDecl { cell, name, conns })
+    match next_word(c) {
+        Some(Word::Unsupported) => {
+            let word = Name::new(alloc, identifier(c))?;
+            Err(SyntaxFault::Unsupported(c.place(), word))
+        }
+        _ => Ok(()),
+    }
 }
 
-/// The item that begins with this token, which was passed.
+/// Takes an item: by its word, or instances of the cell or module of a name.
 #[tactic(auto, unfolding(crate::specs::Items::item_at))]
-pub fn item(alloc: Global, c: &mut Cursor<'_>, first: Token<'_>) -> Result<ItemDecl, SyntaxFault>
-    ensures value { Gives (Fails (length (text_of c.old))) (λ i. (i, rest c.new)) result (spec.item_at (tok_of first.entry) (rest c.old)) }
+fn take_item(alloc: Global, c: &mut Cursor<'_>) -> Result<ItemDecl, SyntaxFault>
+    ensures value { Reads c.old c.new Fails (λ i. i) result spec.item_at }
     ensures text { text_of c.new ≡ text_of c.old }
     ensures shorter { OnOk result (length (rest c.new) < length (rest c.old)) }
 {
-    match first {
-        Token::Word(Word::Wire) => {
-            let names = list(alloc, c, b';')?;
-            Ok(ItemDecl::Wires(names))
-        }
-        Token::Name(cell) => {
-            let inst = inst(alloc, c, cell)?;
-            Ok(ItemDecl::Inst(inst))
-        }
-        _ => Err(SyntaxFault::Syntax(c.place())),
+    expect_supported(alloc, c)?;
+    match next_word(c) {
+        Some(word) => take_word_item(alloc, c, word),
+        None => take_insts(alloc, c),
+    }
+}
+
+/// An item of a module.
+impl Gather for Seq<ItemDecl> {
+    ghost adds = { spec.adds_item };
+
+    fn add(&mut self, alloc: Global, c: &mut Cursor<'_>) -> Result<(), SyntaxFault> {
+        let item = take_item(alloc, c)?;
+        self.push(item)?;
+        Ok(())
     }
 }

@@ -1,18 +1,32 @@
-//! The grammar of a Verilog netlist (IEEE 1364-2005, annex A): from a text to declarations of names.
+//! The grammar of structural Verilog (IEEE 1364-2005, annex A): from a text to the declarations of its modules.
 //!
-//! Here a text is one module: ports that each have a direction, wires, and instances with named connections. Nothing is
-//! looked up: whether names are declared, and once, is left to the crate above. `read_module` is the call to read first.
+//! A text is any number of modules, each with its ports, nets, assignments, gate primitives and instances in the order of the
+//! text. Nothing is looked up: whether names are declared, and once, and what their widths are, is left to the crate above.
+//! `read_modules` is the call to read first.
 #![tactic(auto)]
 
+mod assigns;
 mod declarations;
-mod faults;
+mod exprs;
+pub mod first_declarations;
+pub mod first_faults;
+mod first_items;
+mod first_lists;
+mod first_marks;
+pub mod first_modules;
+mod insts;
 mod items;
 mod lists;
-mod marks;
 mod modules;
+mod nets;
+mod parts;
+mod ports;
+mod prims;
 #[cfg(test)]
 mod tests;
 
-pub use declarations::{ConnDecl, Dir, InstDecl, ItemDecl, ModuleDecl, PortDecl};
-pub use faults::SyntaxFault;
-pub use modules::read_module;
+pub use declarations::{
+    AssignDecl, ConnDecl, Dir, Head, InstDecl, ItemDecl, ModuleDecl, NetKind, Part, PartDecl,
+    PortDecl, PrimDecl, Range, Select, Spelled, TermDecl,
+};
+pub use modules::read_modules;

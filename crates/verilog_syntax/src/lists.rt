@@ -1,57 +1,63 @@
-//! Lists of entries with commas between them.
-ghost use Rattle.std.specs.Prelude.{◌≡◌, ◌<◌, List, ℕ, Option, length, OnOk};
+//! Lists of items with commas between them, and rows of items that follow one another.
+ghost use Rattle.std.specs.Prelude.{◌≡◌, ◌<◌, ◌≤◌, List, ℕ, Bool, length, OnOk};
 ghost use Rattle.sdcv_base.specs.Cursors.{rest, text_of};
-ghost use Rattle.texts.specs.Reads.{Gives};
-ghost use Rattle.verilog_syntax.specs.Fails.{Fails};
+ghost use Rattle.texts.specs.Rules.{Reads};
+ghost use Rattle.verilog_words.specs.Reads.{Fails, Rule};
 ghost use Rattle.verilog_syntax.specs.Lists as spec;
 
-use crate::faults::SyntaxFault;
-use crate::marks::expect_mark;
-use sdcv_base::{Cursor, Seq};
+use sdcv_base::Cursor;
 use std::alloc::Global;
-use verilog_words::try_mark;
+use verilog_words::{SyntaxFault, expect_mark, try_pass};
 
-/// What may stand in a list.
-pub trait Entry: Sized + Drop {
-    /// The entry at the front of a text, and what follows it.
-    ghost reads: { List ℕ → Option (Self × List ℕ) };
+/// What is gathered from the items of a list or row.
+pub trait Gather: Drop {
+    /// What an item adds to what was gathered before it.
+    ghost adds: { Self → Rule Self };
 
-    fn read(alloc: Global, c: &mut Cursor<'_>) -> Result<Self, SyntaxFault>
-        ensures value { Gives (Fails (length (text_of c.old))) (λ x. (x, rest c.new)) result (reads (rest c.old)) }
+    fn add(&mut self, alloc: Global, c: &mut Cursor<'_>) -> Result<(), SyntaxFault>
+        ensures value { Reads c.old c.new Fails (λ _. self.new) result (adds self.old) }
         ensures text { text_of c.new ≡ text_of c.old }
         ensures shorter { OnOk result (length (rest c.new) < length (rest c.old)) };
 }
 
-/// One entry or more, up to the closing mark.
-pub fn list<T: Entry>(alloc: Global, c: &mut Cursor<'_>, close: u8) -> Result<Seq<T>, SyntaxFault>
-    ensures value { Gives (Fails (length (text_of c.old))) (λ x. (x, rest c.new)) result (spec.list_at T.reads close (rest c.old)) }
+/// Gathers one item or more with a comma between two, up to the closing mark, which is passed.
+pub fn take_list<G: Gather>(
+    alloc: Global,
+    c: &mut Cursor<'_>,
+    close: u8,
+    found: &mut G,
+) -> Result<(), SyntaxFault>
+    requires { 0 < close }
+    ensures value { Reads c.old c.new Fails (λ _. found.new) result (spec.list_at close G.adds found.old) }
     ensures text { text_of c.new ≡ text_of c.old }
     ensures shorter { OnOk result (length (rest c.new) < length (rest c.old)) }
 {
-    let mut found = Seq::new(alloc);
-    'entries: loop {
-        let entry = T::read(alloc, c)?;
-        found.push(entry)?;
-        if try_mark(c, close) {
-            return Ok(found);
+    'items: loop {
+        found.add(alloc, c)?;
+        if try_pass(c, close) {
+            return Ok(());
         }
         expect_mark(c, b',')?;
     }
 }
 
-/// None or more, up to the closing mark.
-#[tactic(auto, unfolding(crate::specs::Lists::list_or_none))]
-pub fn list_or_none<T: Entry>(
-    alloc: Global,
-    c: &mut Cursor<'_>,
-    close: u8,
-) -> Result<Seq<T>, SyntaxFault>
-    ensures value { Gives (Fails (length (text_of c.old))) (λ x. (x, rest c.new)) result (spec.list_or_none T.reads close (rest c.old)) }
+/// What is gathered from the items of a row.
+pub trait Row: Gather {
+    /// The row ends before what is left.
+    ghost ends: { List ℕ → Bool };
+
+    fn has_ended(c: &Cursor<'_>) -> bool
+        ensures { result ≡ ends (rest c.now) };
+}
+
+/// Gathers the items up to where their row ends.
+pub fn take_row<R: Row>(alloc: Global, c: &mut Cursor<'_>, found: &mut R) -> Result<(), SyntaxFault>
+    ensures value { Reads c.old c.new Fails (λ _. found.new) result (spec.row_at R.ends R.adds found.old) }
     ensures text { text_of c.new ≡ text_of c.old }
-    ensures shorter { OnOk result (length (rest c.new) < length (rest c.old)) }
+    ensures within { OnOk result (length (rest c.new) ≤ length (rest c.old)) }
 {
-    if try_mark(c, close) {
-        return Ok(Seq::new(alloc));
+    'items: while !R::has_ended(c) {
+        found.add(alloc, c)?;
     }
-    list(alloc, c, close)
+    Ok(())
 }

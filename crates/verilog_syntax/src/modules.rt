@@ -1,82 +1,73 @@
-//! A module.
+//! Modules, and the text that is a row of them.
 ghost use Rattle.std.specs.Prelude.{◌≡◌, ◌<◌, length, OnOk};
 ghost use Rattle.sdcv_base.specs.Cursors.{rest, text_of};
-ghost use Rattle.verilog_words.specs.Tokens.{tok_of};
-ghost use Rattle.texts.specs.Reads.{Gives};
-ghost use Rattle.verilog_syntax.specs.Fails.{Fails};
+ghost use Rattle.texts.specs.Rules.{Gives, Reads};
+ghost use Rattle.verilog_words.specs.Reads.{Fails};
 ghost use Rattle.verilog_syntax.specs.Modules as spec;
 
 use crate::declarations::{ItemDecl, ModuleDecl};
-use crate::faults::SyntaxFault;
-use crate::items::item;
-use crate::lists::list_or_none;
-use crate::marks::{expect_mark, take_name};
-use sdcv_base::{Cursor, Seq};
+use crate::items::expect_supported;
+use crate::lists::{Gather, Row, take_row};
+use crate::ports::take_head;
+use sdcv_base::{Cursor, Name, Seq};
 use std::alloc::Global;
-use verilog_words::{Token, Word, take_token};
+use verilog_words::{SyntaxFault, expect_mark, expect_word, has_word, skip_blanks, take_name};
 
-/// The module that the whole text is. `Syntax` comes exactly where the text is none.
-#[tactic(auto, unfolding(crate::specs::Modules::module_of))]
-pub fn read_module(alloc: Global, text: &[u8]) -> Result<ModuleDecl, SyntaxFault>
-    ensures { Gives (Fails (length text.now)) (λ m. m) result (spec.module_of text.now) }
+/// The modules that the whole text is. `Syntax` comes with the place of the first byte at which the grammar cannot go on, and
+/// `Unsupported` where a word that is left out begins an item, or stands where a module could begin.
+#[tactic(auto, unfolding(crate::specs::Modules::modules_of))]
+pub fn read_modules(alloc: Global, text: &[u8]) -> Result<Seq<ModuleDecl>, SyntaxFault>
+    ensures { Gives (Fails (length text.now)) (λ m. m) result (spec.modules_of text.now) }
 {
     let mut c = Cursor::new(text);
-    let found = module(alloc, &mut c)?;
-    let place = c.place();
-    match take_token(&mut c) {
-        Token::End => Ok(found),
-        _ => Err(SyntaxFault::Syntax(place)),
+    skip_blanks(&mut c, true);
+    let mut modules = Seq::new(alloc);
+    take_row(alloc, &mut c, &mut modules)?;
+    Ok(modules)
+}
+
+impl Row for Seq<ItemDecl> {
+    ghost ends = { spec.ends_module };
+
+    fn has_ended(c: &Cursor<'_>) -> bool {
+        has_word(c, "endmodule")
     }
 }
 
+/// Takes a module.
 #[tactic(auto, unfolding(crate::specs::Modules::module_at))]
-fn module(alloc: Global, c: &mut Cursor<'_>) -> Result<ModuleDecl, SyntaxFault>
-    ensures value { Gives (Fails (length (text_of c.old))) (λ m. (m, rest c.new)) result (spec.module_at (rest c.old)) }
+fn take_module(alloc: Global, c: &mut Cursor<'_>) -> Result<ModuleDecl, SyntaxFault>
+    ensures value { Reads c.old c.new Fails (λ m. m) result spec.module_at }
     ensures text { text_of c.new ≡ text_of c.old }
     ensures shorter { OnOk result (length (rest c.new) < length (rest c.old)) }
 {
-    begin(c)?;
-    let name = take_name(alloc, c)?;
-    expect_mark(c, b'(')?;
-    let ports = list_or_none(alloc, c, b')')?;
+    expect_supported(alloc, c)?;
+    expect_word(c, "module")?;
+    let name = take_name(c)?;
+    let head = take_head(alloc, c)?;
     expect_mark(c, b';')?;
-    let items = items(alloc, c)?;
-    Ok(ModuleDecl { name, ports, items })
+    let mut items = Seq::new(alloc);
+    take_row(alloc, c, &mut items)?;
+    expect_word(c, "endmodule")?;
+    let name = Name::new(alloc, name)?;
+    Ok(ModuleDecl { name, head, items })
 }
 
-/// Passes the word `module`.
-#[tactic(auto, unfolding(crate::specs::Modules::begun_at))]
-fn begin(c: &mut Cursor<'_>) -> Result<(), SyntaxFault>
-    ensures value { Gives (Fails (length (text_of c.old))) (λ _. rest c.new) result (spec.begun_at (rest c.old)) }
-    ensures text { text_of c.new ≡ text_of c.old }
-    ensures shorter { OnOk result (length (rest c.new) < length (rest c.old)) }
-{
-    let place = c.place();
-    match take_token(c) {
-        Token::Word(Word::Module) => Ok(()),
-        _ => Err(SyntaxFault::Syntax(place)),
+/// A module of a text.
+impl Gather for Seq<ModuleDecl> {
+    ghost adds = { spec.adds_module };
+
+    fn add(&mut self, alloc: Global, c: &mut Cursor<'_>) -> Result<(), SyntaxFault> {
+        let module = take_module(alloc, c)?;
+        self.push(module)?;
+        Ok(())
     }
 }
 
-fn is_last(token: &Token<'_>) -> bool
-    ensures { result ≡ spec.is_last (tok_of token.entry.now) }
-{
-    matches!(token, Token::Word(Word::Endmodule))
-}
+impl Row for Seq<ModuleDecl> {
+    ghost ends = { spec.ends_text };
 
-/// The items up to `endmodule`, which is passed.
-fn items(alloc: Global, c: &mut Cursor<'_>) -> Result<Seq<ItemDecl>, SyntaxFault>
-    ensures value { Gives (Fails (length (text_of c.old))) (λ x. (x, rest c.new)) result (spec.items_at (rest c.old)) }
-    ensures text { text_of c.new ≡ text_of c.old }
-    ensures shorter { OnOk result (length (rest c.new) < length (rest c.old)) }
-{
-    let mut found = Seq::new(alloc);
-    'items: loop {
-        let token = take_token(c);
-        if is_last(&token) {
-            return Ok(found);
-        }
-        let item = item(alloc, c, token)?;
-        found.push(item)?;
+    fn has_ended(c: &Cursor<'_>) -> bool {
+        c.rest().is_empty()
     }
 }

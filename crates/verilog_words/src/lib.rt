@@ -22,7 +22,7 @@ pub use blanks::skip_blanks;
 pub use constants::take_constant;
 pub use faults::SyntaxFault;
 pub use gates::PrimKind;
-pub use marks::{expect_mark, expect_open, is_next, opens_list, refused, try_pass};
+pub use marks::{bump, expect_mark, expect_open, is_next, opens_list, refused, try_pass};
 pub use names::{
     begins_name, expect_word, has_word, identifier, next_word, skip_identifier, take_name, try_word,
 };

@@ -29,7 +29,7 @@ pub fn is_next(c: &Cursor<'_>, mark: u8) -> bool
 }
 
 /// Passes one byte, and what is passed over after it.
-fn bump(c: &mut Cursor<'_>)
+pub fn bump(c: &mut Cursor<'_>)
     requires { 0 < length (rest c.old) }
     ensures rest { rest c.new ≡ spec.after_mark (rest c.old) }
     ensures text { text_of c.new ≡ text_of c.old }

@@ -1,7 +1,7 @@
 use Rattle.std.proofs.Common.{◌≡◌, ◌∙◌, Some, sym, ap}
 use Rattle.std.proofs.lemmas.Result.{err_from_is_err_and}
 use Rattle.std.specs.List.{list_all}
-use Rattle.verilog_syntax.specs.declared.declarations.ItemDecl.{ItemDecl}
+use Rattle.verilog_syntax.specs.declared.first_declarations.ItemDecl.{ItemDecl}
 use Rattle.verilog_net.specs.declared.sources.Module.{Module}
 use Rattle.verilog_net.specs.Rules.{declared, insts_in, connects_among}
 use Rattle.verilog_net.proofs.FailLemmas.{some_under, none_under, fails_through}
