@@ -1,17 +1,20 @@
 -- One more digit, and one more row.
-use Rattle.std.proofs.Common.{drop, false, ◌≡◌, ℕ, zero, suc, ◌+◌, ◌-◌, ◌/◌, ◌%◌, ◌<◌, ◌≤◌, Bool, List, [], ◌∷◌, ◌++◌, map, length, take, cond, refl}
-use Rattle.std.proofs.Common.{ap, sym, ◌∙◌, arith, inl, inr, add-one, append_assoc}
-use Rattle.std.specs.Prelude.{◌==◌, nat_eq, slice_index_or}
+use Rattle.std.proofs.Common.{drop, true, false, ◌≡◌, ℕ, zero, suc, ◌+◌, ◌-◌, ◌/◌, ◌%◌, ◌<◌, ◌≤◌, Bool, List, [], ◌∷◌, ◌++◌, map, length, take, cond, refl}
+use Rattle.std.proofs.Common.{append-nil, ap, sym, ◌∙◌, arith, inl, inr, add-one, append_assoc}
+use Rattle.std.specs.Prelude.{◌==◌, nat_eq, slice_index_or, flat_map}
+use Rattle.std.proofs.lemmas.List.{flat_map_more}
 use Rattle.net_model.specs.declared.terns.Tern.{Tern}
 use Rattle.std.proofs.lemmas.Bool.{cond-false, ne_eqb, eq-eqb, cases_eq}
 use Rattle.query_model.specs.Keys.{below}
 use Rattle.query_model.specs.declared.keys.Cube.{Cube}
-use Rattle.query_model.specs.Tables.{row_bits, on_list, cube_terns, digit_tern, known_cube, constant_from}
+use Rattle.query_model.specs.Tables.{row_bits, on_list, cube_terns, digit_tern, constant_cube}
+use Rattle.query_model.proofs.Codings.{length-cube_terns, known_cube, unknown_cube}
 use Rattle.net_model.specs.Form.{Form, value, IsOver}
 use Rattle.net_model.specs.FormLaws.{value_agrees, IsOver-weaker}
 use Rattle.net_model.specs.Splitting.{cell_value, tern_value}
-use Rattle.net_model.specs.Completions.{tern_agrees}
-use Rattle.net_model.specs.declared.terns.Tern.TheVariants.{Zero}
+use Rattle.net_model.specs.Completions.{ReadsOnly, value_reads, tern_agrees}
+use Rattle.net_model.specs.Ternary.{tern_of}
+use Rattle.net_model.specs.declared.terns.Tern.TheVariants.{Zero, One, Unknown}
 
 -- the item at a place where the rest of a list begins
 begins : {X : Type 0} (xs : List X) (k : ℕ) (z x : X) (rest : List X) → drop k xs ≡ x ∷ rest → (slice_index_or xs k z ≡ x) × (drop (k + 1) xs ≡ rest)
@@ -82,31 +85,34 @@ take_at (x ∷ xs) (suc i) j z lt =
     let more : take (suc i + 1) (x ∷ xs) ≡ x ∷ take (i + 1) xs = ap (λ n. take n (x ∷ xs)) sum in
     ap (λ ys. slice_index_or ys j z) more ∙ cons_at x xs i j z (λ k. take_at xs i k z (omega arith))
 
-append_nil : (xs : List Cube) → xs ++ [] ≡ xs
-append_nil [] = refl
-append_nil (x ∷ xs) = ap (λ ys. x ∷ ys) (append_nil xs)
-
-known_more : (cell : (ℕ → Bool) → Bool) (places : ℕ) (ws : List ℕ) (w : ℕ) → constant_from cell places (ws ++ w ∷ []) ≡ constant_from cell places ws
-    ++ known_cube (cube_terns places w) (cell_value cell (λ i. slice_index_or (cube_terns places w) i Zero))
-known_more cell places [] w = append_nil (known_cube (cube_terns places w) (cell_value cell (λ i. slice_index_or (cube_terns places w) i Zero)))
-known_more cell places (x ∷ ws) w =
-    let first = known_cube (cube_terns places x) (cell_value cell (λ i. slice_index_or (cube_terns places x) i Zero)) in
-    ap (λ ys. first ++ ys) (known_more cell places ws w) ∙ sym (append_assoc first (constant_from cell places ws)
-    (known_cube (cube_terns places w) (cell_value cell (λ i. slice_index_or (cube_terns places w) i Zero))))
-
 -- one more number
-pub cubes_more : (f : Form) (places w : ℕ) (found next : List Cube) (fixed : List Tern) (args : ℕ → Tern) (value_is : Tern) → places ≤ 7
-    → IsOver places f → fixed ≡ cube_terns places w → ((i : ℕ) → i < 7 → args i ≡ slice_index_or fixed i Zero) → value_is ≡ tern_value f args
-    → found ≡ constant_from (value f) places (below w) → next ≡ found ++ known_cube fixed value_is → next ≡ constant_from (value f) places
-    (below (w + 1))
-cubes_more f places w found next fixed args value_is few over terns same is done step =
-    let reads : ℕ → Tern = λ i. slice_index_or (cube_terns places w) i Zero in
-    let read : value_is ≡ tern_value f reads = is ∙ tern_agrees f 7 args reads (IsOver-weaker places 7 f few over)
-    (λ i lt. same i lt ∙ ap (λ ts. slice_index_or ts i Zero) terns) in
-    step ∙ ap (λ cs. cs ++ known_cube fixed value_is) done ∙ ap (λ ts. constant_from (value f) places (below w) ++ known_cube ts value_is) terns
-    ∙ ap (λ t. constant_from (value f) places (below w) ++ known_cube (cube_terns places w) t) read
-    ∙ sym (known_more (value f) places (below w) w) ∙ sym (ap (λ n. constant_from (value f) places (below n)) (add-one w))
+pub cubes_more : (f : Form) (places w : ℕ) (found next : List Cube) (fixed : List Tern) (args : ℕ → Tern) (x : Tern) → places ≤ 7
+    → IsOver places f → fixed ≡ cube_terns places w → ((i : ℕ) → i < 7 → args i ≡ slice_index_or fixed i Zero) → x ≡ tern_value f args
+    → found ≡ flat_map (λ n. constant_cube (value f) (cube_terns places n)) (below w)
+    → ((b : Bool) → x ≡ tern_of b → next ≡ found ++ record { fixed = fixed; value = b } ∷ []) → (x ≡ Unknown → next ≡ found)
+    → next ≡ flat_map (λ n. constant_cube (value f) (cube_terns places n)) (below (w + 1))
+cubes_more f places w found next fixed args x few over terns same is done known unknown =
+    by_value x is known unknown ∙ ap (λ cs. cs ++ constant_cube (value f) fixed) done
+    ∙ ap (λ ts. flat_map each (below w) ++ constant_cube (value f) ts) terns ∙ flat_map_more each [] (below w) w
+    ∙ ap (λ n. flat_map each (below n)) (sym (add-one w))
+  where
+    each : ℕ → List Cube
+    each n = constant_cube (value f) (cube_terns places n)
 
-pub length-terns : (places w : ℕ) → length (cube_terns places w) ≡ places
-length-terns zero w = refl
-length-terns (suc places) w = omega (arith, length-terns places (w / 3))
+    reads : ReadsOnly 7 (value f)
+    reads = value_reads 7 f (IsOver-weaker places 7 f few over)
+
+    short : length fixed ≤ 7
+    short = omega (arith, ap length terns, length-cube_terns places w)
+
+    on_fixed : tern_value f args ≡ cell_value (value f) (λ i. slice_index_or fixed i Zero)
+    on_fixed = tern_agrees f 7 args (λ i. slice_index_or fixed i Zero) (IsOver-weaker places 7 f few over) same
+
+    by_value : (x : Tern) → x ≡ tern_value f args → ((b : Bool) → x ≡ tern_of b → next ≡ found ++ record { fixed = fixed; value = b } ∷ [])
+        → (x ≡ Unknown → next ≡ found) → next ≡ found ++ constant_cube (value f) fixed
+    by_value Zero e known unknown =
+        known false refl ∙ ap (λ cs. found ++ cs) (sym (known_cube (value f) fixed false reads (sym on_fixed ∙ sym e)))
+    by_value One e known unknown =
+        known true refl ∙ ap (λ cs. found ++ cs) (sym (known_cube (value f) fixed true reads (sym on_fixed ∙ sym e)))
+    by_value Unknown e known unknown =
+        unknown refl ∙ sym (append-nil found) ∙ ap (λ cs. found ++ cs) (sym (unknown_cube (value f) fixed short reads (sym on_fixed ∙ sym e)))

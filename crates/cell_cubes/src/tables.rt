@@ -1,10 +1,11 @@
 //! Rows and cubes, in the order of their numbers.
-ghost use Rattle.std.specs.Prelude.{◌≡◌, ◌<◌, ◌≤◌, ◌^◌, ◌++◌, ℕ, false, length, map, slice_index_or, IfOk, OnOk};
+ghost use Rattle.std.specs.Prelude.{◌≡◌, ◌<◌, ◌≤◌, ◌^◌, ◌++◌, ℕ, Bool, false, [], ◌∷◌, length, map, slice_index_or, IfOk, OnOk};
 ghost use Rattle.net_model.specs.Form.{value, IsOver};
 ghost use Rattle.net_model.specs.Args.{arg_at};
-ghost use Rattle.net_model.specs.declared.terns.Tern.TheVariants.{Zero as ZeroTern};
+ghost use Rattle.net_model.specs.Ternary.{tern_of};
+ghost use Rattle.net_model.specs.declared.terns.Tern.TheVariants.{Zero as ZeroTern, Unknown as UnknownTern};
 ghost use Rattle.query_model.specs.Keys.{below};
-ghost use Rattle.query_model.specs.Tables.{row_bits, cube_terns, digit_tern, on_list, constant_cubes, known_cube};
+ghost use Rattle.query_model.specs.Tables.{row_bits, cube_terns, digit_tern, on_list, constant_cubes};
 
 use net_model::{Args, Func, Tern, Value};
 use query_model::Cube;
@@ -92,7 +93,8 @@ fn args_of(fixed: &[Tern]) -> Args<Tern>
 
 /// Keeps a cube where its value is known.
 fn push_known(cubes: &mut Vec<Cube>, fixed: Seq<Tern>, value: Tern) -> Result<(), AllocError>
-    ensures { OnOk result (cubes.new.items ≡ cubes.old.items ++ known_cube fixed value) }
+    ensures known { OnOk result ((b : Bool) → value ≡ tern_of b → cubes.new.items ≡ cubes.old.items ++ record { fixed = fixed; value = b } ∷ []) }
+    ensures unknown { OnOk result (value ≡ UnknownTern → cubes.new.items ≡ cubes.old.items) }
 {
     let value = match value {
         Tern::Zero => false,

@@ -1,15 +1,15 @@
 -- Cubes in the order of a list: how many places they have, which keys stand in their clauses, and one cube more.
-use Rattle.std.proofs.Common.{◌≡◌, ℕ, zero, suc, ◌+◌, ◌/◌, ◌^◌, ◌<◌, Bool, true, false, not, List, [], ◌∷◌, ◌++◌, map, length, get_or, take, refl, ap}
+use Rattle.std.proofs.Common.{◌≡◌, ℕ, ◌+◌, ◌<◌, Bool, not, List, [], ◌∷◌, ◌++◌, map, length, get_or, take, ap}
 use Rattle.std.proofs.Common.{sym, ◌∙◌, subst, arith}
-use Rattle.std.specs.Prelude.{All, slice_index_or}
+use Rattle.std.specs.Prelude.{All}
 use Rattle.std.proofs.lemmas.List.{length-map, get_or-map, map_more}
-use Rattle.std.proofs.lemmas.List.Elements.{All-nil, All-cons}
-use Rattle.net_model.specs.Splitting.{cell_value}
+use Rattle.std.proofs.lemmas.List.Elements.{Contains-get_or}
+use Rattle.net_model.proofs.Members.{In, In-from_Contains}
+use Rattle.query_model.proofs.Codings.{from_constant}
 use Rattle.net_model.specs.declared.terns.Tern.{Tern}
-use Rattle.net_model.specs.declared.terns.Tern.TheVariants.{Zero, One, Unknown}
-use Rattle.query_model.specs.Keys.{opposite, below}
+use Rattle.query_model.specs.Keys.{opposite}
 use Rattle.query_model.specs.Variables.{code_of}
-use Rattle.query_model.specs.Tables.{cube_terns, known_cube, constant_from, constant_cubes, may_be, escapes, must_clause}
+use Rattle.query_model.specs.Tables.{constant_cubes, may_be, escapes, must_clause}
 use Rattle.query_model.specs.declared.keys.Key.{Key}
 use Rattle.query_model.specs.declared.keys.KeyLit.{KeyLit}
 use Rattle.query_model.specs.declared.keys.Cube.{Cube}
@@ -19,31 +19,13 @@ use Rattle.cnf_encode.proofs.Normals.{Adds-append}
 use Rattle.cnf_encode.proofs.Tabled.{must_codes}
 use Rattle.cnf_encode.proofs.Rows.{last_key}
 
-length-terns : (places w : ℕ) → length (cube_terns places w) ≡ places
-length-terns zero w = refl
-length-terns (suc places) w = omega (arith, length-terns places (w / 3))
-
-abbrev HasPlaces : ℕ → Cube → Type 0
-HasPlaces places cube = length cube.fixed ≡ places
-
-known_places : (places : ℕ) (terns : List Tern) (t : Tern) (rest : List Cube) → length terns ≡ places → All (HasPlaces places) rest
-    → All (HasPlaces places) (known_cube terns t ++ rest)
-known_places places terns Zero rest long all = All-cons (HasPlaces places) (record { fixed = terns; value = false }) rest long all
-known_places places terns One rest long all = All-cons (HasPlaces places) (record { fixed = terns; value = true }) rest long all
-known_places places terns Unknown rest long all = all
-
-constant_places : (cell : (ℕ → Bool) → Bool) (places : ℕ) (ws : List ℕ) → All (HasPlaces places) (constant_from cell places ws)
-constant_places cell places [] = All-nil (HasPlaces places)
-constant_places cell places (w ∷ ws) =
-    known_places places (cube_terns places w) (cell_value cell (λ i. slice_index_or (cube_terns places w) i Zero)) (constant_from cell places ws)
-    (length-terns places w) (constant_places cell places ws)
-
 -- each cube has all places
 pub cube_places : (cell : (ℕ → Bool) → Bool) (places : ℕ) (cubes : List Cube) (i : ℕ) (cube : Cube) → cubes ≡ constant_cubes cell places
     → i < length cubes → cube ≡ get_or cubes i cube → length cube.fixed ≡ places
 cube_places cell places cubes i cube are lt at =
-    let all : All (HasPlaces places) cubes = subst (All (HasPlaces places)) (sym are) (constant_places cell places (below (3 ^ places))) in
-    subst (HasPlaces places) (sym at) (all i cube lt)
+    let there : In (get_or cubes i cube) cubes = In-from_Contains cubes (get_or cubes i cube) (Contains-get_or cubes i cube lt) in
+    let here : In cube (constant_cubes cell places) = subst (In cube) are (subst (λ (x : Cube). In x cubes) (sym at) there) in
+    (from_constant cell places cube here).len
 
 -- the keys of a cube's clause
 pub cube_keys : (keys : List Key) (clause : Cube → List KeyLit) (cubes : List Cube) (i : ℕ) (cube : Cube) → i < length cubes

@@ -1,7 +1,6 @@
 -- Which keys the clauses of a definition mention: those that it defines, and those that it reads.
-use Rattle.std.proofs.Common.{◌≡◌, ℕ, ◌≤◌, ◌^◌, Bool, true, false, not, List, [], ◌∷◌, ◌++◌, map, length, refl, ap, sym, ◌∙◌, arith, inl, inr, ◌⊎◌, subst}
+use Rattle.std.proofs.Common.{◌≡◌, ℕ, ◌^◌, Bool, true, false, not, List, [], ◌∷◌, ◌++◌, map, length, refl, ap, sym, ◌∙◌, arith, inl, inr, ◌⊎◌, subst}
 use Rattle.std.proofs.lemmas.List.{length-map}
-use Rattle.net_model.specs.Completions.{ReadsOnly}
 use Rattle.net_model.specs.Ternary.{tern_of}
 use Rattle.net_model.specs.declared.terns.Tern.{Tern}
 use Rattle.net_model.specs.declared.terns.Tern.TheVariants.{Zero, One, Unknown}
@@ -175,9 +174,9 @@ may_be_key false high low j e = inr (inl e)
 abbrev pub rails_reads : List KeyLit → List KeyLit → Key → Key → List KeyLit
 rails_reads hs ls high low = (hs ++ lit true high ∷ []) ++ (ls ++ lit true low ∷ [])
 
-pub rails_read : (cell : (ℕ → Bool) → Bool) (hs ls : List KeyLit) (high low : Key) → length ls ≡ length hs → length hs ≤ 7 → ReadsOnly 7 cell
+pub rails_read : (cell : (ℕ → Bool) → Bool) (hs ls : List KeyLit) (high low : Key) → length ls ≡ length hs
     → ReadsOf (rails Rows cell hs ls high low) (rails_reads hs ls high low)
-rails_read cell hs ls high low same few reads = record { given = given; only = only } where
+rails_read cell hs ls high low same = record { given = given; only = only } where
   rows : List Cube
   rows = row_cubes cell (length hs)
 
@@ -201,7 +200,7 @@ rails_read cell hs ls high low same few reads = record { given = given; only = o
       let bits = all_bits true hs in
       let long : length (map tern_of bits) ≡ length hs = length-map bits tern_of ∙ length-map hs (λ (l : KeyLit). true) in
       subst (λ (n : ℕ). In (row true) (constant_cubes cell n)) long
-      (constant_in cell (map tern_of bits) (on_list cell bits) (omega (arith, long, few)) reads
+      (constant_in cell (map tern_of bits) (on_list cell bits)
       (λ other inside. ap (on_list cell) (inside_bits other bits inside)))
 
   second : In (must (row true)) (map may rows ++ map must cubes)

@@ -174,7 +174,7 @@ from_gate d claim moved cycles c l i g def k j sound early low at has out m =
         → Mentions (gate_rails d claim moved c l i g).clauses j → IsRead d claim moved cycles (own_key rail) j
     on_key rail own hazard on said =
         from_both d claim moved cycles (gate_rails d claim moved c l i g) (pins 0) (pins 1) (own_key 0) (own_key 1) (own_key rail) j refl
-        (gate_says d claim moved c l i g sound at)
+        (gate_says d claim moved c l i g)
         (λ z a. subst (λ (ls : List KeyLit). Among ls z) (sym (eval rail on own)) (subst (λ h. Among (f 0 ++ cond h (f 1) []) z) (sym hazard) a)) said
 
     of_rails : has_own claim moved l g.out ≡ true → claim.hazard ≡ true → gate_rails d claim moved c l i g ≡ def → IsRead d claim moved cycles k j
@@ -238,7 +238,7 @@ from_end d claim moved cycles c def k j sound early (RegEnd r) is has out m = by
         → Mentions (reg_rails d claim moved c r reg).clauses j → IsRead d claim moved cycles (own_key rail) j
     on_key reg rail at hazard on said =
         from_both d claim moved cycles (reg_rails d claim moved c r reg) (reg_rail d claim moved c r reg true 0)
-        (reg_rail d claim moved c r reg false 1) (own_key 0) (own_key 1) (own_key rail) j refl (reg_says d claim moved c r reg sound at)
+        (reg_rail d claim moved c r reg false 1) (own_key 0) (own_key 1) (own_key rail) j refl (reg_says d claim moved c r reg)
         (λ z a. subst (λ (ls : List KeyLit). Among ls z) (sym (reg_eval d claim moved cycles c rail r reg early on is at))
         (subst (λ h. Among (reg_listed d claim moved c r reg 0 ++ cond h (reg_listed d claim moved c r reg 1) []) z) (sym hazard)
         (from_rails d claim moved c r reg z a))) said

@@ -1,18 +1,15 @@
 -- The same of keys where a claim is asked about: the layers of a late start, its capture, and the further points of a cycle.
-use Rattle.std.proofs.Common.{◌≡◌, ◌≢◌, ℕ, zero, suc, ◌+◌, ◌-◌, ◌<◌, ◌≤◌, Bool, true, false, not, cond, List, [], ◌∷◌, ◌++◌, map, length, Option}
+use Rattle.std.proofs.Common.{◌≡◌, ◌≢◌, ℕ, zero, suc, ◌+◌, ◌-◌, ◌<◌, Bool, true, false, not, cond, List, [], ◌∷◌, ◌++◌, map, length, Option}
 use Rattle.std.proofs.Common.{Some, None, refl, ap, sym, ◌∙◌, arith, inl, inr, ◌⊎◌, subst, add-one}
 use Rattle.std.specs.Prelude.{slice_get, flat_map, nat_lt, ◌==◌, ◌&&◌}
 use Rattle.std.proofs.lemmas.Bool.{cond-false, cond_both, ltb-true, ltb-false, eqb-true, and_parts, or_cases, not-false, not_from_true}
 use Rattle.std.proofs.lemmas.List.{length-append}
 use Rattle.net_model.specs.Form.{value}
-use Rattle.net_model.specs.Netlist.{IsSound, IsGateInRange, IsRegInRange}
+use Rattle.net_model.specs.Netlist.{IsSound}
 use Rattle.net_model.specs.Fits.{Fits}
 use Rattle.sdcv_base.specs.Kinds.{judged_count}
 use Rattle.net_model.specs.Cycles.{reg_capture}
-use Rattle.net_model.specs.Completions.{ReadsOnly, value_reads}
-use Rattle.net_model.proofs.TernaryOnce.{reads_capture}
 use Rattle.net_model.proofs.Members.{In, In-left, In-right, In-cases, Contains-from_In, In-map, In-flat}
-use Rattle.net_model.proofs.Settling.{All-at}
 use Rattle.net_model.specs.declared.netlist.Design.{Design}
 use Rattle.net_model.specs.declared.netlist.Gate.{Gate}
 use Rattle.net_model.specs.declared.netlist.Reg.{Reg}
@@ -86,19 +83,14 @@ gate_layer d claim moved c l i g own =
     cond-false (not (has_own claim moved l g.out)) [] (cond claim.hazard (gate_rails d claim moved c l i g ∷ [])
     (gate_plain d claim moved c l i g ∷ [])) (not_from_true (has_own claim moved l g.out) own)
 
-wider : (n : ℕ) (cell : (ℕ → Bool) → Bool) → n ≤ 7 → ReadsOnly n cell → ReadsOnly 7 cell
-wider n cell few reads a b same = reads a b (λ i lt. same i (omega (arith, few, lt)))
-
-pub gate_says : (d : Design) (claim : Claim) (moved : List (List Bool)) (c l i : ℕ) (g : Gate) → IsSound d → slice_get d.gates i ≡ Some g
+pub gate_says : (d : Design) (claim : Claim) (moved : List (List Bool)) (c l i : ℕ) (g : Gate)
     → ReadsOf (gate_rails d claim moved c l i g) (rails_reads (gate_pins d claim moved c l i g 0) (gate_pins d claim moved c l i g 1)
     (key c (suc l) 0 g.out) (key c (suc l) 1 g.out))
-gate_says d claim moved c l i g sound at =
-    let range = All-at (IsGateInRange d) d.gates i g at sound.in_range.gates in
+gate_says d claim moved c l i g =
     let long : (rail : ℕ) → length (gate_pins d claim moved c l i g rail) ≡ length g.ins = λ rail.
     length-numbered (λ p n. read_pin d claim moved c (suc l) rail (GateIn i p) n) 0 g.ins in
     rails_read (value g.func) (gate_pins d claim moved c l i g 0) (gate_pins d claim moved c l i g 1) (key c (suc l) 0 g.out) (key c (suc l) 1 g.out)
-    (long 1 ∙ sym (long 0)) (omega (arith, long 0, range.few))
-    (wider (length g.ins) (value g.func) (omega (arith, range.few)) (value_reads (length g.ins) g.func range.func))
+    (long 1 ∙ sym (long 0))
 
 -- a key of a layer is on one of its rails
 on_rail : (claim : Claim) (c l rail p : ℕ) → claim.hazard ≡ true → has_rail claim rail ≡ true → In (key c l rail p) (key c l 0 p ∷ key c l 1 p ∷ [])
@@ -159,7 +151,7 @@ gate_used q claim offset clean moved c l rail i g j sound asks early low on at o
         use_by (definitions Rows q moved) (gate_rails d claim moved c l i g) (f 0 ++ f 1) (key c (suc l) rail g.out) j
         (listed (gate_rails d claim moved c l i g) (subst (λ h. In (gate_rails d claim moved c l i g)
         (cond h (gate_rails d claim moved c l i g ∷ []) (gate_plain d claim moved c l i g ∷ []))) (sym hazard) (inl refl)))
-        (on_rail claim c (suc l) rail g.out hazard on) (gate_says d claim moved c l i g sound at) a
+        (on_rail claim c (suc l) rail g.out hazard on) (gate_says d claim moved c l i g) a
     by_mode false plain_mode a =
         subst (λ (n : ℕ). Uses (definitions Rows q moved) (key c (suc l) n g.out) j) (sym (plain_rail claim rail plain_mode on))
         (plain_use (definitions Rows q moved) (value g.func) (gate_pins d claim moved c l i g 0) (key c (suc l) 0 g.out) j
@@ -181,10 +173,6 @@ abbrev pub reg_rails : Design → Claim → List (List Bool) → ℕ → ℕ →
 reg_rails d claim moved c r reg =
     rails Rows (reg_capture reg) (reg_rail d claim moved c r reg true 0) (reg_rail d claim moved c r reg false 1) (late_key d claim c 0) (late_key d claim c 1)
 
-length-with_own : (reg : Reg) (own : KeyLit) (pins : List KeyLit) → (length (with_own reg own pins) ≤ length pins + 1)
-length-with_own reg own pins = cond_both (reads_own reg) (own ∷ []) [] (λ more. length (pins ++ more) ≤ length pins + 1)
-    (λ yes_own. omega (arith, length-append pins (own ∷ []))) (λ no_own. omega (arith, length-append pins []))
-
 same_length : (reg : Reg) (x y : KeyLit) (xs ys : List KeyLit) → length xs ≡ length ys → length (with_own reg x xs) ≡ length (with_own reg y ys)
 same_length reg x y xs ys same = by_own (reads_own reg)
   where
@@ -192,18 +180,15 @@ same_length reg x y xs ys same = by_own (reads_own reg)
     by_own true = omega (arith, same, length-append xs (x ∷ []), length-append ys (y ∷ []))
     by_own false = omega (arith, same, length-append xs [], length-append ys [])
 
-pub reg_says : (d : Design) (claim : Claim) (moved : List (List Bool)) (c r : ℕ) (reg : Reg) → IsSound d → slice_get d.regs r ≡ Some reg
+pub reg_says : (d : Design) (claim : Claim) (moved : List (List Bool)) (c r : ℕ) (reg : Reg)
     → ReadsOf (reg_rails d claim moved c r reg) (rails_reads (reg_rail d claim moved c r reg true 0) (reg_rail d claim moved c r reg false 1)
     (late_key d claim c 0) (late_key d claim c 1))
-reg_says d claim moved c r reg sound at =
-    let range = All-at (IsRegInRange d) d.regs r reg at sound.in_range.regs in
+reg_says d claim moved c r reg =
     let long : (rail : ℕ) → length (reg_pins d claim moved c r reg rail) ≡ length reg.ins = λ rail.
     length-numbered (λ p n. read_pin d claim moved c (length claim.through + 1) rail (RegIn r p) n) 0 reg.ins in
-    let few = length-with_own reg (lit true (bit_key d c r)) (reg_pins d claim moved c r reg 0) in
     rails_read (reg_capture reg) (reg_rail d claim moved c r reg true 0) (reg_rail d claim moved c r reg false 1) (late_key d claim c 0) (late_key d claim c 1)
     (same_length reg (lit false (bit_key d c r)) (lit true (bit_key d c r)) (reg_pins d claim moved c r reg 1) (reg_pins d claim moved c r reg 0)
     (long 1 ∙ sym (long 0)))
-    (omega (arith, few, long 0, range.few)) (wider (length reg.ins + 1) (reg_capture reg) (omega (arith, range.few)) (reads_capture d r reg sound at))
 
 -- the same keys whatever the sign of the own bit
 resigned : (reg : Reg) (k : Key) (a b : Bool) (pins : List KeyLit) (j : Key) → Among (with_own reg (lit a k) pins) j → Among (with_own reg (lit b k) pins) j
@@ -287,7 +272,7 @@ reg_used q claim offset clean moved c rail r reg j sound asks early on is at =
         (late_key d claim c 1)) (late_key d claim c rail) j
         (listed (reg_rails d claim moved c r reg) (subst (λ h. In (reg_rails d claim moved c r reg)
         (cond h (reg_rails d claim moved c r reg ∷ []) (reg_plain d claim moved c r reg ∷ []))) (sym hazard) (inl refl)))
-        (on_rail claim c (length claim.through + 1) rail (d.nets + length d.regs) hazard on) (reg_says d claim moved c r reg sound at)
+        (on_rail claim c (length claim.through + 1) rail (d.nets + length d.regs) hazard on) (reg_says d claim moved c r reg)
         (to_rails d claim moved c r reg j a)
     by_mode false plain_mode a =
         subst (λ (n : ℕ). Uses (definitions Rows q moved) (late_key d claim c n) j) (sym (plain_rail claim rail plain_mode on))

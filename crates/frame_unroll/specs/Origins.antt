@@ -114,13 +114,18 @@ late_reads d claim moved k l (OfGate i) = gate_late d claim moved k.cycle l i (s
 late_reads d claim moved k l (OfReg r) = reg_late d claim moved k.cycle r (slice_get d.regs r)
 late_reads d claim moved k l _ = []
 
+-- the literals by which it is defined whether the late capture differs: where hazards count both rails of the late capture,
+-- else the late capture and the capture
+abbrev pub differ_reads : Design → Claim → List (List Bool) → ℕ → List KeyLit
+differ_reads d claim moved c =
+    late_capture_lit d claim moved c 0 claim.end
+    ∷ (if claim.hazard then late_capture_lit d claim moved c 1 claim.end else capture_lit d claim.end c) ∷ []
+
 -- the literals by which a key is defined
 abbrev pub reads_in_layer : Design → Claim → List (List Bool) → Key → ℕ → Origin → List KeyLit
 reads_in_layer d claim moved k zero Toggle = start_lit d claim.start k.cycle ∷ start_lit d claim.start (k.cycle - 1) ∷ []
 reads_in_layer d claim moved k zero Change = capture_lit d claim.end k.cycle ∷ capture_lit d claim.end (k.cycle - 1) ∷ []
-reads_in_layer d claim moved k zero Differ =
-    late_capture_lit d claim moved k.cycle 0 claim.end
-    ∷ (if claim.hazard then late_capture_lit d claim moved k.cycle 1 claim.end else capture_lit d claim.end k.cycle) ∷ []
+reads_in_layer d claim moved k zero Differ = differ_reads d claim moved k.cycle
 reads_in_layer d claim moved k zero (Stale r) = start_lit d claim.start k.cycle ∷ start_lit d claim.start (k.cycle - r - 1) ∷ []
 reads_in_layer d claim moved k zero origin = reads_of_origin d k origin
 reads_in_layer d claim moved k (suc l) origin = late_reads d claim moved k l origin

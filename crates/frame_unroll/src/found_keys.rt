@@ -3,10 +3,9 @@ ghost use Rattle.std.specs.Prelude.{◌≡◌, ◌<◌, ◌≤◌, ◌+◌, ◌-
 ghost use Rattle.net_model.specs.Netlist.{AllBelow, IsSound};
 ghost use Rattle.net_model.specs.Fits.{Fits};
 ghost use Rattle.query_model.specs.Defined as defined;
-ghost use Rattle.query_model.specs.declared.keys.Key.{Key};
 ghost use Rattle.frame_unroll.specs.Drivers.{AreDrivers};
 ghost use Rattle.frame_unroll.specs.Reading.{AreTables};
-ghost use Rattle.frame_unroll.specs.Found.{AreNetGates, IsOriginIn, IsOriginAt, gate_rail, reg_rail, with_keys, with_clauses, Finds};
+ghost use Rattle.frame_unroll.specs.Found.{AreNetGates, IsOriginIn, IsOriginAt, gate_rail, reg_rail, with_clauses, Finds};
 ghost use Rattle.frame_unroll.specs.Origins as origins;
 
 use crate::drivers::Driver;
@@ -24,7 +23,7 @@ use std::alloc::{AllocError, Global};
 
 /// Adds the keys of these literals that are new, in their order.
 fn add_keys(lits: &Seq<KeyLit>, found: &mut IndexSet<Key>) -> Result<(), AllocError>
-    ensures { OnOk result (found.new.keys ≡ with_keys found.old.keys lits.now) }
+    ensures { OnOk result (Finds lits.now found.old.keys found.new.keys) }
 {
     for i in 0..lits.len() {
         found.insert(lits.at(i).key)?;
@@ -44,7 +43,7 @@ pub fn add_clauses(clauses: &Seq<Seq<KeyLit>>, found: &mut IndexSet<Key>) -> Res
 
 /// Adds the keys of two literals.
 fn add_two(first: KeyLit, second: KeyLit, found: &mut IndexSet<Key>) -> Result<(), AllocError>
-    ensures { OnOk result (found.new.keys ≡ with_keys found.old.keys (first ∷ second ∷ [])) }
+    ensures { OnOk result (Finds (first ∷ second ∷ []) found.old.keys found.new.keys) }
 {
     found.insert(first.key)?;
     found.insert(second.key)?;
@@ -62,7 +61,7 @@ fn add_base_gate(
     requires sound { IsSound design.now }
     requires drivers { AreDrivers design.now drivers.now }
     requires gate { gate < length design.now.gates }
-    ensures { OnOk result (found.new.keys ≡ with_keys found.old.keys (origins.gate_base design.now cycle (slice_get design.now.gates gate))) }
+    ensures { OnOk result (Finds (origins.gate_base design.now cycle (slice_get design.now.gates gate)) found.old.keys found.new.keys) }
 {
     let reads = pin_literals(alloc, design, drivers, cycle, &design.gates.item(gate).ins)?;
     add_keys(&reads, found)
@@ -79,7 +78,7 @@ fn add_base_reg(
     requires sound { IsSound design.now }
     requires drivers { AreDrivers design.now drivers.now }
     requires reg { reg < length design.now.regs }
-    ensures { OnOk result (found.new.keys ≡ with_keys found.old.keys (origins.reg_base design.now cycle reg (slice_get design.now.regs reg))) }
+    ensures { OnOk result (Finds (origins.reg_base design.now cycle reg (slice_get design.now.regs reg)) found.old.keys found.new.keys) }
 {
     let register = design.regs.item(reg);
     let mut reads = pin_literals(alloc, design, drivers, cycle, &register.ins)?;
@@ -99,7 +98,7 @@ fn add_base_reads(
     requires sound { IsSound design.now }
     requires drivers { AreDrivers design.now drivers.now }
     requires origin { IsOriginIn design.now origin }
-    ensures { OnOk result (found.new.keys ≡ with_keys found.old.keys (origins.reads_of_origin design.now key origin)) }
+    ensures { OnOk result (Finds (origins.reads_of_origin design.now key origin) found.old.keys found.new.keys) }
 {
     match origin {
         Origin::Gate(gate) => add_base_gate(alloc, design, drivers, key.cycle, gate, found),
@@ -124,7 +123,7 @@ pub fn add_clause_reads(
     requires sound { IsSound design.now }
     requires drivers { AreDrivers design.now drivers.now }
     requires gates { AreNetGates design.now gates.now }
-    ensures { OnOk result (found.new.keys ≡ with_keys found.old.keys (origins.clause_reads design.now cycles key)) }
+    ensures { OnOk result (Finds (origins.clause_reads design.now cycles key) found.old.keys found.new.keys) }
 {
     let origin = clause_origin(design, gates, cycles, key);
     add_base_reads(alloc, design, drivers, key, origin, found)
@@ -301,8 +300,7 @@ fn add_differ_reads(
     requires fits { Fits design.now claim.now }
     requires tables { AreTables design.now claim.now tables.now }
     requires early { cycle < 2 ^ 32 }
-    ensures { OnOk result ((k : Key) → k.cycle ≡ cycle → Finds (origins.reads_in_layer design.now claim.now tables.now.moved k 0 Origin.Differ)
-        found.old.keys found.new.keys) }
+    ensures { OnOk result (Finds (origins.differ_reads design.now claim.now tables.now.moved cycle) found.old.keys found.new.keys) }
 {
     let late = late_capture_lit(design, claim, tables, cycle, 0);
     let other = if claim.hazard {
@@ -369,7 +367,7 @@ fn add_cycle_reads(
     requires tables { AreTables design.now claim.now tables.now }
     requires origin { IsOriginIn design.now origin }
     requires early { key.cycle < 2 ^ 32 }
-    ensures { OnOk result (found.new.keys ≡ with_keys found.old.keys (origins.reads_in_layer design.now claim.now tables.now.moved key 0 origin)) }
+    ensures { OnOk result (Finds (origins.reads_in_layer design.now claim.now tables.now.moved key 0 origin) found.old.keys found.new.keys) }
 {
     match origin {
         Origin::Toggle => {
@@ -402,7 +400,7 @@ pub fn add_claim_reads(
     requires tables { AreTables design.now claim.now tables.now }
     requires gates { AreNetGates design.now gates.now }
     requires early { key.cycle < 2 ^ 32 }
-    ensures { OnOk result (found.new.keys ≡ with_keys found.old.keys (origins.claim_reads design.now claim.now tables.now.moved cycles key)) }
+    ensures { OnOk result (Finds (origins.claim_reads design.now claim.now tables.now.moved cycles key) found.old.keys found.new.keys) }
 {
     let origin = claim_origin(design, claim, tables, gates, cycles, key);
     if key.layer == 0 {

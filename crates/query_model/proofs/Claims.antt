@@ -1,7 +1,7 @@
 -- The laws of queries, from those of each mode.
 use Rattle.std.proofs.Common.{◌≡◌, ℕ, ◌+◌, ◌<◌, ◌≤◌, Bool, true, false, not, List, [], ◌∷◌, map, length, Option, Some, None, refl, ap, sym, ◌∙◌}
 use Rattle.std.proofs.Common.{arith, inl, inr, subst}
-use Rattle.std.specs.Prelude.{slice_get, slice_index, nat_lt}
+use Rattle.std.specs.Prelude.{slice_get, slice_index}
 use Rattle.std.proofs.lemmas.Bool.{cases_Bool}
 use Rattle.std.proofs.lemmas.Option.{slice_get_within}
 use Rattle.net_model.specs.Form.{value}
@@ -33,20 +33,21 @@ use Rattle.net_model.specs.declared.terns.Tern.{Tern}
 use Rattle.net_model.specs.declared.terns.Tern.TheVariants.{Zero, Unknown}
 use Rattle.query_model.specs.Keys.{key, lit, AllTrue}
 use Rattle.query_model.specs.Reads.{bit_key, read_base, AreMoved}
-use Rattle.net_model.specs.Queries.{Query, Question, live_of, only_in_step, claim_query, clause_query, AreCyclesOf, IsAnswer}
-use Rattle.query_model.specs.Formula.{definitions, asked_clauses, IsNeeded, AreNeeded, IsFormulaOf}
+use Rattle.net_model.specs.Queries.{Query, only_in_step, claim_query, clause_query, AreCyclesOf, IsAnswer}
+use Rattle.query_model.specs.Formula.{definitions, asked_clauses, AreNeeded, IsFormulaOf}
 use Rattle.query_model.specs.Laws.{HasFreeBits, AgreesWith, ModelsAnswer, AnswersHaveModels}
 use Rattle.query_model.specs.Laws.{NamesRegs as Names}
 use Rattle.query_model.proofs.Runs.{AnyKey, rows_coding, Told, now_bits, next_bits}
 use Rattle.query_model.proofs.Told.{LitTells}
 use Rattle.query_model.proofs.NetKeys.{needed_own}
 use Rattle.query_model.proofs.Based.{IsFree, Says, get_within, placed}
-use Rattle.query_model.proofs.Clauses.{NamesRegs, model_told, clause_model_answers, clause_answer_models}
+use Rattle.query_model.proofs.Clauses.{NamesRegs, Needed, IsModelBeside, model_told, clause_model_answers, clause_answer_models}
 use Rattle.query_model.proofs.Codings.{primes_coding, rows_settle, primes_settle}
 use Rattle.query_model.proofs.Meaning.{meaning, meaning_says}
 use Rattle.query_model.proofs.HazyGates.{IsCoding}
 use Rattle.query_model.proofs.Judged.{plain_decided}
-use Rattle.query_model.proofs.Violated.{IsAskedOf, claim_model_answers, claim_answer_models}
+use Rattle.query_model.proofs.Violated.{IsAskedOf, TellsDiffer, SaysLate, SayingModel, claim_model_answers, claim_answer_models}
+use Rattle.query_model.proofs.Decided.{IsDecided}
 use Rattle.query_model.proofs.PlainClaims.{AreFlipped, differs_late_at, late_at, are_judged, plain_tells, plain_says, flipped_layer}
 use Rattle.query_model.proofs.HazyClaims.{AreHazy, unknown_at, are_hazy_judged, hazy_decided, hazy_tells, hazy_says, hazy_layer}
 use Rattle.query_model.specs.declared.keys.Key.{Key}
@@ -76,7 +77,7 @@ short Step n = omega arith
 -- the free bits tell what is free
 pub is_free : (coding : Coding) (q : Query) (moved : List (List Bool)) (keys : List Key) (v : Key → Bool) (run : List Cycle)
     → AreNeeded (definitions coding q moved) (asked_clauses q) keys → AreCyclesOf q run → HasFreeBits q.design keys v run
-    → IsFree (IsNeeded (definitions coding q moved) (asked_clauses q)) v q.design run
+    → IsFree (Needed coding q moved) v q.design run
 is_free coding q moved keys v run needed are free =
     let first = get_within run 0 are.linked.some in
     record {
@@ -86,18 +87,32 @@ is_free coding q moved keys v run needed are free =
           ∙ sym ((All-at (IsSettled q.design) run t c at are.linked.settled).inputs i lt);
     }
 
+-- a model of a query's formula, beside cycles with its free bits
+pub beside : (coding : Coding) (q : Query) (keys : List Key) (clauses : List (List KeyLit)) (v : Key → Bool) (run : List Cycle)
+    (formula : IsFormulaOf coding q keys clauses) → IsSound q.design → AllTrue v clauses → AreCyclesOf q run → HasFreeBits q.design keys v run
+    → IsModelBeside coding q formula.moved keys v run
+beside coding q keys clauses v run formula sound all are free =
+    record {
+      covers = (coded coding).covers;
+      sound = sound;
+      cycles = are;
+      needed = formula.are_needed;
+      all = subst (AllTrue v) formula.are_clauses all;
+      free = is_free coding q formula.moved keys v run formula.are_needed are free;
+    }
+
 -- what the keys of a model tell of a run, it agrees with
 agrees : (coding : Coding) (q : Query) (moved : List (List Bool)) (keys : List Key) (v : Key → Bool) (run : List Cycle) → IsSound q.design
     → IsLinked q.design run → AreNeeded (definitions coding q moved) (asked_clauses q) keys
-    → Told (IsNeeded (definitions coding q moved) (asked_clauses q)) v q.design run → AgreesWith q.design keys v run
+    → Told (Needed coding q moved) v q.design run → AgreesWith q.design keys v run
 agrees coding q moved keys v run sound linked needed told =
     record {
       nets = λ t c n at low has.
           let k = key t 0 0 n in
           let is = needed.needed k has in
           let read : read_base q.design t n ≡ lit true k = needed_own coding q moved k sound is refl low in
-          let tells : LitTells (IsNeeded (definitions coding q moved) (asked_clauses q)) v (lit true k) (bit_at c.nets n) =
-          subst (λ (l : KeyLit). LitTells (IsNeeded (definitions coding q moved) (asked_clauses q)) v l (bit_at c.nets n)) read (told.nets t c at n low) in
+          let tells : LitTells (Needed coding q moved) v (lit true k) (bit_at c.nets n) =
+          subst (λ (l : KeyLit). LitTells (Needed coding q moved) v l (bit_at c.nets n)) read (told.nets t c at n low) in
           tells is;
       bits = λ t c r at lt has.
           let within = slice_get_within run t c at in
@@ -204,62 +219,58 @@ pub claim_models : (coding : Coding) (d : Design) (claim : Claim) (phase : Phase
     → ((clause : InvClause) → Rattle.std.specs.Prelude.Contains inv clause → Names d clause)
     → ModelsAnswer coding (claim_query d claim phase depth inv)
 claim_models coding d claim phase depth inv sound fits names keys clauses v run formula all are free =
-    (answer, agrees coding (claim_query d claim phase depth inv) formula.moved keys v run sound are.linked formula.are_needed told)
+    (answer, agrees coding q formula.moved keys v run sound are.linked formula.are_needed (model_told coding q formula.moved keys v run model))
   where
-    live : ℕ
-    live = live_of d phase
+    q : Query
+    q = claim_query d claim phase depth inv
 
-    cycles : ℕ
-    cycles = live_of d phase + depth + 1 + judged_count claim.kind
-
-    kept_below : ℕ
-    kept_below = only_in_step phase (live_of d phase + depth + 1 + judged_count claim.kind)
-
-    clean : ℕ
-    clean = only_in_step phase depth
+    model : IsModelBeside coding q formula.moved keys v run
+    model = beside coding q keys clauses v run formula sound all are free
 
     kind : Key → Type 0
-    kind = IsNeeded (definitions coding (claim_query d claim phase depth inv) formula.moved) (asked_clauses (claim_query d claim phase depth inv))
+    kind = Needed coding q formula.moved
 
     asked : IsAskedOf d claim run
     asked = asked_of d claim run sound fits are.linked
 
-    named : (i : InvClause) → In i inv → NamesRegs d i
-    named = names_all d inv names
+    told_where : (differs : ℕ → Bool) → IsDecided kind d claim run differs → TellsDiffer coding kind v d claim formula.moved run differs → IsAnswer q run
+    told_where differs decided tells =
+        claim_model_answers (record {
+          coding = coding;
+          base = q;
+          claim = claim;
+          offset = depth;
+          clean = only_in_step phase depth;
+          moved = formula.moved;
+          keys = keys;
+          v = v;
+          run = run;
+          differs = differs;
+          model = model;
+          names = names_all d inv names;
+          is = asked;
+          decided = decided;
+          tells = tells;
+          fits = omega arith;
+          less = short phase depth;
+        })
 
-    known : IsFree (IsNeeded (definitions coding (claim_query d claim phase depth inv) formula.moved)
-        (asked_clauses (claim_query d claim phase depth inv))) v d run
-    known = is_free coding (claim_query d claim phase depth inv) formula.moved keys v run formula.are_needed are free
-
-    true_all : AllTrue v (Rattle.query_model.specs.Formula.formula_over (definitions coding (claim_query d claim phase depth inv) formula.moved)
-        (asked_clauses (claim_query d claim phase depth inv)) keys)
-    true_all = subst (AllTrue v) formula.are_clauses all
-
-    told : Told (IsNeeded (definitions coding (claim_query d claim phase depth inv) formula.moved)
-        (asked_clauses (claim_query d claim phase depth inv))) v d run
-    told = model_told coding (claim_query d claim phase depth inv) formula.moved keys v run (coded coding).covers sound are.linked are.resets
-        are.count formula.are_needed true_all known
-
-    answer : IsAnswer (claim_query d claim phase depth inv) run
+    answer : IsAnswer q run
     answer =
         elim (cases_Bool claim.hazard) [
           | inl hazard ↦
               let made = hazy_rows d claim run sound fits are.linked in
               let hazy = are_hazy d claim formula.moved run sound fits are.linked formula.are_moved hazard in
-              claim_model_answers coding d live cycles inv kept_below claim depth clean formula.moved (unknown_at d claim run made.0) keys v run
-              (coded coding).covers named are.resets asked
+              told_where (unknown_at d claim run made.0)
               (hazy_decided kind d claim run (unknown_at d claim run made.0) (are_hazy_judged d claim formula.moved run made.0 hazard asked hazy))
               (hazy_tells coding kind v d claim formula.moved run made.0 (coded coding) hazard asked hazy)
-              are.count (omega arith) (short phase depth) formula.are_needed true_all known
           | inr plain ↦
               let made = flipped_rows d claim run sound fits are.linked in
               let flips = are_flipped d claim formula.moved run sound fits are.linked formula.are_moved plain in
-              claim_model_answers coding d live cycles inv kept_below claim depth clean formula.moved (differs_late_at d claim run made.0) keys v run
-              (coded coding).covers named are.resets asked
+              told_where (differs_late_at d claim run made.0)
               (plain_decided kind d claim run (late_at d claim run made.0) (differs_late_at d claim run made.0)
               (are_judged d claim formula.moved run made.0 plain asked flips))
               (plain_tells coding kind v d claim formula.moved run made.0 (coded coding).covers plain asked flips)
-              are.count (omega arith) (short phase depth) formula.are_needed true_all known
         ]
 
 -- each answer to a claim's query gives a model
@@ -275,50 +286,76 @@ claim_answers coding d claim phase depth inv sound fits names keys clauses run f
     asked : IsAskedOf d claim run
     asked = asked_of d claim run sound fits answer.cycles.linked
 
-    Found : Type 0
-    Found = (v : Key → Bool) × AllTrue v (Rattle.query_model.specs.Formula.formula_over
-        (definitions coding (claim_query d claim phase depth inv) formula.moved) (asked_clauses (claim_query d claim phase depth inv)) keys)
-        × Says v d run
+    said_where : (layer : Key → ℕ → Bool) (differs : ℕ → Bool) → IsDecided AnyKey d claim run differs
+        → SaysLate coding d claim formula.moved run layer differs → SayingModel coding q formula.moved keys run
+    said_where layer differs decided late =
+        claim_answer_models (record {
+          coding = coding;
+          base = q;
+          claim = claim;
+          offset = depth;
+          clean = only_in_step phase depth;
+          moved = formula.moved;
+          keys = keys;
+          run = run;
+          layer = layer;
+          differs = differs;
+          covers = (coded coding).covers;
+          names = names_all d inv names;
+          is = asked;
+          decided = decided;
+          late = late;
+          few = few_judged claim.kind fits.kind;
+          short = short phase q.cycles;
+          fits = omega arith;
+          less = short phase depth;
+          answer = answer;
+        })
 
-    made : Found
+    made : SayingModel coding q formula.moved keys run
     made =
         elim (cases_Bool claim.hazard) [
           | inl hazard ↦
               let rows = hazy_rows d claim run sound fits answer.cycles.linked in
               let hazy = are_hazy d claim formula.moved run sound fits answer.cycles.linked formula.are_moved hazard in
-              claim_answer_models coding d (live_of d phase) (live_of d phase + depth + 1 + judged_count claim.kind) inv
-              (only_in_step phase (live_of d phase + depth + 1 + judged_count claim.kind)) claim depth (only_in_step phase depth) formula.moved
-              (hazy_layer d claim run rows.0) (unknown_at d claim run rows.0) keys run (coded coding).covers (names_all d inv names) asked
+              said_where (hazy_layer d claim run rows.0) (unknown_at d claim run rows.0)
               (hazy_decided AnyKey d claim run (unknown_at d claim run rows.0) (are_hazy_judged d claim formula.moved run rows.0 hazard asked hazy))
               (hazy_says coding d claim formula.moved run rows.0 (coded coding) hazard asked hazy)
-              (few_judged claim.kind fits.kind) (short phase (live_of d phase + depth + 1 + judged_count claim.kind)) (omega arith) (short phase depth) answer
           | inr plain ↦
               let rows = flipped_rows d claim run sound fits answer.cycles.linked in
               let flips = are_flipped d claim formula.moved run sound fits answer.cycles.linked formula.are_moved plain in
-              claim_answer_models coding d (live_of d phase) (live_of d phase + depth + 1 + judged_count claim.kind) inv
-              (only_in_step phase (live_of d phase + depth + 1 + judged_count claim.kind)) claim depth (only_in_step phase depth) formula.moved
-              (flipped_layer d claim run rows.0) (differs_late_at d claim run rows.0) keys run (coded coding).covers (names_all d inv names) asked
+              said_where (flipped_layer d claim run rows.0) (differs_late_at d claim run rows.0)
               (plain_decided AnyKey d claim run (late_at d claim run rows.0) (differs_late_at d claim run rows.0)
               (are_judged d claim formula.moved run rows.0 plain asked flips))
               (plain_says coding d claim formula.moved run rows.0 (coded coding).covers plain asked flips)
-              (few_judged claim.kind fits.kind) (short phase (live_of d phase + depth + 1 + judged_count claim.kind)) (omega arith) (short phase depth) answer
         ]
+
+names_one : (d : Design) (clause : InvClause) → Names d clause → NamesRegs d clause
+names_one d clause name l has =
+    let place = placed l clause.lits has in
+    All-at (λ (s : StateLit). s.reg < length d.regs) clause.lits place.0 l place.1 name
 
 -- the same for the query of an invariant's clause
 pub clause_models : (coding : Coding) (d : Design) (inv : List InvClause) (clause : InvClause) (phase : Phase) (depth : ℕ) → IsSound d
     → Names d clause → ((i : InvClause) → Rattle.std.specs.Prelude.Contains inv i → Names d i)
     → ModelsAnswer coding (clause_query d inv clause phase depth)
-clause_models coding d inv clause phase depth sound name names keys clauses v run formula all are free = (
-  clause_model_answers coding d (live_of d phase) (live_of d phase + depth + 1) inv (only_in_step phase depth) clause formula.moved keys v run
-      (coded coding).covers sound
-      (λ l has. let place = placed l clause.lits has in All-at (λ (s : StateLit). s.reg < length d.regs) clause.lits place.0 l place.1 name)
-      (names_all d inv names) are.linked are.resets are.count formula.are_needed (subst (AllTrue v) formula.are_clauses all)
-      (is_free coding (clause_query d inv clause phase depth) formula.moved keys v run formula.are_needed are free),
-  agrees coding (clause_query d inv clause phase depth) formula.moved keys v run sound are.linked formula.are_needed
-      (model_told coding (clause_query d inv clause phase depth) formula.moved keys v run (coded coding).covers sound are.linked are.resets are.count
-      formula.are_needed (subst (AllTrue v) formula.are_clauses all)
-      (is_free coding (clause_query d inv clause phase depth) formula.moved keys v run formula.are_needed are free)),
-)
+clause_models coding d inv clause phase depth sound name names keys clauses v run formula all are free =
+    let q = clause_query d inv clause phase depth in
+    let model : IsModelBeside coding q formula.moved keys v run = beside coding q keys clauses v run formula sound all are free in (
+      clause_model_answers (record {
+        coding = coding;
+        base = q;
+        clause = clause;
+        moved = formula.moved;
+        keys = keys;
+        v = v;
+        run = run;
+        model = model;
+        name = names_one d clause name;
+        names = names_all d inv names;
+      }),
+      agrees coding q formula.moved keys v run sound are.linked formula.are_needed (model_told coding q formula.moved keys v run model),
+    )
 
 pub clause_answers : (coding : Coding) (d : Design) (inv : List InvClause) (clause : InvClause) (phase : Phase) (depth : ℕ) → IsSound d
     → Names d clause → ((i : InvClause) → Rattle.std.specs.Prelude.Contains inv i → Names d i) → AnswersHaveModels coding
@@ -326,9 +363,19 @@ pub clause_answers : (coding : Coding) (d : Design) (inv : List InvClause) (clau
 clause_answers coding d inv clause phase depth sound name names keys clauses run formula answer = (
   meaning d run (λ k. false),
   subst (AllTrue (meaning d run (λ k. false))) (sym formula.are_clauses)
-      (clause_answer_models coding d (live_of d phase) (live_of d phase + depth + 1) inv (only_in_step phase depth) clause formula.moved keys run
-      (coded coding).covers sound
-      (λ l has. let place = placed l clause.lits has in All-at (λ (s : StateLit). s.reg < length d.regs) clause.lits place.0 l place.1 name)
-      (names_all d inv names) (let le = short phase depth in omega arith) answer),
+      (clause_answer_models (record {
+        coding = coding;
+        base = clause_query d inv clause phase depth;
+        clause = clause;
+        moved = formula.moved;
+        keys = keys;
+        run = run;
+        covers = (coded coding).covers;
+        sound = sound;
+        name = names_one d clause name;
+        names = names_all d inv names;
+        short = let le = short phase depth in omega arith;
+        answer = answer;
+      })),
   says_agrees d keys (meaning d run (λ k. false)) run answer.cycles.linked (meaning_says d run (λ k. false)),
 )

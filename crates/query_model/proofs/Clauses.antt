@@ -1,21 +1,21 @@
 -- Clauses over register bits, and queries of invariants.
 use Rattle.std.proofs.Common.{◌≡◌, ℕ, ◌-◌, ◌<◌, ◌≤◌, Bool, true, false, not, cond, List, [], ◌∷◌, map, length, Some, refl, ap, sym, ◌∙◌, arith, inl, inr, subst}
-use Rattle.std.specs.Prelude.{slice_get, flat_map, nat_lt, ◌||◌}
+use Rattle.std.specs.Prelude.{slice_get, flat_map, ◌||◌}
 use Rattle.std.specs.List.{list_any}
 use Rattle.std.proofs.lemmas.Bool.{not-true, or_from, or_parts}
 use Rattle.std.proofs.lemmas.Option.{slice_get_within}
 use Rattle.net_model.specs.Netlist.{IsSound}
-use Rattle.net_model.specs.Cycles.{bit_at, IsLinked, HasResets}
+use Rattle.net_model.specs.Cycles.{bit_at}
 use Rattle.net_model.specs.declared.netlist.Design.{Design}
 use Rattle.net_model.specs.declared.cycles.Cycle.{Cycle}
 use Rattle.net_model.specs.declared.invariants.StateLit.{StateLit}
 use Rattle.net_model.specs.declared.invariants.InvClause.{InvClause}
 use Rattle.query_model.specs.Keys.{lit, opposite, lit_value, is_true, AllTrue, below}
 use Rattle.query_model.specs.Reads.{bit_key}
-use Rattle.net_model.specs.Queries.{Query, Breaks, IsAnswer, clause_holds, state_value}
+use Rattle.net_model.specs.Queries.{Query, Breaks, AreCyclesOf, IsAnswer, clause_holds, state_value}
 use Rattle.query_model.specs.Defined.{Definition, base_definitions}
 use Rattle.query_model.specs.Formula.{state_lit, clause_in, kept_clauses, question_clauses, asked_clauses, definitions, cycle_definitions}
-use Rattle.query_model.specs.Formula.{question_definitions, IsNeeded, Asked, AreNeeded, formula_over}
+use Rattle.query_model.specs.Formula.{IsNeeded, Asked, AreNeeded, formula_over}
 use Rattle.net_model.proofs.Members.{In, In-left, In-right, In-map, In-flat, In-cases, In-from_Contains, Contains-from_In, from_map, from_flat}
 use Rattle.query_model.proofs.Members.{In-below, below_less, all_true, true_at}
 use Rattle.query_model.proofs.Tabled.{value_opposite}
@@ -109,18 +109,32 @@ kept_said q v run names says short holds =
     subst (λ (x : List KeyLit). is_true v x ≡ true) from.2
     (clause_said v q.design run t here.0 from.0 here.1 (names from.0 from.1) says ∙ holds t here.0 from.0 lt here.1 from.1))
 
+-- the needed keys of a query
+abbrev pub Needed : Coding → Query → List (List Bool) → Key → Type 0
+Needed coding q moved = IsNeeded (definitions coding q moved) (asked_clauses q)
+
+-- a model of a query's formula over its needed keys, beside cycles of the query that have the model's free bits
+pub record IsModelBeside (coding : Coding) (q : Query) (moved : List (List Bool)) (keys : List Key) (v : Key → Bool) (run : List Cycle) : Type 0 where
+  pub covers : CodingCovers coding
+  pub sound : IsSound q.design
+  pub cycles : AreCyclesOf q run
+  pub needed : AreNeeded (definitions coding q moved) (asked_clauses q) keys
+  pub all : AllTrue v (formula_over (definitions coding q moved) (asked_clauses q) keys)
+  pub free : IsFree (Needed coding q moved) v q.design run
+
+-- each kept clause names registers of the design
+abbrev pub NamesKept : Query → Type 0
+NamesKept q = (i : InvClause) → In i q.kept → NamesRegs q.design i
+
 -- what a model of the formula tells of a run with the same free bits
-pub model_told : (coding : Coding) (q : Query) (moved : List (List Bool)) (keys : List Key) (v : Key → Bool) (run : List Cycle) → CodingCovers coding
-    → IsSound q.design → IsLinked q.design run → ((t : ℕ) (c : Cycle) → slice_get run t ≡ Some c → HasResets q.design (nat_lt t q.live) c)
-    → length run ≡ q.cycles → AreNeeded (definitions coding q moved) (asked_clauses q) keys
-    → AllTrue v (formula_over (definitions coding q moved) (asked_clauses q) keys) → IsFree (IsNeeded (definitions coding q moved) (asked_clauses q))
-    v q.design run → Told (IsNeeded (definitions coding q moved) (asked_clauses q)) v q.design run
-model_told coding q moved keys v run covers sound linked resets count needed all free =
+pub model_told : (coding : Coding) (q : Query) (moved : List (List Bool)) (keys : List Key) (v : Key → Bool) (run : List Cycle)
+    → IsModelBeside coding q moved keys v run → Told (Needed coding q moved) v q.design run
+model_told coding q moved keys v run m =
     let defs = definitions coding q moved in
-    let kind = IsNeeded defs (asked_clauses q) in
-    let forced = forces v defs (asked_clauses q) keys needed all in
-    base_told coding kind v q.design q.live run covers sound linked resets free
-    (λ t lt. forces_some kind v defs (base_definitions coding q.design q.live t) (base_in coding q moved t (omega arith)) forced)
+    let forced = forces v defs (asked_clauses q) keys m.needed m.all in
+    base_told coding (Needed coding q moved) v q.design q.live run m.covers m.sound m.cycles.linked m.cycles.resets m.free
+    (λ t lt. forces_some (Needed coding q moved) v defs (base_definitions coding q.design q.live t)
+    (base_in coding q moved t (omega (arith, m.cycles.count))) forced)
 
 pub asked_true : (v : Key → Bool) (defs : List Definition) (q : Query) (keys : List Key) → AllTrue v (formula_over defs (asked_clauses q) keys)
     → AllTrue v (asked_clauses q)
@@ -128,73 +142,97 @@ asked_true v defs q keys all =
     all_true v (asked_clauses q) (λ c has. true_at v (formula_over defs (asked_clauses q) keys) c all
     (In-right c (flat_map (Rattle.query_model.specs.Formula.listed keys) defs) (asked_clauses q) has))
 
-abbrev pub broken : Design → ℕ → ℕ → List InvClause → ℕ → InvClause → Query
-broken d live cycles kept kept_below clause =
-    record { design = d; live = live; cycles = cycles; kept = kept; kept_below = kept_below; question = Breaks clause }
+-- the query, where it is asked whether this clause fails
+abbrev pub broken : Query → InvClause → Query
+broken q clause =
+    record { design = q.design; live = q.live; cycles = q.cycles; kept = q.kept; kept_below = q.kept_below; question = Breaks clause }
 
--- a model of an invariant's query gives an answer: the run or stretch with its free bits
-pub clause_model_answers : (coding : Coding) (d : Design) (live cycles : ℕ) (kept : List InvClause) (kept_below : ℕ) (clause : InvClause)
-    (moved : List (List Bool)) (keys : List Key) (v : Key → Bool) (run : List Cycle) → CodingCovers coding → IsSound d → NamesRegs d clause
-    → ((i : InvClause) → In i kept → NamesRegs d i) → IsLinked d run
-    → ((t : ℕ) (c : Cycle) → slice_get run t ≡ Some c → HasResets d (nat_lt t live) c) → length run ≡ cycles
-    → AreNeeded (definitions coding (broken d live cycles kept kept_below clause) moved) (asked_clauses (broken d live cycles kept kept_below clause))
-    keys → AllTrue v (formula_over (definitions coding (broken d live cycles kept kept_below clause) moved)
-    (asked_clauses (broken d live cycles kept kept_below clause)) keys)
-    → IsFree (IsNeeded (definitions coding (broken d live cycles kept kept_below clause) moved)
-    (asked_clauses (broken d live cycles kept kept_below clause))) v d run → IsAnswer (broken d live cycles kept kept_below clause) run
-clause_model_answers coding d live cycles kept kept_below clause moved keys v run covers sound names all_name linked resets count needed all free =
-    let q = broken d live cycles kept kept_below clause in
-    let defs = definitions coding q moved in
-    let told = model_told coding q moved keys v run covers sound linked resets count needed all free in
-    let asked = asked_true v defs q keys all in
+-- a model of an invariant's query
+pub record ModelOfClause : Type 0 where
+  pub coding : Coding
+  pub base : Query
+  pub clause : InvClause
+  pub moved : List (List Bool)
+  pub keys : List Key
+  pub v : Key → Bool
+  pub run : List Cycle
+  pub model : IsModelBeside coding (broken base clause) moved keys v run
+  pub name : NamesRegs base.design clause
+  pub names : NamesKept base
+
+-- gives an answer: the run or stretch with its free bits
+pub clause_model_answers : (m : ModelOfClause) → IsAnswer (broken m.base m.clause) m.run
+clause_model_answers m =
+    let q = broken m.base m.clause in
+    let d = q.design in
+    let v = m.v in
+    let defs = definitions m.coding q m.moved in
+    let told = model_told m.coding q m.moved m.keys v m.run m.model in
+    let asked = asked_true v defs q m.keys m.model.all in
     record {
-      cycles = record { linked = linked; resets = resets; count = count };
-      kept = λ t c i lt at has. kept_told q defs v run all_name told asked t c i lt at (In-from_Contains kept i has);
+      cycles = m.model.cycles;
+      kept = λ t c i lt at has. kept_told q defs v m.run m.names told asked t c i lt at (In-from_Contains q.kept i has);
       asked = λ c at.
-          let last = cycles - 1 in
-          let opposites = map (λ l. opposite l ∷ []) (clause_in d clause last) in
-          let false_here = none_true v (clause_in d clause last) (all_true v opposites
+          let last = q.cycles - 1 in
+          let opposites = map (λ l. opposite l ∷ []) (clause_in d m.clause last) in
+          let false_here = none_true v (clause_in d m.clause last) (all_true v opposites
           (λ cl has. true_at v (asked_clauses q) cl asked (In-right cl (kept_clauses q) opposites has))) in
-          sym (clause_same v d run last c clause (IsNeeded defs (asked_clauses q)) at names told
+          sym (clause_same v d m.run last c m.clause (IsNeeded defs (asked_clauses q)) at m.name told
           (λ l i.
           Asked (bit_key d last l.reg) (mentioned (asked_clauses q) (opposite (state_lit d last l) ∷ []) (opposite (state_lit d last l))
           (In-right (opposite (state_lit d last l) ∷ []) (kept_clauses q) opposites
-          (In-map (λ m. opposite m ∷ []) (state_lit d last l) (clause_in d clause last) (In-map (state_lit d last) l clause.lits i)))
+          (In-map (λ k. opposite k ∷ []) (state_lit d last l) (clause_in d m.clause last) (In-map (state_lit d last) l m.clause.lits i)))
           (inl refl))))
           ∙ false_here;
     }
 
--- each answer of an invariant's query gives a model
-pub clause_answer_models : (coding : Coding) (d : Design) (live cycles : ℕ) (kept : List InvClause) (kept_below : ℕ) (clause : InvClause)
-    (moved : List (List Bool)) (keys : List Key) (run : List Cycle) → CodingCovers coding → IsSound d → NamesRegs d clause
-    → ((i : InvClause) → In i kept → NamesRegs d i) → kept_below ≤ cycles → IsAnswer (broken d live cycles kept kept_below clause) run
-    → AllTrue (meaning d run (λ k. false)) (formula_over (definitions coding (broken d live cycles kept kept_below clause) moved)
-    (asked_clauses (broken d live cycles kept kept_below clause)) keys)
-clause_answer_models coding d live cycles kept kept_below clause moved keys run covers sound names all_name short answer =
-    let q = broken d live cycles kept kept_below clause in
-    let defs = definitions coding q moved in
+-- an answer of an invariant's query
+pub record AnswerOfClause : Type 0 where
+  pub coding : Coding
+  pub base : Query
+  pub clause : InvClause
+  pub moved : List (List Bool)
+  pub keys : List Key
+  pub run : List Cycle
+  pub covers : CodingCovers coding
+  pub sound : IsSound base.design
+  pub name : NamesRegs base.design clause
+  pub names : NamesKept base
+  pub short : base.kept_below ≤ base.cycles
+  pub answer : IsAnswer (broken base clause) run
+
+-- gives a model: what the run says
+pub clause_answer_models : (a : AnswerOfClause) → AllTrue (meaning a.base.design a.run (λ k. false))
+    (formula_over (definitions a.coding (broken a.base a.clause) a.moved) (asked_clauses (broken a.base a.clause)) a.keys)
+clause_answer_models a =
+    let q = broken a.base a.clause in
+    let d = q.design in
+    let run = a.run in
+    let defs = definitions a.coding q a.moved in
     let v = meaning d run (λ k. false) in
     let says = meaning_says d run (λ k. false) in
-    formula_true v defs (asked_clauses q) keys
+    let linked = a.answer.cycles.linked in
+    let count = a.answer.cycles.count in
+    formula_true v defs (asked_clauses q) a.keys
     (λ def has.
-    let of = from_flat (cycle_definitions coding q moved) def (below cycles) has in
-    let lt = below_less cycles of.0 of.1 in
-    let here = get_within run of.0 (rw answer.cycles.count lt) in
-    elim (In-cases def (base_definitions coding d live of.0) [] of.2) [
-      | inl base ↦ base_true coding v d live run of.0 here.0 covers sound answer.cycles.linked (answer.cycles.resets of.0 here.0 here.1) here.1 says def base
+    let of = from_flat (cycle_definitions a.coding q a.moved) def (below q.cycles) has in
+    let lt = below_less q.cycles of.0 of.1 in
+    let here = get_within run of.0 (omega arith) in
+    elim (In-cases def (base_definitions a.coding d q.live of.0) [] of.2) [
+      | inl base ↦
+          base_true a.coding v d q.live run of.0 here.0 a.covers a.sound linked (a.answer.cycles.resets of.0 here.0 here.1) here.1 says def base
       | inr none ↦ absurd none
     ])
     (all_true v (asked_clauses q)
     (λ cl has.
-    elim (In-cases cl (kept_clauses q) (map (λ l. opposite l ∷ []) (clause_in d clause (cycles - 1))) has) [
+    elim (In-cases cl (kept_clauses q) (map (λ l. opposite l ∷ []) (clause_in d a.clause (q.cycles - 1))) has) [
       | inl in_kept ↦
-          true_at v (kept_clauses q) cl (kept_said q v run all_name says (rw answer.cycles.count short)
-          (λ t c i lt at there. answer.kept t c i lt at (Contains-from_In kept i there))) in_kept
+          true_at v (kept_clauses q) cl (kept_said q v run a.names says (omega (arith, count, a.short))
+          (λ t c i lt at there. a.answer.kept t c i lt at (Contains-from_In q.kept i there))) in_kept
       | inr asked ↦
-          let last = cycles - 1 in
-          let some = answer.cycles.linked.some in
-          let count = answer.cycles.count in
+          let last = q.cycles - 1 in
+          let some = linked.some in
           let here = get_within run last (omega arith) in
-          true_at v (map (λ l. opposite l ∷ []) (clause_in d clause last)) cl
-          (true_none v (clause_in d clause last) (clause_said v d run last here.0 clause here.1 names says ∙ answer.asked here.0 here.1)) asked
+          true_at v (map (λ l. opposite l ∷ []) (clause_in d a.clause last)) cl
+          (true_none v (clause_in d a.clause last) (clause_said v d run last here.0 a.clause here.1 a.name says ∙ a.answer.asked here.0 here.1)) asked
     ]))

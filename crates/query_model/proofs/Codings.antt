@@ -1,20 +1,21 @@
 -- Constant cubes are right and complete, so prime cubes cover, and both codings settle.
-use Rattle.std.proofs.Common.{◌≡◌, ◌≢◌, ℕ, zero, suc, ◌+◌, ◌*◌, ◌/◌, ◌%◌, ◌^◌, ◌<◌, ◌≤◌, Bool, true, false, List, [], ◌∷◌, map, length, refl, ap, sym}
+use Rattle.std.proofs.Common.{◌≡◌, ◌≢◌, ℕ, zero, suc, ◌+◌, ◌*◌, ◌/◌, ◌%◌, ◌^◌, ◌<◌, ◌≤◌, Bool, true, false, List, [], ◌∷◌, ◌++◌, map, length, refl, ap, sym}
 use Rattle.std.proofs.Common.{◌∙◌, arith, inl, inr, subst}
-use Rattle.std.specs.Prelude.{slice_index_or, nat_eq}
+use Rattle.std.specs.Prelude.{slice_index_or, nat_eq, not, if◌then◌else◌}
+use Rattle.std.specs.List.{list_any}
 use Rattle.std.proofs.lemmas.List.{length-map}
-use Rattle.std.proofs.lemmas.Bool.{cases_lt, cond-true, cond-false, eq-eqb, ne_eqb}
+use Rattle.std.proofs.lemmas.Bool.{cases_Bool, cases_lt, not-false, or_from, or_parts, cond-true, cond-false, eq-eqb, ne_eqb}
 use Rattle.std.proofs.Math.Nat.{pow-succ', pow-zero}
 use Rattle.net_model.specs.Ternary.{Completes}
-use Rattle.net_model.specs.Completions.{ReadsOnly, common_sound}
+use Rattle.net_model.specs.Completions.{ReadsOnly, common_sound, cell_common}
 use Rattle.net_model.specs.Ternary.{tern_of}
-use Rattle.net_model.specs.Splitting.{join, split, with_bit, common, cell_value}
+use Rattle.net_model.specs.Splitting.{with_bit, cell_value}
 use Rattle.net_model.specs.declared.terns.Tern.{Tern}
 use Rattle.net_model.specs.declared.terns.Tern.TheVariants.{Zero, One, Unknown}
 use Rattle.query_model.specs.Keys.{below}
-use Rattle.query_model.specs.Tables.{on_list, digit_tern, cube_terns, known_cube, constant_from, constant_cubes}
+use Rattle.query_model.specs.Tables.{on_list, digit_tern, cube_terns, rows_in, gives, cube_with, constant_cube, constant_cubes}
 use Rattle.query_model.specs.Defined.{is_prime, prime_cubes, settling}
-use Rattle.net_model.proofs.Members.{In, In-left, In-right, In-cases}
+use Rattle.net_model.proofs.Members.{In, In-left, In-right, In-map, In-flat, In-cases, from_map, from_flat}
 use Rattle.query_model.proofs.Members.{In-below}
 use Rattle.query_model.proofs.Tabled.{Inside, inside_bits, bits_inside}
 use Rattle.query_model.proofs.Runs.{CodingCovers}
@@ -28,34 +29,6 @@ with_same bits k b = cond-true (nat_eq k k) b (bits k) (eq-eqb k k refl)
 
 pub with_other : (bits : ℕ → Bool) (k : ℕ) (b : Bool) (i : ℕ) → i ≢ k → with_bit bits k b i ≡ bits i
 with_other bits k b i h = cond-false (nat_eq i k) b (bits i) (ne_eqb i k h)
-
-join_self : (v : Tern) → join v v ≡ v
-join_self Zero = refl
-join_self One = refl
-join_self Unknown = refl
-
-split_const : (x : Tern) (go : Bool → Tern) (v : Tern) → ((b : Bool) → Completes x b → go b ≡ v) → split x go ≡ v
-split_const Zero go v h = h false refl
-split_const One go v h = h true refl
-split_const Unknown go v h =
-    ap (λ y. join y (go true)) (h false tt) ∙ ap (join v) (h true tt) ∙ join_self v
-
--- where all completions have one value, that is the common one
-common_const : (k : ℕ) (f : (ℕ → Bool) → Bool) (t : ℕ → Tern) (a : ℕ → Bool) (b : Bool) → k ≤ 7
-    → ((bits : ℕ → Bool) → ((i : ℕ) → i < k → Completes (t i) (bits i)) → ((i : ℕ) → k ≤ i → bits i ≡ a i) → f bits ≡ b) → common k f t a ≡ tern_of b
-common_const zero f t a b le all = ap tern_of (all a (λ i lt. absurd (omega arith)) (λ i low. refl))
-common_const (suc k) f t a b le all =
-    split_const (t k) (λ bit. common k f t (with_bit a k bit)) (tern_of b)
-    (λ bit fits.
-    common_const k f t (with_bit a k bit) b (omega arith)
-    (λ bits below_k above.
-    let here : bits k ≡ bit = above k (omega arith) ∙ with_same a k bit in
-    all bits
-    (λ i lt. elim (cases_lt i k) [
-      | inl less ↦ below_k i less
-      | inr ge ↦ let e : k ≡ i = omega arith in subst (λ j. Completes (t j) (bits j)) e (subst (Completes (t k)) (sym here) fits)
-    ])
-    (λ i low. let ne : i ≢ k = λ e. omega arith in above i (omega arith) ∙ with_other a k bit i ne)))
 
 -- lists and functions of bits
 pub list_of : ℕ → (ℕ → Bool) → List Bool
@@ -95,12 +68,11 @@ reads : List Tern → ℕ → Tern
 reads ts i = slice_index_or ts i Zero
 
 -- a list of values on which the cell is constant has that common value
-constant_value : (cell : (ℕ → Bool) → Bool) (ts : List Tern) (b : Bool) → length ts ≤ 7 → ReadsOnly 7 cell
+pub constant_value : (cell : (ℕ → Bool) → Bool) (ts : List Tern) (b : Bool) → length ts ≤ 7 → ReadsOnly 7 cell
     → ((bits : List Bool) → Inside bits ts → on_list cell bits ≡ b) → cell_value cell (λ i. slice_index_or ts i Zero) ≡ tern_of b
-unfolding cell_value
 constant_value cell ts b few only all =
-    common_const 7 cell (λ i. slice_index_or ts i Zero) (λ _. false) b (omega arith)
-    (λ f fits above.
+    (cell_common cell (λ i. slice_index_or ts i Zero) only b).1
+    (λ f fits.
     let n = length ts in
     only f (λ i. slice_index_or (list_of n f) i false)
     (λ i lt. elim (cases_lt i n) [
@@ -148,77 +120,132 @@ number_small : (ts : List Tern) → cube_number ts < 3 ^ length ts
 number_small [] = omega (arith, pow-zero 3)
 number_small (t ∷ ts) = omega (arith, number_small ts, digit_small t, pow-succ' 3 (length ts))
 
-length-cube_terns : (places w : ℕ) → length (cube_terns places w) ≡ places
+pub length-cube_terns : (places w : ℕ) → length (cube_terns places w) ≡ places
 length-cube_terns zero w = refl
 length-cube_terns (suc places) w = omega (arith, length-cube_terns places (w / 3))
 
--- what stands among the constant cubes
-record IsConstant (cell : (ℕ → Bool) → Bool) (places : ℕ) (cube : Cube) : Type 0 where
-  len : length cube.fixed ≡ places
-  value : cell_value cell (λ i. slice_index_or cube.fixed i Zero) ≡ tern_of cube.value
+-- the rows in a cube are the bits inside it
+in_rows : (bits : List Bool) (ts : List Tern) → Inside bits ts → In bits (rows_in ts)
+in_rows [] [] inside = inl refl
+in_rows [] (t ∷ ts) inside = absurd inside
+in_rows (b ∷ bs) [] inside = absurd inside
+in_rows (b ∷ bs) (Zero ∷ ts) inside =
+    subst (λ (x : Bool). In (x ∷ bs) (rows_in (Zero ∷ ts))) (sym inside.0) (In-map (λ row. false ∷ row) bs (rows_in ts) (in_rows bs ts inside.1))
+in_rows (b ∷ bs) (One ∷ ts) inside =
+    subst (λ (x : Bool). In (x ∷ bs) (rows_in (One ∷ ts))) (sym inside.0) (In-map (λ row. true ∷ row) bs (rows_in ts) (in_rows bs ts inside.1))
+in_rows (false ∷ bs) (Unknown ∷ ts) inside =
+    In-left (false ∷ bs) (map (λ row. false ∷ row) (rows_in ts)) (map (λ row. true ∷ row) (rows_in ts))
+    (In-map (λ row. false ∷ row) bs (rows_in ts) (in_rows bs ts inside.1))
+in_rows (true ∷ bs) (Unknown ∷ ts) inside =
+    In-right (true ∷ bs) (map (λ row. false ∷ row) (rows_in ts)) (map (λ row. true ∷ row) (rows_in ts))
+    (In-map (λ row. true ∷ row) bs (rows_in ts) (in_rows bs ts inside.1))
 
-from_known : (cell : (ℕ → Bool) → Bool) (places : ℕ) (ts : List Tern) (cube : Cube) → length ts ≡ places → (x : Tern)
-    → cell_value cell (λ i. slice_index_or ts i Zero) ≡ x → In cube (known_cube ts x) → IsConstant cell places cube
-from_known cell places ts cube len Zero e (inl here) = subst (IsConstant cell places) here (record { len = len; value = e })
-from_known cell places ts cube len One e (inl here) = subst (IsConstant cell places) here (record { len = len; value = e })
-from_known cell places ts cube len Zero e (inr none) = absurd none
-from_known cell places ts cube len One e (inr none) = absurd none
-from_known cell places ts cube len Unknown e has = absurd has
-
-from_constant : (cell : (ℕ → Bool) → Bool) (places : ℕ) (ws : List ℕ) (cube : Cube) → In cube (constant_from cell places ws) → IsConstant cell places cube
-from_constant cell places [] cube has = absurd has
-from_constant cell places (w ∷ ws) cube has =
-    elim (In-cases cube (known_cube (cube_terns places w) (cell_value cell (λ i. slice_index_or (cube_terns places w) i Zero)))
-    (constant_from cell places ws) has) [
-      | inl here ↦ from_known cell places (cube_terns places w) cube (length-cube_terns places w)
-          (cell_value cell (λ i. slice_index_or (cube_terns places w) i Zero)) refl here
-      | inr later ↦ from_constant cell places ws cube later
+row_inside : (ts : List Tern) (bits : List Bool) → In bits (rows_in ts) → Inside bits ts
+row_inside [] bits (inl e) = subst (λ (x : List Bool). Inside x []) e tt
+row_inside [] bits (inr none) = absurd none
+row_inside (Zero ∷ ts) bits has =
+    let from = from_map (λ row. false ∷ row) bits (rows_in ts) has in
+    subst (λ (x : List Bool). Inside x (Zero ∷ ts)) from.2 (refl, row_inside ts from.0 from.1)
+row_inside (One ∷ ts) bits has =
+    let from = from_map (λ row. true ∷ row) bits (rows_in ts) has in
+    subst (λ (x : List Bool). Inside x (One ∷ ts)) from.2 (refl, row_inside ts from.0 from.1)
+row_inside (Unknown ∷ ts) bits has =
+    elim (In-cases bits (map (λ row. false ∷ row) (rows_in ts)) (map (λ row. true ∷ row) (rows_in ts)) has) [
+      | inl low ↦
+          let from = from_map (λ row. false ∷ row) bits (rows_in ts) low in
+          subst (λ (x : List Bool). Inside x (Unknown ∷ ts)) from.2 (tt, row_inside ts from.0 from.1)
+      | inr high ↦
+          let from = from_map (λ row. true ∷ row) bits (rows_in ts) high in
+          subst (λ (x : List Bool). Inside x (Unknown ∷ ts)) from.2 (tt, row_inside ts from.0 from.1)
     ]
 
-in_known : (ts : List Tern) (b : Bool) → In (record { fixed = ts; value = b }) (known_cube ts (tern_of b))
-in_known ts true = inl refl
-in_known ts false = inl refl
+gives_other : (cell : (ℕ → Bool) → Bool) (bit : Bool) (row : List Bool) → on_list cell row ≡ bit → gives cell (not bit) row ≡ false
+gives_other cell true row e = ap not e
+gives_other cell false row e = e
 
-in_constant : (cell : (ℕ → Bool) → Bool) (places w : ℕ) (ws : List ℕ) (cube : Cube) → In w ws
-    → In cube (known_cube (cube_terns places w) (cell_value cell (λ i. slice_index_or (cube_terns places w) i Zero)))
-    → In cube (constant_from cell places ws)
-in_constant cell places w [] cube has there = absurd has
-in_constant cell places w (x ∷ ws) cube (inl here) there =
-    In-left cube (known_cube (cube_terns places x) (cell_value cell (λ i. slice_index_or (cube_terns places x) i Zero))) (constant_from cell places ws)
-    (subst (λ y. In cube (known_cube (cube_terns places y) (cell_value cell (λ i. slice_index_or (cube_terns places y) i Zero)))) (sym here) there)
-in_constant cell places w (x ∷ ws) cube (inr later) there =
-    In-right cube (known_cube (cube_terns places x) (cell_value cell (λ i. slice_index_or (cube_terns places x) i Zero)))
-    (constant_from cell places ws) (in_constant cell places w ws cube later there)
+gives_this : (cell : (ℕ → Bool) → Bool) (bit : Bool) (row : List Bool) → gives cell (not bit) row ≡ false → on_list cell row ≡ bit
+gives_this cell true row e = not-false (on_list cell row) e
+gives_this cell false row e = e
+
+-- no row gives the other bit exactly where each gives this one
+none_other : (cell : (ℕ → Bool) → Bool) (bit : Bool) (rows : List (List Bool)) → ((row : List Bool) → In row rows → on_list cell row ≡ bit)
+    → list_any (gives cell (not bit)) rows ≡ false
+none_other cell bit [] all = refl
+none_other cell bit (r ∷ rs) all =
+    or_from (gives cell (not bit) r) (list_any (gives cell (not bit)) rs) (gives_other cell bit r (all r (inl refl)))
+    (none_other cell bit rs (λ row has. all row (inr has)))
+
+each_this : (cell : (ℕ → Bool) → Bool) (bit : Bool) (rows : List (List Bool)) → list_any (gives cell (not bit)) rows ≡ false → (row : List Bool)
+    → In row rows → on_list cell row ≡ bit
+each_this cell bit [] e row has = absurd has
+each_this cell bit (r ∷ rs) e row (inl here) =
+    let parts = or_parts (gives cell (not bit) r) (list_any (gives cell (not bit)) rs) e in
+    subst (λ (x : List Bool). on_list cell x ≡ bit) here (gives_this cell bit r parts.0)
+each_this cell bit (r ∷ rs) e row (inr later) =
+    let parts = or_parts (gives cell (not bit) r) (list_any (gives cell (not bit)) rs) e in
+    each_this cell bit rs parts.1 row later
+
+-- the cell is constant on a list of values
+abbrev pub IsConstantOn : ((ℕ → Bool) → Bool) → List Tern → Bool → Type 0
+IsConstantOn cell ts bit = (bits : List Bool) → Inside bits ts → on_list cell bits ≡ bit
+
+-- what stands among the constant cubes
+pub record IsConstant (cell : (ℕ → Bool) → Bool) (places : ℕ) (cube : Cube) : Type 0 where
+  pub len : length cube.fixed ≡ places
+  pub right : IsConstantOn cell cube.fixed cube.value
+
+-- where the cell is constant, that cube is there; else there is none
+one_cube : (cell : (ℕ → Bool) → Bool) (ts : List Tern) (bit : Bool) → IsConstantOn cell ts bit
+    → cube_with cell ts bit ≡ record { fixed = ts; value = bit } ∷ []
+one_cube cell ts bit all =
+    let none = none_other cell bit (rows_in ts) (λ row has. all row (row_inside ts row has)) in
+    ap (λ (b : Bool). if b then [] else record { fixed = ts; value = bit } ∷ []) none
+
+no_cube : (cell : (ℕ → Bool) → Bool) (ts : List Tern) (bit : Bool) → (IsConstantOn cell ts bit → ⊥) → cube_with cell ts bit ≡ []
+no_cube cell ts bit varies =
+    elim (cases_Bool (list_any (gives cell (not bit)) (rows_in ts))) [
+      | inl some ↦ ap (λ (b : Bool). if b then [] else record { fixed = ts; value = bit } ∷ []) some
+      | inr none ↦ absurd (varies (λ bits inside. each_this cell bit (rows_in ts) none bits (in_rows bits ts inside)))
+    ]
+
+from_with : (cell : (ℕ → Bool) → Bool) (places : ℕ) (ts : List Tern) (bit : Bool) (cube : Cube) → length ts ≡ places
+    → In cube (cube_with cell ts bit) → IsConstant cell places cube
+from_with cell places ts bit cube len has = by_test (list_any (gives cell (not bit)) (rows_in ts)) refl has where
+  by_test : (b : Bool) → list_any (gives cell (not bit)) (rows_in ts) ≡ b → In cube (if b then [] else record { fixed = ts; value = bit } ∷ [])
+      → IsConstant cell places cube
+  by_test true e has = absurd has
+  by_test false e (inl here) = subst (IsConstant cell places) here
+      (record { len = len; right = λ bits inside. each_this cell bit (rows_in ts) e bits (in_rows bits ts inside) })
+  by_test false e (inr none) = absurd none
+
+pub from_constant : (cell : (ℕ → Bool) → Bool) (places : ℕ) (cube : Cube) → In cube (constant_cubes cell places) → IsConstant cell places cube
+from_constant cell places cube has =
+    let from = from_flat (λ w. constant_cube cell (cube_terns places w)) cube (below (3 ^ places)) has in
+    let ts = cube_terns places from.0 in
+    let len = length-cube_terns places from.0 in
+    elim (In-cases cube (cube_with cell ts false) (cube_with cell ts true) from.2) [
+      | inl low ↦ from_with cell places ts false cube len low
+      | inr high ↦ from_with cell places ts true cube len high
+    ]
+
+in_cube : (cell : (ℕ → Bool) → Bool) (ts : List Tern) (bit : Bool) → IsConstantOn cell ts bit
+    → In (record { fixed = ts; value = bit }) (constant_cube cell ts)
+in_cube cell ts false all =
+    In-left (record { fixed = ts; value = false }) (cube_with cell ts false) (cube_with cell ts true)
+    (subst (In (record { fixed = ts; value = false })) (sym (one_cube cell ts false all)) (inl refl))
+in_cube cell ts true all =
+    In-right (record { fixed = ts; value = true }) (cube_with cell ts false) (cube_with cell ts true)
+    (subst (In (record { fixed = ts; value = true })) (sym (one_cube cell ts true all)) (inl refl))
 
 -- each list of values on which the cell is constant is a constant cube
-pub constant_in : (cell : (ℕ → Bool) → Bool) (ts : List Tern) (b : Bool) → length ts ≤ 7 → ReadsOnly 7 cell
-    → ((bits : List Bool) → Inside bits ts → on_list cell bits ≡ b) → In (record { fixed = ts; value = b }) (constant_cubes cell (length ts))
-constant_in cell ts b few only all =
+pub constant_in : (cell : (ℕ → Bool) → Bool) (ts : List Tern) (b : Bool) → IsConstantOn cell ts b
+    → In (record { fixed = ts; value = b }) (constant_cubes cell (length ts))
+constant_in cell ts b all =
     let places = length ts in
     let w = cube_number ts in
-    let is = constant_value cell ts b few only all in
-    let here : In (record { fixed = ts; value = b }) (known_cube ts (cell_value cell (λ i. slice_index_or ts i Zero))) =
-    subst (λ x. In (record { fixed = ts; value = b }) (known_cube ts x)) (sym is) (in_known ts b) in
-    in_constant cell places w (below (3 ^ places)) (record { fixed = ts; value = b }) (In-below (3 ^ places) w (number_small ts))
-    (subst (λ us. In (record { fixed = ts; value = b }) (known_cube us (cell_value cell (λ i. slice_index_or us i Zero)))) (sym (terns_back ts)) here)
-
-prime_constant : (cell : (ℕ → Bool) → Bool) (places : ℕ) (cube : Cube) → In cube (prime_cubes cell places) → IsConstant cell places cube
-prime_constant cell places cube has =
-    from_constant cell places (below (3 ^ places)) cube (from_filter (is_prime (constant_cubes cell places)) cube (constant_cubes cell places) has).0
-
--- prime cubes cover each cell
-pub primes_coding : CodingCovers Primes
-primes_coding cell places few only =
-    record {
-      right = λ cube bits has in'. let is = prime_constant cell places cube has in constant_right cell cube.fixed cube.value bits only is.value in';
-      lens = λ cube has. (prime_constant cell places cube has).len;
-      each = λ bits len.
-          let ts = map tern_of bits in
-          let size : length ts ≡ places = length-map bits tern_of ∙ len in
-          let there = constant_in cell ts (on_list cell bits) (omega arith) only (λ other in'. ap (on_list cell) (inside_bits other bits in')) in
-          let found = in_prime cell (length ts) (record { fixed = ts; value = on_list cell bits }) there in
-          (found.0, subst (λ n. In found.0 (prime_cubes cell n)) size found.1, inside_within bits ts found.0.fixed found.2 (bits_inside bits));
-    }
+    In-flat (λ n. constant_cube cell (cube_terns places n)) (record { fixed = ts; value = b }) w (below (3 ^ places))
+    (In-below (3 ^ places) w (number_small ts))
+    (subst (λ us. In (record { fixed = ts; value = b }) (constant_cube cell us)) (sym (terns_back ts)) (in_cube cell ts b all))
 
 some_inside : (ts : List Tern) → (bits : List Bool) × Inside bits ts
 some_inside [] = ([], tt)
@@ -226,29 +253,76 @@ some_inside (Zero ∷ ts) = let more = some_inside ts in (false ∷ more.0, (ref
 some_inside (One ∷ ts) = let more = some_inside ts in (true ∷ more.0, (refl, more.1))
 some_inside (Unknown ∷ ts) = let more = some_inside ts in (false ∷ more.0, (tt, more.1))
 
+apart : (bit : Bool) → bit ≡ not bit → ⊥
+apart true e = cc
+apart false e = cc
+
+one_value : (cell : (ℕ → Bool) → Bool) (ts : List Tern) (b : Bool) → IsConstantOn cell ts b → IsConstantOn cell ts (not b) → ⊥
+one_value cell ts b this other = let some = some_inside ts in apart b (sym (this some.0 some.1) ∙ other some.0 some.1)
+
+-- where the common value is known, the cube with it is there
+pub known_cube : (cell : (ℕ → Bool) → Bool) (ts : List Tern) (b : Bool) → ReadsOnly 7 cell
+    → cell_value cell (λ i. slice_index_or ts i Zero) ≡ tern_of b → constant_cube cell ts ≡ record { fixed = ts; value = b } ∷ []
+known_cube cell ts false only is =
+    let all : IsConstantOn cell ts false = λ bits inside. constant_right cell ts false bits only is inside in
+    let other = no_cube cell ts true (one_value cell ts false all) in
+    ap (λ (cs : List Cube). cs ++ cube_with cell ts true) (one_cube cell ts false all)
+    ∙ ap (λ (cs : List Cube). record { fixed = ts; value = false } ∷ cs) other
+known_cube cell ts true only is =
+    let all : IsConstantOn cell ts true = λ bits inside. constant_right cell ts true bits only is inside in
+    let other = no_cube cell ts false (one_value cell ts true all) in
+    ap (λ (cs : List Cube). cs ++ cube_with cell ts true) other ∙ one_cube cell ts true all
+
+-- and where it is not, none is
+pub unknown_cube : (cell : (ℕ → Bool) → Bool) (ts : List Tern) → length ts ≤ 7 → ReadsOnly 7 cell
+    → cell_value cell (λ i. slice_index_or ts i Zero) ≡ Unknown → constant_cube cell ts ≡ []
+unknown_cube cell ts few only is =
+    let none : (b : Bool) → IsConstantOn cell ts b → ⊥ = λ b all. unlike b (sym is ∙ constant_value cell ts b few only all) in
+    ap (λ (cs : List Cube). cs ++ cube_with cell ts true) (no_cube cell ts false (none false)) ∙ no_cube cell ts true (none true)
+  where
+    unlike : (b : Bool) → Unknown ≡ tern_of b → ⊥
+    unlike true e = cc
+    unlike false e = cc
+
+prime_constant : (cell : (ℕ → Bool) → Bool) (places : ℕ) (cube : Cube) → In cube (prime_cubes cell places) → IsConstant cell places cube
+prime_constant cell places cube has =
+    from_constant cell places cube (from_filter (is_prime (constant_cubes cell places)) cube (constant_cubes cell places) has).0
+
+-- prime cubes cover each cell
+pub primes_coding : CodingCovers Primes
+primes_coding cell places few only =
+    record {
+      right = λ cube bits has inside. (prime_constant cell places cube has).right bits inside;
+      lens = λ cube has. (prime_constant cell places cube has).len;
+      each = λ bits len.
+          let ts = map tern_of bits in
+          let size : length ts ≡ places = length-map bits tern_of ∙ len in
+          let there = constant_in cell ts (on_list cell bits) (λ other in'. ap (on_list cell) (inside_bits other bits in')) in
+          let found = in_prime cell (length ts) (record { fixed = ts; value = on_list cell bits }) there in
+          (found.0, subst (λ n. In found.0 (prime_cubes cell n)) size found.1, inside_within bits ts found.0.fixed found.2 (bits_inside bits));
+    }
+
 -- and both codings settle it
 pub rows_settle : (cell : (ℕ → Bool) → Bool) (places : ℕ) → places ≤ 7 → ReadsOnly 7 cell → Settles cell places (settling Rows cell places)
 rows_settle cell places few only =
     record {
-      right = λ cube bits has in'. let is = from_constant cell places (below (3 ^ places)) cube has in
-          constant_right cell cube.fixed cube.value bits only is.value in';
-      lens = λ cube has. (from_constant cell places (below (3 ^ places)) cube has).len;
+      right = λ cube bits has inside. (from_constant cell places cube has).right bits inside;
+      lens = λ cube has. (from_constant cell places cube has).len;
       boxes = λ ts b size all.
-          let there = constant_in cell ts b (omega arith) only all in
+          let there = constant_in cell ts b all in
           (record { fixed = ts; value = b }, subst (λ n. In (record { fixed = ts; value = b }) (constant_cubes cell n)) size there, refl, lies_refl ts);
     }
 
 pub primes_settle : (cell : (ℕ → Bool) → Bool) (places : ℕ) → places ≤ 7 → ReadsOnly 7 cell → Settles cell places (settling Primes cell places)
 primes_settle cell places few only =
     record {
-      right = λ cube bits has in'. let is = prime_constant cell places cube has in constant_right cell cube.fixed cube.value bits only is.value in';
+      right = λ cube bits has inside. (prime_constant cell places cube has).right bits inside;
       lens = λ cube has. (prime_constant cell places cube has).len;
       boxes = λ ts b size all.
-          let there = constant_in cell ts b (omega arith) only all in
+          let there = constant_in cell ts b all in
           let found = in_prime cell (length ts) (record { fixed = ts; value = b }) there in
           let some = some_inside ts in
           let is = prime_constant cell (length ts) found.0 found.1 in
-          let value : found.0.value ≡ b = sym (constant_right cell found.0.fixed found.0.value some.0 only is.value
-          (inside_within some.0 ts found.0.fixed found.2 some.1)) ∙ all some.0 some.1 in
+          let value : found.0.value ≡ b = sym (is.right some.0 (inside_within some.0 ts found.0.fixed found.2 some.1)) ∙ all some.0 some.1 in
           (found.0, subst (λ n. In found.0 (prime_cubes cell n)) size found.1, value, found.2);
     }

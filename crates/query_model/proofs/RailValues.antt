@@ -1,9 +1,9 @@
 -- The rails of an output and the ternary value of its function, both ways.
-use Rattle.std.proofs.Common.{◌≡◌, ℕ, ◌<◌, ◌≤◌, Bool, true, false, not, List, length, refl, sym, ◌∙◌, subst, arith, inl, inr}
+use Rattle.std.proofs.Common.{◌≡◌, ℕ, ◌≤◌, Bool, true, false, not, List, length, refl, sym, subst}
 use Rattle.std.specs.Prelude.{slice_index_or}
 use Rattle.net_model.specs.Ternary.{Completes, tern_of}
 use Rattle.net_model.specs.Splitting.{cell_value}
-use Rattle.net_model.specs.Completions.{ReadsOnly, cell_common}
+use Rattle.net_model.specs.Completions.{ReadsOnly}
 use Rattle.net_model.specs.declared.terns.Tern.{Tern}
 use Rattle.net_model.specs.declared.terns.Tern.TheVariants.{Zero, One, Unknown}
 use Rattle.net_model.proofs.Members.{In}
@@ -13,7 +13,7 @@ use Rattle.query_model.proofs.Tabled.{Inside, Covers}
 use Rattle.query_model.proofs.Runs.{AnyKey}
 use Rattle.query_model.specs.Laws.{may_one, may_zero}
 use Rattle.query_model.proofs.Hazard.{RailsTell, Settles, hazard_may, hazard_must}
-use Rattle.query_model.proofs.Codings.{constant_right, list_of, listed_at, inside_listed}
+use Rattle.query_model.proofs.Codings.{constant_right, constant_value}
 use Rattle.query_model.proofs.Rails.{some_bits, hazard_true}
 use Rattle.query_model.specs.declared.keys.Key.{Key}
 use Rattle.query_model.specs.declared.keys.KeyLit.{KeyLit}
@@ -81,19 +81,4 @@ rails_true v cell hs ls high low rows cubes ts few only covers settles tell rail
     hazard_true v cell hs ls high low rows cubes ts covers settles tell
     (λ bits inside. may_be_completed (on_terns cell ts) (on_list cell bits) v high low rails (completed cell ts bits (on_terns cell ts) only refl inside))
     (λ b all. may_not (on_terns cell ts) b v high low rails
-    ((cell_common cell (λ i. slice_index_or ts i Zero) only b).1
-    (λ bits fits. only bits (λ i. slice_index_or (list_of (length ts) bits) i false) (λ i lt. past bits fits i lt) ∙ all (list_of (length ts) bits)
-    (inside_listed ts bits (λ i lt. fits i (below i lt))))))
-  where
-    below : (i : ℕ) → i < length ts → i < 7
-    below i lt = omega arith
-
-    past : (bits : ℕ → Bool) → ((i : ℕ) → i < 7 → Completes (slice_index_or ts i Zero) (bits i)) → (i : ℕ) → i < 7 → bits i ≡ slice_index_or
-        (list_of (length ts) bits) i false
-    past bits fits i lt =
-        elim (Rattle.std.proofs.lemmas.Bool.cases_lt i (length ts)) [
-          | inl less ↦ sym (listed_at (length ts) bits i less)
-          | inr ge ↦
-              subst (λ (t : Tern). Completes t (bits i)) (Rattle.query_model.proofs.Codings.past_zero ts i ge) (fits i lt)
-              ∙ sym (Rattle.query_model.proofs.Codings.listed_past (length ts) bits i ge)
-        ]
+    (constant_value cell ts b few only all))

@@ -25,17 +25,17 @@ use Rattle.net_model.specs.declared.claims.End.{End}
 use Rattle.net_model.specs.declared.claims.End.TheVariants.{Reg as RegEnd}
 use Rattle.net_model.specs.declared.terns.Tern.{Tern}
 use Rattle.net_model.specs.declared.terns.Tern.TheVariants.{Zero, Unknown}
-use Rattle.query_model.specs.Keys.{key, lit, AllTrue}
+use Rattle.query_model.specs.Keys.{key, lit}
 use Rattle.query_model.specs.Reads.{bit_key, read_late, read, AreMoved}
 use Rattle.net_model.specs.Queries.{Query, claim_query, only_in_step}
 use Rattle.query_model.specs.Defined.{has_own, late_key, claim_definitions}
-use Rattle.query_model.specs.Formula.{definitions, asked_clauses, formula_over, IsNeeded, AreNeeded}
+use Rattle.query_model.specs.Formula.{definitions, asked_clauses, IsNeeded, AreNeeded}
 use Rattle.query_model.specs.Laws.{rail_value, HasRails, ModelsHaveRails, NumberedHaveRails}
 use Rattle.query_model.proofs.Late.{start_net_in}
 use Rattle.query_model.proofs.Runs.{Told, Forces, now_bits}
 use Rattle.query_model.proofs.Needs.{forces, forces_some}
 use Rattle.query_model.proofs.Numbered.{normals_true, model_by_number}
-use Rattle.query_model.proofs.Clauses.{model_told}
+use Rattle.query_model.proofs.Clauses.{Needed, IsModelBeside, model_told}
 use Rattle.query_model.proofs.RailValues.{RailTells}
 use Rattle.query_model.proofs.Hazy.{IsHazy, LayerMay, read_own}
 use Rattle.query_model.proofs.HazyGates.{IsCoding, layers_may}
@@ -44,7 +44,7 @@ use Rattle.query_model.proofs.Violated.{IsAskedOf, claim_in}
 use Rattle.query_model.proofs.PlainClaims.{layers_of, ends_of}
 use Rattle.query_model.proofs.Mentioned.{BaseHas, LayersHave, needed_has}
 use Rattle.query_model.proofs.NetKeys.{read_is}
-use Rattle.query_model.proofs.Claims.{coded, is_free, asked_of}
+use Rattle.query_model.proofs.Claims.{beside, coded, asked_of}
 use Rattle.query_model.specs.declared.keys.Key.{Key}
 use Rattle.query_model.specs.declared.keys.KeyLit.{KeyLit}
 use Rattle.query_model.specs.declared.keys.Coding.{Coding}
@@ -175,15 +175,19 @@ rows_told coding kind v d claim moved run t c rows is hazard asked are told forc
           ∙ now_bits d run t c r at) (ends_of coding kind v d claim moved t forced);
     }
 
+-- they do so in each cycle
+abbrev LayersTold : (Key → Type 0) → (Key → Bool) → Design → Claim → List (List Bool) → List Cycle → Type 0
+LayersTold kind v d claim moved run =
+    (t : ℕ) (c : Cycle) (rows : List (List Tern)) → slice_get run t ≡ Some c
+    → AreLayers tern_value Zero d claim.start claim.through (λ _. Unknown) (map tern_of c.nets) rows → AreTold kind v d claim moved t c rows
+
 -- the needed keys of a model have the rails of each cycle's layers
 told_rails : (coding : Coding) (d : Design) (claim : Claim) (phase : Phase) (depth : ℕ) (inv : List InvClause) (moved : List (List Bool))
     (keys : List Key) (v : Key → Bool) (run : List Cycle) → IsSound d → claim.hazard ≡ true → AreMoved d claim moved
     → AreNeeded (definitions coding (claim_query d claim phase depth inv) moved) (asked_clauses (claim_query d claim phase depth inv)) keys
-    → ((t : ℕ) (c : Cycle) (rows : List (List Tern)) → slice_get run t ≡ Some c → AreLayers tern_value Zero d claim.start claim.through (λ _. Unknown)
-    (map tern_of c.nets) rows → AreTold (IsNeeded (definitions coding (claim_query d claim phase depth inv) moved)
-    (asked_clauses (claim_query d claim phase depth inv))) v d claim moved t c rows) → HasRails d claim keys v run
+    → LayersTold (Needed coding (claim_query d claim phase depth inv) moved) v d claim moved run → HasRails d claim keys v run
 told_rails coding d claim phase depth inv moved keys v run sound hazard are needed told =
-    let kind : Key → Type 0 = IsNeeded (definitions coding (claim_query d claim phase depth inv) moved) (asked_clauses (claim_query d claim phase depth inv)) in
+    let kind : Key → Type 0 = Needed coding (claim_query d claim phase depth inv) moved in
     record {
       nets = λ t l rail n c rows at layers le small low has.
           let is : kind (key t (suc l) rail n) = needed.needed (key t (suc l) rail n) (subst (λ i. Contains keys (key t i rail n)) (add-one l) has) in
@@ -215,10 +219,9 @@ claim_rails coding d claim phase depth inv sound fits hazard keys clauses v run 
     let moved = formula.moved in
     let defs = definitions coding q moved in
     let kind = IsNeeded defs (asked_clauses q) in
-    let true_all : AllTrue v (formula_over defs (asked_clauses q) keys) = subst (AllTrue v) formula.are_clauses all in
-    let known = is_free coding q moved keys v run formula.are_needed are free in
-    let told = model_told coding q moved keys v run (coded coding).covers sound are.linked are.resets are.count formula.are_needed true_all known in
-    let forced = forces v defs (asked_clauses q) keys formula.are_needed true_all in
+    let model : IsModelBeside coding q moved keys v run = beside coding q keys clauses v run formula sound all are free in
+    let told = model_told coding q moved keys v run model in
+    let forced = forces v defs (asked_clauses q) keys formula.are_needed model.all in
     told_rails coding d claim phase depth inv moved keys v run sound hazard formula.are_moved formula.are_needed
     (λ t c rows at layers.
     let within = slice_get_within run t c at in

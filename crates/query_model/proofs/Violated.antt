@@ -1,31 +1,30 @@
 -- Queries of claims: each model gives an answer, and each answer a model.
 use Rattle.std.proofs.Common.{◌≡◌, ℕ, zero, suc, ◌+◌, ◌<◌, ◌≤◌, Bool, true, false, not, List, [], ◌∷◌, ◌++◌, map, length, Some, refl, ap, sym, ◌∙◌}
 use Rattle.std.proofs.Common.{arith, inl, inr, ◌⊎◌, subst}
-use Rattle.std.specs.Prelude.{slice_get, flat_map, ◌||◌, nat_lt, nat_eq}
+use Rattle.std.specs.Prelude.{slice_get, flat_map, ◌||◌, nat_eq}
 use Rattle.std.proofs.lemmas.Bool.{cases_Bool, cases_eq, or_cases, or_from, or_left, or_right, or_parts, not-false, eq-eqb, ne_eqb, both_ways}
 use Rattle.std.proofs.lemmas.Option.{slice_get_within}
 use Rattle.net_model.specs.Netlist.{IsSound}
 use Rattle.net_model.specs.Fits.{IsStartIn, IsEndIn}
-use Rattle.net_model.specs.Cycles.{IsLinked, HasResets}
+use Rattle.net_model.specs.Cycles.{IsLinked}
 use Rattle.sdcv_base.specs.Kinds.{judged_count}
 use Rattle.net_model.specs.declared.netlist.Design.{Design}
 use Rattle.net_model.specs.declared.cycles.Cycle.{Cycle}
-use Rattle.net_model.specs.declared.invariants.InvClause.{InvClause}
 use Rattle.net_model.specs.declared.claims.Claim.{Claim}
 use Rattle.query_model.specs.Keys.{lit, opposite, lit_value, is_true, AllTrue, below}
 use Rattle.net_model.specs.Queries.{Query, Question, Violates, IsAnswer}
 use Rattle.query_model.specs.Defined.{Definition, numbered, base_definitions, layer_definitions, end_definition, differ_definition, extra_definitions}
 use Rattle.query_model.specs.Defined.{claim_definitions, toggle_key, differ_key, bad_key}
 use Rattle.query_model.specs.Formula.{alternatives, alternatives_at, clean_clauses, bad_clauses, kept_clauses, question_clauses, asked_clauses}
-use Rattle.query_model.specs.Formula.{definitions, cycle_definitions, question_definitions, IsNeeded, Asked, AreNeeded, formula_over}
+use Rattle.query_model.specs.Formula.{definitions, cycle_definitions, question_definitions, Asked, formula_over}
 use Rattle.net_model.proofs.Members.{In, In-left, In-right, In-map, In-flat, In-cases, In-from_Contains, Contains-from_In, from_map, from_flat}
 use Rattle.query_model.proofs.Members.{In-below, below_less, all_true, true_at}
 use Rattle.query_model.proofs.Tabled.{value_opposite}
 use Rattle.query_model.proofs.Runs.{Told, CodingCovers, Forces, AnyKey, unit_true, unit_says}
-use Rattle.query_model.proofs.Based.{Says, IsFree, base_true, get_within, in_place, placed, from_numbered, in_numbered}
+use Rattle.query_model.proofs.Based.{Says, base_true, get_within, in_place, placed, from_numbered, in_numbered}
 use Rattle.query_model.proofs.Needs.{forces, forces_some, formula_true, mentioned}
 use Rattle.query_model.proofs.Meaning.{meaning_says}
-use Rattle.query_model.proofs.Clauses.{NamesRegs, kept_told, kept_said, model_told, asked_true}
+use Rattle.query_model.proofs.Clauses.{Needed, NamesKept, IsModelBeside, kept_told, kept_said, model_told, asked_true}
 use Rattle.query_model.proofs.Extras.{LitsTold, start_told, capture_told, ExtrasTold, extras_told, extras_true}
 use Rattle.query_model.proofs.Decided.{IsDecided, AllHold, KindOfAll, holds_violated, violated_holds}
 use Rattle.query_model.proofs.Story.{others, story, story_extras, story_bad, said_told}
@@ -92,27 +91,38 @@ one_alternative kind d claim run differs t r decided lt =
     let one = decided.some t r in
     (one.0, In-flat (alternatives_at d claim t) one.0 r (below (judged_count claim.kind)) (In-below (judged_count claim.kind) r lt) one.1)
 
-abbrev pub violated : Design → ℕ → ℕ → List InvClause → ℕ → Claim → ℕ → ℕ → Query
-violated d live cycles kept kept_below claim offset clean =
-    record { design = d; live = live; cycles = cycles; kept = kept; kept_below = kept_below; question = Violates claim offset clean }
+-- the query, where it is asked whether the claim is violated at an offset, and at none of the first ones
+abbrev pub violated : Query → Claim → ℕ → ℕ → Query
+violated q claim offset clean =
+    record {
+      design = q.design;
+      live = q.live;
+      cycles = q.cycles;
+      kept = q.kept;
+      kept_below = q.kept_below;
+      question = Violates claim offset clean;
+    }
 
-clean_in : (d : Design) (live cycles : ℕ) (kept : List InvClause) (kept_below : ℕ) (claim : Claim) (offset clean o : ℕ) (alt : List KeyLit)
-    → o < clean → In alt (alternatives d claim (live + 1 + o)) → In (lit false (toggle_key d (live + 1 + o)) ∷ map opposite alt)
-    (asked_clauses (violated d live cycles kept kept_below claim offset clean))
-clean_in d live cycles kept kept_below claim offset clean o alt lt has =
+clean_in : (base : Query) (claim : Claim) (offset clean o : ℕ) (alt : List KeyLit) → o < clean
+    → In alt (alternatives base.design claim (base.live + 1 + o))
+    → In (lit false (toggle_key base.design (base.live + 1 + o)) ∷ map opposite alt) (asked_clauses (violated base claim offset clean))
+clean_in base claim offset clean o alt lt has =
+    let d = base.design in
+    let live = base.live in
     let clause = lit false (toggle_key d (live + 1 + o)) ∷ map opposite alt in
-    let q = violated d live cycles kept kept_below claim offset clean in
+    let q = violated base claim offset clean in
     In-right clause (kept_clauses q) (question_clauses q (Violates claim offset clean))
     (In-left clause (flat_map (λ i. clean_clauses d claim (live + 1 + i)) (below clean)) (bad_clauses d claim (live + 1 + offset))
     (In-flat (λ i. clean_clauses d claim (live + 1 + i)) clause o (below clean) (In-below clean o lt)
     (In-map (λ (conditions : List KeyLit). lit false (toggle_key d (live + 1 + o)) ∷ map opposite conditions) alt (alternatives d claim (live + 1 + o)) has)))
 
-bad_in : (d : Design) (live cycles : ℕ) (kept : List InvClause) (kept_below : ℕ) (claim : Claim) (offset clean : ℕ) (clause : List KeyLit)
-    → In clause (bad_clauses d claim (live + 1 + offset)) → In clause (asked_clauses (violated d live cycles kept kept_below claim offset clean))
-bad_in d live cycles kept kept_below claim offset clean clause has =
-    let q = violated d live cycles kept kept_below claim offset clean in
+bad_in : (base : Query) (claim : Claim) (offset clean : ℕ) (clause : List KeyLit)
+    → In clause (bad_clauses base.design claim (base.live + 1 + offset)) → In clause (asked_clauses (violated base claim offset clean))
+bad_in base claim offset clean clause has =
+    let q = violated base claim offset clean in
     In-right clause (kept_clauses q) (question_clauses q (Violates claim offset clean))
-    (In-right clause (flat_map (λ i. clean_clauses d claim (live + 1 + i)) (below clean)) (bad_clauses d claim (live + 1 + offset)) has)
+    (In-right clause (flat_map (λ i. clean_clauses base.design claim (base.live + 1 + i)) (below clean))
+    (bad_clauses base.design claim (base.live + 1 + offset)) has)
 
 pub claim_in : (coding : Coding) (q : Query) (moved : List (List Bool)) (claim : Claim) (offset clean t : ℕ)
     → q.question ≡ Violates claim offset clean → t < q.cycles → (def : Definition) → In def (claim_definitions coding q.design claim moved t)
@@ -135,77 +145,100 @@ TellsDiffer coding kind v d claim moved run differs =
     Told kind v d run → ((t : ℕ) → t < length run → Forces kind v (claim_definitions coding d claim moved t)) → (t : ℕ) (c : Cycle)
     → slice_get run t ≡ Some c → kind (differ_key d t) → v (differ_key d t) ≡ differs t
 
--- what a model of a claim's query tells of the further keys
-extras_of_model : (coding : Coding) (d : Design) (live cycles : ℕ) (kept : List InvClause) (kept_below : ℕ) (claim : Claim) (offset clean : ℕ)
-    (moved : List (List Bool)) (v : Key → Bool) (run : List Cycle) (differs : ℕ → Bool) (kind : Key → Type 0) → IsAskedOf d claim run
-    → TellsDiffer coding kind v d claim moved run differs → length run ≡ cycles → Told kind v d run
-    → Forces kind v (definitions coding (violated d live cycles kept kept_below claim offset clean) moved) → ExtrasTold kind v d claim run differs
-extras_of_model coding d live cycles kept kept_below claim offset clean moved v run differs kind is tells count told forced =
-    let defs = definitions coding (violated d live cycles kept kept_below claim offset clean) moved in
-    let part : (t : ℕ) → t < length run → Forces kind v (claim_definitions coding d claim moved t) =
-    λ t lt. forces_some kind v defs (claim_definitions coding d claim moved t)
-    (claim_in coding (violated d live cycles kept kept_below claim offset clean) moved claim offset clean t refl (omega arith)) forced in
-    let layer_list : ℕ → List Definition = λ t. flat_map (layer_definitions coding d claim moved t) (below (length claim.through + 1)) in
-    let others_forced : (t : ℕ) → t < length run → Forces kind v (extra_definitions d claim moved t) =
-    λ t lt.
-    forces_some kind v (claim_definitions coding d claim moved t) (extra_definitions d claim moved t)
-    (λ def has. In-right def (layer_list t) (end_definition coding d claim moved t claim.end ++ extra_definitions d claim moved t)
-    (In-right def (end_definition coding d claim moved t claim.end) (extra_definitions d claim moved t) has))
-    (part t lt) in
-    let lits : LitsTold kind v d claim run =
-    record {
-      starts = start_told kind v d run claim.start is.sound is.start_in is.linked told;
-      captures = capture_told kind v d run claim.end is.sound is.end_in is.linked told;
-    } in
-    extras_told kind v d claim moved run differs lits (tells told part) others_forced
+-- a model of a claim's query, beside cycles with its free bits, in which it is known where the late start matters
+pub record ModelOfClaim : Type 0 where
+  pub coding : Coding
+  pub base : Query
+  pub claim : Claim
+  pub offset : ℕ
+  pub clean : ℕ
+  pub moved : List (List Bool)
+  pub keys : List Key
+  pub v : Key → Bool
+  pub run : List Cycle
+  pub differs : ℕ → Bool
+  pub model : IsModelBeside coding (violated base claim offset clean) moved keys v run
+  pub names : NamesKept base
+  pub is : IsAskedOf base.design claim run
+  pub decided : IsDecided (Needed coding (violated base claim offset clean) moved) base.design claim run differs
+  pub tells : TellsDiffer coding (Needed coding (violated base claim offset clean) moved) v base.design claim moved run differs
+  pub fits : base.live + 1 + offset + judged_count claim.kind ≤ base.cycles
+  pub less : clean ≤ offset
 
--- a model of a claim's query gives an answer
-pub claim_model_answers : (coding : Coding) (d : Design) (live cycles : ℕ) (kept : List InvClause) (kept_below : ℕ) (claim : Claim) (offset clean : ℕ)
-    (moved : List (List Bool)) (differs : ℕ → Bool) (keys : List Key) (v : Key → Bool) (run : List Cycle) → CodingCovers coding
-    → ((i : InvClause) → In i kept → NamesRegs d i) → ((t : ℕ) (c : Cycle) → slice_get run t ≡ Some c → HasResets d (nat_lt t live) c)
-    → IsAskedOf d claim run → IsDecided (IsNeeded (definitions coding (violated d live cycles kept kept_below claim offset clean) moved)
-    (asked_clauses (violated d live cycles kept kept_below claim offset clean))) d claim run differs
-    → TellsDiffer coding (IsNeeded (definitions coding (violated d live cycles kept kept_below claim offset clean) moved)
-    (asked_clauses (violated d live cycles kept kept_below claim offset clean))) v d claim moved run differs → length run ≡ cycles
-    → live + 1 + offset + judged_count claim.kind ≤ cycles → clean ≤ offset
-    → AreNeeded (definitions coding (violated d live cycles kept kept_below claim offset clean) moved)
-    (asked_clauses (violated d live cycles kept kept_below claim offset clean)) keys
-    → AllTrue v (formula_over (definitions coding (violated d live cycles kept kept_below claim offset clean) moved)
-    (asked_clauses (violated d live cycles kept kept_below claim offset clean)) keys)
-    → IsFree (IsNeeded (definitions coding (violated d live cycles kept kept_below claim offset clean) moved)
-    (asked_clauses (violated d live cycles kept kept_below claim offset clean))) v d run
-    → IsAnswer (violated d live cycles kept kept_below claim offset clean) run
-claim_model_answers coding d live cycles kept kept_below claim offset clean moved differs keys v run covers names resets is decided tells count fits
-    less needed all free =
-    let q = violated d live cycles kept kept_below claim offset clean in
-    let defs = definitions coding q moved in
-    let asked = asked_clauses q in
-    let kind = IsNeeded defs asked in
-    let told = model_told coding q moved keys v run covers is.sound is.linked resets count needed all free in
-    let extras = extras_of_model coding d live cycles kept kept_below claim offset clean moved v run differs kind is tells count told
-    (forces v defs asked keys needed all) in
-    let true_asked = asked_true v defs q keys all in
-    let t = live + 1 + offset in
+-- the query that it is a model of
+abbrev pub query_of : ModelOfClaim → Query
+query_of m = violated m.base m.claim m.offset m.clean
+
+-- the keys that it needs
+abbrev pub needed_of : ModelOfClaim → Key → Type 0
+needed_of m = Needed m.coding (query_of m) m.moved
+
+-- it tells the further keys
+extras_of_model : (m : ModelOfClaim) → ExtrasTold (needed_of m) m.v m.base.design m.claim m.run m.differs
+extras_of_model m =
+    let d = m.base.design in
+    let claim = m.claim in
+    let moved = m.moved in
+    let kind = needed_of m in
+    let defs = definitions m.coding (query_of m) moved in
+    let told = model_told m.coding (query_of m) moved m.keys m.v m.run m.model in
+    let forced = forces m.v defs (asked_clauses (query_of m)) m.keys m.model.needed m.model.all in
+    let part : (t : ℕ) → t < length m.run → Forces kind m.v (claim_definitions m.coding d claim moved t) =
+    λ t lt. forces_some kind m.v defs (claim_definitions m.coding d claim moved t)
+    (claim_in m.coding (query_of m) moved claim m.offset m.clean t refl (omega (arith, m.model.cycles.count))) forced in
+    let layer_list : ℕ → List Definition = λ t. flat_map (layer_definitions m.coding d claim moved t) (below (length claim.through + 1)) in
+    let others_forced : (t : ℕ) → t < length m.run → Forces kind m.v (extra_definitions d claim moved t) =
+    λ t lt.
+    forces_some kind m.v (claim_definitions m.coding d claim moved t) (extra_definitions d claim moved t)
+    (λ def has. In-right def (layer_list t) (end_definition m.coding d claim moved t claim.end ++ extra_definitions d claim moved t)
+    (In-right def (end_definition m.coding d claim moved t claim.end) (extra_definitions d claim moved t) has))
+    (part t lt) in
+    let lits : LitsTold kind m.v d claim m.run =
     record {
-      cycles = record { linked = is.linked; resets = resets; count = count };
-      kept = λ i c clause lt at has. kept_told q defs v run names told true_asked i c clause lt at (In-from_Contains kept clause has);
+      starts = start_told kind m.v d m.run claim.start m.is.sound m.is.start_in m.is.linked told;
+      captures = capture_told kind m.v d m.run claim.end m.is.sound m.is.end_in m.is.linked told;
+    } in
+    extras_told kind m.v d claim moved m.run m.differs lits (m.tells told part) others_forced
+
+-- and gives an answer
+pub claim_model_answers : (m : ModelOfClaim) → IsAnswer (query_of m) m.run
+claim_model_answers m =
+    let d = m.base.design in
+    let live = m.base.live in
+    let claim = m.claim in
+    let v = m.v in
+    let run = m.run in
+    let asked = asked_clauses (query_of m) in
+    let defs = definitions m.coding (query_of m) m.moved in
+    let kind = needed_of m in
+    let told = model_told m.coding (query_of m) m.moved m.keys v run m.model in
+    let extras = extras_of_model m in
+    let true_asked = asked_true v defs (query_of m) m.keys m.model.all in
+    let t = live + 1 + m.offset in
+    let fits = m.fits in
+    let count = m.model.cycles.count in
+    let less = m.less in
+    record {
+      cycles = m.model.cycles;
+      kept = λ i c clause lt at has.
+          kept_told (query_of m) defs v run m.names told true_asked i c clause lt at (In-from_Contains m.base.kept clause has);
       asked = (
         λ o lt bad.
             let u = live + 1 + o in
-            let one = one_alternative kind d claim run differs u bad.r decided bad.judged in
+            let one = one_alternative kind d claim run m.differs u bad.r m.decided bad.judged in
             let toggle_kind : kind (toggle_key d u) =
-            let there = clean_in d live cycles kept kept_below claim offset clean o one.0 lt one.1 in
+            let there = clean_in m.base claim m.offset m.clean o one.0 lt one.1 in
             Asked (toggle_key d u) (mentioned asked (lit false (toggle_key d u) ∷ map opposite one.0) (lit false (toggle_key d u)) there (inl refl)) in
             let kinds : KindOfAll kind (alternatives d claim u) =
             λ alt l in_alt in_l.
-            let there = clean_in d live cycles kept kept_below claim offset clean o alt lt in_alt in
+            let there = clean_in m.base claim m.offset m.clean o alt lt in_alt in
             Asked l.key (mentioned asked (lit false (toggle_key d u) ∷ map opposite alt) (opposite l) there (inr (In-map opposite l alt in_l))) in
-            let both = violated_holds kind d claim run differs live u decided toggle_kind kinds bad in
-            let there = clean_in d live cycles kept kept_below claim offset clean o both.1.0 lt both.1.1 in
+            let both = violated_holds kind d claim run m.differs live u m.decided toggle_kind kinds bad in
+            let there = clean_in m.base claim m.offset m.clean o both.1.0 lt both.1.1 in
             both_ways (is_true v (lit false (toggle_key d u) ∷ map opposite both.1.0))
             (clean_fails v (toggle_key d u) both.1.0 (both.0 v extras) (both.1.2 v extras))
             (true_at v asked (lit false (toggle_key d u) ∷ map opposite both.1.0) true_asked there),
-        (let inside = bad_in d live cycles kept kept_below claim offset clean in
+        (let inside = bad_in m.base claim m.offset m.clean in
             let toggle_kind : kind (toggle_key d t) =
             Asked (toggle_key d t) (mentioned asked (lit true (toggle_key d t) ∷ []) (lit true (toggle_key d t))
             (inside (lit true (toggle_key d t) ∷ []) (inl refl)) (inl refl)) in
@@ -225,7 +258,7 @@ claim_model_answers coding d live cycles kept kept_below claim offset clean move
             let hold : AllHold v chosen.1 =
             λ l has. condition_true v (bad_key d t chosen.0) l bad (true_at v asked (condition_clause d t chosen.0 l) true_asked
             (inside (condition_clause d t chosen.0 l) (condition_in d claim t chosen.0 chosen.1 l chosen.2 has))) in
-            holds_violated kind v d claim run differs live t chosen.1 decided extras (omega arith) (omega arith) toggle_kind kinds toggle
+            holds_violated kind v d claim run m.differs live t chosen.1 m.decided extras (omega arith) (omega arith) toggle_kind kinds toggle
             (in_place chosen.1 (alternatives d claim t) chosen.0 chosen.2) hold),
       );
     }
@@ -282,19 +315,62 @@ bad_true v d claim t chosen alt cl bads toggle at hold (inr (inr later)) =
       | inr apart ↦ inl (bads a ∙ ne_eqb a chosen apart)
     ]))
 
--- each answer of a claim's query gives a model
-pub claim_answer_models : (coding : Coding) (d : Design) (live cycles : ℕ) (kept : List InvClause) (kept_below : ℕ) (claim : Claim) (offset clean : ℕ)
-    (moved : List (List Bool)) (layer : Key → ℕ → Bool) (differs : ℕ → Bool) (keys : List Key) (run : List Cycle) → CodingCovers coding
-    → ((i : InvClause) → In i kept → NamesRegs d i) → IsAskedOf d claim run → IsDecided AnyKey d claim run differs
-    → SaysLate coding d claim moved run layer differs → judged_count claim.kind ≤ 15 → kept_below ≤ cycles
-    → live + 1 + offset + judged_count claim.kind ≤ cycles → clean ≤ offset → IsAnswer (violated d live cycles kept kept_below claim offset clean) run
-    → (v : Key → Bool) × AllTrue v (formula_over (definitions coding (violated d live cycles kept kept_below claim offset clean) moved)
-    (asked_clauses (violated d live cycles kept kept_below claim offset clean)) keys) × Says v d run
-claim_answer_models coding d live cycles kept kept_below claim offset clean moved layer differs keys run covers names is decided late few short fits
-    less answer =
-    let q = violated d live cycles kept kept_below claim offset clean in
+-- an answer of a claim's query, and keys that say its layers
+pub record AnswerOfClaim : Type 0 where
+  pub coding : Coding
+  pub base : Query
+  pub claim : Claim
+  pub offset : ℕ
+  pub clean : ℕ
+  pub moved : List (List Bool)
+  pub keys : List Key
+  pub run : List Cycle
+  pub layer : Key → ℕ → Bool
+  pub differs : ℕ → Bool
+  pub covers : CodingCovers coding
+  pub names : NamesKept base
+  pub is : IsAskedOf base.design claim run
+  pub decided : IsDecided AnyKey base.design claim run differs
+  pub late : SaysLate coding base.design claim moved run layer differs
+  pub few : judged_count claim.kind ≤ 15
+  pub short : base.kept_below ≤ base.cycles
+  pub fits : base.live + 1 + offset + judged_count claim.kind ≤ base.cycles
+  pub less : clean ≤ offset
+  pub answer : IsAnswer (violated base claim offset clean) run
+
+-- values of the keys with which a query's formula is true, and that say what the run has
+abbrev pub SayingModel : Coding → Query → List (List Bool) → List Key → List Cycle → Type 0
+SayingModel coding q moved keys run =
+    (v : Key → Bool) × AllTrue v (formula_over (definitions coding q moved) (asked_clauses q) keys) × Says v q.design run
+
+-- gives a model
+pub claim_answer_models : (a : AnswerOfClaim) → SayingModel a.coding (violated a.base a.claim a.offset a.clean) a.moved a.keys a.run
+claim_answer_models a =
+    let coding = a.coding in
+    let q = violated a.base a.claim a.offset a.clean in
+    let d = a.base.design in
+    let live = a.base.live in
+    let cycles = a.base.cycles in
+    let kept = a.base.kept in
+    let claim = a.claim in
+    let clean = a.clean in
+    let moved = a.moved in
+    let keys = a.keys in
+    let run = a.run in
+    let layer = a.layer in
+    let differs = a.differs in
+    let covers = a.covers in
+    let names = a.names in
+    let is = a.is in
+    let decided = a.decided in
+    let late = a.late in
+    let few = a.few in
+    let short = a.short in
+    let fits = a.fits in
+    let less = a.less in
+    let answer = a.answer in
     let count = answer.cycles.count in
-    let t = live + 1 + offset in
+    let t = live + 1 + a.offset in
     let found = violated_holds AnyKey d claim run differs live t decided tt (λ alt l i j. tt) answer.asked.1 in
     let alt = found.1.0 in
     let place = placed alt (alternatives d claim t) found.1.1 in

@@ -39,12 +39,10 @@ and_cell = value (AndForm (PinForm 0) (PinForm 1))
 
 -- the cubes on which a conjunction of two places is constant
 conjunction_cubes : numbers (constant_cubes (value (AndForm (PinForm 0) (PinForm 1))) 2) ≡ 0 ∷ 1 ∷ 2 ∷ 3 ∷ 4 ∷ 6 ∷ []
-unfolding Rattle.net_model.specs.Splitting.cell_value
 conjunction_cubes = refl
 
 -- and the prime ones of them
 conjunction_primes : numbers (prime_cubes (value (AndForm (PinForm 0) (PinForm 1))) 2) ≡ 2 ∷ 4 ∷ 6 ∷ []
-unfolding Rattle.net_model.specs.Splitting.cell_value
 conjunction_primes = refl
 
 abbrev mux : (ℕ → Bool) → Bool
@@ -52,11 +50,9 @@ mux = value (OrForm (AndForm (PinForm 0) (NotForm (PinForm 2))) (AndForm (PinFor
 
 -- the prime cubes of a multiplexer
 multiplexer_primes : numbers (prime_cubes mux 3) ≡ 6 ∷ 7 ∷ 11 ∷ 14 ∷ 18 ∷ 22 ∷ []
-unfolding Rattle.net_model.specs.Splitting.cell_value
 multiplexer_primes = refl
 
 multiplexer_values : values (prime_cubes mux 3) ≡ false ∷ true ∷ false ∷ true ∷ false ∷ true ∷ []
-unfolding Rattle.net_model.specs.Splitting.cell_value
 multiplexer_values = refl
 
 -- two registers in a row, and the claim that the first is a false start of the second

@@ -1,7 +1,8 @@
 -- Cubes, and the clauses by which a function defines a key.
 use Rattle.std.specs.Prelude.{ℕ, zero, suc, ◌/◌, ◌%◌, ◌^◌, ◌==◌, Bool, true, false, not, List, [], ◌∷◌, ◌++◌, map, slice_index_or}
+use Rattle.std.specs.Prelude.{flat_map, if◌then◌else◌}
+use Rattle.std.specs.List.{list_any}
 use Rattle.net_model.specs.Ternary.{tern_of}
-use Rattle.net_model.specs.Splitting.{cell_value}
 use Rattle.net_model.specs.declared.terns.Tern.{Tern}
 use Rattle.net_model.specs.declared.terns.Tern.TheVariants.{Zero, One, Unknown}
 use Rattle.query_model.specs.Keys.{opposite, flipped, below}
@@ -37,21 +38,29 @@ abbrev pub cube_terns : ℕ → ℕ → List Tern
 cube_terns zero w = []
 cube_terns (suc places) w = digit_tern (w % 3) ∷ cube_terns places (w / 3)
 
--- the cube with the value that the function has all over it, if it has one
-abbrev pub known_cube : List Tern → Tern → List Cube
-known_cube terns Zero = record { fixed = terns; value = false } ∷ []
-known_cube terns One = record { fixed = terns; value = true } ∷ []
-known_cube terns Unknown = []
+-- the rows in a cube: a place that it fixes has that bit, and any other place either bit
+abbrev pub rows_in : List Tern → List (List Bool)
+rows_in [] = [] ∷ []
+rows_in (Zero ∷ ts) = map (λ row. false ∷ row) (rows_in ts)
+rows_in (One ∷ ts) = map (λ row. true ∷ row) (rows_in ts)
+rows_in (Unknown ∷ ts) = map (λ row. false ∷ row) (rows_in ts) ++ map (λ row. true ∷ row) (rows_in ts)
 
--- the cubes of these numbers on which the function is constant
-abbrev pub constant_from : ((ℕ → Bool) → Bool) → ℕ → List ℕ → List Cube
-constant_from cell places [] = []
-constant_from cell places (w ∷ ws) =
-    known_cube (cube_terns places w) (cell_value cell (λ i. slice_index_or (cube_terns places w) i Zero)) ++ constant_from cell places ws
+-- the function gives this bit in a row
+abbrev pub gives : ((ℕ → Bool) → Bool) → Bool → List Bool → Bool
+gives cell true row = on_list cell row
+gives cell false row = not (on_list cell row)
+
+-- the cube with this bit, unless the function gives the other bit in some row of it
+abbrev pub cube_with : ((ℕ → Bool) → Bool) → List Tern → Bool → List Cube
+cube_with cell terns bit = if list_any (gives cell (not bit)) (rows_in terns) then [] else record { fixed = terns; value = bit } ∷ []
+
+-- the cube with the bit that the function gives in each of its rows, if there is one
+abbrev pub constant_cube : ((ℕ → Bool) → Bool) → List Tern → List Cube
+constant_cube cell terns = cube_with cell terns false ++ cube_with cell terns true
 
 -- all cubes on which the function is constant, by their numbers
 abbrev pub constant_cubes : ((ℕ → Bool) → Bool) → ℕ → List Cube
-constant_cubes cell places = constant_from cell places (below (3 ^ places))
+constant_cubes cell places = flat_map (λ w. constant_cube cell (cube_terns places w)) (below (3 ^ places))
 
 -- "some fixed place has the other bit"
 abbrev pub outside : List KeyLit → List Tern → List KeyLit
