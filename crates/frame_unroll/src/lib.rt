@@ -21,8 +21,6 @@ mod read_tables;
 mod reads;
 mod spans;
 mod start_marks;
-#[cfg(test)]
-mod tests;
 mod violations;
 
 pub use asked::{claim_asked, clause_asked};

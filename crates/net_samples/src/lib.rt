@@ -13,5 +13,6 @@ mod samples;
 pub use cases::{Ask, Case, Lits, case_of};
 pub use parts::{Controls, Form, Out, Part, design};
 pub use samples::{
-    BOTH, CELL, CHAIN, CLEAR, FLIPS, FORK, GATES, GLITCHING_PAIR, KEEPS, LOOP, PORTS, RESET, TWO,
+    BOTH, CELL, CHAIN, CLEAR, FLIPS, FORK, GATES, GLITCHING_PAIR, KEEPS, LOOP, PORTS, RESET,
+    RESET_FIRST, TWO,
 };

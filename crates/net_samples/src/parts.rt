@@ -12,6 +12,7 @@ pub enum Form {
     And(usize, usize),
     Or(usize, usize),
     Xor(usize, usize),
+    Nor(usize, usize),
     /// Whether the first two are 1, or the third.
     AndOr(usize, usize, usize),
     /// Whether the first two are 1, or the third is 0.
@@ -65,6 +66,10 @@ fn func(alloc: Global, form: Form) -> Result<Func, AllocError> {
         Form::And(a, b) => Func::and(alloc, Func::pin(a), Func::pin(b)),
         Form::Or(a, b) => Func::or(alloc, Func::pin(a), Func::pin(b)),
         Form::Xor(a, b) => Func::xor(alloc, Func::pin(a), Func::pin(b)),
+        Form::Nor(a, b) => {
+            let either = Func::or(alloc, Func::pin(a), Func::pin(b))?;
+            Func::not(alloc, either)
+        }
         Form::AndOr(a, b, c) => and_or(alloc, a, b, Func::pin(c)),
         Form::AndOrNot(a, b, c) => and_or(alloc, a, b, Func::not(alloc, Func::pin(c))?),
         Form::Choice(a, b, select) => choice(alloc, a, b, select),

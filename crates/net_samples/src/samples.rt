@@ -32,6 +32,16 @@ pub const RESET: &[Part] = &[
     Holds(Pin(0), CLEARED, &[2, 1], &[Q(3)]),
 ];
 
+/// Inputs rst and d, nets 0 and 1. Register 0 takes d and register 1 takes register 0; both are cleared by rst, which is
+/// active at 1 for one cycle.
+pub const RESET_FIRST: &[Part] = &[
+    Nets(4, &[0, 1]),
+    Outputs(&[3]),
+    Reset(0, true),
+    Holds(Pin(0), CLEARED, &[1, 0], &[Q(2)]),
+    Holds(Pin(0), CLEARED, &[2, 0], &[Q(3)]),
+];
+
 /// A port that shows a conjunction of two inputs, unless a third one is 1, which is 0.
 pub const PORTS: &[Part] = &[
     Nets(4, &[0, 1, 2]),

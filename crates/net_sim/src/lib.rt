@@ -8,14 +8,10 @@
 
 mod captures;
 mod lane_settling;
-#[cfg(test)]
-mod lane_tests;
 mod late_captures;
 mod runs;
 mod settings;
 mod settling;
-#[cfg(test)]
-mod tests;
 
 pub use captures::{capture, step};
 pub use lane_settling::settle64;

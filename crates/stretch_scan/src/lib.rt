@@ -9,8 +9,6 @@ mod scans;
 mod searches;
 mod spots;
 mod stretches;
-#[cfg(test)]
-mod tests;
 
 pub use scans::{Scan, decide};
 pub use spots::free_bits;

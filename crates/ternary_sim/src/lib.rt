@@ -8,8 +8,6 @@
 mod cells;
 mod laws;
 mod ternary_captures;
-#[cfg(test)]
-mod tests;
 
 pub use laws::plain_violation_is_hazard;
 pub use ternary_captures::{Layers3, capture3};

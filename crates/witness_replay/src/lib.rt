@@ -6,24 +6,14 @@
 #![tactic(auto)]
 
 mod bads;
-#[cfg(test)]
-mod capture_tests;
 mod faults;
 mod lines;
 mod outcomes;
-#[cfg(test)]
-mod replay_tests;
 mod replays;
 mod rows;
 mod shapes;
-#[cfg(test)]
-mod slow_layers;
 mod stimulus_reads;
 mod stimulus_texts;
-#[cfg(test)]
-mod test_designs;
-#[cfg(test)]
-mod tests;
 
 pub use faults::{ReplayFault, StimFault};
 pub use outcomes::Replay;

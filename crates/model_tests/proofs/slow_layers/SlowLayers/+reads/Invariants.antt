@@ -1,5 +1,5 @@
 use Rattle.std.proofs.Common.{◌≡◌, ◌<◌}
-use Rattle.witness_replay.proofs.slow_layers.SlowLayers.+reads.Given as goal
+use Rattle.model_tests.proofs.slow_layers.SlowLayers.+reads.Given as goal
 
 abbrev pub decreases-reads : goal.decreases-reads
 decreases-reads l = l.steps

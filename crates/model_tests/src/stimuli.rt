@@ -1,9 +1,9 @@
 //! Texts of stimuli.
-use crate::{ReplayFault, StimFault, read_stim, write_stim};
 use net_model::Stimulus;
 use sdcv_base::Seq;
 use std::alloc::{AllocError, Global};
 use std::process::Abort;
+use witness_replay::{ReplayFault, StimFault, read_stim, write_stim};
 
 // A number, a text, and the stimulus of that number: bits of registers, and of the inputs in each cycle.
 struct Row(
@@ -47,30 +47,19 @@ fn a_stimulus_is_written_as_a_block(rt: HostRuntime) -> Result<(), AllocError> {
     Ok(())
 }
 
-fn check_bits(rt: &impl Abort, bits: &Seq<bool>, want: &[bool]) {
-    assert_eq!(rt; bits.as_slice(), want);
-}
-
 fn check_stimulus(rt: &impl Abort, stimulus: &Stimulus, row: &Row) {
-    check_bits(rt, &stimulus.state, row.2);
+    assert_eq!(rt; stimulus.state.as_slice(), row.2);
     assert_eq!(rt; stimulus.inputs.len(), row.3.len());
     for (ins, want) in stimulus.inputs.as_slice().iter().zip(row.3) {
-        check_bits(rt, ins, want);
-    }
-}
-
-fn check_reads(rt: &impl Abort, alloc: Global, rows: &[Row]) {
-    for row in rows {
-        match read_stim(alloc, row.1.as_bytes(), row.0) {
-            Ok(stimulus) => check_stimulus(rt, &stimulus, row),
-            Err(fault) => assert!(rt; false, "{fault}"),
-        }
+        assert_eq!(rt; ins.as_slice(), *want);
     }
 }
 
 const REPORT: &str =
     "sdcv 1 mode plain reset 1 depth 4 budget 9 inv 0\nstimulus 12 cycles 0\nstate -\nend\nstimulus 1 cycles 3\nstate 00\ninput 10\ninput 01\ninput 00\nend\nstimulus 1 cycles 0\nstate 1\nend";
 
+// A report with other lines round its blocks, and two blocks of one number; and a block in which no bits are written `-`,
+// and the last newline is missing.
 const BLOCKS: &[Row] = &[
     Row(
         1,
@@ -79,90 +68,84 @@ const BLOCKS: &[Row] = &[
         &[&[true, false], &[false, true], &[false, false]],
     ),
     Row(12, REPORT, &[], &[]),
+    Row(
+        7,
+        "stimulus 7 cycles 2\nstate -\ninput -\ninput 1\nend",
+        &[],
+        &[&[], &[true]],
+    ),
 ];
 
-// A report with other lines round its blocks, and two blocks of one number.
 #[test]
 fn the_first_block_of_a_number_is_read(rt: HostRuntime) {
-    check_reads(&rt, rt.alloc(), BLOCKS);
-}
-
-const NO_BITS: &[Row] = &[Row(
-    7,
-    "stimulus 7 cycles 2\nstate -\ninput -\ninput 1\nend",
-    &[],
-    &[&[], &[true]],
-)];
-
-// No bits are written `-`, and the last newline may be missing.
-#[test]
-fn a_stimulus_may_have_no_bits(rt: HostRuntime) {
-    check_reads(&rt, rt.alloc(), NO_BITS);
-}
-
-fn refused(alloc: Global, report: &str) -> Option<StimFault> {
-    read_stim(alloc, report.as_bytes(), 1).err()
-}
-
-const NO_BLOCK: &[&str] = &[
-    "",
-    "\n\n",
-    "stimulus 12 cycles 0\nstate -\nend\n",
-    " stimulus 1 cycles 0\nstate -\nend\n",
-    "stimulus 01 cycles 0\nstate -\nend\n",
-    "stimulus  1 cycles 0\nstate -\nend\n",
-    "stimulus 1\t\nstimulus",
-];
-
-// Reports of which no line is `stimulus 1` or begins with `stimulus 1 `.
-#[test]
-fn a_report_without_the_block_has_no_stimulus(rt: HostRuntime) {
-    for report in NO_BLOCK {
-        assert_eq!(rt;
-            refused(rt.alloc(), report),
-            Some(StimFault::NoBlock),
-            "{report}"
-        );
+    for row in BLOCKS {
+        match read_stim(rt.alloc(), row.1.as_bytes(), row.0) {
+            Ok(stimulus) => check_stimulus(&rt, &stimulus, row),
+            Err(fault) => assert!(rt; false, "{fault}"),
+        }
     }
 }
 
-const BROKEN: &[(&str, u64)] = &[
-    ("stimulus 1", 1),
-    ("\nstimulus 1 cycles 01\nstate -\ninput -\nend\n", 2),
-    ("stimulus 1 cycles 18446744073709551616\nstate -\nend\n", 1),
-    ("stimulus 1 cycles  0\nstate -\nend\n", 1),
-    ("stimulus 1 cycles 0 \nstate -\nend\n", 1),
-    ("stimulus 1 cycles 0\r\nstate -\nend\n", 1),
+// Reports of which no line is `stimulus 1` or begins with `stimulus 1 `; and reports with the line, from 1, that breaks the
+// block of number 1, or that is missing.
+const REFUSED: &[(&str, StimFault)] = &[
+    ("", StimFault::NoBlock),
+    ("\n\n", StimFault::NoBlock),
+    ("stimulus 12 cycles 0\nstate -\nend\n", StimFault::NoBlock),
+    (" stimulus 1 cycles 0\nstate -\nend\n", StimFault::NoBlock),
+    ("stimulus 01 cycles 0\nstate -\nend\n", StimFault::NoBlock),
+    ("stimulus  1 cycles 0\nstate -\nend\n", StimFault::NoBlock),
+    ("stimulus 1\t\nstimulus", StimFault::NoBlock),
+    ("stimulus 1", StimFault::Form(1)),
+    (
+        "\nstimulus 1 cycles 01\nstate -\ninput -\nend\n",
+        StimFault::Form(2),
+    ),
+    (
+        "stimulus 1 cycles 18446744073709551616\nstate -\nend\n",
+        StimFault::Form(1),
+    ),
+    ("stimulus 1 cycles  0\nstate -\nend\n", StimFault::Form(1)),
+    ("stimulus 1 cycles 0 \nstate -\nend\n", StimFault::Form(1)),
+    ("stimulus 1 cycles 0\r\nstate -\nend\n", StimFault::Form(1)),
     (
         "stimulus 1 cycles 18446744073709551615\nstate -\ninput 0\n",
-        4,
+        StimFault::Form(4),
     ),
-    ("stimulus 12\nstimulus 1 cycles 0", 3),
+    ("stimulus 12\nstimulus 1 cycles 0", StimFault::Form(3)),
     (
         "stimulus 1 cycles 0\nend\nstimulus 1 cycles 0\nstate -\nend\n",
-        2,
+        StimFault::Form(2),
     ),
-    ("stimulus 1 cycles 0\nstate \nend\n", 2),
-    ("stimulus 1 cycles 0\nstate 0-\nend\n", 2),
-    ("stimulus 1 cycles 0\nstate 02\nend\n", 2),
-    ("stimulus 1 cycles 0\nstate 0 1\nend\n", 2),
-    ("stimulus 1 cycles 0\nstate  0\nend\n", 2),
-    ("stimulus 1 cycles 1\nstate 0\nend\n", 3),
-    ("stimulus 1 cycles 1\nstate 0\n\ninput 0\nend\n", 3),
-    ("stimulus 1 cycles 1\nstate 0\ninput 1\n", 4),
-    ("stimulus 1 cycles 1\nstate 0\ninput 1\ninput 1\nend\n", 4),
-    ("stimulus 1 cycles 1\nstate 0\ninput 1\nend \n", 4),
+    ("stimulus 1 cycles 0\nstate \nend\n", StimFault::Form(2)),
+    ("stimulus 1 cycles 0\nstate 0-\nend\n", StimFault::Form(2)),
+    ("stimulus 1 cycles 0\nstate 02\nend\n", StimFault::Form(2)),
+    ("stimulus 1 cycles 0\nstate 0 1\nend\n", StimFault::Form(2)),
+    ("stimulus 1 cycles 0\nstate  0\nend\n", StimFault::Form(2)),
+    ("stimulus 1 cycles 1\nstate 0\nend\n", StimFault::Form(3)),
+    (
+        "stimulus 1 cycles 1\nstate 0\n\ninput 0\nend\n",
+        StimFault::Form(3),
+    ),
+    (
+        "stimulus 1 cycles 1\nstate 0\ninput 1\n",
+        StimFault::Form(4),
+    ),
+    (
+        "stimulus 1 cycles 1\nstate 0\ninput 1\ninput 1\nend\n",
+        StimFault::Form(4),
+    ),
+    (
+        "stimulus 1 cycles 1\nstate 0\ninput 1\nend \n",
+        StimFault::Form(4),
+    ),
 ];
 
-// Each report with the line, from 1, that breaks the block of number 1, or that is missing.
 #[test]
-fn a_broken_block_is_refused_at_its_line(rt: HostRuntime) {
-    for (report, line) in BROKEN {
-        assert_eq!(rt;
-            refused(rt.alloc(), report),
-            Some(StimFault::Form(*line)),
-            "{report}"
-        );
+fn a_report_without_a_whole_block_is_refused_at_its_line(rt: HostRuntime) {
+    for (report, want) in REFUSED {
+        let found = read_stim(rt.alloc(), report.as_bytes(), 1);
+        assert_eq!(rt; found.err(), Some(*want), "{report}");
     }
 }
 

@@ -1,0 +1,21 @@
+//! What small designs settle to and capture, late and unknown starts included, claims decided by every stretch, and the
+//! replays of stimuli and their texts, against values worked out by hand.
+//!
+//! Captures are compared with a plain evaluator too, which goes back from the end by the rules of the layers. This crate has
+//! tests alone.
+#![tactic(auto)]
+
+#[cfg(test)]
+mod captures;
+#[cfg(test)]
+mod lanes;
+#[cfg(test)]
+mod replays;
+#[cfg(test)]
+mod scans;
+#[cfg(test)]
+mod slow_layers;
+#[cfg(test)]
+mod sound_cases;
+#[cfg(test)]
+mod stimuli;
