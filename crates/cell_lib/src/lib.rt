@@ -15,8 +15,6 @@ mod pins;
 mod readers;
 mod scopes;
 mod shapes;
-#[cfg(test)]
-mod tests;
 mod values;
 
 pub use cell_types::{Cell, CellKind, CombOut, Flop, FlopOut, Library, builtin};

@@ -11,8 +11,6 @@ mod exprs;
 mod functions;
 mod marks;
 mod operators;
-#[cfg(test)]
-mod tests;
 
 pub use exprs::{Expr, Term};
 pub use functions::read_function;

@@ -14,8 +14,6 @@ mod libraries;
 mod lists;
 mod passes;
 mod runs;
-#[cfg(test)]
-mod tests;
 mod tokens;
 
 pub use blanks::{is_blank, skip_space};

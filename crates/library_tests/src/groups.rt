@@ -1,4 +1,5 @@
-use super::*;
+//! The cells, parts and attributes of Liberty texts, against those read by hand.
+use lib_words::{Attribute, GroupFault, Part, read_cells};
 use sdcv_base::Seq;
 use std::alloc::Global;
 use std::test::Fail;
@@ -220,22 +221,6 @@ fn a_broken_text_is_refused_at_its_place(rt: HostRuntime) -> Result<(), Fail> {
             Err(GroupFault::Syntax(place)) => assert_eq!(rt; place, *want, "{text}"),
             _ => assert!(rt; false, "{text} is no library"),
         }
-    }
-    Ok(())
-}
-
-// What developers see of each fault.
-#[test]
-fn faults_are_shown(rt: HostRuntime) -> Result<(), Fail> {
-    for (fault, want) in [
-        (
-            GroupFault::Syntax(7),
-            "byte 7: no Liberty group goes on like this",
-        ),
-        (GroupFault::Memory, "out of memory"),
-    ] {
-        let shown = format!(in rt.alloc(); "{fault}")?;
-        assert_eq!(rt; shown.as_str(), want);
     }
     Ok(())
 }

@@ -1,4 +1,5 @@
-use super::*;
+//! Functions of Liberty, against their values by hand.
+use lib_func::{Expr, Term, read_function};
 use sdcv_base::Name;
 use std::alloc::AllocError;
 use std::test::Fail;

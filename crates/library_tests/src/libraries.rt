@@ -1,4 +1,6 @@
-use crate::{CellKind, CombOut, Flop, LibFault, read_lib};
+//! Libraries that texts are, against cells written by hand.
+use cell_lib::{CellKind, CombOut, Flop, LibFault, read_lib};
+use lib_words::GroupFault;
 use net_model::{Func, Node};
 use sdcv_base::Name;
 use std::alloc::Global;
@@ -233,11 +235,21 @@ fn texts_are_refused_with_their_cause(rt: HostRuntime) -> Result<(), Fail> {
     Ok(())
 }
 
-// The others stand in the table of refused texts.
+// What developers see of the faults that are not in the table of refused texts.
 #[test]
-fn want_of_memory_is_shown(rt: HostRuntime) -> Result<(), Fail> {
-    let fault = LibFault::Memory;
-    let shown = format!(in rt.alloc(); "{fault}")?;
+fn faults_are_shown(rt: HostRuntime) -> Result<(), Fail> {
+    let memory = LibFault::Memory;
+    let shown = format!(in rt.alloc(); "{memory}")?;
     assert_eq!(rt; shown.as_str(), "out of memory");
+    for (fault, want) in [
+        (
+            GroupFault::Syntax(7),
+            "byte 7: no Liberty group goes on like this",
+        ),
+        (GroupFault::Memory, "out of memory"),
+    ] {
+        let shown = format!(in rt.alloc(); "{fault}")?;
+        assert_eq!(rt; shown.as_str(), want);
+    }
     Ok(())
 }

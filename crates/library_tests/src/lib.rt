@@ -1,0 +1,12 @@
+//! Liberty texts as vendors write them, and one by one their rules: groups, functions and cells, against what is read by
+//! hand.
+//!
+//! This crate has tests alone.
+#![tactic(auto)]
+
+#[cfg(test)]
+mod functions;
+#[cfg(test)]
+mod groups;
+#[cfg(test)]
+mod libraries;
