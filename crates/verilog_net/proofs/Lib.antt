@@ -1,4 +1,6 @@
-pub mod DeclareLemmas
-pub mod FormLemmas
-pub mod FailLemmas
+pub mod RunLemmas
 pub mod SourceLemmas
+pub mod ItemLemmas
+pub mod PortLemmas
+pub mod ModuleLemmas
+pub mod LawfulLemmas

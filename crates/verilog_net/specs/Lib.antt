@@ -1,5 +1,6 @@
-pub mod Declares
-pub mod Fails
+pub mod Wires
+pub mod Hierarchies
+pub mod Items
 pub mod Modules
-pub mod Rules
 pub mod Sources
+pub mod Lawful

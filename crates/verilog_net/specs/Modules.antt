@@ -1,49 +1,52 @@
--- The module that declarations make.
-use Rattle.std.specs.Prelude.{ℕ, false, ◌&&◌, if◌then◌else◌, List, [], ◌∷◌, ◌++◌, map, Option, Some, None}
-use Rattle.std.specs.List.{flat_map}
-use Rattle.texts.specs.Names.{each_once, place_of}
-use Rattle.verilog_syntax.specs.declared.first_declarations.PortDecl.{PortDecl}
-use Rattle.verilog_syntax.specs.declared.first_declarations.ConnDecl.{ConnDecl}
-use Rattle.verilog_syntax.specs.declared.first_declarations.InstDecl.{InstDecl}
-use Rattle.verilog_syntax.specs.declared.first_declarations.ItemDecl.{ItemDecl}
-use Rattle.verilog_syntax.specs.declared.first_declarations.ItemDecl.TheVariants.{Wires, Inst}
-use Rattle.verilog_syntax.specs.declared.first_declarations.ModuleDecl.{ModuleDecl}
-use Rattle.verilog_net.specs.declared.sources.Wire.TheVariants as wire
+-- Modules, with nets in place of names.
+use Rattle.std.specs.Prelude.{ℕ, List, [], ◌∷◌, ◌++◌, map, Option, Some, None, is_some, Result, Ok, Err}
+use Rattle.texts.specs.Rules.{◌>>=◌}
+use Rattle.verilog_syntax.specs.declared.declarations.Dir.{Dir}
+use Rattle.verilog_syntax.specs.declared.declarations.Spelled.{Spelled}
+use Rattle.verilog_syntax.specs.declared.declarations.PortDecl.{PortDecl}
+use Rattle.verilog_syntax.specs.declared.declarations.Head.{Head}
+use Rattle.verilog_syntax.specs.declared.declarations.Head.TheVariants as head
+use Rattle.verilog_syntax.specs.declared.declarations.ModuleDecl.{ModuleDecl}
+use Rattle.verilog_scope.specs.declared.faults.VerFault.{VerFault}
+use Rattle.verilog_scope.specs.declared.faults.VerFault.TheVariants as fault
+use Rattle.verilog_scope.specs.declared.scopes.Scope.{Scope}
+use Rattle.verilog_scope.specs.Folds.{fold_ok, fold_both}
+use Rattle.verilog_scope.specs.Scopes.{decl_of, all_bits, net_names}
 use Rattle.verilog_net.specs.declared.sources.Port.{Port}
-use Rattle.verilog_net.specs.declared.sources.Conn.{Conn}
-use Rattle.verilog_net.specs.declared.sources.Item.{Item}
-use Rattle.verilog_net.specs.declared.sources.Item.TheVariants as item
 use Rattle.verilog_net.specs.declared.sources.Module.{Module}
-use Rattle.verilog_net.specs.Rules.{port_names, insts, declares_once, has_lawful_insts}
+use Rattle.verilog_net.specs.declared.hierarchies.Hierarchy.{Hierarchy}
+use Rattle.verilog_net.specs.Wires.{numbers}
+use Rattle.verilog_net.specs.Items.{add_item}
 
--- the names of nets that stand in an item, in the order of the text
-abbrev pub names_in : ItemDecl → List (List ℕ)
-names_in (Wires names) = names
-names_in (Inst i) = map (λ c. c.net) i.conns
+abbrev pub port_as : Scope → List ℕ → Dir → Port
+port_as scope n dir = record { name = n; dir = dir; bits = numbers (all_bits scope n); bus = is_some (decl_of scope n).range }
 
--- the nets, each at its number: in the order in which their names first stand in the text
-abbrev pub nets_of : ModuleDecl → List (List ℕ)
-nets_of m = each_once (port_names m ++ flat_map names_in m.items)
+-- a name of the port list, of which a direction has to be declared
+abbrev pub port_of : Scope → Spelled → Option Dir → Result Port VerFault
+port_of scope s None = Err (fault.Syntax s.offset)
+port_of scope s (Some dir) = Ok (port_as scope s.name dir)
 
--- a port of one bit, the net of its name
-abbrev pub port_of : List (List ℕ) → PortDecl → Port
-port_of nets p = record { name = p.name; dir = p.dir; bits = place_of p.name nets ∷ []; bus = false }
+unfoldable pub add_port : Scope → List Port → Spelled → Result (List Port) VerFault
+add_port scope found s = port_of scope s (decl_of scope s.name).dir >>= λ p. Ok (found ++ p ∷ [])
 
--- a connection to the net of that name
-abbrev pub conn_of : List (List ℕ) → ConnDecl → Conn
-conn_of nets c = record { pin = c.pin; wires = Some (wire.Net (place_of c.net nets) ∷ []) }
+-- the names of a port list, as they are spelled there
+abbrev pub spelled : Head → List Spelled
+spelled (head.Names list) = list
+spelled (head.Ports ports) = map (λ (p : PortDecl). p.name) ports
 
-abbrev pub inst_of : List (List ℕ) → InstDecl → Item
-inst_of nets i = item.Inst i.cell i.name (map (conn_of nets) i.conns)
+abbrev pub ports_of : Scope → Head → Result (List Port) VerFault
+ports_of scope h = fold_ok (add_port scope) [] (spelled h)
 
-abbrev pub module_made : ModuleDecl → Module
-module_made m = record {
-  name = m.name;
-  ports = map (port_of (nets_of m)) m.ports;
-  nets = nets_of m;
-  items = map (inst_of (nets_of m)) (insts m);
-}
+-- the module that declarations make
+unfoldable pub module_made : Hierarchy → Scope → ModuleDecl → Result Module VerFault
+module_made h scope m =
+    ports_of scope m.head >>= λ ports.
+    fold_ok (add_item h scope) [] m.items >>= λ items.
+    Ok (record { name = m.name; ports = ports; nets = net_names scope; items = items })
 
--- the module, where the declarations keep the static rules
-unfoldable pub module_of : ModuleDecl → Option Module
-module_of m = if declares_once m && has_lawful_insts m then Some (module_made m) else None
+unfoldable pub add_module : Hierarchy → List Module → Scope → ModuleDecl → Result (List Module) VerFault
+add_module h found scope m = module_made h scope m >>= λ made. Ok (found ++ made ∷ [])
+
+-- the modules of a text, each with its scope
+abbrev pub modules_made : Hierarchy → List ModuleDecl → Result (List Module) VerFault
+modules_made h ms = fold_both (add_module h) [] h.scopes ms

@@ -1,77 +1,56 @@
-//! Ports and instances whose names have become nets.
-ghost use Rattle.std.specs.Prelude.{◌≡◌, map, IfOk};
-ghost use Rattle.std.specs.List.{flat_map};
-ghost use Rattle.verilog_net.specs.Rules as rule;
-ghost use Rattle.verilog_net.specs.Modules as spec;
+//! The items of a module, with nets in place of names.
+ghost use Rattle.std.specs.Prelude.{◌≡◌, []};
+ghost use Rattle.texts.specs.Rules.{Gives};
+ghost use Rattle.verilog_scope.specs.Fails.{Fails};
+ghost use Rattle.verilog_scope.specs.Folds.{fold_ok};
+ghost use Rattle.verilog_net.specs.Items as spec;
 
-use crate::sources::{Conn, Item, Port, Wire};
+use crate::copies::{add_assigns, add_nets};
+use crate::hierarchies::Hierarchy;
+use crate::insts::add_insts;
+use crate::prims::add_prims;
+use crate::sources::Item;
 use sdcv_base::Seq;
-use std::alloc::{AllocError, Global};
-use texts::NameTable;
-use verilog_syntax::first_declarations::{ConnDecl, InstDecl, ItemDecl, PortDecl};
+use std::alloc::Global;
+use verilog_scope::{Scope, VerFault};
+use verilog_syntax::ItemDecl;
 
-pub fn ports(alloc: Global, nets: &NameTable, ports: &[PortDecl]) -> Result<Seq<Port>, AllocError>
-    ensures { IfOk result (λ found. found ≡ map (spec.port_of nets.now) ports.now) }
+/// The items, in the order of the text.
+pub fn items_of(
+    alloc: Global,
+    hierarchy: &Hierarchy,
+    scope: &Scope,
+    decls: &[ItemDecl],
+) -> Result<Seq<Item>, VerFault>
+    ensures { Gives Fails (λ items. items) result (fold_ok (spec.add_item hierarchy.now scope.now) [] decls.now) }
 {
-    let mut found = Seq::new(alloc);
-    for decl in ports {
-        found.push(port(alloc, nets, decl)?)?;
+    let mut items = Seq::new(alloc);
+    for decl in decls {
+        add_item(alloc, hierarchy, scope, &mut items, decl)?;
     }
-    Ok(found)
+    Ok(items)
 }
 
-fn port(alloc: Global, nets: &NameTable, decl: &PortDecl) -> Result<Port, AllocError>
-    ensures { IfOk result (λ port. port ≡ spec.port_of nets.now decl.now) }
+#[tactic(auto, unfolding(crate::specs::Items::add_item))]
+fn add_item(
+    alloc: Global,
+    hierarchy: &Hierarchy,
+    scope: &Scope,
+    items: &mut Seq<Item>,
+    decl: &ItemDecl,
+) -> Result<(), VerFault>
+    ensures { Gives Fails (λ _. items.new) result (spec.add_item hierarchy.now scope.now items.old decl.now) }
 {
-    let name = decl.name.copy(alloc)?;
-    let bits = Seq::one(alloc, nets.place(&decl.name))?;
-    Ok(Port {
-        name,
-        dir: decl.dir,
-        bits,
-        bus: false,
-    })
-}
-
-/// The instances among the items.
-pub fn insts(alloc: Global, nets: &NameTable, items: &[ItemDecl]) -> Result<Seq<Item>, AllocError>
-    ensures { IfOk result (λ found. found ≡ map (spec.inst_of nets.now) (flat_map rule.insts_in items.now)) }
-{
-    let mut found = Seq::new(alloc);
-    for item in items {
-        if let ItemDecl::Inst(decl) = item {
-            found.push(inst(alloc, nets, decl)?)?;
+    match decl {
+        ItemDecl::Ports(_) => Ok(()),
+        ItemDecl::Nets { kind, names, .. } => {
+            add_nets(scope, items, *kind, names.as_slice())?;
+            Ok(())
+        }
+        ItemDecl::Assigns(list) => add_assigns(alloc, scope, items, list.as_slice()),
+        ItemDecl::Prims { kind, list } => add_prims(alloc, scope, items, *kind, list.as_slice()),
+        ItemDecl::Insts { cell, list } => {
+            add_insts(alloc, hierarchy, scope, items, cell, list.as_slice())
         }
     }
-    Ok(found)
-}
-
-fn inst(alloc: Global, nets: &NameTable, decl: &InstDecl) -> Result<Item, AllocError>
-    ensures { IfOk result (λ item. item ≡ spec.inst_of nets.now decl.now) }
-{
-    let cell = decl.cell.copy(alloc)?;
-    let name = decl.name.copy(alloc)?;
-    let conns = conns(alloc, nets, decl.conns.as_slice())?;
-    Ok(Item::Inst { cell, name, conns })
-}
-
-fn conns(alloc: Global, nets: &NameTable, conns: &[ConnDecl]) -> Result<Seq<Conn>, AllocError>
-    ensures { IfOk result (λ found. found ≡ map (spec.conn_of nets.now) conns.now) }
-{
-    let mut found = Seq::new(alloc);
-    for decl in conns {
-        found.push(conn(alloc, nets, decl)?)?;
-    }
-    Ok(found)
-}
-
-fn conn(alloc: Global, nets: &NameTable, decl: &ConnDecl) -> Result<Conn, AllocError>
-    ensures { IfOk result (λ conn. conn ≡ spec.conn_of nets.now decl.now) }
-{
-    let pin = decl.pin.copy(alloc)?;
-    let wires = Seq::one(alloc, Wire::Net(nets.place(&decl.net)))?;
-    Ok(Conn {
-        pin,
-        wires: Some(wires),
-    })
 }

@@ -1,42 +1,150 @@
-//! From the declarations of a module to its nets and items.
-ghost use Rattle.std.specs.Prelude.{◌≡◌, IfOk};
-ghost use Rattle.texts.specs.Reads.{Gives};
-ghost use Rattle.verilog_net.specs.Fails.{Fails};
+//! Modules, with nets in place of names.
+ghost use Rattle.std.specs.Prelude.{◌≡◌, ◌++◌, [], length, map, OnOk};
+ghost use Rattle.texts.specs.Rules.{Gives};
+ghost use Rattle.verilog_syntax.specs.declared.declarations.Spelled.{Spelled};
+ghost use Rattle.verilog_scope.specs.Fails.{Fails};
+ghost use Rattle.verilog_scope.specs.Folds.{fold_ok};
+ghost use Rattle.verilog_net.specs.Wires.{numbers};
 ghost use Rattle.verilog_net.specs.Modules as spec;
 
-use crate::declares::declared;
-use crate::faults::VerFault;
-use crate::items::{insts, ports};
-use crate::nets::{are_connections_declared, nets};
-use crate::sources::Module;
+use crate::hierarchies::Hierarchy;
+use crate::items::items_of;
+use crate::sources::{Module, Port};
 use sdcv_base::Seq;
 use std::alloc::{AllocError, Global};
-use verilog_syntax::first_declarations::ModuleDecl;
+use verilog_scope::{Run, Scope, VerFault};
+use verilog_syntax::{Head, ModuleDecl, PortDecl, Spelled};
 
-/// The module that these declarations make. `NotYet` comes exactly where they break a static rule.
-pub fn module(alloc: Global, decl: &ModuleDecl) -> Result<Module, VerFault>
-    ensures { Gives Fails (λ m. m) result (spec.module_of decl.now) }
-{
-    let declared = declared(alloc, decl)?;
-    if !are_connections_declared(&declared, decl.items.as_slice()) {
-        return Err(VerFault::NotYet);
-    }
-    Ok(made(alloc, decl)?)
+/// What stands in a port list.
+trait Listed {
+    ghost spelled: { Self → Spelled };
+
+    fn spelled(&self) -> &Spelled
+        ensures { result.now ≡ spelled self.now };
 }
 
-/// The module, where the rules are kept.
-fn made(alloc: Global, decl: &ModuleDecl) -> Result<Module, AllocError>
-    ensures { IfOk result (λ m. m ≡ spec.module_made decl.now) }
+impl Listed for Spelled {
+    ghost spelled = { λ s. s };
+
+    fn spelled(&self) -> &Spelled {
+        self
+    }
+}
+
+impl Listed for PortDecl {
+    ghost spelled = { λ p. p.name };
+
+    fn spelled(&self) -> &Spelled {
+        &self.name
+    }
+}
+
+/// The modules of these declarations.
+pub fn modules_of(
+    alloc: Global,
+    hierarchy: &Hierarchy,
+    decls: &[ModuleDecl],
+) -> Result<Seq<Module>, VerFault>
+    requires { length hierarchy.now.scopes ≡ length decls.now }
+    ensures { Gives Fails (λ made. made) result (spec.modules_made hierarchy.now decls.now) }
 {
-    let table = nets(alloc, decl)?;
+    let scopes = hierarchy.scopes.as_slice();
+    let mut found = Seq::new(alloc);
+    for i in 0..scopes.len() {
+        add_module(alloc, hierarchy, &mut found, &scopes[i], &decls[i])?;
+    }
+    Ok(found)
+}
+
+#[tactic(auto, unfolding(crate::specs::Modules::add_module))]
+fn add_module(
+    alloc: Global,
+    hierarchy: &Hierarchy,
+    found: &mut Seq<Module>,
+    scope: &Scope,
+    decl: &ModuleDecl,
+) -> Result<(), VerFault>
+    ensures { Gives Fails (λ _. found.new) result (spec.add_module hierarchy.now found.old scope.now decl.now) }
+{
+    let made = module(alloc, hierarchy, scope, decl)?;
+    found.push(made)?;
+    Ok(())
+}
+
+#[tactic(auto, unfolding(crate::specs::Modules::module_made))]
+fn module(
+    alloc: Global,
+    hierarchy: &Hierarchy,
+    scope: &Scope,
+    decl: &ModuleDecl,
+) -> Result<Module, VerFault>
+    ensures { Gives Fails (λ made. made) result (spec.module_made hierarchy.now scope.now decl.now) }
+{
+    let ports = ports_of(alloc, scope, &decl.head)?;
+    let items = items_of(alloc, hierarchy, scope, decl.items.as_slice())?;
     let name = decl.name.copy(alloc)?;
-    let ports = ports(alloc, &table, decl.ports.as_slice())?;
-    let items = insts(alloc, &table, decl.items.as_slice())?;
-    let names = table.names(alloc)?;
+    let nets = scope.net_names(alloc)?;
     Ok(Module {
         name,
         ports,
-        nets: Seq::from_vec(names),
+        nets,
         items,
     })
+}
+
+/// The ports, in the order of the port list. A name there that has no direction is Syntax at it.
+fn ports_of(alloc: Global, scope: &Scope, head: &Head) -> Result<Seq<Port>, VerFault>
+    ensures { Gives Fails (λ ports. ports) result (spec.ports_of scope.now head.now) }
+{
+    match head {
+        Head::Names(list) => ports(alloc, scope, list.as_slice()),
+        Head::Ports(list) => ports(alloc, scope, list.as_slice()),
+    }
+}
+
+fn ports<T: Listed>(alloc: Global, scope: &Scope, list: &[T]) -> Result<Seq<Port>, VerFault>
+    ensures { Gives Fails (λ ports. ports) result (fold_ok (spec.add_port scope.now) [] (map T.spelled list.now)) }
+{
+    let mut found = Seq::new(alloc);
+    for one in list {
+        add_port(alloc, scope, &mut found, one.spelled())?;
+    }
+    Ok(found)
+}
+
+#[tactic(auto, unfolding(crate::specs::Modules::add_port))]
+fn add_port(
+    alloc: Global,
+    scope: &Scope,
+    found: &mut Seq<Port>,
+    spelled: &Spelled,
+) -> Result<(), VerFault>
+    ensures { Gives Fails (λ _. found.new) result (spec.add_port scope.now found.old spelled.now) }
+{
+    let decl = scope.decl(&spelled.name);
+    let Some(dir) = decl.dir else {
+        return Err(VerFault::Syntax(spelled.offset));
+    };
+    let name = spelled.name.copy(alloc)?;
+    let mut bits = Seq::new(alloc);
+    push_numbers(&mut bits, &scope.bits(&spelled.name))?;
+    found.push(Port {
+        name,
+        dir,
+        bits,
+        bus: decl.range.is_some(),
+    })?;
+    Ok(())
+}
+
+fn push_numbers(found: &mut Seq<usize>, run: &Run) -> Result<(), AllocError>
+    ensures { OnOk result (found.new ≡ found.old ++ numbers run.now) }
+{
+    if run.first.checked_add(run.count).is_none() {
+        return Err(AllocError);
+    }
+    for i in 0..run.count {
+        found.push(run.first + i)?;
+    }
+    Ok(())
 }

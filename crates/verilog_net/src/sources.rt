@@ -1,13 +1,16 @@
 //! Netlists as callers see them, and the call that reads one.
-ghost use Rattle.std.specs.Prelude.{◌≡◌, None, Some, IfOk, IsErrOf};
-ghost use Rattle.verilog_net.specs.Sources.{source_of, HasFirstForm};
+ghost use Rattle.std.specs.Prelude.{IfOk};
+ghost use Rattle.texts.specs.Rules.{Gives};
+ghost use Rattle.verilog_scope.specs.Fails.{Fails};
+ghost use Rattle.verilog_net.specs.Sources.{source_of};
+ghost use Rattle.verilog_net.specs.Lawful.{IsLawful};
 
-use crate::faults::VerFault;
-use crate::modules::module;
+use crate::hierarchies::Hierarchy;
+use crate::modules::modules_of;
 use sdcv_base::{Name, Seq};
 use std::alloc::Global;
-use verilog_syntax::Dir;
-use verilog_syntax::first_modules::read_module;
+use verilog_scope::VerFault;
+use verilog_syntax::{Dir, read_modules};
 use verilog_words::PrimKind;
 
 /// What a pin or an assignment reads: a constant, or a net of the module by its number.
@@ -69,14 +72,19 @@ pub struct Source {
     pub modules: Seq<Module>,
 }
 
-/// The netlist that a text is. `NotYet` comes exactly where the text has none.
+/// The netlist that a text is.
+///
+/// A text without modules is read. It refuses a text that breaks the grammar or a rule of names (`Syntax`), a word that is
+/// left out where an item begins (`Unsupported`), a name that stands for two modules, ports, nets, instances or pins of one
+/// instance (`TwiceName`), and two sides of different widths (`Width`, at the `.` of a connection, at the first byte of a
+/// terminal, or at that of an assignment's target).
+#[tactic(auto, unfolding(crate::specs::Sources::source_of))]
 pub fn read_verilog(alloc: Global, text: &[u8]) -> Result<Source, VerFault>
-    ensures ok { IfOk result (λ source. source_of text.now ≡ Some source) }
-    ensures not_yet { IsErrOf result VerFault.NotYet → source_of text.now ≡ None }
-    ensures first_form { IfOk result HasFirstForm }
+    ensures value { Gives Fails (λ source. source) result (source_of text.now) }
+    ensures lawful { IfOk result IsLawful }
 {
-    let decl = read_module(alloc, text)?;
-    let module = module(alloc, &decl)?;
-    let modules = Seq::one(alloc, module)?;
+    let decls = read_modules(alloc, text)?;
+    let hierarchy = Hierarchy::of(alloc, decls.as_slice())?;
+    let modules = modules_of(alloc, &hierarchy, decls.as_slice())?;
     Ok(Source { modules })
 }

@@ -1,0 +1,7 @@
+use Rattle.std.proofs.Common.{◌≡◌, drop}
+use Rattle.verilog_scope.specs.Folds.{fold_ok, each, pushing}
+use Rattle.verilog_net.specs.Wires as wires
+use Rattle.verilog_net.proofs.prims.outs.Given as goal
+
+abbrev pub invariant-loop-term : goal.invariant-loop-term
+invariant-loop-term l = each (wires.net_of l.scope) l.list ≡ fold_ok (pushing (wires.net_of l.scope)) l.found (drop l.term-index l.list)

@@ -1,0 +1,13 @@
+pub mod FailLemmas
+pub mod FoldLemmas
+pub mod KeepLemmas
+pub mod StandingLemmas
+pub mod DeclLemmas
+pub mod BaseLemmas
+pub mod NetLemmas
+pub mod RangeLemmas
+pub mod CountLemmas
+pub mod ScopeLemmas
+pub mod StandLemmas
+pub mod RunLemmas
+pub mod NewLemmas

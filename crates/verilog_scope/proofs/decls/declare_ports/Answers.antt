@@ -1,0 +1,23 @@
+use Rattle.std.proofs.Common.{◌∙◌}
+use Rattle.std.proofs.lemmas.Result.{err_from_is_err_and}
+use Rattle.verilog_scope.specs.Decls as spec
+use Rattle.verilog_scope.proofs.FailLemmas.{fails_through}
+use Rattle.verilog_scope.proofs.FoldLemmas.{fold_more, fold_bad, fold_end}
+use Rattle.verilog_scope.proofs.decls.declare_ports.Goals as goal
+
+pub returns-in_err-declare_port : goal.returns-in_err-declare_port
+returns-in_err-declare_port c =
+    let p = err_from_is_err_and c.from_residual.result c.from_residual.ensures.1 in
+    rw (p.1, p.2) (fails_through c.in_err-declare_port.field-0.0 _ _ c.in_err-declare_port.ensures
+    (λ why bad. c.loop-port.invariant ∙ fold_bad (spec.declare_port c.args.names.now) c.loop-port.decls c.args.list.now c.loop-port.port-index
+    c.port-item.result why
+    c.loop-port-test.true c.port-item.is bad))
+
+pub loop-port-preserved : goal.loop-port-preserved
+loop-port-preserved c = c.loop-port.invariant ∙ fold_more (spec.declare_port c.args.names.now) c.loop-port.decls c.declare_port.new.decls
+    c.args.list.now c.loop-port.port-index
+    c.port-item.result c.loop-port-test.true c.port-item.is c.in_ok-declare_port.ensures
+
+pub returns : goal.returns
+returns c = c.loop-port.invariant ∙ fold_end (spec.declare_port c.args.names.now) c.loop-port.decls c.args.list.now c.loop-port.port-index
+    c.loop-port-test.false

@@ -1,0 +1,8 @@
+use Rattle.std.proofs.Common.{◌≡◌, take}
+use Rattle.std.specs.List.{flat_map}
+use Rattle.texts.specs.Names.{with_names}
+use Rattle.verilog_scope.specs.Standing as spec
+use Rattle.verilog_scope.proofs.standing.add_terms.Given as goal
+
+abbrev pub invariant-loop-term : goal.invariant-loop-term
+invariant-loop-term l = l.names ≡ with_names l.fn.names (flat_map spec.names_of_term (take l.term-index l.list))

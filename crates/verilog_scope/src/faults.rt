@@ -1,0 +1,56 @@
+//! Why a text is no netlist.
+ghost use Rattle.std.specs.Prelude.{◌≡◌};
+ghost use Rattle.verilog_scope.specs.declared.faults.VerFault.TheVariants as fault;
+ghost use Rattle.verilog_scope.specs.Fails.{of_syntax};
+
+use sdcv_base::Name;
+use std::alloc::{AllocError, AllocFailed};
+use thiserror::Error;
+use verilog_words::SyntaxFault;
+
+/// Why a text is no netlist. Offsets count bytes from 0.
+#[derive(Debug, Drop, Error)]
+pub enum VerFault {
+    /// The text breaks the grammar there, or names what is nowhere declared, or bits that a name does not have.
+    #[error("byte {0}: no netlist goes on like this")]
+    Syntax(usize),
+    /// This word begins an item there, and none of its kind is read.
+    #[error("byte {0}: `{1}` is no part of a netlist")]
+    Unsupported(usize, Name),
+    /// The name of a module, port, net, instance or pin stands for two of them.
+    #[error("`{0}` is declared twice")]
+    TwiceName(Name),
+    /// A connection, a terminal or an assignment begins there, and its two sides have not the same number of bits.
+    #[error("byte {0}: the two sides differ in width")]
+    Width(usize),
+    #[error("out of memory")]
+    Memory,
+}
+
+impl From<SyntaxFault> for VerFault {
+    ghost from_gives = { λ f e. e ≡ of_syntax f };
+
+    fn from(fault: SyntaxFault) -> VerFault {
+        match fault {
+            SyntaxFault::Syntax(place) => VerFault::Syntax(place),
+            SyntaxFault::Unsupported(place, word) => VerFault::Unsupported(place, word),
+            SyntaxFault::Memory => VerFault::Memory,
+        }
+    }
+}
+
+impl From<AllocError> for VerFault {
+    ghost from_gives = { λ _ e. e ≡ fault.Memory };
+
+    fn from(_: AllocError) -> VerFault {
+        VerFault::Memory
+    }
+}
+
+impl<T: Drop> From<AllocFailed<T>> for VerFault {
+    ghost from_gives = { λ _ e. e ≡ fault.Memory };
+
+    fn from(_: AllocFailed<T>) -> VerFault {
+        VerFault::Memory
+    }
+}

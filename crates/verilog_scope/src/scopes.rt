@@ -1,0 +1,138 @@
+//! The nets of a module by number.
+ghost use Rattle.std.specs.Prelude.{◌≡◌, IfOk};
+ghost use Rattle.texts.specs.Rules.{Gives};
+ghost use Rattle.verilog_scope.specs.Fails.{Fails};
+ghost use Rattle.verilog_scope.specs.Scopes as spec;
+
+use crate::bits::push_nets;
+use crate::decls::{Decl, check_insts, decl_at, declares, listed_in};
+use crate::faults::VerFault;
+use crate::implied::implied_names;
+use crate::ranges::{Run, selected, width};
+use crate::standing::standing;
+use sdcv_base::{Name, Seq};
+use std::alloc::{AllocError, Global};
+use texts::NameTable;
+use verilog_syntax::{ModuleDecl, Select};
+
+/// What the names of a module stand for.
+#[derive(Drop)]
+pub struct Scope {
+    /// The names of nets, in the order in which they first stand.
+    pub names: NameTable,
+    /// What is declared of each of them, by its place.
+    pub decls: Seq<Decl>,
+    /// Those that are wires without a declaration, and others that are declared.
+    pub implied: NameTable,
+    /// The number of the first net of each, by its place.
+    pub bases: Seq<usize>,
+}
+
+impl Scope {
+    /// The scope of a module.
+    ///
+    /// `TwiceName` is a name that stands twice in the port list, is declared twice, or is a port and a net of another
+    /// range or a supply, or the name of two instances. `Syntax` is a direction that is declared of a name that the port
+    /// list does not list, at that name.
+    #[tactic(auto, unfolding(crate::specs::Scopes::scope_of))]
+    pub fn of(alloc: Global, decl: &ModuleDecl) -> Result<Scope, VerFault>
+        ensures { Gives Fails (λ scope. scope) result (spec.scope_of decl.now) }
+    {
+        let listed = listed_in(alloc, &decl.head)?;
+        let names = standing(alloc, decl)?;
+        let count = names.names(alloc)?.len();
+        let decls = declares(alloc, &names, count, &listed, decl)?;
+        check_insts(alloc, decl.items.as_slice())?;
+        let implied = implied_names(alloc, decl)?;
+        let bases = bases(alloc, decls.as_slice())?;
+        Ok(Scope {
+            names,
+            decls,
+            implied,
+            bases,
+        })
+    }
+
+    /// What is declared of a name.
+    pub fn decl(&self, name: &Name) -> Decl
+        ensures { result ≡ spec.decl_of self.now name.now }
+    {
+        decl_at(&self.decls, self.names.place(name))
+    }
+
+    /// The number of the first net of a name.
+    pub fn base(&self, name: &Name) -> usize
+        ensures { result ≡ spec.base_of self.now name.now }
+    {
+        self.bases
+            .as_slice()
+            .get(self.names.place(name))
+            .copied()
+            .unwrap_or(0)
+    }
+
+    /// All nets of a name.
+    pub fn bits(&self, name: &Name) -> Run
+        ensures { result ≡ spec.all_bits self.now name.now }
+    {
+        Run {
+            first: self.base(name),
+            count: width(&self.decl(name).range),
+        }
+    }
+
+    /// Whether the name stands for nets.
+    pub fn knows(&self, name: &Name) -> bool
+        ensures { result ≡ spec.is_known self.now name.now }
+    {
+        let decl = self.decl(name);
+        decl.dir.is_some() || decl.kind.is_some() || self.implied.contains(name)
+    }
+
+    /// The nets of a selection of a name's bits, by number. None where the name stands for no net or has no such bits.
+    #[tactic(auto, unfolding(crate::specs::Scopes::run_of))]
+    pub fn run(&self, name: &Name, select: &Select) -> Result<Option<Run>, AllocError>
+        ensures { IfOk result (λ run. run ≡ spec.run_of self.now name.now select.now) }
+    {
+        if !self.knows(name) {
+            return Ok(None);
+        }
+        match selected(&self.decl(name).range, select) {
+            None => Ok(None),
+            Some(bits) => match self.base(name).checked_add(bits.first) {
+                None => Err(AllocError),
+                Some(first) => Ok(Some(Run {
+                    first,
+                    count: bits.count,
+                })),
+            },
+        }
+    }
+
+    /// The names of the nets, each at its number.
+    pub fn net_names(&self, alloc: Global) -> Result<Seq<Name>, AllocError>
+        ensures { IfOk result (λ nets. nets ≡ spec.net_names self.now) }
+    {
+        let names = self.names.names(alloc)?;
+        let mut nets = Seq::new(alloc);
+        push_nets(alloc, &mut nets, &self.decls, &names)?;
+        Ok(nets)
+    }
+}
+
+/// The number of the first net of each name, where the nets are numbered name by name from 0. It wants memory where they
+/// are more than can be numbered.
+fn bases(alloc: Global, decls: &[Decl]) -> Result<Seq<usize>, AllocError>
+    ensures { IfOk result (λ found. found ≡ spec.bases_from 0 decls.now) }
+{
+    let mut found = Seq::new(alloc);
+    let mut next = 0usize;
+    for decl in decls {
+        found.push(next)?;
+        let Some(more) = next.checked_add(width(&decl.range)) else {
+            return Err(AllocError);
+        };
+        next = more;
+    }
+    Ok(found)
+}
