@@ -30,9 +30,9 @@ abbrev pub Gives : {A E : Type 0} → Option A → Result A E → Type 0
 Gives expected (Ok value) = expected ≡ Some value
 Gives expected (Err fault) = expected ≡ None
 
--- the netlist: its text is read, or is refused, also where it is too long
+-- the netlist: its text is read, or is refused with the fault that it has, also where it is too long
 abbrev pub Netlist : Got → Found Source → Type 0
-Netlist (Text text) found = Staged (Gives (source_of text)) verilog_line found
+Netlist (Text text) found = Staged (λ read. source_of text ≡ read) verilog_line found
 Netlist Longer found = found ≡ Err long_verilog_line
 
 -- the constraints: their text is read, or is refused, also where it is too long

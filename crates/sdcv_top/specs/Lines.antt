@@ -2,8 +2,8 @@
 use Rattle.std.specs.Prelude.{ℕ, List, [], ◌∷◌, ◌++◌, codes, Option, Some, None}
 use Rattle.std.specs.Fmt.{decimal}
 use Rattle.sdcv_base.specs.Shown.{shown}
-use Rattle.verilog_net.specs.declared.faults.VerFault.{VerFault}
-use Rattle.verilog_net.specs.declared.faults.VerFault.TheVariants as verilog
+use Rattle.verilog_scope.specs.declared.faults.VerFault.{VerFault}
+use Rattle.verilog_scope.specs.declared.faults.VerFault.TheVariants as verilog
 use Rattle.sdc_text.specs.declared.faults.SdcFault.{SdcFault}
 use Rattle.sdc_text.specs.declared.faults.SdcFault.TheVariants as sdc
 use Rattle.sdcv_top.specs.declared.refusals.Early.{Early}
@@ -21,9 +21,16 @@ usage_line = line (codes "usage: sdcv verify V L S --out CERT | check V L S CERT
 abbrev pub long_verilog_line : List ℕ
 long_verilog_line = line (codes "refused verilog 0 TooLong")
 
+-- an item begins there with this word
+abbrev pub unsupported_line : ℕ → List ℕ → List ℕ
+unsupported_line place word = line (codes "refused verilog 2 Unsupported " ++ decimal place ++ codes " " ++ shown word)
+
 -- the netlist is refused by its reader
 abbrev pub verilog_line : VerFault → Option (List ℕ)
-verilog_line verilog.NotYet = Some (line (codes "refused verilog 90 NotYet"))
+verilog_line (verilog.Syntax place) = Some (line (codes "refused verilog 1 Syntax " ++ decimal place))
+verilog_line (verilog.Unsupported place word) = Some (unsupported_line place word)
+verilog_line (verilog.TwiceName name) = Some (line (codes "refused verilog 3 TwiceName " ++ shown name))
+verilog_line (verilog.Width place) = Some (line (codes "refused verilog 4 Width " ++ decimal place))
 verilog_line verilog.Memory = None
 
 -- the constraints have more bytes than their limit

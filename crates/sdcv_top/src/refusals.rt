@@ -1,6 +1,6 @@
 //! The line of each refusal: one function an origin, one row a cause.
 ghost use Rattle.std.specs.Prelude.{◌≡◌, Some, IfOk};
-ghost use Rattle.sdcv_top.specs.Lines.{long_verilog_line, verilog_line, long_sdc_line, sdc_line, early_line};
+ghost use Rattle.sdcv_top.specs.Lines.{long_verilog_line, unsupported_line, verilog_line, long_sdc_line, sdc_line, early_line};
 
 use sdc_text::SdcFault;
 use sdcv_base::Name;
@@ -34,9 +34,24 @@ pub fn verilog_line(alloc: Global, fault: &VerFault) -> Result<Vec<u8>, AllocErr
     ensures { IfOk result (λ line. verilog_line fault.now ≡ Some line.items) }
 {
     match fault {
-        VerFault::NotYet => Vec::from_slice(alloc, b"refused verilog 90 NotYet\n"),
+        VerFault::Syntax(place) => {
+            Ok(format!(in alloc; "refused verilog 1 Syntax {place}\n")?.into_bytes())
+        }
+        VerFault::Unsupported(place, word) => unsupported_line(alloc, *place, word),
+        VerFault::TwiceName(name) => {
+            Ok(format!(in alloc; "refused verilog 3 TwiceName {name}\n")?.into_bytes())
+        }
+        VerFault::Width(place) => {
+            Ok(format!(in alloc; "refused verilog 4 Width {place}\n")?.into_bytes())
+        }
         VerFault::Memory => Err(AllocError),
     }
+}
+
+fn unsupported_line(alloc: Global, place: usize, word: &Name) -> Result<Vec<u8>, AllocError>
+    ensures { IfOk result (λ line. line.items ≡ unsupported_line place word.now) }
+{
+    Ok(format!(in alloc; "refused verilog 2 Unsupported {place} {word}\n")?.into_bytes())
 }
 
 /// The line of constraints that are longer than their limit.

@@ -32,7 +32,7 @@ pub fn netlist<H: Host>(alloc: Global, host: &mut H, name: &str) -> Result<Sourc
 
 // What the netlist's text stands for.
 fn source(alloc: Global, text: &[u8]) -> Result<Source, Stop>
-    ensures { Finds (Staged (Gives (source_of text.now)) verilog_line) result }
+    ensures { Finds (Staged (λ read. source_of text.now ≡ read) verilog_line) result }
 {
     match read_verilog(alloc, text) {
         Ok(source) => Ok(source),

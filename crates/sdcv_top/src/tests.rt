@@ -105,7 +105,7 @@ struct Row {
 }
 
 // The reports and refusals of small designs, worked by hand.
-const ROWS: [Row; 9] = [
+const ROWS: [Row; 11] = [
     Row {
         netlist: BLOCKED,
         constraints: FROM_A_TO_B,
@@ -142,13 +142,22 @@ total 0 justified 0 refuted 0 undecided 0
         printed: b"refused expand 91 TooWide 32\n",
     },
     Row {
-        netlist: b"// a comment
-module top (input clk, output y);
-endmodule
-",
+        netlist: b"module top (input a, output y); always @(a) y = a; endmodule",
         constraints: FROM_A_TO_B,
         status: Status::Refused,
-        printed: b"refused verilog 90 NotYet\n",
+        printed: b"refused verilog 2 Unsupported 32 always\n",
+    },
+    Row {
+        netlist: b"module top (input a); wire [1:0] n; assign n = a; endmodule",
+        constraints: FROM_A_TO_B,
+        status: Status::Refused,
+        printed: b"refused verilog 4 Width 43\n",
+    },
+    Row {
+        netlist: b"module top (input a); supply0 \\a ; endmodule",
+        constraints: FROM_A_TO_B,
+        status: Status::Refused,
+        printed: b"refused verilog 3 TwiceName a\n",
     },
     Row {
         netlist: BLOCKED,
@@ -267,7 +276,7 @@ fn a_long_text_is_refused_where_it_is_read(rt: HostRuntime) -> Result<(), test::
     let long = vec![in alloc; b' '; 67_108_865]?;
     let rows: [(&[u8], &[u8], &[u8]); 3] = [
         (&long, &long, b"refused verilog 0 TooLong\n"),
-        (b"", &long, b"refused verilog 90 NotYet\n"),
+        (b"module", &long, b"refused verilog 1 Syntax 6\n"),
         (BLOCKED, &long, b"refused sdc 0 TooLong\n"),
     ];
     for (netlist, constraints, printed) in rows {

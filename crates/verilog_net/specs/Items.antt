@@ -1,5 +1,6 @@
 -- The items of a module, with nets in place of names.
-use Rattle.std.specs.Prelude.{ℕ, Bool, true, false, ◌==◌, ◌&&◌, nat_le, if◌then◌else◌, List, [], ◌∷◌, ◌++◌, length, map, flat_map, Option, Some, None, Result, Ok, Err}
+use Rattle.std.specs.Prelude.{ℕ, Bool, true, false, ◌==◌, ◌&&◌, nat_le, if◌then◌else◌, List, [], ◌∷◌, ◌++◌, length, map, flat_map, Option, Some, None}
+use Rattle.std.specs.Prelude.{Result, Ok, Err}
 use Rattle.texts.specs.Rules.{◌>>=◌}
 use Rattle.verilog_words.specs.declared.gates.PrimKind.{PrimKind}
 use Rattle.verilog_words.specs.declared.gates.PrimKind.TheVariants as prim

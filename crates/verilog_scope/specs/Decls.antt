@@ -1,5 +1,6 @@
 -- What is declared of each name of a module, once.
-use Rattle.std.specs.Prelude.{ℕ, Bool, true, false, not, ◌&&◌, if◌then◌else◌, List, [], ◌∷◌, ◌++◌, length, map, replicate, slice_set, slice_index_or, Option, Some, None, is_some, Result, Ok, Err}
+use Rattle.std.specs.Prelude.{ℕ, Bool, true, false, not, ◌&&◌, if◌then◌else◌, List, [], ◌∷◌, ◌++◌, length, map, replicate, slice_set, slice_index_or}
+use Rattle.std.specs.Prelude.{Option, Some, None, is_some, Result, Ok, Err}
 use Rattle.texts.specs.Names.{is_among, place_of}
 use Rattle.texts.specs.Rules.{◌>>=◌}
 use Rattle.verilog_syntax.specs.declared.declarations.Range.{Range}

@@ -1,5 +1,2 @@
 pub mod ExprLemmas
-pub mod FirstFailLemmas
-pub mod FirstListLemmas
-pub mod FirstModuleLemmas
 pub mod ListLemmas

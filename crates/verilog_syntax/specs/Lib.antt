@@ -1,9 +1,4 @@
 pub mod Exprs
-pub mod FirstFails
-pub mod FirstItems
-pub mod FirstLists
-pub mod FirstModules
-pub mod FirstNames
 pub mod Items
 pub mod Lists
 pub mod Modules

@@ -8,12 +8,6 @@
 mod assigns;
 mod declarations;
 mod exprs;
-pub mod first_declarations;
-pub mod first_faults;
-mod first_items;
-mod first_lists;
-mod first_marks;
-pub mod first_modules;
 mod insts;
 mod items;
 mod lists;

@@ -3,5 +3,4 @@ pub mod ConstantLemmas
 pub mod FrontLemmas
 pub mod NumberLemmas
 pub mod ReadLemmas
-pub mod TokenLemmas
 pub mod WordLemmas

@@ -5,5 +5,4 @@ pub mod Marks
 pub mod Names
 pub mod Numbers
 pub mod Reads
-pub mod Tokens
 pub mod Words

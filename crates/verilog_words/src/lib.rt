@@ -2,8 +2,7 @@
 //!
 //! Each call takes one token and passes over what stands after it: white space, comments, attributes, and directives
 //! where a line begins (`skip_blanks`). A fault lies at the byte at which a token cannot go on. Which tokens make a netlist
-//! is left to the crate above. `take_token` and `try_mark` are the tokens of the first form alone, with white space before
-//! them.
+//! is left to the crate above.
 #![tactic(auto)]
 
 mod blanks;
@@ -15,7 +14,6 @@ mod names;
 mod numbers;
 #[cfg(test)]
 mod tests;
-mod tokens;
 mod words;
 
 pub use blanks::skip_blanks;
@@ -27,5 +25,4 @@ pub use names::{
     begins_name, expect_word, has_word, identifier, next_word, skip_identifier, take_name, try_word,
 };
 pub use numbers::{begins_number, take_number};
-pub use tokens::{Token, take_token, try_mark};
 pub use words::{Word, word_of};
