@@ -22,7 +22,8 @@ use Rattle.link_defs.specs.declared.circuits.Part.TheVariants as part
 use Rattle.link_defs.specs.declared.circuits.Circuit.{Circuit}
 use Rattle.link_defs.specs.declared.names.PinName.{PinName}
 use Rattle.link_defs.specs.declared.names.PinRole.TheVariants as role
-use Rattle.link_defs.specs.Hierarchy.{module_of, cell_of, wires_of, module_needs, tops}
+use Rattle.link_defs.specs.Hierarchy.{cell_of, wires_of, module_needs, tops}
+use Rattle.verilog_net.specs.Lawful.{module_of}
 use Rattle.link_defs.specs.Flatten.{flat_of, full_names, add_scope, add_item, inst_nets, inner_nets, join_bits}
 use Rattle.link_defs.specs.Parts.{inst_parts}
 use Rattle.link_defs.specs.Circuits.{circuit_of}

@@ -15,7 +15,8 @@ use Rattle.link_defs.specs.declared.faults.LinkFault.TheVariants as fault
 use Rattle.link_defs.specs.declared.options.LinkOptions.{LinkOptions}
 use Rattle.link_defs.specs.declared.names.PortName.{PortName}
 use Rattle.graph_order.specs.Needs.{Stay}
-use Rattle.link_defs.specs.Hierarchy.{module_of, cell_of, wires_of, tops}
+use Rattle.link_defs.specs.Hierarchy.{cell_of, wires_of, tops}
+use Rattle.verilog_net.specs.Lawful.{module_of}
 use Rattle.link_defs.specs.Flatten.{flat_of, full_names, add_scope, add_item, inst_nets, inner_nets, join_bits}
 use Rattle.link_defs.specs.Parts.{inst_parts}
 use Rattle.link_defs.specs.Circuits.{circuit_of, input_bits}

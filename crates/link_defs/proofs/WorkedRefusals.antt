@@ -10,7 +10,8 @@ use Rattle.verilog_syntax.specs.declared.declarations.Dir.TheVariants as dir
 use Rattle.net_model.specs.Form.{NotForm, AndForm}
 use Rattle.net_model.specs.declared.netlist.Gate.{Gate}
 use Rattle.link_defs.specs.declared.faults.LinkFault.TheVariants as fault
-use Rattle.link_defs.specs.Hierarchy.{module_of, cell_of, wires_of}
+use Rattle.link_defs.specs.Hierarchy.{cell_of, wires_of}
+use Rattle.verilog_net.specs.Lawful.{module_of}
 use Rattle.link_defs.specs.Flatten.{add_scope, add_item, inst_nets, inner_nets, join_bits, top_scope}
 use Rattle.link_defs.specs.Parts.{inst_parts}
 use Rattle.link_defs.specs.Circuits.{circuit_of, all_drivers, Stay, Go_on}

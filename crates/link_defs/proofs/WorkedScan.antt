@@ -12,7 +12,8 @@ use Rattle.verilog_net.specs.declared.sources.Conn.{Conn}
 use Rattle.net_model.specs.Form.{PinForm, NotForm, AndForm, OrForm, XorForm}
 use Rattle.cell_types.specs.declared.libraries.Cell.{Cell}
 use Rattle.cell_types.specs.declared.libraries.CellKind.TheVariants as kind
-use Rattle.link_defs.specs.Hierarchy.{module_of, cell_of, wires_of}
+use Rattle.link_defs.specs.Hierarchy.{cell_of, wires_of}
+use Rattle.verilog_net.specs.Lawful.{module_of}
 use Rattle.link_defs.specs.Flatten.{flat_of, add_scope, add_item, inst_nets, inner_nets, join_bits}
 use Rattle.link_defs.specs.Parts.{inst_parts}
 use Rattle.link_defs.specs.Circuits.{circuit_of, regs_of}

@@ -18,7 +18,8 @@ use Rattle.link_defs.specs.declared.names.CellName.{CellName}
 use Rattle.link_defs.specs.declared.names.PinName.{PinName}
 use Rattle.link_defs.specs.declared.names.PinRole.TheVariants as role
 use Rattle.link_defs.specs.declared.names.NetName.{NetName}
-use Rattle.link_defs.specs.Hierarchy.{module_of, cell_of}
+use Rattle.link_defs.specs.Hierarchy.{cell_of}
+use Rattle.verilog_net.specs.Lawful.{module_of}
 use Rattle.link_defs.specs.Flatten.{Flat, Located, full_names}
 use Rattle.link_defs.specs.Parts.{parts_of}
 use Rattle.link_defs.specs.Circuits.{part_regs, part_outs}

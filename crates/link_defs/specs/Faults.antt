@@ -21,7 +21,8 @@ use Rattle.link_defs.specs.declared.options.LinkOptions.{LinkOptions}
 use Rattle.link_defs.specs.declared.options.Setting.{Setting}
 use Rattle.link_defs.specs.declared.faults.LinkFault.{LinkFault}
 use Rattle.link_defs.specs.declared.faults.LinkFault.TheVariants as fault
-use Rattle.link_defs.specs.Hierarchy.{module_of, cell_of, wires_of, tops, IsRecursive}
+use Rattle.link_defs.specs.Hierarchy.{cell_of, wires_of, tops, IsRecursive}
+use Rattle.verilog_net.specs.Lawful.{module_of}
 use Rattle.link_defs.specs.Flatten.{Flat, Located, flat_of, full_names}
 use Rattle.link_defs.specs.Circuits.{PortBit, circuit_of, input_bits, output_bits, data_bits, clock_bits, regs_of, all_gates, all_drivers}
 use Rattle.link_defs.specs.Circuits.{all_reads, all_data, OnTree, IsTree, IsOnCycle}

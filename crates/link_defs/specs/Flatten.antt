@@ -14,7 +14,8 @@ use Rattle.verilog_net.specs.declared.sources.Wire.TheVariants as wire
 use Rattle.cell_types.specs.declared.libraries.Library.{Library}
 use Rattle.cell_types.specs.declared.libraries.Cell.{Cell}
 use Rattle.cell_types.specs.declared.libraries.CellKind.TheVariants as kind
-use Rattle.link_defs.specs.Hierarchy.{module_of, cell_of, wires_of}
+use Rattle.link_defs.specs.Hierarchy.{cell_of, wires_of}
+use Rattle.verilog_net.specs.Lawful.{module_of}
 
 -- an instance of a module: what its names begin with, and the flat net of each of its nets
 pub record Scope : Type 0 where

@@ -11,10 +11,7 @@ use Rattle.verilog_net.specs.declared.sources.Wire.{Wire}
 use Rattle.cell_types.specs.declared.libraries.Library.{Library}
 use Rattle.cell_types.specs.declared.libraries.Cell.{Cell}
 use Rattle.graph_order.specs.Needs.{IsOnCycle}
-
--- the module of that name
-unfoldable pub module_of : Source → List ℕ → Option Module
-module_of s name = find (λ (m : Module). bytes_eq m.name name) s.modules
+use Rattle.verilog_net.specs.Lawful.{module_of}
 
 -- the cell of that name
 unfoldable pub cell_of : Library → List ℕ → Option Cell

@@ -23,7 +23,8 @@ use Rattle.cell_types.specs.declared.libraries.Flop.{Flop}
 use Rattle.cell_types.specs.declared.libraries.FlopOut.{FlopOut}
 use Rattle.link_defs.specs.declared.circuits.Part.{Part}
 use Rattle.link_defs.specs.declared.circuits.Part.TheVariants as part
-use Rattle.link_defs.specs.Hierarchy.{module_of, cell_of, wires_of}
+use Rattle.link_defs.specs.Hierarchy.{cell_of, wires_of}
+use Rattle.verilog_net.specs.Lawful.{module_of}
 use Rattle.link_defs.specs.Flatten.{Located}
 
 -- the flat net of a wire; a constant has one of its own
