@@ -7,7 +7,7 @@ ghost use Rattle.graph_order.specs.Visits.{IsVisiting, Waits, IsFree, is_waiting
 use crate::faults::OrderFault;
 use crate::stacks::Stack;
 use sdcv_base::Seq;
-use std::alloc::{AllocError, Global};
+use std::alloc::Global;
 
 /// The places in an order in which each comes after those that it needs. A need that is no place counts for nothing.
 pub fn order_of(alloc: Global, needs: &[Seq<usize>]) -> Result<Seq<usize>, OrderFault>
@@ -15,8 +15,8 @@ pub fn order_of(alloc: Global, needs: &[Seq<usize>]) -> Result<Seq<usize>, Order
     ensures err { IfErr result (IsCause needs.now) }
     ensures none { OnOk result ((place : ℕ) → IsOnCycle needs.now place → ⊥) }
 {
-    let mut seen = no_marks(alloc, needs.len())?;
-    let mut done = no_marks(alloc, needs.len())?;
+    let mut seen = Seq::filled(alloc, false, needs.len())?;
+    let mut done = Seq::filled(alloc, false, needs.len())?;
     let mut order = Seq::new(alloc);
     for root in 0..needs.len() {
         if !seen.at(root) {
@@ -88,12 +88,4 @@ fn is_waiting(done: &Seq<bool>, need: usize) -> bool
     ensures { result ≡ is_waiting done.now need }
 {
     need < done.len() && !done.at(need)
-}
-
-/// So many marks, none of them set.
-fn no_marks(alloc: Global, count: usize) -> Result<Seq<bool>, AllocError>
-    ensures { IfOk result (λ m. (length m ≡ count) × ((k : ℕ) → slice_index_or m k false ≡ false)) }
-{
-    let marks = vec![in alloc; false; count]?;
-    Ok(Seq::from_vec(marks))
 }
