@@ -1,0 +1,10 @@
+pub mod Clocked
+pub mod DriverPlaces
+pub mod Keeping
+pub mod Leading
+pub mod Making
+pub mod Ordering
+pub mod Parted
+pub mod Readying
+pub mod Sounding
+pub mod Treed

@@ -1,0 +1,10 @@
+pub mod Faults
+pub mod Kept
+pub mod Lawful
+pub mod Lists
+pub mod Made
+pub mod Netlists
+pub mod Numbered
+pub mod Orders
+pub mod Rows
+pub mod Trees
