@@ -1,0 +1,5 @@
+pub mod FoldLemmas
+pub mod LineLemmas
+pub mod ListLemmas
+pub mod GetLemmas
+pub mod NestedLemmas

@@ -1,0 +1,58 @@
+//! Why a text is no script.
+ghost use Rattle.std.specs.Prelude.{◌≡◌};
+ghost use Rattle.sdc_values.specs.declared.faults.SdcFault.TheVariants as fault;
+ghost use Rattle.sdc_values.specs.Told.{of_words};
+
+use sdc_words::WordFault;
+use sdcv_base::Name;
+use std::alloc::{AllocError, AllocFailed};
+use thiserror::Error;
+
+/// Why a text is no script. Lines count from 1, offsets count bytes from 0.
+#[derive(Debug, Drop, Error)]
+pub enum SdcFault {
+    /// The text breaks the rules of words or of lists there.
+    #[error("byte {0}: no SDC command goes on like this")]
+    Syntax(usize),
+    /// The command on that line, or one within its brackets, has this name.
+    #[error("line {0}: {1} is no command")]
+    UnknownCommand(u64, Name),
+    /// The command on that line takes the value of this variable, which is not set.
+    #[error("line {0}: {1} is no variable")]
+    UnknownVariable(u64, Name),
+    /// The command on that line has this word too many, or this option lacks its word, or the command of this name lacks one.
+    #[error("line {0}: the word {1} is not taken there")]
+    BadOption(u64, Name),
+    /// The command on that line has this word where a number is wanted.
+    #[error("line {0}: {1} is no such number")]
+    BadNumber(u64, Name),
+    #[error("out of memory")]
+    Memory,
+}
+
+impl From<WordFault> for SdcFault {
+    ghost from_gives = { λ f e. e ≡ of_words f };
+
+    fn from(fault: WordFault) -> SdcFault {
+        match fault {
+            WordFault::Syntax(place) => SdcFault::Syntax(place),
+            WordFault::Memory => SdcFault::Memory,
+        }
+    }
+}
+
+impl From<AllocError> for SdcFault {
+    ghost from_gives = { λ _ e. e ≡ fault.Memory };
+
+    fn from(_: AllocError) -> SdcFault {
+        SdcFault::Memory
+    }
+}
+
+impl<T: Drop> From<AllocFailed<T>> for SdcFault {
+    ghost from_gives = { λ _ e. e ≡ fault.Memory };
+
+    fn from(_: AllocFailed<T>) -> SdcFault {
+        SdcFault::Memory
+    }
+}

@@ -1,0 +1,200 @@
+//! Nested commands that give objects of a class, or all objects of a kind.
+ghost use Rattle.std.specs.Prelude.{◌≡◌, ◌≢◌, ◌<◌, ◌≤◌, length, drop, OnOk, IfOk};
+ghost use Rattle.texts.specs.Rules.{Gives};
+ghost use Rattle.sdc_values.specs.Told.{Fails};
+ghost use Rattle.sdc_values.specs.declared.faults.SdcFault.TheVariants as fault;
+ghost use Rattle.sdc_values.specs.Gets as spec;
+
+use crate::command_words::words_after;
+use crate::faults::SdcFault;
+use crate::lists::list_at;
+use crate::nested_kinds::{is_hier, is_option, is_quiet};
+use crate::values::{Class, Object, Value};
+use crate::variables::Variables;
+use crate::word_texts::value;
+use sdc_words::Word;
+use sdcv_base::{Name, Seq};
+use std::alloc::Global;
+
+/// Where a nested command is read.
+#[derive(Clone, Copy)]
+pub struct Scene<'a> {
+    pub alloc: Global,
+    pub vars: &'a Variables,
+    /// The line of the whole command, from 1.
+    pub line: u64,
+    /// Where its outermost bracket of these stands in the whole text, from 0.
+    pub place: usize,
+}
+
+/// The list of patterns of a `get_` command, and where its word begins in the whole text, from 0.
+#[derive(Drop)]
+pub struct Pattern {
+    pub offset: usize,
+    pub text: Name,
+}
+
+/// What the words of a `get_` command ask for.
+#[derive(Drop)]
+pub struct Asking {
+    pub pattern: Option<Pattern>,
+    pub hier: bool,
+}
+
+#[tactic(auto, unfolding(crate::specs::Gets::adds_text))]
+fn add_text(line: u64, offset: usize, asking: &mut Asking, text: Name) -> Result<(), SdcFault>
+    ensures { Gives Fails (λ _. asking.new) result (spec.adds_text line offset asking.old text) }
+{
+    if is_hier(text.as_bytes()) {
+        asking.hier = true;
+        return Ok(());
+    }
+    if is_quiet(text.as_bytes()) {
+        return Ok(());
+    }
+    if is_option(text.as_bytes()) || asking.pattern.is_some() {
+        return Err(SdcFault::BadOption(line, text));
+    }
+    asking.pattern = Some(Pattern { offset, text });
+    Ok(())
+}
+
+#[tactic(auto, unfolding(crate::specs::Gets::adds_value))]
+fn add_value(
+    scene: &Scene<'_>,
+    own: &Name,
+    offset: usize,
+    asking: &mut Asking,
+    value: Value,
+) -> Result<(), SdcFault>
+    ensures { Gives Fails (λ _. asking.new) result (spec.adds_value scene.now.line own.now offset asking.old value) }
+{
+    match value {
+        Value::Text(text) => add_text(scene.line, offset, asking, text),
+        Value::Objects(_) => Err(SdcFault::BadOption(scene.line, own.copy(scene.alloc)?)),
+    }
+}
+
+/// Reads the next word of a `get_` command of this name.
+#[tactic(auto, unfolding(crate::specs::Gets::asks))]
+fn ask(scene: &Scene<'_>, own: &Name, asking: &mut Asking, words: &[Word]) -> Result<(), SdcFault>
+    ensures value { Gives Fails (λ _. asking.new) result (spec.asks scene.now.vars.now scene.now.line scene.now.place own.now asking.old words.now) }
+    ensures some { OnOk result (0 < length words.now) }
+{
+    match words.first() {
+        None => Err(SdcFault::Syntax(scene.place)),
+        Some(Word::Closes) => Ok(()),
+        Some(Word::Opens(_)) => Err(SdcFault::BadOption(scene.line, own.copy(scene.alloc)?)),
+        Some(Word::Text { offset, pieces }) => {
+            let value = value(
+                scene.alloc,
+                scene.vars,
+                scene.line,
+                *offset,
+                pieces.as_slice(),
+            )?;
+            add_value(scene, own, *offset, asking, value)
+        }
+    }
+}
+
+/// What a `get_` command of this name gives after all its words.
+#[tactic(auto, unfolding(crate::specs::Gets::asked))]
+fn asked(
+    scene: &Scene<'_>,
+    own: &Name,
+    class: Class,
+    asking: &Asking,
+) -> Result<Seq<Object>, SdcFault>
+    ensures { Gives Fails (λ objects. objects) result (spec.asked scene.now.line own.now class asking.now) }
+{
+    match &asking.pattern {
+        None => Err(SdcFault::BadOption(scene.line, own.copy(scene.alloc)?)),
+        Some(pattern) => {
+            list_at(
+                scene.alloc,
+                pattern.offset,
+                class,
+                asking.hier,
+                pattern.text.as_bytes(),
+            )
+        }
+    }
+}
+
+/// Whether the `]` comes next.
+pub fn closes(words: &[Word]) -> bool
+    ensures value { result ≡ spec.closes words.now }
+{
+    match words.first() {
+        Some(Word::Closes) => true,
+        _ => false,
+    }
+}
+
+/// The objects of a `get_` command of this name, whose words these are, and how many of them it has with its `]`.
+pub fn get(
+    scene: &Scene<'_>,
+    own: &Name,
+    class: Class,
+    words: &[Word],
+) -> Result<(Seq<Object>, usize), SdcFault>
+    ensures value { Gives Fails (λ p. (p.0, drop p.1 words.now)) result
+        (spec.get_at scene.now.vars.now scene.now.line scene.now.place own.now class words.now) }
+    ensures within { IfOk result (λ p. p.1 ≤ length words.now) }
+{
+    let mut asking = Asking {
+        pattern: None,
+        hier: false,
+    };
+    for place in 0..words.len() {
+        let rest = words_after(words, place);
+        if closes(rest) {
+            return Ok((asked(scene, own, class, &asking)?, place + 1));
+        }
+        ask(scene, own, &mut asking, rest)?;
+    }
+    Err(SdcFault::Syntax(scene.place))
+}
+
+/// A word too many in a command of this name.
+fn surplus(scene: &Scene<'_>, own: &Name, value: Value) -> SdcFault
+    ensures { result ≢ fault.Memory → result ≡ spec.surplus scene.now.line own.now value }
+{
+    match value {
+        Value::Text(text) => SdcFault::BadOption(scene.line, text),
+        Value::Objects(_) => match own.copy(scene.alloc) {
+            Ok(own) => SdcFault::BadOption(scene.line, own),
+            Err(error) => SdcFault::from(error),
+        },
+    }
+}
+
+/// The objects of an `all_` command of this name, whose words these are, and how many of them it has with its `]`.
+#[tactic(auto, unfolding(crate::specs::Gets::all_at))]
+pub fn all(
+    scene: &Scene<'_>,
+    own: &Name,
+    object: Object,
+    words: &[Word],
+) -> Result<(Seq<Object>, usize), SdcFault>
+    ensures value { Gives Fails (λ p. (p.0, drop p.1 words.now)) result
+        (spec.all_at scene.now.vars.now scene.now.line scene.now.place own.now object words.now) }
+    ensures within { IfOk result (λ p. p.1 ≤ length words.now) }
+{
+    match words.first() {
+        None => Err(SdcFault::Syntax(scene.place)),
+        Some(Word::Closes) => Ok((Seq::one(scene.alloc, object)?, 1)),
+        Some(Word::Opens(_)) => Err(SdcFault::BadOption(scene.line, own.copy(scene.alloc)?)),
+        Some(Word::Text { offset, pieces }) => {
+            let value = value(
+                scene.alloc,
+                scene.vars,
+                scene.line,
+                *offset,
+                pieces.as_slice(),
+            )?;
+            Err(surplus(scene, own, value))
+        }
+    }
+}

@@ -1,0 +1,22 @@
+//! What the words of an SDC command say (SDC 2.1): texts and lists of objects, and the variables that keep them.
+#![tactic(auto)]
+
+mod command_words;
+mod faults;
+mod gets;
+mod lists;
+mod nested;
+mod nested_kinds;
+#[cfg(test)]
+mod tests;
+mod values;
+mod variables;
+mod word_texts;
+
+pub use command_words::{command_name, said_words};
+pub use faults::SdcFault;
+pub use lists::objects_of;
+pub use nested_kinds::is_option;
+pub use values::{Class, Object, Query, Said, Value, copy_objects};
+pub use variables::Variables;
+pub use word_texts::said_text;

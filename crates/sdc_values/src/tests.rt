@@ -1,0 +1,143 @@
+use super::*;
+use sdc_words::Commands;
+use sdcv_base::{Name, Seq};
+use std::alloc::Global;
+use std::test::Fail;
+
+fn class_name(class: Class) -> &'static str {
+    match class {
+        Class::Ports => "ports",
+        Class::Cells => "cells",
+        Class::Pins => "pins",
+        Class::Nets => "nets",
+        Class::Clocks => "clocks",
+        Class::Any => "any",
+    }
+}
+
+fn show_object(out: &mut String, object: &Object) -> Result<(), Fail> {
+    match object {
+        Object::Named(query) => {
+            let class = class_name(query.class);
+            let hier = if query.hier { "+" } else { ":" };
+            let pattern = &query.pattern;
+            write!(out, "|{class}{hier}{pattern}")?;
+        }
+        Object::AllInputs => write!(out, "|inputs")?,
+        Object::AllOutputs => write!(out, "|outputs")?,
+        Object::AllRegisters => write!(out, "|registers")?,
+        Object::AllClocks => write!(out, "|clocks")?,
+    }
+    Ok(())
+}
+
+fn show_fault(out: &mut String, fault: SdcFault) -> Result<(), Fail> {
+    write!(out, "{fault}")?;
+    Ok(())
+}
+
+// Where `c` is the cells a and b, and `t` the text `x y`.
+fn variables(alloc: Global) -> Result<Variables, Fail> {
+    let mut vars = Variables::new(alloc);
+    let cells = Said {
+        offset: 0,
+        value: Value::Text(Name::new(alloc, b"a b")?),
+    };
+    let objects = objects_of(alloc, &cells)?;
+    vars.set(Name::new(alloc, b"c")?, Value::Objects(objects))?;
+    vars.set(
+        Name::new(alloc, b"t")?,
+        Value::Text(Name::new(alloc, b"x y")?),
+    )?;
+    Ok(vars)
+}
+
+fn said_objects(alloc: Global, vars: &Variables, text: &[u8]) -> Result<Seq<Object>, SdcFault> {
+    let mut found = Seq::new(alloc);
+    if let Some(command) = Commands::new(text).next_command(alloc)? {
+        let said = said_words(alloc, vars, command.line, command.words.as_slice())?;
+        for word in said.as_slice() {
+            for object in objects_of(alloc, word)?.as_slice() {
+                found.push(object.copy(alloc)?)?;
+            }
+        }
+    }
+    Ok(found)
+}
+
+// The objects of all words of a text: a class, a colon, or a plus where it matches below, and a pattern. Else the fault.
+fn listing(alloc: Global, vars: &Variables, text: &str) -> Result<String, Fail> {
+    let mut out = String::new(alloc);
+    match said_objects(alloc, vars, text.as_bytes()) {
+        Ok(objects) => {
+            for object in objects.as_slice() {
+                show_object(&mut out, object)?;
+            }
+        }
+        Err(fault) => show_fault(&mut out, fault)?,
+    }
+    Ok(out)
+}
+
+// What words say where objects are wanted, by the rules of lists and of nested commands, by hand.
+const SAID: &[(&str, &str)] = &[
+    ("{} \"\" {{}} {{ } {}}", ""),
+    ("{a{b}c {d{e f}g} h}", "|any:a{b}c|any:d{e|any:f}g|any:h"),
+    ("{a {b {c d}} e}", "|any:a|any:b|any:c|any:d|any:e"),
+    ("{{a{b {c} d}e}}", "|any:a{b|any:c|any:d}e"),
+    (
+        "a\\\\\\ b \"a\\\\\\\\ }\" \\}",
+        "|any:a b|any:a\\|any:}|any:}",
+    ),
+    ("{{a}b}", "byte 0: no SDC command goes on like this"),
+    (" {{a{b {c}}d}}", "byte 1: no SDC command goes on like this"),
+    ("x \"{a\"", "byte 2: no SDC command goes on like this"),
+    ("{{a\\}}", "byte 0: no SDC command goes on like this"),
+    ("$c \"$t\" ${t}z", "|any:a|any:b|any:x|any:y|any:x|any:yz"),
+    ("a$c", "byte 0: no SDC command goes on like this"),
+    ("\n $nope", "line 2: nope is no variable"),
+    (
+        "[get_pins -hier {a b}] [get_clocks $t -quiet] [get_nets -hierarchical -1]",
+        "|pins+a|pins+b|clocks:x|clocks:y|nets+-1",
+    ),
+    (
+        "[list [list] [all_inputs] $c [list d [all_clocks] [get_ports e]]] [all_outputs] [all_registers]",
+        "|inputs|any:a|any:b|any:d|clocks|ports:e|outputs|registers",
+    ),
+    ("[list -a]", "|any:-a"),
+    (
+        "[get_cells]",
+        "line 1: the word get_cells is not taken there",
+    ),
+    (
+        "[get_cells $c]",
+        "line 1: the word get_cells is not taken there",
+    ),
+    (
+        "[get_cells [list a]]",
+        "line 1: the word get_cells is not taken there",
+    ),
+    ("[get_cells a b]", "line 1: the word b is not taken there"),
+    (
+        "[get_cells a -of]",
+        "line 1: the word -of is not taken there",
+    ),
+    ("[all_inputs a]", "line 1: the word a is not taken there"),
+    (
+        "[all_inputs $c]",
+        "line 1: the word all_inputs is not taken there",
+    ),
+    ("[list [foo]]", "line 1: foo is no command"),
+    ("x []", "byte 2: no SDC command goes on like this"),
+    ("[$c]", "byte 1: no SDC command goes on like this"),
+];
+
+#[test]
+fn words_say_objects(rt: HostRuntime) -> Result<(), Fail> {
+    let vars = variables(rt.alloc())?;
+    for (text, want) in SAID {
+        let got = listing(rt.alloc(), &vars, text)?;
+        assert_eq!(rt; got.as_str(), *want, "{text}");
+    }
+    Ok(())
+}
