@@ -99,7 +99,8 @@ unit_inside clauses trail start at cut hints d quiet uc =
           ))))
     ]
 
-drop_take : (n m : ℕ) (xs : List ℕ) (q : ℕ) → is_set (drop n (take m xs)) q ≡ true → (is_set (drop n xs) q ≡ true) × (is_set (take m xs) q ≡ true)
+-- what is between two places is behind the one and before the other
+pub drop_take : (n m : ℕ) (xs : List ℕ) (q : ℕ) → is_set (drop n (take m xs)) q ≡ true → (is_set (drop n xs) q ≡ true) × (is_set (take m xs) q ≡ true)
 drop_take zero m xs q h = (is_set-take m xs q h, h)
 drop_take (suc n) zero xs q h = absurd (false≢true (sym (is_set-nil q) ∙ h))
 drop_take (suc n) (suc m) [] q h = absurd (false≢true (sym (is_set-nil q) ∙ h))

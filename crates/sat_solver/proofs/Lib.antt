@@ -11,3 +11,5 @@ pub mod Logging
 pub mod Watching
 pub mod Queueing
 pub mod Deciding
+pub mod Stamping
+pub mod Marking

@@ -4,4 +4,5 @@ pub mod Answers
 pub mod Trails
 pub mod Watches
 pub mod Cuts
+pub mod Markings
 pub mod Engines

@@ -1,149 +1,293 @@
 //! Cuts of a conflict: literals that are false together, by which the conflict comes about.
 ghost use Rattle.std.specs.Prelude.{
   ◌≡◌,
-  ◌≢◌,
   ◌+◌,
   ◌<◌,
   ◌≤◌,
   ◌^◌,
+  ◌⊎◌,
   [],
   ◌∷◌,
   ◌++◌,
-  ◌==◌,
   true,
-  filter,
+  false,
   length,
-  not,
   IfOk,
+  not,
+  ◌&&◌,
+  ◌||◌,
+  ◌==◌,
   MatchBool,
   slice_index,
-  slice_get,
-  Some,
   take,
-  false,
   ℕ,
 };
-ghost use Rattle.proof_log.specs.Literals.{negated};
+ghost use Rattle.proof_log.specs.Literals.{lit_var, negated};
 ghost use Rattle.proof_log.specs.Clauses.{is_set};
-ghost use Rattle.sat_solver.specs.Searches.{IsUnitAt};
+ghost use Rattle.sat_solver.specs.Searches.{IsUnitAt, IsFalseAt};
 ghost use Rattle.sat_solver.specs.Trails.{Justified};
 ghost use Rattle.sat_solver.specs.Learning.{OthersFalse, OtherOpen};
-ghost use Rattle.sat_solver.specs.Cuts.{FalseBy, ResolvedAt, CutState, IsUnitCut, ResolvedBelow};
+ghost use Rattle.sat_solver.specs.Watches.{clause_at};
+ghost use Rattle.sat_solver.specs.Cuts.{FalseBy, CutState, IsUnitCut, ResolvedBelow};
+ghost use Rattle.sat_solver.specs.Markings.{is_marked, marked_lits, Gathered, AreMarked, AreReplaced};
 
+use crate::marks::Marks;
 use crate::trails::Trail;
-use proof_log::{Clause, Lit};
+use proof_log::{Clause, Lit, LitSet};
 use std::alloc::{AllocError, Global};
 
-/// Literals that are false, and the numbers of the clauses by which their negation leads to a
-/// conflict, the last one first.
+/// A cut, whose literals are those that set literals of marked variables make false.
 #[derive(Drop)]
 pub struct Cut {
+    /// The place where level 1 begins.
+    pub base: usize,
+    /// The place where the present level begins.
+    pub start: usize,
+    /// How many literals the present level makes false.
+    pub above: usize,
+    /// How many literals level 0 makes false.
+    pub below: usize,
+    /// The literals that the levels between make false.
     pub lits: Vec<Lit>,
+    /// The numbers of the clauses by which the cut leads to a conflict, the last one first.
     pub hints: Vec<u64>,
 }
 
 impl Cut {
-    /// The literals of the false clause at that place.
-    pub fn of_conflict(
-        alloc: Global,
-        clauses: &[Clause],
-        conflict: usize,
-    ) -> Result<Cut, AllocError>
-        requires { conflict < length clauses.now }
-        ensures clause { IfOk result (λ cut. slice_get clauses.now conflict ≡ Some cut.lits.items) }
-        ensures hints { IfOk result (λ cut. cut.hints.items ≡ (conflict + 1) ∷ []) }
+    /// No literal.
+    pub fn new(alloc: Global, base: usize, start: usize) -> Cut
+        ensures base { result.base ≡ base }
+        ensures start { result.start ≡ start }
+        ensures above { result.above ≡ 0 }
+        ensures below { result.below ≡ 0 }
+        ensures lits { result.lits.items ≡ [] }
+        ensures hints { result.hints.items ≡ [] }
     {
-        let lits = Vec::from_slice(alloc, clauses[conflict].as_slice())?;
-        let mut hints = Vec::new(alloc);
-        hints.push(conflict as u64 + 1)?;
-        Ok(Cut { lits, hints })
+        Cut {
+            base,
+            start,
+            above: 0,
+            below: 0,
+            lits: Vec::new(alloc),
+            hints: Vec::new(alloc),
+        }
     }
 
-    /// Replaces the complement of a set literal by the rest of the literal's reason, if it is there.
-    fn resolve(
+    /// Makes an empty cut that of the false clause at that place.
+    pub fn mark_conflict(
         &mut self,
-        alloc: Global,
-        p: Lit,
-        place: usize,
-        reason: &[Lit],
+        marks: &mut Marks,
+        clauses: &[Clause],
+        trail: &Trail,
+        conflict: usize,
     ) -> Result<(), AllocError>
-        requires { place + 1 < 2 ^ 64 }
-        ensures { IfOk result (λ _. ResolvedAt self.old.lits.items self.old.hints.items p place reason.now
-            self.new.lits.items self.new.hints.items) }
+        requires fits { trail.now.vars < length marks.old.stamps }
+        requires low { self.old.base ≤ self.old.start }
+        requires above { self.old.above ≡ 0 }
+        requires below { self.old.below ≡ 0 }
+        requires lits { self.old.lits.items ≡ [] }
+        requires hints { self.old.hints.items ≡ [] }
+        requires conflict { IsFalseAt clauses.now trail.now.lits conflict }
+        ensures long { length marks.new.stamps ≡ length marks.old.stamps }
+        ensures base { self.new.base ≡ self.old.base }
+        ensures start { self.new.start ≡ self.old.start }
+        ensures gathered { IfOk result (λ _. Gathered trail.now.lits self.new marks.new) }
+        ensures state { IfOk result (λ _. CutState clauses.now trail.now.lits [] [] (marked_lits marks.new trail.now.lits) self.new.hints.items) }
     {
-        if !has(&self.lits, p.negated()) {
-            return Ok(());
-        }
-        let mut next = Vec::new(alloc);
-        add_others(&mut next, &self.lits, p.negated())?;
-        add_others(&mut next, reason, p)?;
-        self.hints.push(place as u64 + 1)?;
-        self.lits = next;
+        marks.clear();
+        self.hints.push(conflict as u64 + 1)?;
+        self.mark_false(marks, trail, clauses[conflict].as_slice())?;
         Ok(())
     }
-}
 
-/// Resolves from the last set literal back, until all literals but one are false by the levels
-/// below the present one, which begins at the place `start`. The answer is the place of the literal
-/// that makes that one false: the first unique implication point.
-pub fn resolve_to_unit(
-    alloc: Global,
-    clauses: &[Clause],
-    trail: &Trail,
-    start: usize,
-    cut: &mut Cut,
-) -> Result<usize, AllocError>
-    requires within { start < length trail.now.lits }
-    requires justified { Justified clauses.now (start + 1) trail.now.lits trail.now.reasons }
-    requires cut { CutState clauses.now trail.now.lits [] [] cut.old.lits.items cut.old.hints.items }
-    ensures { IfOk result (λ at. IsUnitCut clauses.now trail.now.lits start at cut.new.lits.items cut.new.hints.items) }
-{
-    let mut at = trail.len() - 1;
-    while !is_asserting(trail, start, at, &cut.lits) {
+    /// Resolves from the last set literal back, until all literals but one are false by the levels
+    /// below the present one. The answer is the place of the literal that makes that one false: the
+    /// first unique implication point.
+    pub fn resolve_to_unit(
+        &mut self,
+        marks: &mut Marks,
+        clauses: &[Clause],
+        trail: &Trail,
+    ) -> Result<usize, AllocError>
+        requires fits { trail.now.vars < length marks.old.stamps }
+        requires within { self.old.start < length trail.now.lits }
+        requires gathered { Gathered trail.now.lits self.old marks.old }
+        requires justified { Justified clauses.now (self.old.start + 1) trail.now.lits trail.now.reasons }
+        requires cut { CutState clauses.now trail.now.lits [] [] (marked_lits marks.old trail.now.lits) self.old.hints.items }
+        ensures long { length marks.new.stamps ≡ length marks.old.stamps }
+        ensures base { self.new.base ≡ self.old.base }
+        ensures start { self.new.start ≡ self.old.start }
+        ensures gathered { IfOk result (λ _. Gathered trail.now.lits self.new marks.new) }
+        ensures cut { IfOk result (λ at. IsUnitCut clauses.now trail.now.lits self.old.start at
+            (marked_lits marks.new trail.now.lits) self.new.hints.items) }
+    {
+        let _lits = trail.lits();
+        let mut at = trail.len() - 1;
+        while at > self.start {
+            if marks.is_marked(trail.lits()[at].var()) {
+                if self.above == 1 {
+                    return Ok(at);
+                }
+                self.resolve(marks, clauses, trail, at)?;
+            }
+            at -= 1;
+        }
+        Ok(at)
+    }
+
+    /// Resolves away each literal that level 0 makes false.
+    pub fn resolve_below(
+        &mut self,
+        marks: &mut Marks,
+        clauses: &[Clause],
+        trail: &Trail,
+    ) -> Result<(), AllocError>
+        requires fits { trail.now.vars < length marks.old.stamps }
+        requires within { self.old.base ≤ length trail.now.lits }
+        requires gathered { Gathered trail.now.lits self.old marks.old }
+        requires justified { (i : ℕ) → i < self.old.base
+            → IsUnitAt clauses.now (take i trail.now.lits) (slice_index trail.now.reasons i) (slice_index trail.now.lits i) }
+        ensures long { length marks.new.stamps ≡ length marks.old.stamps }
+        ensures base { self.new.base ≡ self.old.base }
+        ensures start { self.new.start ≡ self.old.start }
+        ensures gathered { IfOk result (λ _. Gathered trail.now.lits self.new marks.new) }
+        ensures cut { IfOk result (λ _. ResolvedBelow clauses.now trail.now.lits self.old.base
+            (marked_lits marks.old trail.now.lits) self.old.hints.items (marked_lits marks.new trail.now.lits) self.new.hints.items) }
+    {
+        let _lits = trail.lits();
+        let mut at = self.base;
+        while at > 0 && self.below > 0 {
+            at -= 1;
+            if marks.is_marked(trail.lits()[at].var()) {
+                self.resolve(marks, clauses, trail, at)?;
+            }
+        }
+        Ok(())
+    }
+
+    /// Replaces the literal that the one at that place makes false by the rest of that one's reason.
+    fn resolve(
+        &mut self,
+        marks: &mut Marks,
+        clauses: &[Clause],
+        trail: &Trail,
+        at: usize,
+    ) -> Result<(), AllocError>
+        requires fits { trail.now.vars < length marks.old.stamps }
+        requires within { at < length trail.now.lits }
+        requires apart { (self.old.start ≤ at) ⊎ (at < self.old.base) }
+        requires marked { is_marked marks.old (lit_var (slice_index trail.now.lits at)) ≡ true }
+        requires reason { slice_index trail.now.reasons at < length clauses.now }
+        requires gathered { Gathered trail.now.lits self.old marks.old }
+        ensures long { length marks.new.stamps ≡ length marks.old.stamps }
+        ensures base { self.new.base ≡ self.old.base }
+        ensures start { self.new.start ≡ self.old.start }
+        ensures gathered { IfOk result (λ _. Gathered trail.now.lits self.new marks.new) }
+        ensures hints { IfOk result (λ _. self.new.hints.items ≡ self.old.hints.items ++ (slice_index trail.now.reasons at + 1) ∷ []) }
+        ensures replaced { IfOk result (λ _. AreReplaced trail.now.lits (slice_index trail.now.lits at)
+            (clause_at clauses.now (slice_index trail.now.reasons at)) marks.old marks.new) }
+    {
+        self.unmark(marks, trail, at);
         let reason = trail.reasons()[at];
-        cut.resolve(alloc, trail.lits()[at], reason, clauses[reason].as_slice())?;
-        at -= 1;
+        self.hints.push(reason as u64 + 1)?;
+        self.mark_false(marks, trail, clauses[reason].as_slice())?;
+        Ok(())
     }
-    Ok(at)
-}
 
-/// Whether the literal at that place alone makes a literal of the cut false that the levels below
-/// do not. It does so at the decision, where the level starts.
-fn is_asserting(trail: &Trail, start: usize, at: usize, cut: &[Lit]) -> bool
-    requires from { start ≤ at }
-    requires within { at < length trail.now.lits }
-    requires falsified { FalseBy (take (at + 1) trail.now.lits) cut.now }
-    ensures { MatchBool result
-        (OthersFalse (take start trail.now.lits) cut.now (negated (slice_index trail.now.lits at)))
-        (start < at) }
-{
-    if at == start {
-        return true;
+    /// Takes the mark off the variable of the literal at that place, above or below.
+    fn unmark(&mut self, marks: &mut Marks, trail: &Trail, at: usize)
+        requires fits { trail.now.vars < length marks.old.stamps }
+        requires within { at < length trail.now.lits }
+        requires apart { (self.old.start ≤ at) ⊎ (at < self.old.base) }
+        requires marked { is_marked marks.old (lit_var (slice_index trail.now.lits at)) ≡ true }
+        requires gathered { Gathered trail.now.lits self.old marks.old }
+        ensures long { length marks.new.stamps ≡ length marks.old.stamps }
+        ensures base { self.new.base ≡ self.old.base }
+        ensures start { self.new.start ≡ self.old.start }
+        ensures hints { self.new.hints ≡ self.old.hints }
+        ensures gathered { Gathered trail.now.lits self.new marks.new }
+        ensures unmarked { (v : ℕ) → is_marked marks.new v
+            ≡ (is_marked marks.old v && not (lit_var (slice_index trail.now.lits at) == v)) }
+    {
+        let _lits = trail.lits();
+        marks.unmark(trail.lits()[at].var());
+        if at >= self.start {
+            self.above -= 1;
+        } else {
+            self.below -= 1;
+        }
     }
-    others_false(trail, start, cut, trail.lits()[at].negated())
-}
 
-/// Resolves away each literal that the set literals before the place `end` make false.
-pub fn resolve_below(
-    alloc: Global,
-    clauses: &[Clause],
-    trail: &Trail,
-    end: usize,
-    cut: &mut Cut,
-) -> Result<(), AllocError>
-    requires within { end ≤ length trail.now.lits }
-    requires justified { (i : ℕ) → i < end
-        → IsUnitAt clauses.now (take i trail.now.lits) (slice_index trail.now.reasons i) (slice_index trail.now.lits i) }
-    ensures { IfOk result (λ _. ResolvedBelow clauses.now trail.now.lits end
-        cut.old.lits.items cut.old.hints.items cut.new.lits.items cut.new.hints.items) }
-{
-    let mut at = end;
-    while at > 0 {
-        at -= 1;
-        let reason = trail.reasons()[at];
-        cut.resolve(alloc, trail.lits()[at], reason, clauses[reason].as_slice())?;
+    /// Marks the variables of those of the literals that are false.
+    fn mark_false(
+        &mut self,
+        marks: &mut Marks,
+        trail: &Trail,
+        lits: &[Lit],
+    ) -> Result<(), AllocError>
+        requires fits { trail.now.vars < length marks.old.stamps }
+        requires gathered { Gathered trail.now.lits self.old marks.old }
+        ensures long { length marks.new.stamps ≡ length marks.old.stamps }
+        ensures base { self.new.base ≡ self.old.base }
+        ensures start { self.new.start ≡ self.old.start }
+        ensures hints { self.new.hints ≡ self.old.hints }
+        ensures gathered { IfOk result (λ _. Gathered trail.now.lits self.new marks.new) }
+        ensures marked { IfOk result (λ _. AreMarked trail.now.lits lits.now marks.old marks.new) }
+    {
+        for l in lits {
+            self.mark_if_false(marks, trail, *l)?;
+        }
+        Ok(())
     }
-    Ok(())
+
+    fn mark_if_false(&mut self, marks: &mut Marks, trail: &Trail, l: Lit) -> Result<(), AllocError>
+        requires fits { trail.now.vars < length marks.old.stamps }
+        requires gathered { Gathered trail.now.lits self.old marks.old }
+        ensures long { length marks.new.stamps ≡ length marks.old.stamps }
+        ensures base { self.new.base ≡ self.old.base }
+        ensures start { self.new.start ≡ self.old.start }
+        ensures hints { self.new.hints ≡ self.old.hints }
+        ensures gathered { IfOk result (λ _. Gathered trail.now.lits self.new marks.new) }
+        ensures marked { IfOk result (λ _. (q : ℕ) → is_set trail.now.lits (negated q) ≡ true
+            → is_marked marks.new (lit_var q) ≡ (is_marked marks.old (lit_var q) || l == q)) }
+    {
+        let _lits = trail.lits();
+        if !trail.is_set(l.negated()) {
+            return Ok(());
+        }
+        if marks.is_marked(l.var()) {
+            return Ok(());
+        }
+        self.mark_one(marks, trail, l)?;
+        Ok(())
+    }
+
+    fn mark_one(&mut self, marks: &mut Marks, trail: &Trail, l: Lit) -> Result<(), AllocError>
+        requires fits { trail.now.vars < length marks.old.stamps }
+        requires falsified { is_set trail.now.lits (negated l) ≡ true }
+        requires unmarked { is_marked marks.old (lit_var l) ≡ false }
+        requires gathered { Gathered trail.now.lits self.old marks.old }
+        ensures long { length marks.new.stamps ≡ length marks.old.stamps }
+        ensures base { self.new.base ≡ self.old.base }
+        ensures start { self.new.start ≡ self.old.start }
+        ensures hints { self.new.hints ≡ self.old.hints }
+        ensures gathered { IfOk result (λ _. Gathered trail.now.lits self.new marks.new) }
+        ensures marked { (v : ℕ) → is_marked marks.new v ≡ (is_marked marks.old v || lit_var l == v) }
+    {
+        let _lits = trail.lits();
+        let _vars = trail.vars();
+        let _len = trail.len();
+        let place = trail.place(l.negated());
+        marks.mark(l.var());
+        if place >= self.start {
+            self.above += 1;
+        } else if place < self.base {
+            self.below += 1;
+        } else {
+            self.lits.push(l)?;
+        }
+        Ok(())
+    }
 }
 
 /// Whether the first `len` set literals make all literals but one false.
@@ -169,21 +313,4 @@ pub fn is_open_other(trail: &Trail, len: usize, l: Lit, unit: Lit) -> bool
         ((l ≡ unit → ⊥) → is_set (take len trail.now.lits) (negated l) ≡ true) }
 {
     l != unit && trail.place(l.negated()) >= len
-}
-
-fn has(lits: &[Lit], l: Lit) -> bool
-    ensures { result ≡ is_set lits.now l }
-{
-    lits.iter().any(|q| *q == l)
-}
-
-fn add_others(to: &mut Vec<Lit>, lits: &[Lit], l: Lit) -> Result<(), AllocError>
-    ensures { IfOk result (λ _. to.new.items ≡ to.old.items ++ filter (λ q. not (q == l)) lits.now) }
-{
-    for q in lits {
-        if *q != l {
-            to.push(*q)?;
-        }
-    }
-    Ok(())
 }

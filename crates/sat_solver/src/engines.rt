@@ -34,6 +34,7 @@ ghost use Rattle.sat_solver.specs.Learning.{IsLearnt};
 
 use crate::activities::Activities;
 use crate::learning::{Learnt, analyze, last_step, second_watch};
+use crate::marks::Marks;
 use crate::propagation::Queue;
 use crate::trails::Trail;
 use proof_log::{Clause, DerivStep, Formula, Lit, LitSet};
@@ -62,10 +63,11 @@ pub struct Engine {
     walks: Vec<usize>,
     queue: Queue,
     activities: Activities,
+    marks: Marks,
 }
 
 impl Model for Engine {
-    ghost use Rattle.std.specs.Prelude.{vec_capacity, ◌+◌, ◌≤◌};
+    ghost use Rattle.std.specs.Prelude.{vec_capacity, length, ◌+◌, ◌≤◌, ◌<◌};
     ghost use Rattle.sat_solver.specs.Searches.{Search, search_of};
     ghost use Rattle.sat_solver.specs.Engines.{IsEngine, AreWaiting};
 
@@ -75,7 +77,7 @@ impl Model for Engine {
 
     ghost invariant = { λ e. IsEngine e.clauses.items e.trail e.starts.items e.walks.items e.queue
         × (e.trail.vars + 1 ≤ vec_capacity e.starts) × (e.trail.vars + 1 ≤ vec_capacity e.walks)
-        × AreWaiting e.trail.vars e.trail.lits e.activities.waiting };
+        × AreWaiting e.trail.vars e.trail.lits e.activities.waiting × (e.trail.vars < length e.marks.stamps) };
 }
 
 impl Engine {
@@ -92,6 +94,7 @@ impl Engine {
         let walks = Vec::with_capacity(alloc, formula.vars as usize + 1)?;
         let queue = queue_of(alloc, formula.vars, &clauses)?;
         let activities = Activities::new(alloc, formula.vars)?;
+        let marks = Marks::new(alloc, formula.vars)?;
         Ok(Engine {
             clauses,
             trail,
@@ -99,6 +102,7 @@ impl Engine {
             walks,
             queue,
             activities,
+            marks,
         })
     }
 
@@ -176,7 +180,14 @@ impl Engine {
         }) }
         ensures err { OnErr result (self.new ≡ self.old) }
     {
-        let learnt = analyze(alloc, &self.clauses, &self.trail, &self.starts, conflict)?;
+        let learnt = analyze(
+            alloc,
+            &self.clauses,
+            &self.trail,
+            &self.starts,
+            &mut self.marks,
+            conflict,
+        )?;
         let clause = learnt.step.clause.copy(alloc)?;
         self.clauses.reserve(1)?;
         let place = self.clauses.len();
@@ -197,13 +208,17 @@ impl Engine {
     }
 
     /// The last step of a refutation, from the false clause at that place, at level 0.
-    pub(crate) fn last_step(&self, alloc: Global, conflict: usize) -> Result<DerivStep, AllocError>
-        requires no_level { self.now.starts ≡ [] }
-        requires conflict { IsFalseAt self.now.clauses self.now.lits conflict }
+    pub(crate) fn last_step(
+        &mut self,
+        alloc: Global,
+        conflict: usize,
+    ) -> Result<DerivStep, AllocError>
+        requires no_level { self.old.starts ≡ [] }
+        requires conflict { IsFalseAt self.old.clauses self.old.lits conflict }
         ensures empty { IfOk result (λ s. s.clause ≡ []) }
-        ensures follows { IfOk result (λ s. LeadsToConflict self.now.clauses [] s.hints) }
+        ensures follows { IfOk result (λ s. LeadsToConflict self.old.clauses [] s.hints) }
     {
-        last_step(alloc, &self.clauses, &self.trail, conflict)
+        last_step(alloc, &self.clauses, &self.trail, &mut self.marks, conflict)
     }
 
     /// The values of the variables, where every variable is set and no clause is false.

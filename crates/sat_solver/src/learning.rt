@@ -8,7 +8,8 @@ ghost use Rattle.sat_solver.specs.Engines.{IsSearch, level_floor};
 ghost use Rattle.sat_solver.specs.Learning.{OthersFalse, IsLevel, IsLearnt};
 ghost use Rattle.sat_solver.specs.Cuts.{FalseBy, IsAsserting};
 
-use crate::cuts::{Cut, is_open_other, others_false, resolve_below, resolve_to_unit};
+use crate::cuts::{Cut, is_open_other, others_false};
+use crate::marks::Marks;
 use crate::trails::Trail;
 use proof_log::{Clause, DerivStep, Lit};
 use sdcv_base::Seq;
@@ -30,14 +31,17 @@ pub fn analyze(
     clauses: &[Clause],
     trail: &Trail,
     starts: &[usize],
+    marks: &mut Marks,
     conflict: usize,
 ) -> Result<Learnt, AllocError>
+    requires fits { trail.now.vars < length marks.old.stamps }
     requires search { IsSearch clauses.now trail.now starts.now }
     requires deep { 0 < length starts.now }
     requires conflict { IsFalseAt clauses.now trail.now.lits conflict }
-    ensures { IfOk result (λ r. IsLearnt (search_of trail.now.vars clauses.now trail.now.lits starts.now) r.step r.level r.unit) }
+    ensures long { length marks.new.stamps ≡ length marks.old.stamps }
+    ensures learnt { IfOk result (λ r. IsLearnt (search_of trail.now.vars clauses.now trail.now.lits starts.now) r.step r.level r.unit) }
 {
-    let (cut, at) = asserting_cut(alloc, clauses, trail, starts, conflict)?;
+    let (cut, at) = asserting_cut(alloc, clauses, trail, starts, marks, conflict)?;
     let lits = trail.lits();
     let clause = match Clause::normal(alloc, &cut.lits)? {
         // The literals are false together, so no two of them are complements.
@@ -63,20 +67,24 @@ fn asserting_cut(
     clauses: &[Clause],
     trail: &Trail,
     starts: &[usize],
+    marks: &mut Marks,
     conflict: usize,
 ) -> Result<(Cut, usize), AllocError>
+    requires fits { trail.now.vars < length marks.old.stamps }
     requires search { IsSearch clauses.now trail.now starts.now }
     requires deep { 0 < length starts.now }
     requires conflict { IsFalseAt clauses.now trail.now.lits conflict }
-    ensures { IfOk result (λ r. IsAsserting clauses.now trail.now.lits (slice_index starts.now 0)
+    ensures long { length marks.new.stamps ≡ length marks.old.stamps }
+    ensures cut { IfOk result (λ r. IsAsserting clauses.now trail.now.lits (slice_index starts.now 0)
         (slice_index starts.now (length starts.now - 1)) r.1 r.0.lits.items r.0.hints.items) }
 {
     let _lits = trail.lits();
-    let mut cut = Cut::of_conflict(alloc, clauses, conflict)?;
-    let start = starts[starts.len() - 1];
-    let at = resolve_to_unit(alloc, clauses, trail, start, &mut cut)?;
-    resolve_below(alloc, clauses, trail, starts[0], &mut cut)?;
+    let mut cut = Cut::new(alloc, starts[0], starts[starts.len() - 1]);
+    cut.mark_conflict(marks, clauses, trail, conflict)?;
+    let at = cut.resolve_to_unit(marks, clauses, trail)?;
+    cut.resolve_below(marks, clauses, trail)?;
     cut.hints.reverse();
+    cut.lits.push(trail.lits()[at].negated())?;
     Ok((cut, at))
 }
 
@@ -101,22 +109,26 @@ pub fn last_step(
     alloc: Global,
     clauses: &[Clause],
     trail: &Trail,
+    marks: &mut Marks,
     conflict: usize,
 ) -> Result<DerivStep, AllocError>
+    requires fits { trail.now.vars < length marks.old.stamps }
     requires search { IsSearch clauses.now trail.now [] }
     requires conflict { IsFalseAt clauses.now trail.now.lits conflict }
+    ensures long { length marks.new.stamps ≡ length marks.old.stamps }
     ensures empty { IfOk result (λ s. s.clause ≡ []) }
     ensures follows { IfOk result (λ s. LeadsToConflict clauses.now [] s.hints) }
 {
-    let mut cut = Cut::of_conflict(alloc, clauses, conflict)?;
-    resolve_below(alloc, clauses, trail, trail.len(), &mut cut)?;
+    let len = trail.len();
+    let mut cut = Cut::new(alloc, len, len);
+    cut.mark_conflict(marks, clauses, trail, conflict)?;
+    cut.resolve_below(marks, clauses, trail)?;
     cut.hints.reverse();
-    let Cut { lits: _lits, hints } = cut;
     Ok(DerivStep {
         clause: Clause {
             lits: Seq::new(alloc),
         },
-        hints: Seq::from_vec(hints),
+        hints: Seq::from_vec(cut.hints),
     })
 }
 

@@ -9,6 +9,7 @@ mod activities;
 mod cuts;
 mod engines;
 mod learning;
+mod marks;
 mod propagation;
 mod solving;
 #[cfg(test)]

@@ -1,26 +1,53 @@
-use Rattle.std.proofs.Common.{◌-◌, ℕ, List, length, get_or, sym, subst}
-use Rattle.sat_solver.specs.Cuts.{IsAsserting}
+use Rattle.std.proofs.Common.{◌≡◌, ◌-◌, ◌∙◌, ℕ, List, length, get_or, reverse, ap, sym, subst, arith}
+use Rattle.std.proofs.lemmas.List.{get_or_read}
+use Rattle.proof_log.specs.Literals.{negated}
+use Rattle.sat_solver.specs.Cuts.{IsAsserting, IsUnitCut, ResolvedBelow}
+use Rattle.sat_solver.specs.Markings.{marked_lits, IsGathered}
 use Rattle.sat_solver.proofs.AtConflict.{justified_above, justified_base, asserting}
-use Rattle.sat_solver.proofs.Cutting.{CutState-start}
+use Rattle.sat_solver.proofs.Marking.{IsAsserting-gathered}
 use Rattle.sat_solver.proofs.learning.asserting_cut.Goals as goal
 
 pub resolve_to_unit-requires-clause-justified : goal.resolve_to_unit-requires-clause-justified
-resolve_to_unit-requires-clause-justified c = justified_above c.args.clauses.now c.args.trail.now c.args.starts.now c.requires.search c.requires.deep
-
-pub resolve_to_unit-requires-clause-cut : goal.resolve_to_unit-requires-clause-cut
-resolve_to_unit-requires-clause-cut c =
-    CutState-start c.args.clauses.now c.args.trail.now.lits c.args.conflict c.in_ok-cut.cut.lits.items c.in_ok-cut.cut.hints.items c.requires.conflict
-    c.in_ok-cut.ensures.clause c.in_ok-cut.ensures.hints
+resolve_to_unit-requires-clause-justified c = λ i low h.
+    justified_above c.args.clauses.now c.args.trail.now c.args.starts.now c.requires.search c.requires.deep i
+    (omega (arith, low, c.mark_conflict.ensures.start, c.new-cut.ensures.start)) h
 
 pub resolve_below-requires-clause-justified : goal.resolve_below-requires-clause-justified
-resolve_below-requires-clause-justified c = justified_base c.args.clauses.now c.args.trail.now c.args.starts.now c.requires.search c.requires.deep
+resolve_below-requires-clause-justified c = λ i h.
+    justified_base c.args.clauses.now c.args.trail.now c.args.starts.now c.requires.search c.requires.deep i
+    (omega (arith, h, c.resolve_to_unit.ensures.base, c.mark_conflict.ensures.base, c.new-cut.ensures.base))
 
-pub returns : goal.returns
-returns c =
+pub returns-clause-cut : goal.returns-clause-cut
+returns-clause-cut c =
+    let clauses = c.args.clauses.now in
+    let t = c.args.trail.now in
+    let lits = t.lits in
     let starts = c.args.starts.now in
-    let P : List ℕ → Type 0 = IsAsserting c.args.clauses.now c.args.trail.now.lits (get_or starts 0 0) (get_or starts (length starts - 1) 0)
-    c.in_ok-at.at c.resolve_below.new.cut.lits.items in
+    let base = get_or starts 0 0 in
+    let start = get_or starts (length starts - 1) 0 in
+    let at = c.in_ok-at.at in
+    let base_is : c.resolve_to_unit.new.self.base ≡ base =
+    c.resolve_to_unit.ensures.base ∙ (c.mark_conflict.ensures.base ∙ c.new-cut.ensures.base) in
+    let start_is : c.mark_conflict.new.self.start ≡ start = c.mark_conflict.ensures.start ∙ c.new-cut.ensures.start in
+    let first = marked_lits c.resolve_to_unit.new.marks lits in
+    let m = c.resolve_below.new.marks in
+    let some = c.resolve_below.new.self.lits.items in
+    let up = c.resolve_below.new.self.above in
+    let down = c.resolve_below.new.self.below in
+    let U : ℕ → Type 0 = λ n. IsUnitCut clauses lits n at first c.resolve_to_unit.new.self.hints.items in
+    let R : ℕ → Type 0 = λ n. ResolvedBelow clauses lits n first c.resolve_to_unit.new.self.hints.items (marked_lits m lits)
+    c.resolve_below.new.self.hints.items in
+    let a = asserting clauses t starts at first c.resolve_to_unit.new.self.hints.items (marked_lits m lits) c.resolve_below.new.self.hints.items
+    c.requires.search c.requires.deep c.lits-lits.ensures.distinct (subst U start_is c.in_ok-at.ensures.cut)
+    (subst R base_is c.in_ok-resolve_below.ensures.cut) in
+    let G : ℕ → Type 0 = λ n. IsGathered lits n c.resolve_below.new.self.start m some up down in
+    let H : ℕ → Type 0 = λ n. IsGathered lits base n m some up down in
+    let g = subst H (c.resolve_below.ensures.start ∙ (c.resolve_to_unit.ensures.start ∙ start_is))
+    (subst G (c.resolve_below.ensures.base ∙ base_is) c.in_ok-resolve_below.ensures.gathered) in
+    let p_is : c.index-lits-at.result ≡ get_or lits at 0 =
+    get_or_read c.lits.result.now at c.index-lits-at.result (omega (arith, a.within, ap length c.lits.ensures.value)) c.index-lits-at.is 0
+    ∙ ap (λ xs. get_or xs at 0) c.lits.ensures.value in
+    let P : List ℕ → Type 0 = IsAsserting clauses lits base start at c.push.new.self.items in
     subst P (sym c.reverse.ensures.items)
-    (asserting c.args.clauses.now c.args.trail.now starts c.in_ok-at.at c.resolve_to_unit.new.cut.lits.items c.resolve_to_unit.new.cut.hints.items
-    c.resolve_below.new.cut.lits.items c.resolve_below.new.cut.hints.items
-    c.requires.search c.requires.deep c.lits-lits.ensures.distinct c.in_ok-at.ensures c.in_ok-resolve_below.ensures)
+    (IsAsserting-gathered clauses lits base start up down at c.negated.result m some c.push.new.self.items (reverse c.resolve_below.new.self.hints.items) g
+    (c.negated.ensures ∙ ap negated p_is) c.in_ok-push.ensures.items a)

@@ -32,4 +32,5 @@ invariant_of-self c =
       omega (arith, c.truncate.ensures.vars, c.truncate-then-level-len.ensures.capacity, c.self.invariant.1),
       omega (arith, c.truncate.ensures.vars, c.truncate-then-level-len-2.ensures.capacity, c.self.invariant.2),
       rw (c.truncate.ensures.vars, c.truncate.ensures.lits) c.release.ensures,
+      omega (arith, c.truncate.ensures.vars, c.self.invariant.4),
     )

@@ -41,4 +41,5 @@ invariant_of-self-2 c =
       omega (arith, c.set.ensures.vars, c.push_reserved.ensures.capacity, c.self.invariant.1),
       omega (arith, c.set.ensures.vars, c.push_reserved-2.ensures.capacity, c.self.invariant.2),
       rw (c.set.ensures.vars, c.set.ensures.lits) c.in_ok-l.ensures.1,
+      omega (arith, c.set.ensures.vars, c.self.invariant.4),
     )

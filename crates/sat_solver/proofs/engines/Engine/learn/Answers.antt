@@ -19,6 +19,7 @@ invariant_of-self-in_err-provide c =
       c.self.invariant.1,
       c.self.invariant.2,
       c.self.invariant.3,
+      omega (arith, c.analyze.ensures.long, c.self.invariant.4),
     )
 
 pub second_watch-second-requires-clause-falsified : goal.second_watch-second-requires-clause-falsified
@@ -26,7 +27,7 @@ second_watch-second-requires-clause-falsified c = λ l m ne.
     let e = c.self.inside in
     let r = c.in_ok-learnt.learnt in
     let learnt = learnt_shown e.trail.vars e.clauses.items _ e.trail.lits e.starts.items _ r.step r.level r.unit c.deref.ensures.value
-    c.deref-2.ensures.value c.in_ok-learnt.ensures in
+    c.deref-2.ensures.value c.in_ok-learnt.ensures.learnt in
     is_set-take (get_or e.starts.items r.level 0) e.trail.lits (negated l)
     (learnt.back.falsified l (ap (λ xs. is_set xs l) (sym (c.as_slice-2.ensures ∙ c.in_ok-clause.ensures)) ∙ m) ne)
 
@@ -45,7 +46,7 @@ watch-requires-clause-second_free c =
 pub watch-requires-clause-first_low : goal.watch-requires-clause-first_low
 watch-requires-clause-first_low c =
     let r = c.in_ok-learnt.learnt in
-    let v = unit_in_vars _ r.step r.level r.unit c.in_ok-learnt.ensures in
+    let v = unit_in_vars _ r.step r.level r.unit c.in_ok-learnt.ensures.learnt in
     omega (arith, v.1, c.provide.ensures.more.limit, c.self.invariant.0.queued.limit)
 
 pub watch-requires-clause-second_low : goal.watch-requires-clause-second_low
@@ -53,7 +54,7 @@ watch-requires-clause-second_low c =
     let e = c.self.inside in
     let r = c.in_ok-learnt.learnt in
     let learnt = learnt_shown e.trail.vars e.clauses.items _ e.trail.lits e.starts.items _ r.step r.level r.unit c.deref.ensures.value
-    c.deref-2.ensures.value c.in_ok-learnt.ensures in
+    c.deref-2.ensures.value c.in_ok-learnt.ensures.learnt in
     let V : List ℕ → Type 0 = λ xs. All (InVars e.trail.vars) xs in
     second_low e.trail.vars c.provide.new.self.watches.limit (take (level_floor c.deref-4.result.now r.level) e.trail.lits) c.as_slice-2.result.now
     r.unit c.second_watch-second.result c.second_watch-second.ensures
@@ -62,7 +63,7 @@ watch-requires-clause-second_low c =
 pub set-requires-clause-in_vars : goal.set-requires-clause-in_vars
 set-requires-clause-in_vars c =
     let r = c.in_ok-learnt.learnt in
-    let v = unit_in_vars _ r.step r.level r.unit c.in_ok-learnt.ensures in
+    let v = unit_in_vars _ r.step r.level r.unit c.in_ok-learnt.ensures.learnt in
     (v.0, omega (arith, v.1, c.truncate.ensures.vars))
 
 pub set-requires-clause-not_true : goal.set-requires-clause-not_true
@@ -71,7 +72,7 @@ set-requires-clause-not_true c =
     let starts = c.self.inside.starts.items in
     let lits = c.self.inside.trail.lits in
     let learnt = learnt_shown c.self.inside.trail.vars c.self.inside.clauses.items _ lits starts _ r.step r.level r.unit c.deref.ensures.value
-    c.deref-2.ensures.value c.in_ok-learnt.ensures in
+    c.deref-2.ensures.value c.in_ok-learnt.ensures.learnt in
     let from_is : c.index-from.result.now ≡ get_or starts r.level 0 = get_or_read starts r.level c.index-from.result.now learnt.back.below
     c.index-from.ensures 0 in
     let u = unit_unset_at c.self.inside.clauses.items c.self.inside.trail starts r.step r.level r.unit c.self.invariant.0.search learnt in
@@ -83,7 +84,7 @@ set-requires-clause-not_false c =
     let starts = c.self.inside.starts.items in
     let lits = c.self.inside.trail.lits in
     let learnt = learnt_shown c.self.inside.trail.vars c.self.inside.clauses.items _ lits starts _ r.step r.level r.unit c.deref.ensures.value
-    c.deref-2.ensures.value c.in_ok-learnt.ensures in
+    c.deref-2.ensures.value c.in_ok-learnt.ensures.learnt in
     let from_is : c.index-from.result.now ≡ get_or starts r.level 0 = get_or_read starts r.level c.index-from.result.now learnt.back.below
     c.index-from.ensures 0 in
     let u = unit_unset_at c.self.inside.clauses.items c.self.inside.trail starts r.step r.level r.unit c.self.invariant.0.search learnt in
@@ -97,7 +98,8 @@ invariant_of-self-2 c =
     let starts = e.starts.items in
     let walks = e.walks.items in
     let t = e.trail in
-    let learnt = learnt_shown t.vars clauses _ t.lits starts _ r.step r.level r.unit c.deref.ensures.value c.deref-2.ensures.value c.in_ok-learnt.ensures in
+    let learnt = learnt_shown t.vars clauses _ t.lits starts _ r.step r.level r.unit c.deref.ensures.value c.deref-2.ensures.value
+    c.in_ok-learnt.ensures.learnt in
     let from_is : c.index-from.result.now ≡ get_or starts r.level 0 = get_or_read starts r.level c.index-from.result.now learnt.back.below
     c.index-from.ensures 0 in
     let walk_is : c.index.result.now ≡ get_or walks r.level 0 = get_or_read walks r.level c.index.result.now
@@ -125,6 +127,7 @@ invariant_of-self-2 c =
       omega (arith, vars_are, c.truncate-3.ensures.capacity, c.self.invariant.2),
       rw (vars_are, c.set.ensures.lits) (AreWaiting-more t.vars c.truncate.new.self.lits (c.truncate.new.self.lits ++ r.unit ∷ [])
           c.release.new.self.waiting (in_left c.truncate.new.self.lits (r.unit ∷ [])) (rw c.truncate.ensures.lits c.release.ensures)),
+      omega (arith, vars_are, c.analyze.ensures.long, c.self.invariant.4),
     )
 
 pub returns-clause-learnt : goal.returns-clause-learnt
@@ -132,5 +135,5 @@ returns-clause-learnt c =
     let e = c.self.inside in
     let r = c.in_ok-learnt.learnt in
     let learnt = learnt_shown e.trail.vars e.clauses.items _ e.trail.lits e.starts.items _ r.step r.level r.unit c.deref.ensures.value
-    c.deref-2.ensures.value c.in_ok-learnt.ensures in
+    c.deref-2.ensures.value c.in_ok-learnt.ensures.learnt in
     rw (← c.self.view_is) learnt

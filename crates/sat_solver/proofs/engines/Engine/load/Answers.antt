@@ -19,4 +19,5 @@ invariant_of-result c =
       omega (arith, c.in_ok-starts.ensures.capacity),
       omega (arith, c.in_ok-walks.ensures.capacity),
       c.in_ok-activities.ensures,
+      omega (arith, c.in_ok-marks.ensures),
     )

@@ -21,6 +21,7 @@ invariant_of-self c =
       omega (arith, s.settles.extends.vars, c.self.invariant.1),
       omega (arith, s.settles.extends.vars, c.self.invariant.2),
       AreWaiting-extends e.clauses.items e.trail _ e.activities.waiting s.settles.extends c.self.invariant.3,
+      omega (arith, s.settles.extends.vars, c.self.invariant.4),
     )
 
 pub returns-clause-propagates : goal.returns-clause-propagates
