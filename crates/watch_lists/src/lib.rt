@@ -6,6 +6,8 @@
 #![tactic(auto)]
 
 mod lists;
+#[cfg(test)]
+mod tests;
 mod watches;
 
 pub use watches::Watches;
