@@ -1,1 +1,1 @@
-pub mod AskLemmas
+pub mod ScriptLemmas

@@ -1,5 +1,10 @@
-pub mod Commands
-pub mod Fails
-pub mod Objects
+pub mod Asks
+pub mod Cases
+pub mod Clocks
+pub mod Exceptions
+pub mod Heads
+pub mod Kinds
+pub mod Numbers
+pub mod Options
+pub mod Progresses
 pub mod Scripts
-pub mod Words

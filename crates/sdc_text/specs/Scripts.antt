@@ -1,74 +1,59 @@
--- The script that a text is, and what it asks.
-use Rattle.std.specs.Prelude.{ℕ, Bool, false, if◌then◌else◌, List, [], ◌∷◌, Option, Some, None}
-use Rattle.texts.specs.Reads.{◌>>=◌}
-use Rattle.sdcv_base.specs.declared.kinds.Kind.{Kind}
-use Rattle.sdcv_base.specs.declared.kinds.Kind.TheVariants as kind
-use Rattle.sdc_text.specs.declared.asks.Asked.{Asked}
-use Rattle.sdc_text.specs.declared.scripts.Class.{Class}
-use Rattle.sdc_text.specs.declared.scripts.Class.TheVariants as class
-use Rattle.sdc_text.specs.declared.scripts.Object.{Object}
-use Rattle.sdc_text.specs.declared.scripts.Object.TheVariants.{Named}
-use Rattle.sdc_text.specs.declared.scripts.What.{What}
-use Rattle.sdc_text.specs.declared.scripts.What.TheVariants.{Clock, Claiming}
-use Rattle.sdc_text.specs.declared.scripts.Command.{Command}
+-- The script that a text is.
+use Rattle.std.specs.Prelude.{ℕ, zero, suc, ◌-◌, ◌≤◌, Bool, true, false, if◌then◌else◌, List, length, Option, Some, None, Result, Ok, Err}
+use Rattle.texts.specs.Rules.{◌>>=◌, offset_of}
+use Rattle.sdc_words.specs.declared.faults.WordFault.{WordFault}
+use Rattle.sdc_words.specs.Commands.{command_at}
+use Rattle.sdc_words.specs.Lines.{cleaned, original}
+use Rattle.sdc_values.specs.declared.faults.SdcFault.{SdcFault}
+use Rattle.sdc_values.specs.declared.faults.SdcFault.TheVariants as fault
+use Rattle.sdc_values.specs.Told.{of_words}
 use Rattle.sdc_text.specs.declared.scripts.Script.{Script}
-use Rattle.sdc_text.specs.Words.{after, is_end}
-use Rattle.sdc_text.specs.Commands.{clock_at, false_path_at}
+use Rattle.sdc_text.specs.declared.progresses.Progress.{Progress}
+use Rattle.sdc_text.specs.Progresses.{fresh, after_command}
 
--- a clock on the first line, a false path on the second, and nothing else but a last newline
-unfoldable pub script_of : List ℕ → Option Script
-script_of s = do
-  clock ← clock_at s
-  r ← after (10 ∷ []) clock.1
-  path ← false_path_at r
-  if is_end path.1 then Some (record { commands = record { line = 1; what = clock.0 } ∷ record { line = 2; what = path.0 } ∷ [] }) else None
+-- what is read of words, with a fault as one of a script
+abbrev pub lifted : {A : Type 0} → Result A WordFault → Result A SdcFault
+lifted (Ok found) = Ok found
+lifted (Err e) = Err (of_words e)
 
--- the names that a script asks about: the clock's port, and the cells at the ends of the false path
-pub record Names : Type 0 where
-  pub clock : List ℕ
-  pub start : List ℕ
-  pub end : List ℕ
+-- whether a command is left of the text, what is known after it, and what is left then
+unfoldable pub next_at : List ℕ → Progress → List ℕ → Result ((Bool × Progress) × List ℕ) SdcFault
+next_at text p s = lifted (command_at text s) >>= λ c. elim c.0 [
+  | Some command ↦ after_command p command >>= λ more. Ok ((true, more), c.1)
+  | None ↦ Ok ((false, p), c.1)
+]
 
--- the pattern of a query of ports, and of one of cells
-abbrev pub port_pattern : Class → Bool → List ℕ → Option (List ℕ)
-port_pattern class.Ports false pattern = Some pattern
-port_pattern _ _ pattern = None
+-- after all commands of which this is left of the text; of fewer than n
+unfoldable pub progress_from : ℕ → List ℕ → Progress → List ℕ → Result Progress SdcFault
+progress_from zero text p s = Err (fault.Syntax (offset_of (length text) s))
+progress_from (suc n) text p s = next_at text p s >>= λ r. if (r.0).0 then progress_from n text (r.0).1 r.1 else Ok (r.0).1
 
-abbrev pub cell_pattern : Class → Bool → List ℕ → Option (List ℕ)
-cell_pattern class.Cells false pattern = Some pattern
-cell_pattern _ _ pattern = None
+-- after all commands of a text without carriage returns at its lines' ends
+abbrev pub progress_of : List ℕ → Result Progress SdcFault
+progress_of text = progress_from (suc (length text)) text fresh text
 
--- the name of a lone port, and of a lone cell
-abbrev pub port_name : List Object → Option (List ℕ)
-port_name (Named q ∷ []) = port_pattern q.class q.hier q.pattern
-port_name _ = None
+-- a fault in the cleaned text, as one at its place in the text
+abbrev pub placed_fault : List ℕ → SdcFault → SdcFault
+placed_fault text (fault.Syntax place) = fault.Syntax (original text place)
+placed_fault text (fault.UnknownCommand line word) = fault.UnknownCommand line word
+placed_fault text (fault.UnknownVariable line name) = fault.UnknownVariable line name
+placed_fault text (fault.BadOption line word) = fault.BadOption line word
+placed_fault text (fault.BadNumber line word) = fault.BadNumber line word
+placed_fault text fault.Memory = fault.Memory
 
-abbrev pub cell_name : List Object → Option (List ℕ)
-cell_name (Named q ∷ []) = cell_pattern q.class q.hier q.pattern
-cell_name _ = None
+abbrev pub placed : List ℕ → Result Progress SdcFault → Result Script SdcFault
+placed text (Ok p) = Ok (record { commands = p.commands })
+placed text (Err e) = Err (placed_fault text e)
 
--- the port of a named clock
-abbrev pub clock_port : What → Option (List ℕ)
-clock_port (Clock (Some name) source) = port_name source
-clock_port _ = None
+-- the script that a text is, or the fault that it has
+unfoldable pub script_of : List ℕ → Result Script SdcFault
+script_of text = placed text (progress_of (cleaned text))
 
--- the cells at the ends of a false path without a through list
-abbrev pub ends_of : Kind → Option (List Object) → List (List Object) → Option (List Object) → Option (List ℕ × List ℕ)
-ends_of kind.False (Some from) [] (Some to) = cell_name from >>= λ start. cell_name to >>= λ end. Some (start, end)
-ends_of _ _ _ _ = None
-
-abbrev pub path_ends : What → Option (List ℕ × List ℕ)
-path_ends (Claiming e) = ends_of e.kind e.from e.through e.to
-path_ends _ = None
-
-abbrev pub asked_by : List Command → Option Names
-asked_by (clock ∷ path ∷ []) = clock_port clock.what >>= λ port. path_ends path.what >>= λ ends. Some (record { clock = port; start = ends.0; end = ends.1 })
-asked_by _ = None
-
--- what the two commands of a script ask about
-abbrev pub asks : Script → Option Names
-asks script = asked_by script.commands
-
--- the names that references lead to
-abbrev pub names_of : Asked → Names
-names_of a = record { clock = a.clock.now; start = a.start.now; end = a.end.now }
+-- a place that a fault names lies in a text of this length
+abbrev pub IsWithin : ℕ → SdcFault → Type 0
+IsWithin len (fault.Syntax place) = place ≤ len
+IsWithin len (fault.UnknownCommand line word) = Unit {0}
+IsWithin len (fault.UnknownVariable line name) = Unit {0}
+IsWithin len (fault.BadOption line word) = Unit {0}
+IsWithin len (fault.BadNumber line word) = Unit {0}
+IsWithin len fault.Memory = Unit {0}

@@ -1,10 +1,12 @@
 //! The names that a script of the first form asks about.
 ghost use Rattle.std.specs.Prelude.{◌≡◌};
 ghost use Rattle.std.specs.Option.{option_map};
-ghost use Rattle.sdc_text.specs.Scripts.{asks, port_name, cell_name, clock_port, path_ends, names_of};
+ghost use Rattle.sdc_text.specs.Asks.{is_plain, asks, port_name, cell_name, clock_port, path_ends, names_of};
 
-use crate::scripts::{Class, Command, Exception, Object, Query, Script, What};
+use crate::scripts::{Command, Exception, Script, What};
+use sdc_values::{Class, Object, Query};
 use sdcv_base::{Kind, Name, Seq};
+use texts::word_len;
 
 /// The clock's port, and the cells at the two ends of the false path.
 #[derive(Clone, Copy, Debug)]
@@ -14,7 +16,8 @@ pub struct Asked<'a> {
     pub end: &'a Name,
 }
 
-/// The three names of a script that `read_sdc` gives; `None` where it is another one.
+/// The three names of a script of one clock and one false path between two cells, each by a plain pattern; `None` where it is
+/// another one.
 pub fn first_form(script: &Script) -> Option<Asked<'_>>
     ensures { option_map names_of result ≡ asks script.entry.now }
 {
@@ -56,6 +59,13 @@ fn path_ends(command: &Command) -> Option<(&Name, &Name)>
     }
 }
 
+// Letters, digits and `_`, one or more: such a pattern matches the name of these bytes alone.
+fn is_plain(pattern: &[u8]) -> bool
+    ensures { result ≡ is_plain pattern.now }
+{
+    !pattern.is_empty() && word_len(pattern) == pattern.len()
+}
+
 fn port_name(objects: &Seq<Object>) -> Option<&Name>
     ensures { option_map (λ n. n.now) result ≡ port_name objects.entry.now }
 {
@@ -68,7 +78,7 @@ fn port_name(objects: &Seq<Object>) -> Option<&Name>
                     pattern,
                 },
             ),
-        ] => Some(pattern),
+        ] if is_plain(pattern.as_bytes()) => Some(pattern),
         _ => None,
     }
 }
@@ -85,7 +95,7 @@ fn cell_name(objects: &Seq<Object>) -> Option<&Name>
                     pattern,
                 },
             ),
-        ] => Some(pattern),
+        ] if is_plain(pattern.as_bytes()) => Some(pattern),
         _ => None,
     }
 }

@@ -1,19 +1,28 @@
 //! The constraints that an SDC text is (SDC 2.1): its commands with their lines.
 //!
-//! `read_sdc` is the call to read first. Here a text is one clock and one false path between two cells; `first_form` takes
-//! the three names out of it. Which ports and cells the names match is left to the crates above.
+//! `read_sdc` is the call to read first. It goes through the commands of the text (`sdc_words`), takes the values of their
+//! words (`sdc_values`), and says of each command what it is: a clock, a case analysis, an exception that claims, is set
+//! aside or is about the hold check alone, or one that changes no exception. `first_form` takes the three names out of a
+//! script of one clock and one false path. Which ports and cells the patterns match is left to the crates above.
 #![tactic(auto)]
 
 mod asks;
-mod commands;
-mod faults;
-mod objects;
+mod cases;
+mod clocks;
+mod exceptions;
+mod gathers;
+mod heads;
+mod kinds;
+mod numbers;
+mod options;
+mod progresses;
+mod readers;
 mod scripts;
 #[cfg(test)]
 mod tests;
-mod words;
 
 pub use asks::{Asked, first_form};
-pub use faults::SdcFault;
-pub use scripts::{Class, Command, Exception, Object, Query, Script, What, read_sdc};
+pub use readers::read_sdc;
+pub use scripts::{Command, Exception, Script, What};
+pub use sdc_values::{Class, Object, Query, SdcFault};
 pub use sdcv_base::Kind;

@@ -1,157 +1,342 @@
 use super::*;
 use sdcv_base::Seq;
+use std::alloc::Global;
 use std::test::Fail;
 
-const CLOCK: &str = "create_clock -name ck -period 10 [get_ports clk]";
-
-const PATH: &str = "set_false_path -from [get_cells a] -to [get_cells b]";
-
-fn is_lone(objects: &Seq<Object>, class: Class, name: &[u8]) -> bool {
-    match objects.as_slice() {
-        [Object::Named(query)] => query.class == class
-            && !query.hier
-            && query.pattern.as_bytes() == name,
-        _ => false,
+fn class_text(class: Class) -> &'static str {
+    match class {
+        Class::Ports => "ports",
+        Class::Cells => "cells",
+        Class::Pins => "pins",
+        Class::Nets => "nets",
+        Class::Clocks => "clocks",
+        Class::Any => "any",
     }
 }
 
-fn is_clock(command: &Command) -> bool {
-    match &command.what {
-        What::Clock {
-            name: Some(name),
-            source,
-        } => command.line == 1
-            && name.as_bytes() == b"ck".as_slice()
-            && is_lone(source, Class::Ports, b"clk"),
-        _ => false,
-    }
-}
-
-fn is_false_path(command: &Command) -> bool {
-    match &command.what {
-        What::Claiming(
-            Exception {
-                kind: Kind::False,
-                from: Some(from),
-                through,
-                to: Some(to),
-            },
-        ) => command.line == 2
-            && is_lone(from, Class::Cells, b"a")
-            && through.is_empty()
-            && is_lone(to, Class::Cells, b"b"),
-        _ => false,
-    }
-}
-
-// The first line names a clock and its port, the second two cells.
-#[test]
-fn two_lines_are_a_clock_and_a_false_path(rt: HostRuntime) -> Result<(), Fail> {
-    for end in ["", "\n"] {
-        let text = format!(in rt.alloc(); "{CLOCK}\n{PATH}{end}")?;
-        let script = read_sdc(rt.alloc(), text.as_bytes())?;
-        match script.commands.as_slice() {
-            [clock, path] => assert!(rt; is_clock(clock) && is_false_path(path)),
-            _ => assert!(rt; false, "two commands"),
+fn push_object(alloc: Global, out: &mut String, object: &Object) -> Result<(), Fail> {
+    let text = match object {
+        Object::Named(query) => {
+            let hier = if query.hier { "hier " } else { "" };
+            let class = class_text(query.class);
+            let pattern = &query.pattern;
+            format!(in alloc; " {hier}{class}:{pattern}")?
         }
+        Object::AllInputs => String::from_str(alloc, " AllInputs")?,
+        Object::AllOutputs => String::from_str(alloc, " AllOutputs")?,
+        Object::AllRegisters => String::from_str(alloc, " AllRegisters")?,
+        Object::AllClocks => String::from_str(alloc, " AllClocks")?,
+    };
+    out.push_str(text.as_str())?;
+    Ok(())
+}
+
+fn push_objects(
+    alloc: Global,
+    out: &mut String,
+    option: &str,
+    objects: &Seq<Object>,
+) -> Result<(), Fail> {
+    out.push_str(option)?;
+    for object in objects.as_slice() {
+        push_object(alloc, out, object)?;
+    }
+    Ok(())
+}
+
+fn push_exception(alloc: Global, out: &mut String, exception: &Exception) -> Result<(), Fail> {
+    let kind = match exception.kind {
+        Kind::False => String::from_str(alloc, "False")?,
+        Kind::Multi(k) => format!(in alloc; "Multi {k}")?,
+    };
+    out.push_str(kind.as_str())?;
+    if let Some(from) = &exception.from {
+        push_objects(alloc, out, " from", from)?;
+    }
+    for through in exception.through.as_slice() {
+        push_objects(alloc, out, " through", through)?;
+    }
+    if let Some(to) = &exception.to {
+        push_objects(alloc, out, " to", to)?;
+    }
+    Ok(())
+}
+
+fn push_clock(
+    alloc: Global,
+    out: &mut String,
+    name: &Option<sdcv_base::Name>,
+    source: &Seq<Object>,
+) -> Result<(), Fail> {
+    let text = match name {
+        Some(name) => format!(in alloc; "Clock {name}")?,
+        None => String::from_str(alloc, "Clock without a name")?,
+    };
+    push_objects(alloc, out, text.as_str(), source)
+}
+
+fn push_what(alloc: Global, out: &mut String, what: &What) -> Result<(), Fail> {
+    match what {
+        What::Clock { name, source } => push_clock(alloc, out, name, source),
+        What::Case { value, objects } => {
+            push_objects(
+                alloc,
+                out,
+                if *value { "Case 1" } else { "Case 0" },
+                objects,
+            )
+        }
+        What::Claiming(exception) => push_exception(alloc, out, exception),
+        What::Hold => Ok(out.push_str("Hold")?),
+        What::Aside(name) => {
+            let text = format!(in alloc; "Aside {name}")?;
+            Ok(out.push_str(text.as_str())?)
+        }
+        What::Passed => Ok(out.push_str("Passed")?),
+    }
+}
+
+// Each command in a line: its line in the text, and what it is. Objects are a class, a colon and a pattern.
+fn script_text(alloc: Global, script: &Script) -> Result<String, Fail> {
+    let mut out = String::new(alloc);
+    for command in script.commands.as_slice() {
+        let line = format!(in alloc; "{} ", command.line)?;
+        out.push_str(line.as_str())?;
+        push_what(alloc, &mut out, &command.what)?;
+        out.push_str("\n")?;
+    }
+    Ok(out)
+}
+
+fn fault_text(alloc: Global, fault: &SdcFault) -> Result<String, Fail> {
+    Ok(match fault {
+        SdcFault::Syntax(_) => String::from_str(alloc, "Syntax")?,
+        SdcFault::UnknownCommand(line, word) => format!(in alloc; "UnknownCommand {line} {word}")?,
+        SdcFault::UnknownVariable(line, name) => format!(in alloc;
+            "UnknownVariable {line} {name}"
+        )?,
+        SdcFault::BadOption(line, word) => format!(in alloc; "BadOption {line} {word}")?,
+        SdcFault::BadNumber(line, word) => format!(in alloc; "BadNumber {line} {word}")?,
+        SdcFault::Memory => String::from_str(alloc, "Memory")?,
+    })
+}
+
+fn read_text(alloc: Global, text: &str) -> Result<String, Fail> {
+    match read_sdc(alloc, text.as_bytes()) {
+        Ok(script) => script_text(alloc, &script),
+        Err(fault) => fault_text(alloc, &fault),
+    }
+}
+
+// Two scripts as tools write them, and what their commands are.
+const TOOLS: &[(&str, &str)] = &[
+    (
+        "################################
+
+# Created by write_sdc
+################################
+set sdc_version 2.1
+
+set_units -time ns -resistance kOhm -capacitance pF -voltage V -current mA
+create_clock -name clk -period 10.0000 -waveform {0.0000 5.0000} [get_ports {clk}]
+set_clock_uncertainty 0.1000 [get_clocks {clk}]
+set_false_path -through [get_pins {u1/A}] -from [list [get_cells {a}] [get_cells {b}]]
+set_multicycle_path 2 -setup -from [get_cells {r_0 r_1}] \\
+    -to [get_pins {c/D}]
+set_multicycle_path 1 -hold -from [get_cells {r_0 r_1}] -to [get_pins {c/D}]
+set_input_delay -clock [get_clocks {clk}] 1.0 [remove_from_collection [all_inputs] $clk]
+",
+        "5 Passed
+7 Passed
+8 Clock clk ports:clk
+9 Passed
+10 False from cells:a cells:b through pins:u1/A
+11 Multi 2 from cells:r_0 cells:r_1 to pins:c/D
+13 Hold
+14 Passed
+",
+    ),
+    (
+        "set period 4 ; # nanoseconds
+set regs [list [get_cells u_cfg/reg_*] \\
+    [get_cells -hierarchical {mode_reg[*]}]]
+create_clock -name core -period $period [get_ports clk]
+set_case_analysis zero [get_ports scan_en]
+set_false_path -from $regs -to [all_registers]
+set_false_path -from \"rst_n\" -comment \"asynchronous reset; filtered\"
+set_max_delay 3.5 -from [all_inputs] -to [all_outputs]
+set_multicycle_path -setup 3 -through u_mul/* -end
+",
+        "1 Passed
+2 Passed
+4 Clock core ports:clk
+5 Case 0 ports:scan_en
+6 False from cells:u_cfg/reg_* hier cells:mode_reg[*] to AllRegisters
+7 False from any:rst_n
+8 Passed
+9 Multi 3 through any:u_mul/*
+",
+    ),
+];
+
+#[test]
+fn scripts_of_tools_are_read(rt: HostRuntime) -> Result<(), Fail> {
+    for (text, want) in TOOLS {
+        let got = read_text(rt.alloc(), text)?;
+        assert_eq!(rt; got.as_str(), *want);
+    }
+    Ok(())
+}
+
+// Texts and what they are, worked by hand from the rules of words, lists and commands.
+const READ: &[(&str, &str)] = &[
+    ("", ""),
+    (
+        "set x {a\\}b {c d}}\nset_false_path -from $x",
+        "1 Passed\n2 False from any:a}b any:c any:d\n",
+    ),
+    (
+        "set_false_path -to {a{b}c {d{e f}g} h}",
+        "1 False to any:a{b}c any:d{e any:f}g any:h\n",
+    ),
+    (
+        "set_false_path -to \"a } b\"",
+        "1 False to any:a any:} any:b\n",
+    ),
+    (
+        "set_false_path -to {{a} b} -from {a b {}}",
+        "1 False from any:a any:b to any:a any:b\n",
+    ),
+    (
+        "set p \"a\\\\\" b\"\nset_false_path -through [get_cells $p]",
+        "1 Passed\n2 False through cells:a\" cells:b\n",
+    ),
+    ("set_false_path -to \"a\\\"b\"", "1 False to any:a\"b\n"),
+    (
+        "set c [get_cells a]\nset d [list $c b \"x y\" [all_inputs]]\nset_false_path -from \"$d\"",
+        "1 Passed\n2 Passed\n3 False from cells:a any:b any:x any:y AllInputs\n",
+    ),
+    (
+        "set_multicycle_path 1 -hold\nset_multicycle_path -hold -setup 002\nset_multicycle_path -hold -3\nset_false_path -hold -from a",
+        "1 Hold\n2 Multi 2\n3 Hold\n4 Hold\n",
+    ),
+    (
+        "set_multicycle_path 00000000000000000000000000016",
+        "1 Multi 16\n",
+    ),
+    (
+        "set_false_path -rise_from {{a}b} -fall\nset_multicycle_path -reset_path x",
+        "1 Aside -rise_from\n2 Aside -reset_path\n",
+    ),
+    (
+        "set x \\\n 1\n# c \\\n d\ncreate_clock -period 1 ; set_false_path \\\n -to b",
+        "1 Passed\n5 Clock without a name\n5 False to any:b\n",
+    ),
+    ("# a\\\\\nset_units x", "2 Passed\n"),
+    (
+        "set_false_path -to {a\\\r\nb}\r\n",
+        "1 False to any:a any:b\n",
+    ),
+    (
+        "set_false_path -from [get_cells a[3] ] -to [get_cells -hier a;b\nc]",
+        "1 False from cells:a[3] to hier cells:a;b hier cells:c\n",
+    ),
+    (
+        "set_false_path -from [get_cells {a[b]}]",
+        "1 False from cells:a[b]\n",
+    ),
+    (
+        "set {} 1; set_multicycle_path ${} -to a$",
+        "1 Passed\n1 Multi 1 to any:a$\n",
+    ),
+    (
+        "set_load $nope [foo {]}] }\n{set} x 1\ns\\et y $x\n\"set_false_path\" -to x$y",
+        "1 Passed\n2 Passed\n3 Passed\n4 False to any:x1\n",
+    ),
+    (
+        "create_clock -name c -name d -period {1 2} -add {}",
+        "1 Clock d\n",
+    ),
+    (
+        "set_case_analysis one [get_ports {se}]",
+        "1 Case 1 ports:se\n",
+    ),
+];
+
+#[test]
+fn commands_are_read(rt: HostRuntime) -> Result<(), Fail> {
+    for (text, want) in READ {
+        let got = read_text(rt.alloc(), text)?;
+        assert_eq!(rt; got.as_str(), *want, "{text}");
+    }
+    Ok(())
+}
+
+// Texts that are no script, and the fault of each, worked by hand too.
+const REFUSED: &[(&str, &str)] = &[
+    ("set x {a\\} b", "Syntax"),
+    ("set_false_path -to {a{b}c {d{e f}g} h} }", "BadOption 1 }"),
+    ("set_false_path -to {{a}b}", "Syntax"),
+    ("set_false_path -to {{a{b}}", "Syntax"),
+    ("set_false_path -to \"a ", "Syntax"),
+    (
+        "set c [get_cells a]\nset_false_path -from [get_ports $c]",
+        "BadOption 2 get_ports",
+    ),
+    ("set c [get_cells a]\nset_false_path -from a$c", "Syntax"),
+    ("set_multicycle_path -hold 1.0", "BadNumber 1 1.0"),
+    ("set_multicycle_path -3", "BadNumber 1 -3"),
+    ("set_multicycle_path 17", "BadNumber 1 17"),
+    ("set_multicycle_path -bar", "BadOption 1 -bar"),
+    (
+        "set_multicycle_path -rise",
+        "BadOption 1 set_multicycle_path",
+    ),
+    ("set_false_path -fall_to", "BadOption 1 -fall_to"),
+    ("set_false_path -from a -from b", "BadOption 1 -from"),
+    (
+        "set x \\\n 1\n# c \\\n d\ncreate_clock -period 1 ; set_false_path \\\n -bar",
+        "BadOption 5 -bar",
+    ),
+    ("set x a\\\r\nb\r\n", "BadOption 1 b"),
+    ("set_units x\r\nset_false_path -to {a}b\r\n", "Syntax"),
+    ("set_false_path -from [get_cells a[b]]", "Syntax"),
+    ("set_false_path -from [get_cells -of x]", "BadOption 1 -of"),
+    (
+        "set {a b} 2; set {} 1; set y \"${a b}\"; set_multicycle_path ${}$ -comment $y",
+        "BadNumber 1 1$",
+    ),
+    ("set y ${a b}", "Syntax"),
+    ("set_false_path -to $q[0]", "UnknownVariable 1 q"),
+    ("set_load [foo ]]", "Syntax"),
+    ("set_load {a}b", "Syntax"),
+    ("[list] a", "Syntax"),
+    ("if 1", "UnknownCommand 1 if"),
+    ("create_clock a b", "BadOption 1 b"),
+    ("create_clock -name [list a]", "BadOption 1 create_clock"),
+    ("set_case_analysis {0 } a", "BadNumber 1 0 "),
+    ("set_case_analysis 2 a", "BadNumber 1 2"),
+    ("set_case_analysis 0", "BadOption 1 set_case_analysis"),
+    ("set x", "BadOption 1 set"),
+];
+
+#[test]
+fn other_texts_are_refused(rt: HostRuntime) -> Result<(), Fail> {
+    for (text, want) in REFUSED {
+        let got = read_text(rt.alloc(), text)?;
+        assert_eq!(rt; got.as_str(), *want, "{text}");
     }
     Ok(())
 }
 
 #[test]
-fn a_script_asks_for_three_names(rt: HostRuntime) -> Result<(), Fail> {
+fn a_clock_and_a_false_path_ask_for_three_names(rt: HostRuntime) -> Result<(), Fail> {
     let text =
-        "create_clock -name 1_Ck -period .5 [get_ports _c]\nset_false_path -from [get_cells r_0] -to [get_cells R0]\n";
+        "create_clock -name 1_Ck -period .5 [get_ports _c]\nset_false_path -from [get_cells r_0] -to [get_cells {R0}]\n";
     let script = read_sdc(rt.alloc(), text.as_bytes())?;
     let asked = first_form(&script).ok_or("a script of the first form")?;
     assert_eq!(rt; asked.clock.as_bytes(), b"_c".as_slice());
     assert_eq!(rt; asked.start.as_bytes(), b"r_0".as_slice());
     assert_eq!(rt; asked.end.as_bytes(), b"R0".as_slice());
-    Ok(())
-}
-
-// Texts that are no script, each by the fault that its lines show.
-const REFUSED: &[(&str, &str)] = &[
-    ("", ""),
-    (CLOCK, ""),
-    ("", PATH),
-    (
-        CLOCK,
-        "set_false_path -from [get_cells a] -to [get_cells b]\n\n",
-    ),
-    (
-        CLOCK,
-        "set_false_path -from [get_cells a] -to [get_cells b] ",
-    ),
-    (
-        CLOCK,
-        "set_false_path -from [get_cells a] -to [get_cells b]\r\n",
-    ),
-    (
-        CLOCK,
-        "set_false_path  -from [get_cells a] -to [get_cells b]",
-    ),
-    (
-        CLOCK,
-        "set_false_path -from [get_cells a]  -to [get_cells b]",
-    ),
-    (
-        CLOCK,
-        "set_false_path -from [get_cells {a}] -to [get_cells b]",
-    ),
-    (
-        CLOCK,
-        "set_false_path -from [get_cells a*] -to [get_cells b]",
-    ),
-    (
-        CLOCK,
-        "set_false_path -from [get_cells a/b] -to [get_cells b]",
-    ),
-    (CLOCK, "set_false_path -from [get_cells ] -to [get_cells b]"),
-    (CLOCK, "set_false_path -from [get_pins a] -to [get_cells b]"),
-    (
-        CLOCK,
-        "set_false_path -to [get_cells b] -from [get_cells a]",
-    ),
-    (CLOCK, "set_false_path -from [get_cells a]"),
-    (
-        CLOCK,
-        "set_multicycle_path 2 -from [get_cells a] -to [get_cells b]",
-    ),
-    ("create_clock -name ck -period 10 [get_ports clk]\r", PATH),
-    ("create_clock -name ck -period 10 [get_ports clk]\n", PATH),
-    ("create_clock -name ck -period 10  [get_ports clk]", PATH),
-    ("create_clock -name ck -period 1.0.0 [get_ports clk]", PATH),
-    ("create_clock -name ck -period . [get_ports clk]", PATH),
-    ("create_clock -name ck -period  [get_ports clk]", PATH),
-    ("create_clock -name ck -period -1 [get_ports clk]", PATH),
-    ("create_clock -name ck -period 1e3 [get_ports clk]", PATH),
-    ("create_clock -period 10 -name ck [get_ports clk]", PATH),
-    ("create_clock -name ck -period 10", PATH),
-    ("create_clock -name ck -period 10 [get_cells clk]", PATH),
-    (" create_clock -name ck -period 10 [get_ports clk]", PATH),
-    ("# a comment", PATH),
-];
-
-#[test]
-fn a_text_of_another_form_is_refused(rt: HostRuntime) -> Result<(), Fail> {
-    for (clock, path) in REFUSED {
-        let text = format!(in rt.alloc(); "{clock}\n{path}")?;
-        let refused = matches!(read_sdc(rt.alloc(), text.as_bytes()), Err(SdcFault::NotYet));
-        assert!(rt; refused, "{text}");
-    }
-    Ok(())
-}
-
-// What developers see of each fault.
-#[test]
-fn faults_are_shown(rt: HostRuntime) -> Result<(), Fail> {
-    for (fault, want) in [
-        (SdcFault::NotYet, "this form of constraints is not read yet"),
-        (SdcFault::Memory, "out of memory"),
-    ] {
-        let shown = format!(in rt.alloc(); "{fault}")?;
-        assert_eq!(rt; shown.as_str(), want);
-    }
     Ok(())
 }

@@ -4,7 +4,9 @@ use Rattle.std.specs.Str.{bytes_eq}
 use Rattle.verilog_net.specs.declared.sources.Source.{Source}
 use Rattle.verilog_net.specs.Sources.{source_of}
 use Rattle.sdc_text.specs.declared.scripts.Script.{Script}
-use Rattle.sdc_text.specs.Scripts.{Names, script_of, asks}
+use Rattle.sdc_values.specs.declared.faults.SdcFault.{SdcFault}
+use Rattle.sdc_text.specs.Scripts.{script_of}
+use Rattle.sdc_text.specs.Asks.{Names, asks}
 use Rattle.cell_types.specs.declared.libraries.Library.{Library}
 use Rattle.cell_types.specs.Builtin.{builtin_cells}
 use Rattle.flat_link.specs.declared.flats.Flat.{Flat}
@@ -18,7 +20,7 @@ use Rattle.sdcv_top.specs.declared.verdicts.Verdict.{Verdict}
 use Rattle.sdcv_top.specs.declared.refusals.Early.{Early}
 use Rattle.sdcv_top.specs.declared.refusals.Early.TheVariants as early
 use Rattle.sdcv_top.specs.Words.{Command, command}
-use Rattle.sdcv_top.specs.Lines.{long_verilog_line, verilog_line, long_sdc_line, sdc_line, early_line}
+use Rattle.sdcv_top.specs.Lines.{long_verilog_line, verilog_line, long_sdc_line, Unread, no_script, other_form, unread_line, early_line}
 use Rattle.sdcv_top.specs.Verdicts.{false_path, IsVerdict}
 use Rattle.sdcv_top.specs.Reports.{reported}
 use Rattle.sdcv_top.specs.Outcomes.{usage}
@@ -35,9 +37,15 @@ abbrev pub Netlist : Got → Found Source → Type 0
 Netlist (Text text) found = Staged (λ read. source_of text ≡ read) verilog_line found
 Netlist Longer found = found ≡ Err long_verilog_line
 
+-- a script is found where the text is one that asks about three names, and refused only where it is none, or another one
+abbrev pub Asks : Result Script SdcFault → Result Script Unread → Type 0
+Asks expected (Ok script) = (expected ≡ Ok script) × IsSome (asks script)
+Asks expected (Err (no_script fault)) = expected ≡ Err fault
+Asks expected (Err other_form) = (script : Script) × (expected ≡ Ok script) × (asks script ≡ None)
+
 -- the constraints: their text is read, or is refused, also where it is too long
 abbrev pub Constraints : Got → Found Script → Type 0
-Constraints (Text text) found = Staged (Gives (script_of text)) sdc_line found
+Constraints (Text text) found = Staged (Asks (script_of text)) unread_line found
 Constraints Longer found = found ≡ Err long_sdc_line
 
 -- the names that a script asks about are such

@@ -4,8 +4,8 @@ use Rattle.std.specs.Fmt.{decimal}
 use Rattle.sdcv_base.specs.Shown.{shown}
 use Rattle.verilog_scope.specs.declared.faults.VerFault.{VerFault}
 use Rattle.verilog_scope.specs.declared.faults.VerFault.TheVariants as verilog
-use Rattle.sdc_text.specs.declared.faults.SdcFault.{SdcFault}
-use Rattle.sdc_text.specs.declared.faults.SdcFault.TheVariants as sdc
+use Rattle.sdc_values.specs.declared.faults.SdcFault.{SdcFault}
+use Rattle.sdc_values.specs.declared.faults.SdcFault.TheVariants as sdc
 use Rattle.sdcv_top.specs.declared.refusals.Early.{Early}
 use Rattle.sdcv_top.specs.declared.refusals.Early.TheVariants as early
 
@@ -37,10 +37,27 @@ verilog_line verilog.Memory = None
 abbrev pub long_sdc_line : List ℕ
 long_sdc_line = line (codes "refused sdc 0 TooLong")
 
+-- a refusal of a command: its name, the command's line, and a word of it
+abbrev pub command_line : List ℕ → ℕ → List ℕ → List ℕ
+command_line name number word = line (name ++ (decimal number ++ (32 ∷ shown word)))
+
 -- the constraints are refused by their reader
 abbrev pub sdc_line : SdcFault → Option (List ℕ)
-sdc_line sdc.NotYet = Some (line (codes "refused sdc 90 NotYet"))
+sdc_line (sdc.Syntax place) = Some (line (codes "refused sdc 1 Syntax " ++ decimal place))
+sdc_line (sdc.UnknownCommand number word) = Some (command_line (codes "refused sdc 2 UnknownCommand ") number word)
+sdc_line (sdc.UnknownVariable number word) = Some (command_line (codes "refused sdc 3 UnknownVariable ") number word)
+sdc_line (sdc.BadOption number word) = Some (command_line (codes "refused sdc 4 BadOption ") number word)
+sdc_line (sdc.BadNumber number word) = Some (command_line (codes "refused sdc 5 BadNumber ") number word)
 sdc_line sdc.Memory = None
+
+-- why constraints are not judged: the text is no script, or its script is no clock and one false path between two cells
+pub data Unread : Type 0 where
+  no_script : SdcFault → Unread
+  other_form : Unread
+
+abbrev pub unread_line : Unread → Option (List ℕ)
+unread_line (no_script fault) = sdc_line fault
+unread_line other_form = Some (line (codes "refused sdc 90 NotYet"))
 
 -- what both texts say together is refused
 abbrev pub early_line : Early → Option (List ℕ)

@@ -1,7 +1,7 @@
 //! The stages that make the design, and find the pair in it.
 ghost use Rattle.std.specs.Prelude.{◌≡◌, ◌<◌, length, IfOk, IfSome, IsSome};
 ghost use Rattle.net_model.specs.Netlist.{IsSound};
-ghost use Rattle.sdc_text.specs.Scripts.{asks};
+ghost use Rattle.sdc_text.specs.Asks.{asks};
 ghost use Rattle.sdcv_top.specs.Lines.{early_line};
 ghost use Rattle.sdcv_top.specs.Stages.{Staged};
 ghost use Rattle.sdcv_top.specs.Due.{register_of, Linked, Registers, Selected};

@@ -1,6 +1,7 @@
 //! The line of each refusal: one function an origin, one row a cause.
 ghost use Rattle.std.specs.Prelude.{◌≡◌, Some, IfOk};
-ghost use Rattle.sdcv_top.specs.Lines.{long_verilog_line, unsupported_line, verilog_line, long_sdc_line, sdc_line, early_line};
+ghost use Rattle.sdcv_top.specs.Lines.{long_verilog_line, unsupported_line, verilog_line, early_line};
+ghost use Rattle.sdcv_top.specs.Lines.{long_sdc_line, command_line, sdc_line, other_form, unread_line};
 
 use sdc_text::SdcFault;
 use sdcv_base::Name;
@@ -61,14 +62,42 @@ pub fn long_sdc_line(alloc: Global) -> Result<Vec<u8>, AllocError>
     Vec::from_slice(alloc, b"refused sdc 0 TooLong\n")
 }
 
+// The line that names a command by its line, and a word of it.
+fn command_line(alloc: Global, name: &str, number: u64, word: &Name) -> Result<Vec<u8>, AllocError>
+    ensures { IfOk result (λ line. line.items ≡ command_line name.now number word.now) }
+{
+    Ok(format!(in alloc; "{name}{number} {word}\n")?.into_bytes())
+}
+
 /// The line of constraints that their reader refuses.
 pub fn sdc_line(alloc: Global, fault: &SdcFault) -> Result<Vec<u8>, AllocError>
     ensures { IfOk result (λ line. sdc_line fault.now ≡ Some line.items) }
 {
     match fault {
-        SdcFault::NotYet => Vec::from_slice(alloc, b"refused sdc 90 NotYet\n"),
+        SdcFault::Syntax(place) => {
+            Ok(format!(in alloc; "refused sdc 1 Syntax {place}\n")?.into_bytes())
+        }
+        SdcFault::UnknownCommand(line, word) => {
+            command_line(alloc, "refused sdc 2 UnknownCommand ", *line, word)
+        }
+        SdcFault::UnknownVariable(line, word) => {
+            command_line(alloc, "refused sdc 3 UnknownVariable ", *line, word)
+        }
+        SdcFault::BadOption(line, word) => {
+            command_line(alloc, "refused sdc 4 BadOption ", *line, word)
+        }
+        SdcFault::BadNumber(line, word) => {
+            command_line(alloc, "refused sdc 5 BadNumber ", *line, word)
+        }
         SdcFault::Memory => Err(AllocError),
     }
+}
+
+/// The line of constraints that are no clock and one false path between two cells.
+pub fn other_form_line(alloc: Global) -> Result<Vec<u8>, AllocError>
+    ensures { IfOk result (λ line. unread_line other_form ≡ Some line.items) }
+{
+    Vec::from_slice(alloc, b"refused sdc 90 NotYet\n")
 }
 
 /// The line of what both texts say together, and is refused.

@@ -1,17 +1,18 @@
 //! The stages that read a text: the netlist and the constraints.
-ghost use Rattle.std.specs.Prelude.{◌≡◌, IfOk, IsSome};
+ghost use Rattle.std.specs.Prelude.{◌≡◌, IfOk, IsSome, Ok};
 ghost use Rattle.verilog_net.specs.Sources.{source_of};
-ghost use Rattle.sdc_text.specs.Scripts.{script_of, asks};
-ghost use Rattle.sdcv_top.specs.Lines.{verilog_line, sdc_line};
+ghost use Rattle.sdc_text.specs.Scripts.{script_of};
+ghost use Rattle.sdc_text.specs.Asks.{asks};
+ghost use Rattle.sdcv_top.specs.Lines.{verilog_line, unread_line};
 ghost use Rattle.sdcv_top.specs.Reads.{text_of};
 ghost use Rattle.sdcv_top.specs.Stages.{Staged};
-ghost use Rattle.sdcv_top.specs.Due.{Gives, Netlist, Constraints};
+ghost use Rattle.sdcv_top.specs.Due.{Gives, Netlist, Asks, Constraints};
 ghost use Rattle.sdcv_top.specs.Plans.{StopCounts, Finds, ReadFinds};
 
 use crate::plans::Stop;
 use crate::reads::{Answer, LONGEST, read};
-use crate::refusals::{long_sdc_line, long_verilog_line, sdc_line, verilog_line};
-use sdc_text::{Script, read_sdc};
+use crate::refusals::{long_sdc_line, long_verilog_line, other_form_line, sdc_line, verilog_line};
+use sdc_text::{Script, first_form, read_sdc};
 use sdcv_base::Host;
 use std::alloc::Global;
 use verilog_net::{Source, read_verilog};
@@ -57,11 +58,22 @@ pub fn constraints<H: Host>(alloc: Global, host: &mut H, name: &str) -> Result<S
 
 // What the constraints' text stands for.
 fn script(alloc: Global, text: &[u8]) -> Result<Script, Stop>
-    ensures found { Finds (Staged (Gives (script_of text.now)) sdc_line) result }
+    ensures found { Finds (Staged (Asks (script_of text.now)) unread_line) result }
     ensures asks { IfOk result (λ script. IsSome (asks script)) }
 {
     match read_sdc(alloc, text) {
-        Ok(script) => Ok(script),
+        Ok(script) => asking(alloc, script),
         Err(fault) => Err(Stop::Refused(sdc_line(alloc, &fault)?)),
     }
+}
+
+// The script, where it asks about three names.
+fn asking(alloc: Global, script: Script) -> Result<Script, Stop>
+    ensures found { Finds (Staged (Asks (Ok script)) unread_line) result }
+    ensures asks { IfOk result (λ script. IsSome (asks script)) }
+{
+    if first_form(&script).is_none() {
+        return Err(Stop::Refused(other_form_line(alloc)?));
+    }
+    Ok(script)
 }

@@ -105,7 +105,7 @@ struct Row {
 }
 
 // The reports and refusals of small designs, worked by hand.
-const ROWS: [Row; 11] = [
+const ROWS: [Row; 12] = [
     Row {
         netlist: BLOCKED,
         constraints: FROM_A_TO_B,
@@ -162,6 +162,12 @@ total 0 justified 0 refuted 0 undecided 0
     Row {
         netlist: BLOCKED,
         constraints: b"foo_bar 1",
+        status: Status::Refused,
+        printed: b"refused sdc 2 UnknownCommand 1 foo_bar\n",
+    },
+    Row {
+        netlist: BLOCKED,
+        constraints: b"create_clock -name ck [get_ports clk]\nset_false_path -from [get_cells a*] -to [get_cells b]\n",
         status: Status::Refused,
         printed: b"refused sdc 90 NotYet\n",
     },

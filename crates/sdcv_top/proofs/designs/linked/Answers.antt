@@ -1,7 +1,7 @@
 use Rattle.std.proofs.Common.{None, Some, refl, ap, sym, subst, ◌∙◌, ◌≡◌}
 use Rattle.std.specs.Option.{option_map}
 use Rattle.cell_types.specs.declared.libraries.Library.{Library}
-use Rattle.sdc_text.specs.Scripts.{asks, names_of}
+use Rattle.sdc_text.specs.Asks.{asks, names_of}
 use Rattle.flat_link.specs.Flats.{flat_of}
 use Rattle.sdcv_top.specs.declared.refusals.Early.TheVariants as early
 use Rattle.sdcv_top.proofs.BuiltinLibrary.{builtin_is}

@@ -1,0 +1,56 @@
+-- The options of commands by their words (SDC 2.1).
+use Rattle.std.specs.Prelude.{ℕ, if◌then◌else◌, List, Option, Some, None, codes}
+use Rattle.std.specs.Str.{bytes_eq}
+use Rattle.sdc_text.specs.declared.options.PathCommand.{PathCommand}
+use Rattle.sdc_text.specs.declared.options.PathCommand.TheVariants as path
+use Rattle.sdc_text.specs.declared.options.PathOption.{PathOption}
+use Rattle.sdc_text.specs.declared.options.PathOption.TheVariants as option
+use Rattle.sdc_text.specs.declared.options.ClockOption.{ClockOption}
+use Rattle.sdc_text.specs.declared.options.ClockOption.TheVariants as clock
+
+-- the options of exceptions that are left out, and for which a command is set aside
+unfoldable pub left_out_option : List ℕ → Option PathOption
+left_out_option x =
+    if bytes_eq x (codes "-rise") then Some option.LeftOut
+    else if bytes_eq x (codes "-fall") then Some option.LeftOut
+    else if bytes_eq x (codes "-reset_path") then Some option.LeftOut
+    else if bytes_eq x (codes "-rise_from") then Some option.LeftOutList
+    else if bytes_eq x (codes "-fall_from") then Some option.LeftOutList
+    else if bytes_eq x (codes "-rise_through") then Some option.LeftOutList
+    else if bytes_eq x (codes "-fall_through") then Some option.LeftOutList
+    else if bytes_eq x (codes "-rise_to") then Some option.LeftOutList
+    else if bytes_eq x (codes "-fall_to") then Some option.LeftOutList
+    else None
+
+-- the options of both exceptions, read or left out
+unfoldable pub common_option : List ℕ → Option PathOption
+common_option x =
+    if bytes_eq x (codes "-from") then Some option.From
+    else if bytes_eq x (codes "-through") then Some option.Through
+    else if bytes_eq x (codes "-to") then Some option.To
+    else if bytes_eq x (codes "-setup") then Some option.Setup
+    else if bytes_eq x (codes "-hold") then Some option.Hold
+    else if bytes_eq x (codes "-comment") then Some option.Comment
+    else left_out_option x
+
+-- the options of set_multicycle_path: which clock counts the cycles, and those of both
+unfoldable pub multicycle_option : List ℕ → Option PathOption
+multicycle_option x =
+    if bytes_eq x (codes "-start") then Some option.Reference
+    else if bytes_eq x (codes "-end") then Some option.Reference
+    else common_option x
+
+-- the options of an exception
+unfoldable pub path_option : PathCommand → List ℕ → Option PathOption
+path_option path.FalsePath x = common_option x
+path_option path.Multicycle x = multicycle_option x
+
+-- the options of create_clock
+unfoldable pub clock_option : List ℕ → Option ClockOption
+clock_option x =
+    if bytes_eq x (codes "-name") then Some clock.Called
+    else if bytes_eq x (codes "-period") then Some clock.Timing
+    else if bytes_eq x (codes "-waveform") then Some clock.Timing
+    else if bytes_eq x (codes "-comment") then Some clock.Timing
+    else if bytes_eq x (codes "-add") then Some clock.Added
+    else None

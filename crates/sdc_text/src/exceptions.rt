@@ -1,0 +1,265 @@
+//! Timing exceptions.
+ghost use Rattle.std.specs.Prelude.{◌≡◌, Bool, OnOk, IfOk, is_some};
+ghost use Rattle.texts.specs.Rules.{Gives};
+ghost use Rattle.sdc_values.specs.Told.{Fails};
+ghost use Rattle.sdc_text.specs.Exceptions as spec;
+
+use crate::gathers::{Gather, take_all};
+use crate::heads::{Head, option_of};
+use crate::numbers::{is_whole, multiplier};
+use crate::options::{PathCommand, PathOption, path_option};
+use crate::scripts::{Exception, What};
+use sdc_values::{Object, Said, SdcFault, Value, objects_of};
+use sdcv_base::{Kind, Name, Seq};
+use std::alloc::{AllocError, Global};
+
+/// What the words of an exception have said so far.
+#[derive(Drop)]
+pub struct Reading {
+    pub head: Head,
+    pub path: PathCommand,
+    /// The option whose word comes next, and its own word.
+    pub awaited: Option<(PathOption, Name)>,
+    pub from: Option<Seq<Object>>,
+    pub through: Seq<Seq<Object>>,
+    pub to: Option<Seq<Object>>,
+    pub number: Option<Value>,
+    /// The first option for which the command is set aside.
+    pub aside: Option<Name>,
+    pub has_setup: bool,
+    pub has_hold: bool,
+}
+
+impl Reading {
+    fn new(alloc: Global, path: PathCommand, head: Head) -> Reading
+        ensures { result ≡ spec.bare path head }
+    {
+        Reading {
+            head,
+            path,
+            awaited: None,
+            from: None,
+            through: Seq::new(alloc),
+            to: None,
+            number: None,
+            aside: None,
+            has_setup: false,
+            has_hold: false,
+        }
+    }
+
+    fn await_word(
+        &mut self,
+        alloc: Global,
+        option: PathOption,
+        name: &Name,
+    ) -> Result<(), AllocError>
+        ensures { OnOk result (self.new ≡ spec.awaiting self.old option name.now) }
+    {
+        self.awaited = Some((option, name.copy(alloc)?));
+        Ok(())
+    }
+
+    // Awaits the word of an option with at most one list, which may have been given before.
+    fn begin_once(
+        &mut self,
+        alloc: Global,
+        option: PathOption,
+        name: &Name,
+        is_given: bool,
+    ) -> Result<(), SdcFault>
+        ensures { Gives Fails (λ _. self.new) result (spec.begun_once self.old option name.now is_given) }
+    {
+        if is_given {
+            return Err(self.head.bad_option(alloc, name)?);
+        }
+        self.await_word(alloc, option, name)?;
+        Ok(())
+    }
+
+    fn set_aside(&mut self, alloc: Global, name: &Name) -> Result<(), AllocError>
+        ensures { OnOk result (self.new ≡ spec.set_aside self.old name.now) }
+    {
+        if self.aside.is_none() {
+            self.aside = Some(name.copy(alloc)?);
+        }
+        Ok(())
+    }
+
+    #[tactic(auto, unfolding(crate::specs::Exceptions::begun))]
+    fn begin(&mut self, alloc: Global, name: &Name, option: PathOption) -> Result<(), SdcFault>
+        ensures { Gives Fails (λ _. self.new) result (spec.begun self.old name.now option) }
+    {
+        match option {
+            PathOption::From => {
+                let is_given = self.from.is_some();
+                self.begin_once(alloc, option, name, is_given)?;
+            }
+            PathOption::To => {
+                let is_given = self.to.is_some();
+                self.begin_once(alloc, option, name, is_given)?;
+            }
+            PathOption::Through | PathOption::Comment => self.await_word(alloc, option, name)?,
+            PathOption::Setup => self.has_setup = true,
+            PathOption::Hold => self.has_hold = true,
+            PathOption::Reference => {}
+            PathOption::LeftOut => self.set_aside(alloc, name)?,
+            PathOption::LeftOutList => {
+                self.set_aside(alloc, name)?;
+                self.await_word(alloc, option, name)?;
+            }
+        }
+        Ok(())
+    }
+
+    #[tactic(auto, unfolding(crate::specs::Exceptions::given))]
+    fn give(&mut self, alloc: Global, option: PathOption, word: &Said) -> Result<(), SdcFault>
+        ensures { Gives Fails (λ _. self.new) result (spec.given self.old option word.now) }
+    {
+        match option {
+            PathOption::From => self.from = Some(objects_of(alloc, word)?),
+            PathOption::To => self.to = Some(objects_of(alloc, word)?),
+            PathOption::Through => self.through.push(objects_of(alloc, word)?)?,
+            _ => {}
+        }
+        Ok(())
+    }
+
+    #[tactic(auto, unfolding(crate::specs::Exceptions::with_number))]
+    fn take_number(&mut self, alloc: Global, value: &Value) -> Result<(), SdcFault>
+        ensures { Gives Fails (λ _. self.new) result (spec.with_number self.old value.now) }
+    {
+        if is_multicycle(self.path) && self.number.is_none() {
+            self.number = Some(value.copy(alloc)?);
+            return Ok(());
+        }
+        Err(self.head.surplus(alloc, value)?)
+    }
+
+    #[tactic(auto, unfolding(crate::specs::Exceptions::with_word))]
+    fn take_word(&mut self, alloc: Global, value: &Value) -> Result<(), SdcFault>
+        ensures { Gives Fails (λ _. self.new) result (spec.with_word self.old value.now) }
+    {
+        let Some(name) = option_of(value) else {
+            return self.take_number(alloc, value);
+        };
+        match path_option(self.path, name.as_bytes()) {
+            Some(option) => self.begin(alloc, name, option),
+            None => Err(self.head.bad_option(alloc, name)?),
+        }
+    }
+}
+
+impl Gather for Reading {
+    ghost adds = { spec.adds_word };
+
+    #[tactic(auto, unfolding(crate::specs::Exceptions::adds_word))]
+    fn add(&mut self, alloc: Global, word: &Said) -> Result<(), SdcFault> {
+        match self.awaited.take() {
+            Some((option, _)) => self.give(alloc, option, word),
+            None => self.take_word(alloc, &word.value),
+        }
+    }
+}
+
+fn is_multicycle(path: PathCommand) -> bool
+    ensures { result ≡ spec.is_multicycle path }
+{
+    match path {
+        PathCommand::FalsePath => false,
+        PathCommand::Multicycle => true,
+    }
+}
+
+fn is_hold(reading: &Reading) -> bool
+    ensures { result ≡ spec.is_hold reading.now }
+{
+    reading.has_hold && !reading.has_setup
+}
+
+fn kind_by(alloc: Global, reading: &Reading, text: &Name) -> Result<Option<Kind>, SdcFault>
+    ensures { Gives Fails (λ kind. kind) result (spec.kind_by reading.now text.now) }
+{
+    if is_hold(reading) {
+        if is_whole(text.as_bytes()) {
+            return Ok(None);
+        }
+        return Err(reading.head.bad_number(alloc, text)?);
+    }
+    match multiplier(text.as_bytes()) {
+        Some(k) => Ok(Some(Kind::Multi(k))),
+        None => Err(reading.head.bad_number(alloc, text)?),
+    }
+}
+
+#[tactic(auto, unfolding(crate::specs::Exceptions::kind_of))]
+fn kind_of(alloc: Global, reading: &Reading) -> Result<Option<Kind>, SdcFault>
+    ensures { Gives Fails (λ kind. kind) result (spec.kind_of reading.now) }
+{
+    let Some(number) = &reading.number else {
+        if is_hold(reading) {
+            return Ok(None);
+        }
+        return Ok(Some(Kind::False));
+    };
+    let text = reading.head.wanted_text(alloc, number)?;
+    kind_by(alloc, reading, text)
+}
+
+fn exception_or_hold(reading: Reading, kind: Option<Kind>) -> What
+    ensures { result ≡ spec.exception_or_hold reading kind }
+{
+    let Reading {
+        from,
+        through,
+        to,
+        ..
+    } = reading;
+    match kind {
+        Some(kind) => What::Claiming(Exception {
+            kind,
+            from,
+            through,
+            to,
+        }),
+        None => What::Hold,
+    }
+}
+
+#[tactic(auto, unfolding(crate::specs::Exceptions::claimed))]
+fn claimed(alloc: Global, reading: Reading) -> Result<What, SdcFault>
+    ensures { Gives Fails (λ what. what) result (spec.claimed reading) }
+{
+    let kind = kind_of(alloc, &reading)?;
+    Ok(exception_or_hold(reading, kind))
+}
+
+#[tactic(auto, unfolding(crate::specs::Exceptions::concluded))]
+fn concluded(alloc: Global, reading: Reading) -> Result<What, SdcFault>
+    ensures { Gives Fails (λ what. what) result (spec.concluded reading) }
+{
+    if let Some((_, name)) = &reading.awaited {
+        return Err(reading.head.bad_option(alloc, name)?);
+    }
+    if is_multicycle(reading.path) && reading.number.is_none() {
+        return Err(reading.head.lacking(alloc)?);
+    }
+    if let Some(name) = &reading.aside {
+        return Ok(What::Aside(name.copy(alloc)?));
+    }
+    claimed(alloc, reading)
+}
+
+/// What the words of an exception say, after the command's name.
+pub fn take_exception(
+    alloc: Global,
+    path: PathCommand,
+    head: Head,
+    words: &[Said],
+) -> Result<What, SdcFault>
+    ensures { Gives Fails (λ what. what) result (spec.exception_of path head words.now) }
+{
+    let mut reading = Reading::new(alloc, path, head);
+    take_all(alloc, words, &mut reading)?;
+    concluded(alloc, reading)
+}

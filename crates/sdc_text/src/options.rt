@@ -1,0 +1,138 @@
+//! The options of commands by their words.
+ghost use Rattle.std.specs.Prelude.{◌≡◌};
+ghost use Rattle.std.specs.Str.{bytes_eq};
+ghost use Rattle.sdc_text.specs.Options as spec;
+
+/// The commands of timing exceptions.
+#[derive(Clone, Copy, Debug, PartialEq, Eq)]
+pub enum PathCommand {
+    FalsePath,
+    Multicycle,
+}
+
+/// An option of a timing exception.
+#[derive(Clone, Copy, Debug, PartialEq, Eq)]
+pub enum PathOption {
+    From,
+    Through,
+    To,
+    Setup,
+    Hold,
+    Comment,
+    /// Which clock the cycles are counted by. It changes nothing under one clock.
+    Reference,
+    /// The command is set aside for it. It stands alone.
+    LeftOut,
+    /// The command is set aside for it. It takes a word.
+    LeftOutList,
+}
+
+/// An option of `create_clock`.
+#[derive(Clone, Copy, Debug, PartialEq, Eq)]
+pub enum ClockOption {
+    /// The clock's name comes next.
+    Called,
+    /// A word comes next that changes nothing here.
+    Timing,
+    /// It stands alone, and changes nothing here.
+    Added,
+}
+
+/// Whether these bytes are this word.
+pub fn is(name: &[u8], word: &str) -> bool
+    ensures { result ≡ bytes_eq name.now word.now }
+{
+    name == word.as_bytes()
+}
+
+#[tactic(auto, unfolding(crate::specs::Options::left_out_option))]
+fn left_out_option(name: &[u8]) -> Option<PathOption>
+    ensures { result ≡ spec.left_out_option name.now }
+{
+    if is(name, "-rise") {
+        Some(PathOption::LeftOut)
+    } else if is(name, "-fall") {
+        Some(PathOption::LeftOut)
+    } else if is(name, "-reset_path") {
+        Some(PathOption::LeftOut)
+    } else if is(name, "-rise_from") {
+        Some(PathOption::LeftOutList)
+    } else if is(name, "-fall_from") {
+        Some(PathOption::LeftOutList)
+    } else if is(name, "-rise_through") {
+        Some(PathOption::LeftOutList)
+    } else if is(name, "-fall_through") {
+        Some(PathOption::LeftOutList)
+    } else if is(name, "-rise_to") {
+        Some(PathOption::LeftOutList)
+    } else if is(name, "-fall_to") {
+        Some(PathOption::LeftOutList)
+    } else {
+        None
+    }
+}
+
+#[tactic(auto, unfolding(crate::specs::Options::common_option))]
+fn common_option(name: &[u8]) -> Option<PathOption>
+    ensures { result ≡ spec.common_option name.now }
+{
+    if is(name, "-from") {
+        Some(PathOption::From)
+    } else if is(name, "-through") {
+        Some(PathOption::Through)
+    } else if is(name, "-to") {
+        Some(PathOption::To)
+    } else if is(name, "-setup") {
+        Some(PathOption::Setup)
+    } else if is(name, "-hold") {
+        Some(PathOption::Hold)
+    } else if is(name, "-comment") {
+        Some(PathOption::Comment)
+    } else {
+        left_out_option(name)
+    }
+}
+
+#[tactic(auto, unfolding(crate::specs::Options::multicycle_option))]
+fn multicycle_option(name: &[u8]) -> Option<PathOption>
+    ensures { result ≡ spec.multicycle_option name.now }
+{
+    if is(name, "-start") {
+        Some(PathOption::Reference)
+    } else if is(name, "-end") {
+        Some(PathOption::Reference)
+    } else {
+        common_option(name)
+    }
+}
+
+/// The option of an exception that this word is, and `None` exactly where it is none.
+#[tactic(auto, unfolding(crate::specs::Options::path_option))]
+pub fn path_option(path: PathCommand, name: &[u8]) -> Option<PathOption>
+    ensures { result ≡ spec.path_option path name.now }
+{
+    match path {
+        PathCommand::FalsePath => common_option(name),
+        PathCommand::Multicycle => multicycle_option(name),
+    }
+}
+
+/// The option of `create_clock` that this word is, and `None` exactly where it is none.
+#[tactic(auto, unfolding(crate::specs::Options::clock_option))]
+pub fn clock_option(name: &[u8]) -> Option<ClockOption>
+    ensures { result ≡ spec.clock_option name.now }
+{
+    if is(name, "-name") {
+        Some(ClockOption::Called)
+    } else if is(name, "-period") {
+        Some(ClockOption::Timing)
+    } else if is(name, "-waveform") {
+        Some(ClockOption::Timing)
+    } else if is(name, "-comment") {
+        Some(ClockOption::Timing)
+    } else if is(name, "-add") {
+        Some(ClockOption::Added)
+    } else {
+        None
+    }
+}

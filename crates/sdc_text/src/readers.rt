@@ -1,0 +1,86 @@
+//! The script that a text is.
+ghost use Rattle.std.specs.Prelude.{◌≡◌, ◌<◌, ◌≤◌, length, IfOk, IfErr, IfSome, IsTrue};
+ghost use Rattle.texts.specs.Rules.{Gives};
+ghost use Rattle.sdc_words.specs.Commands.{text_of, left_of, command_at};
+ghost use Rattle.sdc_values.specs.Told.{Fails};
+ghost use Rattle.sdc_text.specs.Scripts as spec;
+
+use crate::progresses::Progress;
+use crate::scripts::Script;
+use sdc_values::SdcFault;
+use sdc_words::{Commands, RawCommand, cleaned, original};
+use std::alloc::Global;
+
+/// The script that a text is, or the fault that it has. A `Syntax` is at most the text's length.
+#[tactic(auto, unfolding(crate::specs::Scripts::script_of))]
+pub fn read_sdc(alloc: Global, text: &[u8]) -> Result<Script, SdcFault>
+    ensures value { Gives Fails (λ script. script) result (spec.script_of text.now) }
+    ensures within { IfErr result (λ e. spec.IsWithin (length text.now) e) }
+{
+    let clean = cleaned(alloc, text)?;
+    match read_clean(alloc, &clean) {
+        Ok(progress) => Ok(script(progress)),
+        Err(fault) => Err(placed(text, fault)),
+    }
+}
+
+fn script(progress: Progress) -> Script
+    ensures { result.commands ≡ progress.commands }
+{
+    let Progress { commands, .. } = progress;
+    Script { commands }
+}
+
+/// A fault in the cleaned text, at its place in the text.
+fn placed(text: &[u8], fault: SdcFault) -> SdcFault
+    ensures value { result ≡ spec.placed_fault text.now fault }
+    ensures within { spec.IsWithin (length text.now) result }
+{
+    match fault {
+        SdcFault::Syntax(place) => SdcFault::Syntax(original(text, place)),
+        other => other,
+    }
+}
+
+fn next_raw(alloc: Global, commands: &mut Commands<'_>) -> Result<Option<RawCommand>, SdcFault>
+    ensures value { Gives Fails (λ command. (command, left_of commands.new)) result (spec.lifted (command_at (text_of commands.old) (left_of commands.old))) }
+    ensures text { text_of commands.new ≡ text_of commands.old }
+    ensures shorter { IfOk result (λ command. IfSome command (λ _. length (left_of commands.new) < length (left_of commands.old))) }
+{
+    Ok(commands.next_command(alloc)?)
+}
+
+/// Takes the next command, and tells whether there was one.
+#[tactic(auto, unfolding(crate::specs::Scripts::next_at))]
+fn take_next(
+    alloc: Global,
+    commands: &mut Commands<'_>,
+    progress: &mut Progress,
+) -> Result<bool, SdcFault>
+    ensures value { Gives Fails (λ more. ((more, progress.new), left_of commands.new)) result
+        (spec.next_at (text_of commands.old) progress.old (left_of commands.old)) }
+    ensures text { text_of commands.new ≡ text_of commands.old }
+    ensures shorter { IfOk result (λ more. IsTrue more → length (left_of commands.new) < length (left_of commands.old)) }
+{
+    match next_raw(alloc, commands)? {
+        Some(command) => {
+            progress.take_command(alloc, &command)?;
+            Ok(true)
+        }
+        None => Ok(false),
+    }
+}
+
+/// Takes all commands of a text without carriage returns at its lines' ends.
+fn read_clean(alloc: Global, text: &[u8]) -> Result<Progress, SdcFault>
+    ensures { Gives Fails (λ progress. progress) result (spec.progress_of text.now) }
+{
+    let mut commands = Commands::new(text);
+    let mut progress = Progress::new(alloc);
+    'commands: loop {
+        let more = take_next(alloc, &mut commands, &mut progress)?;
+        if !more {
+            return Ok(progress);
+        }
+    }
+}
