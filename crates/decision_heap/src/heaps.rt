@@ -9,8 +9,8 @@ use std::marker::Model;
 /// From this rise on, all scores are made smaller together.
 const MOST_RISE: u64 = 1 << 50;
 
-/// Variables from 1 to `vars`, each once or not at all, those of high score first, with a score for
-/// each variable, waiting or not.
+/// Variables from 1 to `vars`, each once or not at all, those of high score first and of equal scores
+/// the lower, with a score for each variable, waiting or not.
 ///
 /// What always holds (`IsHeap`):
 /// - roomy: there is room for each variable, so that none takes memory to come in.
@@ -218,11 +218,15 @@ impl Heap {
         }
     }
 
+    /// Whether the variable at the one place has the higher score, or the lower number where the
+    /// scores are equal.
     fn is_before(&self, i: usize, j: usize) -> bool
         requires i { i < length self.now.inside }
         requires j { j < length self.now.inside }
     {
-        self.scores[self.array[i] as usize] > self.scores[self.array[j] as usize]
+        let (a, b) = (self.array[i], self.array[j]);
+        let (score, other) = (self.scores[a as usize], self.scores[b as usize]);
+        score > other || score == other && a < b
     }
 
     /// Exchanges the variables at two places.

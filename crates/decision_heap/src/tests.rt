@@ -24,3 +24,13 @@ fn the_most_raised_comes_first(rt: HostRuntime) -> Result<(), Fail> {
     assert_eq!(rt; heap.pop(), None);
     Ok(())
 }
+
+#[test]
+fn of_equal_scores_the_lower_comes_first(rt: HostRuntime) -> Result<(), Fail> {
+    let mut heap = Heap::new(rt.alloc(), 4)?;
+    assert_eq!(rt; heap.pop(), Some(1));
+    assert_eq!(rt; heap.pop(), Some(2));
+    assert_eq!(rt; heap.pop(), Some(3));
+    assert_eq!(rt; heap.pop(), Some(4));
+    Ok(())
+}
