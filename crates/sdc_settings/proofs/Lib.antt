@@ -1,0 +1,5 @@
+pub mod Ranges
+pub mod Naming
+pub mod Sourced
+pub mod Giving
+pub mod Fixing

@@ -1,0 +1,71 @@
+-- What each refusal says. Want of memory alone is free.
+use Rattle.std.specs.Prelude.{◌≡◌, ◌≢◌, ℕ, ◌<◌, List, [], ◌∷◌, take, Contains, Option, Some, slice_get}
+use Rattle.link_defs.specs.declared.names.PortName.{PortName}
+use Rattle.link_defs.specs.declared.options.Setting.{Setting}
+use Rattle.sdc_values.specs.declared.values.Object.{Object}
+use Rattle.sdc_text.specs.declared.scripts.Command.{Command}
+use Rattle.sdc_text.specs.declared.scripts.Script.{Script}
+use Rattle.sdc_settings.specs.declared.faults.ExpandFault.{ExpandFault}
+use Rattle.sdc_settings.specs.declared.faults.ExpandFault.TheVariants.{TwoClocks, ClockNotPort, CaseTwice, CaseOnReset, CaseOnPin, Limit, Memory}
+use Rattle.sdc_settings.specs.declared.cases.Given.{Given}
+use Rattle.sdc_settings.specs.Inputs.{name_at, object_text}
+use Rattle.sdc_settings.specs.Settings.{sourced, source_of, IsSourceOf, HasClock, all_given, case_objects, IsCaseObject, setting_names}
+
+-- an input is given a value for the first time, and later the other one
+pub record IsGivenTwice (inputs : List PortName) (all : List Given) (first later : ℕ) : Type 0 where
+  pub place : ℕ
+  pub after : ℕ
+  pub once : Given
+  pub again : Given
+  pub in_order : place < after
+  pub at_first : slice_get all place ≡ Some once
+  pub at_later : slice_get all after ≡ Some again
+  pub same_input : name_at inputs again.input ≡ name_at inputs once.input
+  pub differ : again.value ≢ once.value
+  pub none_before : (g : Given) → Contains (take place all) g → name_at inputs g.input ≢ name_at inputs once.input
+  pub first_line : once.line ≡ first
+  pub later_line : again.line ≡ later
+
+-- an object of a case analysis on this line names no data input, or something else too
+abbrev pub IsObjectCause : List PortName → Option (List ℕ) → ℕ → List Object → ExpandFault → Type 0
+IsObjectCause inputs clock line objects (CaseOnPin at name) =
+    (at ≡ line) × ((o : Object) × Contains objects o × (object_text o ≡ name) × ¬ IsCaseObject inputs clock o)
+IsObjectCause inputs clock line objects Memory = Unit {0}
+IsObjectCause inputs clock line objects _ = ⊥
+
+-- the same of the case analyses of a script
+abbrev pub IsCaseCause : List PortName → Option (List ℕ) → List Command → ExpandFault → Type 0
+IsCaseCause inputs clock commands (CaseOnPin line name) =
+    (c : Command) × Contains commands c × IsObjectCause inputs clock c.line (case_objects c.what) (CaseOnPin line name)
+IsCaseCause inputs clock commands Memory = Unit {0}
+IsCaseCause inputs clock commands _ = ⊥
+
+-- an input that is given a value is a reset, or it is given the other value too
+abbrev pub IsFixedCause : List PortName → List Setting → List Given → ExpandFault → Type 0
+IsFixedCause inputs resets givens (CaseTwice first later) = IsGivenTwice inputs givens first later
+IsFixedCause inputs resets givens (CaseOnReset line name) =
+    ((g : Given) × Contains givens g × (g.line ≡ line) × (name_at inputs g.input ≡ name)) × Contains (setting_names resets) name
+IsFixedCause inputs resets givens Memory = Unit {0}
+IsFixedCause inputs resets givens _ = ⊥
+
+-- two clocks with a source, or one whose source is not exactly one input bit
+abbrev pub IsClockCause : Script → List PortName → ExpandFault → Type 0
+IsClockCause script inputs (TwoClocks first second) =
+    (a b : Command) × (rest : List Command) × (sourced script ≡ a ∷ b ∷ rest) × (a.line ≡ first) × (b.line ≡ second)
+IsClockCause script inputs (ClockNotPort line) =
+    (c : Command) × (sourced script ≡ c ∷ []) × (c.line ≡ line) × ¬ ((bit : List ℕ) × IsSourceOf inputs (source_of c.what) bit)
+IsClockCause script inputs Memory = Unit {0}
+IsClockCause script inputs _ = ⊥
+
+-- the refusals of settings; those of case analyses come only where the clock is settled
+abbrev pub IsSettingsCause : Script → List PortName → List Setting → ExpandFault → Type 0
+IsSettingsCause script inputs resets (TwoClocks first second) = IsClockCause script inputs (TwoClocks first second)
+IsSettingsCause script inputs resets (ClockNotPort line) = IsClockCause script inputs (ClockNotPort line)
+IsSettingsCause script inputs resets (CaseTwice first later) =
+    (clock : Option (List ℕ)) × HasClock script inputs clock × IsFixedCause inputs resets (all_given script inputs clock) (CaseTwice first later)
+IsSettingsCause script inputs resets (CaseOnReset line name) =
+    (clock : Option (List ℕ)) × HasClock script inputs clock × IsFixedCause inputs resets (all_given script inputs clock) (CaseOnReset line name)
+IsSettingsCause script inputs resets (CaseOnPin line name) =
+    (clock : Option (List ℕ)) × HasClock script inputs clock × IsCaseCause inputs clock script.commands (CaseOnPin line name)
+IsSettingsCause script inputs resets (Limit what number) = ⊥
+IsSettingsCause script inputs resets Memory = Unit {0}

@@ -1,0 +1,4 @@
+pub mod Inputs
+pub mod Settings
+pub mod Causes
+pub mod Stages

@@ -1,0 +1,107 @@
+-- The settings of a script: the clock's port bit, and the inputs that a case analysis fixes.
+use Rattle.std.specs.Prelude.{◌≡◌, ℕ, Bool, true, false, not, ◌==◌, List, [], ◌∷◌, length, map, filter, flat_map, All, Contains, Option, Some, None}
+use Rattle.std.specs.Str.{bytes_eq}
+use Rattle.texts.specs.Names.{are_distinct}
+use Rattle.link_defs.specs.declared.names.PortName.{PortName}
+use Rattle.link_defs.specs.declared.options.Setting.{Setting}
+use Rattle.sdc_values.specs.declared.values.Object.{Object}
+use Rattle.sdc_values.specs.declared.values.Object.TheVariants.{AllInputs}
+use Rattle.sdc_text.specs.declared.scripts.What.{What}
+use Rattle.sdc_text.specs.declared.scripts.What.TheVariants.{Clock, Case}
+use Rattle.sdc_text.specs.declared.scripts.Command.{Command}
+use Rattle.sdc_text.specs.declared.scripts.Script.{Script}
+use Rattle.sdc_settings.specs.declared.values.Settings.{Settings}
+use Rattle.sdc_settings.specs.declared.cases.Given.{Given}
+use Rattle.sdc_settings.specs.Inputs.{is_port_object, port_places, places, name_at}
+
+-- the objects of a clock's source
+abbrev pub source_of : What → List Object
+source_of (Clock name source) = source
+source_of _ = []
+
+-- a clock that is not virtual: it has a source
+abbrev pub is_sourced : Command → Bool
+is_sourced c = not (length (source_of c.what) == 0)
+
+-- the clocks that have a source, in the order of the script
+abbrev pub sourced : Script → List Command
+sourced script = filter is_sourced script.commands
+
+-- the objects of a source name exactly this one input bit, however often
+pub record IsSourceOf (inputs : List PortName) (source : List Object) (bit : List ℕ) : Type 0 where
+  pub ports : All (λ o. is_port_object o ≡ true) source
+  pub some : Contains (map (name_at inputs) (flat_map (port_places inputs) source)) bit
+  pub same : All (λ other. other ≡ bit) (map (name_at inputs) (flat_map (port_places inputs) source))
+
+-- the clock port of a script: no clock has a source, or one alone, which is that port bit
+abbrev pub HasClock : Script → List PortName → Option (List ℕ) → Type 0
+HasClock script inputs None = sourced script ≡ []
+HasClock script inputs (Some bit) = (c : Command) × (sourced script ≡ c ∷ []) × IsSourceOf inputs (source_of c.what) bit
+
+-- the clock's bit has this name
+abbrev pub is_clock : Option (List ℕ) → List ℕ → Bool
+is_clock None name = false
+is_clock (Some bit) name = bytes_eq bit name
+
+-- the places of the data inputs
+unfoldable pub data_places : List PortName → Option (List ℕ) → List ℕ
+data_places inputs clock = filter (λ place. not (is_clock clock (name_at inputs place))) (places inputs)
+
+-- the places of the input bits that an object of a case analysis names; `all_inputs` are the data inputs
+abbrev pub case_places : List PortName → Option (List ℕ) → Object → List ℕ
+case_places inputs clock AllInputs = data_places inputs clock
+case_places inputs clock o = port_places inputs o
+
+-- an object that a case analysis may have
+abbrev pub is_case_object : Object → Bool
+is_case_object AllInputs = true
+is_case_object o = is_port_object o
+
+-- it names data input bits, at least one, and not the clock port
+pub record IsCaseObject (inputs : List PortName) (clock : Option (List ℕ)) (o : Object) : Type 0 where
+  pub ports : is_case_object o ≡ true
+  pub some : ¬ (case_places inputs clock o ≡ [])
+  pub no_clock : All (λ place. is_clock clock (name_at inputs place) ≡ false) (case_places inputs clock o)
+
+-- the objects of a case analysis
+abbrev pub case_objects : What → List Object
+case_objects (Case value objects) = objects
+case_objects _ = []
+
+-- an input bit, by its place, is given a value at a line
+abbrev pub given : ℕ → Bool → ℕ → Given
+given line value place = record { line = line; value = value; input = place }
+
+-- what a command gives
+abbrev pub given_by : List PortName → Option (List ℕ) → ℕ → What → List Given
+given_by inputs clock line (Case value objects) = map (given line value) (flat_map (case_places inputs clock) objects)
+given_by inputs clock line _ = []
+
+-- what all case analyses of a script give, in their order
+unfoldable pub all_given : Script → List PortName → Option (List ℕ) → List Given
+all_given script inputs clock = flat_map (λ (c : Command). given_by inputs clock c.line c.what) script.commands
+
+-- each object of each case analysis names data input bits
+abbrev pub AreCaseObjects : Script → List PortName → Option (List ℕ) → Type 0
+AreCaseObjects script inputs clock = All (λ (c : Command). All (IsCaseObject inputs clock) (case_objects c.what)) script.commands
+
+-- the names of settings
+abbrev pub setting_names : List Setting → List (List ℕ)
+setting_names settings = map (λ (s : Setting). s.name) settings
+
+-- the setting that what is given says
+abbrev pub setting_of : List PortName → Given → Setting
+setting_of inputs g = record { name = name_at inputs g.input; value = g.value }
+
+-- the fixed inputs are those that are given a value, each once with its value, and none is a reset
+pub record AreFixed (inputs : List PortName) (resets : List Setting) (givens : List Given) (fixed : List Setting) : Type 0 where
+  pub no_reset : (g : Given) → Contains givens g → ¬ Contains (setting_names resets) (name_at inputs g.input)
+  pub all : (g : Given) → Contains givens g → Contains fixed (setting_of inputs g)
+  pub only : (f : Setting) → Contains fixed f → (g : Given) × Contains givens g × (setting_of inputs g ≡ f)
+  pub once : are_distinct (setting_names fixed) ≡ true
+
+-- the settings of a script among these input bits, with these resets
+pub record AreSettings (script : Script) (inputs : List PortName) (resets : List Setting) (s : Settings) : Type 0 where
+  pub clock : HasClock script inputs s.clock
+  pub objects : AreCaseObjects script inputs s.clock
+  pub fixed : AreFixed inputs resets (all_given script inputs s.clock) s.fixed

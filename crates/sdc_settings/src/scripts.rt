@@ -1,0 +1,32 @@
+//! The call that finds the clock and the fixed inputs.
+ghost use Rattle.std.specs.Prelude.{IfOk, IfErr};
+ghost use Rattle.sdc_settings.specs.Settings.{AreSettings};
+ghost use Rattle.sdc_settings.specs.Causes.{IsSettingsCause};
+
+use crate::cases::all_given;
+use crate::clocks::clock;
+use crate::faults::ExpandFault;
+use crate::fixed::fixed_inputs;
+use crate::values::Settings;
+use link_defs::{PortName, Setting};
+use sdc_text::Script;
+use sdcv_base::Seq;
+use std::alloc::Global;
+
+/// The settings of a script. `inputs` are the input port bits of the design's top, the clock's among them, in port order;
+/// `resets` are the inputs that are active for the first cycles, which no case analysis may fix. The clock is looked at
+/// before the case analyses.
+pub fn settings(
+    alloc: Global,
+    script: &Script,
+    inputs: &Seq<PortName>,
+    resets: &Seq<Setting>,
+) -> Result<Settings, ExpandFault>
+    ensures ok { IfOk result (AreSettings script.now inputs.now resets.now) }
+    ensures err { IfErr result (IsSettingsCause script.now inputs.now resets.now) }
+{
+    let clock = clock(alloc, script, inputs)?;
+    let givens = all_given(alloc, script, inputs, &clock)?;
+    let fixed = fixed_inputs(alloc, inputs, resets, &givens)?;
+    Ok(Settings { clock, fixed })
+}

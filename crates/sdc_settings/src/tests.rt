@@ -1,0 +1,156 @@
+use crate::{Settings, settings};
+use link_defs::{PortName, Setting};
+use sdc_text::{Class, Command, Object, Query, Script, What};
+use sdcv_base::{Name, Seq};
+use std::alloc::{AllocError, Global};
+use std::test;
+
+// A command of a script, by the patterns of its objects. `CellCase` has a pattern of cells, `AllCase` has `all_inputs`.
+#[derive(Clone, Copy)]
+enum Line {
+    Clock(&'static [&'static str]),
+    Case(bool, &'static [&'static str]),
+    CellCase(&'static str),
+    AllCase(bool),
+}
+
+// Inputs `clk`, the bits of a bus `d`, and the reset `rst`.
+const INPUTS: [(&str, &str); 4] = [("clk", ""), ("d[1]", "d"), ("d[0]", "d"), ("rst", "")];
+
+// SDC 2.1, create_clock and set_case_analysis, worked by hand: the clock, and the fixed inputs with their values, or the
+// fault. Lines count from 1.
+const CASES: [(&[Line], &str); 14] = [
+    (&[], "none"),
+    (&[Line::Clock(&["clk"])], "clk"),
+    (&[Line::Clock(&[]), Line::Clock(&["c*"])], "clk"),
+    (
+        &[Line::Clock(&["clk"]), Line::Clock(&["d[0]"])],
+        "lines 1 and 2: two clocks with a source",
+    ),
+    (
+        &[Line::Clock(&["d"])],
+        "line 1: the source of a clock is not exactly one input port bit",
+    ),
+    (
+        &[Line::Clock(&["nope"])],
+        "line 1: the source of a clock is not exactly one input port bit",
+    ),
+    (&[Line::Case(true, &["d"])], "none d[1]=true d[0]=true"),
+    (
+        &[Line::Case(false, &["d[0]"]), Line::Case(false, &["d[?]"])],
+        "none d[0]=false d[1]=false",
+    ),
+    (
+        &[
+            Line::Case(false, &["d[0]"]),
+            Line::Case(true, &["d[1]"]),
+            Line::Case(true, &["d"]),
+        ],
+        "lines 1 and 3: two case analyses give one port different values",
+    ),
+    (&[Line::Case(false, &["rst"])], "line 1: rst is a reset"),
+    (
+        &[Line::Case(false, &["d", "q"])],
+        "line 1: q is no data input port",
+    ),
+    (
+        &[Line::Clock(&["clk"]), Line::Case(true, &["clk"])],
+        "line 2: clk is no data input port",
+    ),
+    (&[Line::CellCase("d")], "line 1: d is no data input port"),
+    (
+        &[Line::Clock(&["clk"]), Line::AllCase(true)],
+        "line 2: rst is a reset",
+    ),
+];
+
+fn objects(alloc: Global, class: Class, patterns: &[&str]) -> Result<Seq<Object>, AllocError> {
+    let mut objects = Seq::new(alloc);
+    for pattern in patterns {
+        let pattern = Name::new(alloc, pattern.as_bytes())?;
+        objects.push(Object::Named(Query {
+            class,
+            hier: false,
+            pattern,
+        }))?;
+    }
+    Ok(objects)
+}
+
+fn what(alloc: Global, line: Line) -> Result<What, AllocError> {
+    Ok(match line {
+        Line::Clock(patterns) => What::Clock {
+            name: None,
+            source: objects(alloc, Class::Ports, patterns)?,
+        },
+        Line::Case(value, patterns) => What::Case {
+            value,
+            objects: objects(alloc, Class::Any, patterns)?,
+        },
+        Line::CellCase(pattern) => What::Case {
+            value: true,
+            objects: objects(alloc, Class::Cells, &[pattern])?,
+        },
+        Line::AllCase(value) => What::Case {
+            value,
+            objects: Seq::one(alloc, Object::AllInputs)?,
+        },
+    })
+}
+
+fn script(alloc: Global, lines: &[Line]) -> Result<Script, AllocError> {
+    let mut commands = Seq::new(alloc);
+    for (k, line) in lines.iter().enumerate() {
+        commands.push(Command {
+            line: k as u64 + 1,
+            what: what(alloc, *line)?,
+        })?;
+    }
+    Ok(Script { commands })
+}
+
+fn inputs(alloc: Global) -> Result<Seq<PortName>, AllocError> {
+    let mut inputs = Seq::new(alloc);
+    for (name, bus) in INPUTS {
+        inputs.push(PortName {
+            name: Name::new(alloc, name.as_bytes())?,
+            bus: if bus.is_empty() {
+                None
+            } else {
+                Some(Name::new(alloc, bus.as_bytes())?)
+            },
+        })?;
+    }
+    Ok(inputs)
+}
+
+fn shown(alloc: Global, settings: &Settings) -> Result<String, AllocError> {
+    let mut text = match &settings.clock {
+        Some(name) => format!(in alloc; "{name}")?,
+        None => format!(in alloc; "none")?,
+    };
+    for setting in settings.fixed.as_slice() {
+        text = format!(in alloc; "{text} {}={}", setting.name, setting.value)?;
+    }
+    Ok(text)
+}
+
+fn resets(alloc: Global) -> Result<Seq<Setting>, AllocError> {
+    let name = Name::new(alloc, b"rst")?;
+    Seq::one(alloc, Setting { name, value: true })
+}
+
+#[test]
+fn a_script_sets_what_it_says(rt: HostRuntime) -> Result<(), test::Fail> {
+    let alloc = rt.alloc();
+    let inputs = inputs(alloc)?;
+    let resets = resets(alloc)?;
+    for (lines, want) in CASES {
+        let text = match settings(alloc, &script(alloc, lines)?, &inputs, &resets) {
+            Ok(settings) => shown(alloc, &settings)?,
+            Err(fault) => format!(in alloc; "{fault}")?,
+        };
+        assert_eq!(rt; text.as_str(), want);
+    }
+    Ok(())
+}
