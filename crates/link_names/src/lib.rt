@@ -1,0 +1,12 @@
+//! Names of a flat netlist in tables: each full name once, and no name for two nets.
+//!
+//! Read `tables.rt`; `specs/Tables.antt` says what stands in a table. The names of cells are left to a crate above.
+#![tactic(auto)]
+
+mod faults;
+mod tables;
+#[cfg(test)]
+mod tests;
+
+pub use faults::NameFault;
+pub use tables::{NetTable, net_table};
