@@ -72,7 +72,9 @@ fn index_at(range: &Range, i: usize) -> u64
 fn bit_name(alloc: Global, name: &Name, index: u64) -> Result<Name, AllocError>
     ensures { IfOk result (λ bit. bit ≡ spec.bit_name name.now index) }
 {
-    let mut bytes = Vec::from_slice(alloc, name.as_bytes())?;
+    let room = name.as_bytes().len().saturating_add(8);
+    let mut bytes = Vec::with_capacity(alloc, room)?;
+    bytes.extend_from_slice(name.as_bytes())?;
     bytes.push(b'[')?;
     push_decimal(alloc, &mut bytes, index)?;
     bytes.push(b']')?;

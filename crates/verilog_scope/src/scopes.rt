@@ -1,5 +1,6 @@
 //! The nets of a module by number.
-ghost use Rattle.std.specs.Prelude.{◌≡◌, IfOk};
+ghost use Rattle.std.specs.Prelude.{◌≡◌, ◌||◌, is_some, slice_index_or, IfOk};
+ghost use Rattle.texts.specs.Names.{is_among};
 ghost use Rattle.texts.specs.Rules.{Gives};
 ghost use Rattle.verilog_scope.specs.Fails.{Fails};
 ghost use Rattle.verilog_scope.specs.Scopes as spec;
@@ -64,20 +65,23 @@ impl Scope {
     pub fn base(&self, name: &Name) -> usize
         ensures { result ≡ spec.base_of self.now name.now }
     {
-        self.bases
-            .as_slice()
-            .get(self.names.place(name))
-            .copied()
-            .unwrap_or(0)
+        self.base_at(self.names.place(name))
+    }
+
+    fn base_at(&self, place: usize) -> usize
+        ensures { result ≡ slice_index_or self.now.bases place 0 }
+    {
+        self.bases.as_slice().get(place).copied().unwrap_or(0)
     }
 
     /// All nets of a name.
     pub fn bits(&self, name: &Name) -> Run
         ensures { result ≡ spec.all_bits self.now name.now }
     {
+        let place = self.names.place(name);
         Run {
-            first: self.base(name),
-            count: width(&self.decl(name).range),
+            first: self.base_at(place),
+            count: width(&decl_at(&self.decls, place).range),
         }
     }
 
@@ -85,7 +89,13 @@ impl Scope {
     pub fn knows(&self, name: &Name) -> bool
         ensures { result ≡ spec.is_known self.now name.now }
     {
-        let decl = self.decl(name);
+        self.knows_as(name, &self.decl(name))
+    }
+
+    /// Whether a name of which this is declared stands for nets.
+    fn knows_as(&self, name: &Name, decl: &Decl) -> bool
+        ensures { result ≡ ((is_some decl.now.dir || is_some decl.now.kind) || is_among name.now self.now.implied) }
+    {
         decl.dir.is_some() || decl.kind.is_some() || self.implied.contains(name)
     }
 
@@ -94,12 +104,14 @@ impl Scope {
     pub fn run(&self, name: &Name, select: &Select) -> Result<Option<Run>, AllocError>
         ensures { IfOk result (λ run. run ≡ spec.run_of self.now name.now select.now) }
     {
-        if !self.knows(name) {
+        let place = self.names.place(name);
+        let decl = decl_at(&self.decls, place);
+        if !self.knows_as(name, &decl) {
             return Ok(None);
         }
-        match selected(&self.decl(name).range, select) {
+        match selected(&decl.range, select) {
             None => Ok(None),
-            Some(bits) => match self.base(name).checked_add(bits.first) {
+            Some(bits) => match self.base_at(place).checked_add(bits.first) {
                 None => Err(AllocError),
                 Some(first) => Ok(Some(Run {
                     first,
