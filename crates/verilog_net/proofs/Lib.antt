@@ -1,3 +1,4 @@
+pub mod PinLemmas
 pub mod RunLemmas
 pub mod SourceLemmas
 pub mod ItemLemmas

@@ -1,5 +1,6 @@
 pub mod Wires
 pub mod Hierarchies
+pub mod Pins
 pub mod Items
 pub mod Modules
 pub mod Sources

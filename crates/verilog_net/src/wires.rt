@@ -19,28 +19,45 @@ pub fn wires_of(alloc: Global, scope: &Scope, parts: &[PartDecl]) -> Result<Seq<
 {
     let mut found = Seq::new(alloc);
     for part in parts {
-        add_part(scope, &mut found, part)?;
+        add_part(alloc, scope, &mut found, part)?;
     }
     Ok(found)
 }
 
 #[tactic(auto, unfolding(crate::specs::Wires::add_part))]
-fn add_part(scope: &Scope, found: &mut Seq<Wire>, part: &PartDecl) -> Result<(), VerFault>
+fn add_part(
+    alloc: Global,
+    scope: &Scope,
+    found: &mut Seq<Wire>,
+    part: &PartDecl,
+) -> Result<(), VerFault>
     ensures { Gives Fails (λ _. found.new) result (spec.add_part scope.now found.old part.now) }
 {
     match &part.part {
         Part::Bits(bits) => {
+            make_room(alloc, found, bits.len())?;
             push_bits(found, bits.as_slice())?;
             Ok(())
         }
         Part::Net { name, select } => match scope.run(name, select)? {
             None => Err(VerFault::Syntax(part.offset)),
             Some(run) => {
+                make_room(alloc, found, run.count)?;
                 push_run(found, &run)?;
                 Ok(())
             }
         },
     }
+}
+
+/// Makes an empty list one with room for so many wires.
+fn make_room(alloc: Global, found: &mut Seq<Wire>, count: usize) -> Result<(), AllocError>
+    ensures { found.new ≡ found.old }
+{
+    if found.is_empty() {
+        *found = Seq::from_vec(Vec::with_capacity(alloc, count)?);
+    }
+    Ok(())
 }
 
 fn push_bits(found: &mut Seq<Wire>, bits: &[bool]) -> Result<(), AllocError>

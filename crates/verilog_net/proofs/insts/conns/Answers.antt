@@ -8,7 +8,7 @@ use Rattle.verilog_net.proofs.insts.conns.Goals as goal
 
 pub returns-in_err-conn : goal.returns-in_err-conn
 returns-in_err-conn c =
-    let p = err_from_is_err_and c.from_residual.result c.from_residual.ensures.1 in
+    let p = err_from_is_err_and c.from_residual-in_err-conn.result c.from_residual-in_err-conn.ensures.1 in
     rw (p.1, p.2) (fails_through c.in_err-conn.field-0.0 _ _ c.in_err-conn.ensures
     (λ why bad. c.loop-decl.invariant ∙ fold_bad (pushing (spec.conn_of c.args.scope.now (slice_get c.args.hierarchy.now.scopes c.args.place)))
     c.loop-decl.found c.args.list.now c.loop-decl.decl-index c.decl-item.result why
