@@ -1,15 +1,10 @@
 -- The groups and attributes of a cell that count, by their names.
-use Rattle.std.specs.Prelude.{ℕ, List, [], ◌∷◌, Option, find, codes}
-use Rattle.std.specs.Option.{option_map}
-use Rattle.std.specs.Str.{bytes_eq}
+use Rattle.std.specs.Prelude.{ℕ, List, [], ◌∷◌, Option, codes}
+use Rattle.texts.specs.Lookups.{in_table}
 use Rattle.lib_words.specs.declared.kinds.PartKind.{PartKind}
 use Rattle.lib_words.specs.declared.kinds.PartKind.TheVariants as part
 use Rattle.lib_words.specs.declared.kinds.AttributeKind.{AttributeKind}
 use Rattle.lib_words.specs.declared.kinds.AttributeKind.TheVariants as attribute
-
--- what stands beside these bytes in a table
-abbrev pub in_table : {A : Type 0} → List (List ℕ × A) → List ℕ → Option A
-in_table rows x = option_map (λ row. row.1) (find (λ row. bytes_eq x row.0) rows)
 
 -- the groups that count where they stand directly in a cell
 unfoldable pub part_kind : List ℕ → Option PartKind

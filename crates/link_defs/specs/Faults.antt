@@ -18,7 +18,7 @@ use Rattle.cell_types.specs.declared.libraries.CellKind.TheVariants as kind
 use Rattle.link_defs.specs.declared.circuits.Part.TheVariants as part
 use Rattle.link_defs.specs.declared.circuits.Circuit.{Circuit}
 use Rattle.link_defs.specs.declared.options.LinkOptions.{LinkOptions}
-use Rattle.link_defs.specs.declared.options.Setting.{Setting}
+use Rattle.sdcv_base.specs.declared.settings.Setting.{Setting}
 use Rattle.link_defs.specs.declared.faults.LinkFault.{LinkFault}
 use Rattle.link_defs.specs.declared.faults.LinkFault.TheVariants as fault
 use Rattle.link_defs.specs.Hierarchy.{cell_of, wires_of, tops, IsRecursive}

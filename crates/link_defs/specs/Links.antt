@@ -11,7 +11,7 @@ use Rattle.link_defs.specs.declared.circuits.Circuit.{Circuit}
 use Rattle.link_defs.specs.declared.names.Linked.{Linked}
 use Rattle.link_defs.specs.declared.names.PortName.{PortName}
 use Rattle.link_defs.specs.declared.options.LinkOptions.{LinkOptions}
-use Rattle.link_defs.specs.declared.options.Setting.{Setting}
+use Rattle.sdcv_base.specs.declared.settings.Setting.{Setting}
 use Rattle.link_defs.specs.Hierarchy.{tops}
 use Rattle.link_defs.specs.Flatten.{flat_of}
 use Rattle.link_defs.specs.Circuits.{PortBit, circuit_of, data_bits, output_bits, regs_of}

@@ -16,4 +16,4 @@ pub use circuits::{Circuit, Part};
 pub use faults::LinkFault;
 pub use laws::solutions_are;
 pub use names::{CellName, Linked, Names, NetName, PinName, PinRole, PortName};
-pub use options::{LinkOptions, Setting};
+pub use options::LinkOptions;

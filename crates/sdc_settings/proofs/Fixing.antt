@@ -13,7 +13,7 @@ use Rattle.std.proofs.lemmas.List.{take_all, take_more, length-map, get_or-map, 
 use Rattle.std.proofs.lemmas.List.Elements.{Contains-append_cases, Contains-append_left, Contains-append_right}
 use Rattle.std.proofs.lemmas.Option.{slice_get_within, get_or_from_slice_get, slice_get-get_or}
 use Rattle.link_defs.specs.declared.names.PortName.{PortName}
-use Rattle.link_defs.specs.declared.options.Setting.{Setting}
+use Rattle.sdcv_base.specs.declared.settings.Setting.{Setting}
 use Rattle.sdc_settings.specs.declared.cases.Given.{Given}
 use Rattle.sdc_settings.specs.declared.fixed.Fixed.{Fixed}
 use Rattle.sdc_settings.specs.Inputs.{name_at}

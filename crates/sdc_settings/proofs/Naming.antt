@@ -10,7 +10,7 @@ use Rattle.std.proofs.lemmas.Option.{slice_get_within, get_or_from_slice_get}
 use Rattle.std.specs.List.{flat_map}
 use Rattle.std.proofs.lemmas.List.Elements.{All-append}
 use Rattle.link_defs.specs.declared.names.PortName.{PortName}
-use Rattle.link_defs.specs.declared.options.Setting.{Setting}
+use Rattle.sdcv_base.specs.declared.settings.Setting.{Setting}
 use Rattle.sdc_values.specs.declared.values.Object.{Object}
 use Rattle.sdc_values.specs.declared.values.Object.TheVariants.{Named, AllInputs, AllOutputs, AllRegisters, AllClocks}
 use Rattle.sdc_settings.specs.Inputs.{name_of, name_at, named_places, names_input, port_places}

@@ -1,7 +1,7 @@
 -- What each refusal says. Want of memory alone is free.
 use Rattle.std.specs.Prelude.{◌≡◌, ◌≢◌, ℕ, ◌<◌, List, [], ◌∷◌, take, Contains, Option, Some, slice_get}
 use Rattle.link_defs.specs.declared.names.PortName.{PortName}
-use Rattle.link_defs.specs.declared.options.Setting.{Setting}
+use Rattle.sdcv_base.specs.declared.settings.Setting.{Setting}
 use Rattle.sdc_values.specs.declared.values.Object.{Object}
 use Rattle.sdc_text.specs.declared.scripts.Command.{Command}
 use Rattle.sdc_text.specs.declared.scripts.Script.{Script}

@@ -3,7 +3,7 @@ use Rattle.std.specs.Prelude.{◌≡◌, ℕ, Bool, true, false, not, ◌==◌, 
 use Rattle.std.specs.Str.{bytes_eq}
 use Rattle.texts.specs.Names.{are_distinct}
 use Rattle.link_defs.specs.declared.names.PortName.{PortName}
-use Rattle.link_defs.specs.declared.options.Setting.{Setting}
+use Rattle.sdcv_base.specs.declared.settings.Setting.{Setting}
 use Rattle.sdc_values.specs.declared.values.Object.{Object}
 use Rattle.sdc_values.specs.declared.values.Object.TheVariants.{AllInputs}
 use Rattle.sdc_text.specs.declared.scripts.What.{What}

@@ -7,8 +7,8 @@ ghost use Rattle.sdc_settings.specs.declared.cases.Given.{Given as GivenRecord};
 
 use crate::cases::Given;
 use crate::faults::ExpandFault;
-use link_defs::{PortName, Setting};
-use sdcv_base::{Name, Seq};
+use link_defs::PortName;
+use sdcv_base::{Name, Seq, Setting};
 use std::alloc::Global;
 use texts::NameTable;
 

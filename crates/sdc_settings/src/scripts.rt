@@ -8,9 +8,9 @@ use crate::clocks::clock;
 use crate::faults::ExpandFault;
 use crate::fixed::fixed_inputs;
 use crate::values::Settings;
-use link_defs::{PortName, Setting};
+use link_defs::PortName;
 use sdc_text::Script;
-use sdcv_base::Seq;
+use sdcv_base::{Seq, Setting};
 use std::alloc::Global;
 
 /// The settings of a script. `inputs` are the input port bits of the design's top, the clock's among them, in port order;

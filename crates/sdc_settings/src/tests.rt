@@ -1,7 +1,7 @@
 use crate::{Settings, settings};
-use link_defs::{PortName, Setting};
+use link_defs::PortName;
 use sdc_text::{Class, Command, Object, Query, Script, What};
-use sdcv_base::{Name, Seq};
+use sdcv_base::{Name, Seq, Setting};
 use std::alloc::{AllocError, Global};
 use std::test;
 

@@ -1,6 +1,5 @@
 //! What a script sets.
-use link_defs::Setting;
-use sdcv_base::{Name, Seq};
+use sdcv_base::{Name, Seq, Setting};
 
 /// The name of the clock's port bit, if a clock has a source, and the inputs that case analyses fix, each once, by name.
 #[derive(Drop)]

@@ -1,16 +1,12 @@
 -- The commands that may stand in brackets, by their names, and the options of a word.
-use Rattle.std.specs.Prelude.{ℕ, Bool, not, ◌==◌, ◌&&◌, ◌||◌, List, [], ◌∷◌, slice_index, Option, find, codes}
+use Rattle.std.specs.Prelude.{ℕ, Bool, not, ◌==◌, ◌&&◌, ◌||◌, List, [], ◌∷◌, slice_index, Option, codes}
 use Rattle.std.specs.Char.{is_ascii_digit}
-use Rattle.std.specs.Option.{option_map}
 use Rattle.std.specs.Str.{bytes_eq}
 use Rattle.texts.specs.Fronts.{first}
+use Rattle.texts.specs.Lookups.{in_table}
 use Rattle.sdc_values.specs.declared.values.Class.TheVariants as class
 use Rattle.sdc_values.specs.declared.nested_kinds.NestedKind.{NestedKind}
 use Rattle.sdc_values.specs.declared.nested_kinds.NestedKind.TheVariants.{List as JoinsLists, Get, AllInputs, AllOutputs, AllRegisters, AllClocks}
-
--- what stands beside these bytes in a table
-abbrev pub in_table : {A : Type 0} → List (List ℕ × A) → List ℕ → Option A
-in_table rows x = option_map (λ row. row.1) (find (λ row. bytes_eq x row.0) rows)
 
 -- SDC 2.1: the commands that give objects, and `list` of Tcl
 unfoldable pub nested_kind : List ℕ → Option NestedKind

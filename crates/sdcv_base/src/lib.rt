@@ -1,5 +1,5 @@
 //! What every other crate stands on: lists and names as contracts see them, a cursor over a text, numbers in decimal
-//! digits, the kinds of exceptions, and the host through which a run reads, prints and saves.
+//! digits, the kinds of exceptions, values set for ports, and the host through which a run reads, prints and saves.
 //!
 //! Read `hosts.rt` first: what a run may do outside, and what is known of it afterwards.
 #![tactic(auto)]
@@ -12,8 +12,7 @@ mod limits;
 mod mem_hosts;
 mod names;
 mod seqs;
-#[cfg(test)]
-mod tests;
+mod settings;
 
 pub use cursors::Cursor;
 pub use decimals::{push_decimal, read_decimal};
@@ -23,3 +22,4 @@ pub use limits::LimitName;
 pub use mem_hosts::{Fail, FileRec, MemHost};
 pub use names::Name;
 pub use seqs::Seq;
+pub use settings::Setting;

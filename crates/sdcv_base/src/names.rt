@@ -6,15 +6,16 @@ ghost use Rattle.std.specs.Str.{bytes_eq};
 ghost use Rattle.std.specs.Hash as fed;
 ghost use Rattle.std.specs.Cmp.Rules.{comparing, hashing};
 
+use smallvec::SmallVec;
 use std::alloc::{AllocError, Global};
 use std::fmt;
 use std::hash::{Hash, Hasher};
 use std::marker::Model;
 
-/// A name of a text: a list of bytes, of any values.
+/// A name of a text: a list of bytes, of any values. One of at most 24 bytes asks for no memory of its own.
 #[derive(Debug, Drop)]
 pub struct Name {
-    bytes: Vec<u8>,
+    bytes: SmallVec<u8, 24>,
 }
 
 impl Model for Name {
@@ -29,21 +30,23 @@ impl Name {
         ensures { IfOk result (λ n. n ≡ bytes.now) }
     {
         Ok(Name {
-            bytes: Vec::from_slice(alloc, bytes)?,
+            bytes: SmallVec::from_slice(alloc, bytes)?,
         })
     }
 
-    /// The name of these bytes, which are not copied.
+    /// The name of these bytes.
     pub fn from_vec(bytes: Vec<u8>) -> Name
         ensures { result ≡ bytes.items }
     {
-        Name { bytes }
+        Name {
+            bytes: SmallVec::from_vec(bytes),
+        }
     }
 
     pub fn as_bytes(&self) -> &[u8]
         ensures { result.now ≡ self.now }
     {
-        &self.bytes
+        self.bytes.as_slice()
     }
 
     /// An equal name.

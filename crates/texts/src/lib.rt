@@ -9,8 +9,6 @@
 mod bytes;
 mod fronts;
 mod tables;
-#[cfg(test)]
-mod tests;
 
 pub use bytes::{is_letter, is_word, word_len};
 pub use fronts::{after, byte_at, closed_by, has_two, upto};

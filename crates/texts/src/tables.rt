@@ -1,5 +1,6 @@
 //! Tables of names.
-ghost use Rattle.std.specs.Prelude.{◌≡◌, ℕ, List, [], OnOk, OnErr, IfOk, not, map};
+ghost use Rattle.std.specs.Prelude.{◌≡◌, ℕ, List, [], OnOk, OnErr, IfOk, not, map, length, slice_get};
+ghost use Rattle.std.specs.Option.{option_copied};
 ghost use Rattle.texts.specs.Names.{is_among, place_of, with_name, with_names, are_new};
 
 use indexmap::IndexSet;
@@ -44,6 +45,13 @@ impl NameTable {
         }
     }
 
+    /// How many names there are.
+    pub fn len(&self) -> usize
+        ensures { result ≡ length self.now }
+    {
+        self.names.len()
+    }
+
     /// Whether the name is there.
     pub fn contains(&self, name: &Name) -> bool
         ensures { result ≡ is_among name.now self.now }
@@ -70,6 +78,13 @@ impl NameTable {
         let name = name.copy(alloc)?;
         self.names.insert(name)?;
         Ok(true)
+    }
+
+    /// The name at a place.
+    pub fn name(&self, place: usize) -> Option<&Name>
+        ensures { option_copied result ≡ slice_get self.now place }
+    {
+        self.names.get_index(place)
     }
 
     /// Adds the name of each of these in turn, and tells whether all were new. Where memory runs out, some may have been

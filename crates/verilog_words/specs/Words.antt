@@ -1,16 +1,13 @@
 -- The words of the subset, none of which is a simple identifier.
-use Rattle.std.specs.Prelude.{ℕ, Bool, ◌||◌, if◌then◌else◌, List, [], ◌∷◌, Option, Some, None, find, codes}
+use Rattle.std.specs.Prelude.{ℕ, Bool, ◌||◌, if◌then◌else◌, List, [], ◌∷◌, Option, Some, None, codes}
 use Rattle.std.specs.Option.{option_map, option_or}
 use Rattle.std.specs.List.{list_any}
 use Rattle.std.specs.Str.{bytes_eq}
+use Rattle.texts.specs.Lookups.{in_table}
 use Rattle.verilog_words.specs.declared.words.Word.{Word}
 use Rattle.verilog_words.specs.declared.words.Word.TheVariants as word
 use Rattle.verilog_words.specs.declared.gates.PrimKind.{PrimKind}
 use Rattle.verilog_words.specs.declared.gates.PrimKind.TheVariants as gate
-
--- what stands beside these bytes in a table
-abbrev pub in_table : {A : Type 0} → List (List ℕ × A) → List ℕ → Option A
-in_table rows x = option_map (λ row. row.1) (find (λ row. bytes_eq x row.0) rows)
 
 -- words of modules, ports, nets and assignments
 unfoldable pub module_word : List ℕ → Option Word

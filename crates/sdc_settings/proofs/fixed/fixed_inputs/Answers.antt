@@ -2,7 +2,7 @@ use Rattle.std.proofs.Common.{arith, ◌≡◌, ◌∙◌, ℕ, List, [], length
 use Rattle.std.specs.Prelude.{Some, slice_get}
 use Rattle.std.proofs.lemmas.Option.{slice_get_within}
 use Rattle.texts.specs.Names.{are_distinct}
-use Rattle.link_defs.specs.declared.options.Setting.{Setting}
+use Rattle.sdcv_base.specs.declared.settings.Setting.{Setting}
 use Rattle.sdc_settings.specs.Settings.{setting_names}
 use Rattle.sdc_settings.proofs.Fixing.{fixed_all}
 use Rattle.sdc_settings.proofs.fixed.fixed_inputs.Goals as goal

@@ -1,7 +1,7 @@
 use Rattle.std.proofs.Common.{arith, ◌≡◌, List, refl, sym, subst}
 use Rattle.std.specs.Prelude.{Contains}
 use Rattle.std.proofs.lemmas.List.{take_all}
-use Rattle.link_defs.specs.declared.options.Setting.{Setting}
+use Rattle.sdcv_base.specs.declared.settings.Setting.{Setting}
 use Rattle.sdc_settings.specs.Settings.{setting_names}
 use Rattle.sdc_settings.proofs.Naming.{map_is_in, same_names, other_names, not_in_more}
 use Rattle.sdc_settings.proofs.fixed.is_reset.Goals as goal

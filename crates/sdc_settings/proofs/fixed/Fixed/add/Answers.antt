@@ -5,7 +5,7 @@ use Rattle.std.specs.Cmp.{booleans_Decides}
 use Rattle.std.proofs.Math.Bool.{beq}
 use Rattle.texts.specs.Names.{is_among}
 use Rattle.texts.proofs.NameLemmas.{slice_get-place_of}
-use Rattle.link_defs.specs.declared.options.Setting.{Setting}
+use Rattle.sdcv_base.specs.declared.settings.Setting.{Setting}
 use Rattle.sdc_settings.specs.Inputs.{name_at}
 use Rattle.sdc_settings.specs.Settings.{setting_names}
 use Rattle.sdc_settings.specs.Stages.{IsFirstGiven}

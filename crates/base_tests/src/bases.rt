@@ -1,4 +1,4 @@
-use crate::{
+use sdcv_base::{
     Cursor, Fail, FileRec, Host, HostFault, Kind, LimitName, MemHost, Name, ReadFault, Seq,
     push_decimal, read_decimal,
 };

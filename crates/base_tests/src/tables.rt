@@ -1,7 +1,7 @@
-use super::*;
 use sdcv_base::Name;
 use std::alloc::{AllocError, Global};
 use std::process::Abort;
+use texts::{NameTable, closed_by};
 
 // Names in the order in which they are added, and whether each is new.
 const ADDED: &[(&str, bool)] = &[("clk", true), ("d", true), ("clk", false)];
