@@ -1,5 +1,6 @@
-//! What small designs settle to and capture, late and unknown starts included, claims decided by every stretch, and the
-//! replays of stimuli and their texts, against values worked out by hand.
+//! What functions give, which designs are sound and which claims fit, what small designs settle to and capture, late and
+//! unknown starts included, paths through sets, claims decided by every stretch, and the replays of stimuli and their texts,
+//! against values worked out by hand.
 //!
 //! Captures are compared with a plain evaluator too, which goes back from the end by the rules of the layers. This crate has
 //! tests alone.
@@ -8,7 +9,13 @@
 #[cfg(test)]
 mod captures;
 #[cfg(test)]
+mod designs;
+#[cfg(test)]
+mod functions;
+#[cfg(test)]
 mod lanes;
+#[cfg(test)]
+mod paths;
 #[cfg(test)]
 mod replays;
 #[cfg(test)]

@@ -55,8 +55,10 @@ fn check_stimulus(rt: &impl Abort, stimulus: &Stimulus, row: &Row) {
     }
 }
 
-const REPORT: &str =
-    "sdcv 1 mode plain reset 1 depth 4 budget 9 inv 0\nstimulus 12 cycles 0\nstate -\nend\nstimulus 1 cycles 3\nstate 00\ninput 10\ninput 01\ninput 00\nend\nstimulus 1 cycles 0\nstate 1\nend";
+const REPORT: &str = "sdcv 1 mode plain reset 1 depth 4 budget 9 inv 0\n\
+    stimulus 12 cycles 0\nstate -\nend\n\
+    stimulus 1 cycles 3\nstate 00\ninput 10\ninput 01\ninput 00\nend\n\
+    stimulus 1 cycles 0\nstate 1\nend";
 
 // A report with other lines round its blocks, and two blocks of one number; and a block in which no bits are written `-`,
 // and the last newline is missing.

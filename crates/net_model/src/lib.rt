@@ -31,8 +31,6 @@ mod queries;
 mod ranges;
 mod rows;
 mod terns;
-#[cfg(test)]
-mod tests;
 mod values;
 
 pub use arguments::Args;

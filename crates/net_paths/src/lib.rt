@@ -15,8 +15,6 @@ mod paths;
 mod readers;
 mod searches;
 mod sets;
-#[cfg(test)]
-mod tests;
 
 pub use paths::has_path;
 pub use searches::Search;
