@@ -6,7 +6,5 @@
 #![tactic(auto)]
 
 mod heaps;
-#[cfg(test)]
-mod tests;
 
 pub use heaps::Heap;

@@ -12,8 +12,6 @@ mod effects;
 mod formulas;
 mod literals;
 mod models;
-#[cfg(test)]
-mod tests;
 
 pub use assignments::Assignment;
 pub use clauses::Clause;

@@ -9,8 +9,6 @@ mod checks;
 mod faults;
 mod known;
 mod step_sets;
-#[cfg(test)]
-mod tests;
 
 pub use checks::check;
 pub use faults::CheckFault;

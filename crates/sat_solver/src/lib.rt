@@ -12,8 +12,6 @@ mod learning;
 mod marks;
 mod propagation;
 mod solving;
-#[cfg(test)]
-mod tests;
 mod trails;
 
 pub use engines::Engine;

@@ -6,8 +6,6 @@
 #![tactic(auto)]
 
 mod lists;
-#[cfg(test)]
-mod tests;
 mod watches;
 
 pub use watches::Watches;

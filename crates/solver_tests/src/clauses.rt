@@ -1,22 +1,8 @@
-use crate::{Assignment, Clause, Effect, Formula, Lit, LitSet};
-use sdcv_base::Seq;
-use std::alloc::{AllocError, Global};
+//! Clauses and formulas in normal form, and what a clause does, judged by hand.
+use crate::numbers::{formula, lit, lits};
+use proof_log::{Assignment, Clause, Effect, Lit, LitSet};
 use std::process::Abort;
 use std::test::Fail;
-
-// A literal as DIMACS writes it: a variable, negative for its complement.
-fn lit(number: i32) -> Lit {
-    let var = number.unsigned_abs();
-    if var == 0 || var >= 1 << 31 {
-        Lit::default()
-    } else {
-        Lit::new(var, number > 0)
-    }
-}
-
-fn lits(alloc: Global, numbers: &[i32]) -> Result<Vec<Lit>, AllocError> {
-    numbers.iter().map(|n| lit(*n)).collect(alloc)
-}
 
 // Sorted by hand: by variable, each literal once, nothing where two are complements.
 #[test]
@@ -66,15 +52,8 @@ fn a_formula_is_told_to_be_normal(rt: HostRuntime) -> Result<(), Fail> {
         (2, &[1, -1], false),
     ];
     for (vars, numbers, want) in cases {
-        let mut clauses = Seq::new(alloc);
-        clauses.push(Clause {
-            lits: Seq::from_vec(lits(alloc, numbers)?),
-        })?;
-        assert_eq!(rt;
-            Formula { vars, clauses }.is_normal(),
-            want,
-            "{numbers:?} over {vars}"
-        );
+        let formula = formula(alloc, vars, &[numbers])?;
+        assert_eq!(rt; formula.is_normal(), want, "{numbers:?} over {vars}");
     }
     Ok(())
 }

@@ -1,36 +1,10 @@
-use crate::{CheckFault, check};
-use proof_log::{Clause, DerivStep, Derivation, Formula, Lit};
+//! Derivations that refute, and the first faults of others, judged by hand.
+use crate::numbers::{clause, formula};
+use proof_log::{DerivStep, Derivation};
+use rup_check::{CheckFault, check};
 use sdcv_base::Seq;
 use std::alloc::{AllocError, Global};
 use std::test::Fail;
-
-// A literal as DIMACS writes it: a variable, negative for its complement.
-fn lit(number: i32) -> Lit {
-    let var = number.unsigned_abs();
-    if var == 0 || var >= 1 << 31 {
-        Lit::default()
-    } else {
-        Lit::new(var, number > 0)
-    }
-}
-
-fn clause(alloc: Global, numbers: &[i32]) -> Result<Clause, AllocError> {
-    let lits = numbers.iter().map(|n| lit(*n)).collect(alloc)?;
-    Ok(Clause {
-        lits: Seq::from_vec(lits),
-    })
-}
-
-fn formula(alloc: Global, vars: u32, clauses: &[&[i32]]) -> Result<Formula, AllocError> {
-    let mut list = Seq::new(alloc);
-    for numbers in clauses {
-        list.push(clause(alloc, numbers)?)?;
-    }
-    Ok(Formula {
-        vars,
-        clauses: list,
-    })
-}
 
 fn derivation(alloc: Global, steps: &[(&[i32], &[u64])]) -> Result<Derivation, AllocError> {
     let mut list = Seq::new(alloc);

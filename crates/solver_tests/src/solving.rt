@@ -1,36 +1,11 @@
-use crate::{Answer, Engine, Learnt, solve};
-use proof_log::{Clause, Formula, Lit};
+//! Formulas with a model and without, and the steps of the search, known by hand.
+use crate::numbers::{clause, formula};
+use proof_log::{Clause, Formula};
+use rup_check::check;
+use sat_solver::{Answer, Engine, Learnt, solve};
 use sdcv_base::Seq;
 use std::alloc::{AllocError, Global};
 use std::test::Fail;
-
-// A literal as DIMACS writes it: a variable, negative for its complement.
-fn lit(number: i32) -> Lit {
-    let var = number.unsigned_abs();
-    if var == 0 || var >= 1 << 31 {
-        Lit::default()
-    } else {
-        Lit::new(var, number > 0)
-    }
-}
-
-fn clause(alloc: Global, numbers: &[i32]) -> Result<Clause, AllocError> {
-    let lits = numbers.iter().map(|n| lit(*n)).collect(alloc)?;
-    Ok(Clause {
-        lits: Seq::from_vec(lits),
-    })
-}
-
-fn formula(alloc: Global, vars: u32, clauses: &[&[i32]]) -> Result<Formula, AllocError> {
-    let mut list = Seq::new(alloc);
-    for numbers in clauses {
-        list.push(clause(alloc, numbers)?)?;
-    }
-    Ok(Formula {
-        vars,
-        clauses: list,
-    })
-}
 
 // What is found of a formula.
 #[derive(Clone, Copy, Debug, PartialEq, Eq)]
@@ -150,6 +125,22 @@ fn formulas_have_a_model_or_none(rt: HostRuntime) -> Result<(), Fail> {
         let f = formula(rt.alloc(), vars, clauses)?;
         let (what, _steps) = told(rt.alloc(), &f, 1000)?;
         assert_eq!(rt; what, want);
+    }
+    Ok(())
+}
+
+// The checker agrees with the solver.
+#[test]
+fn refutations_of_pigeons_are_checked(rt: HostRuntime) -> Result<(), Fail> {
+    for (vars, clauses) in [(6, THREE_PIGEONS), (12, FOUR_PIGEONS)] {
+        let f = formula(rt.alloc(), vars, clauses)?;
+        assert!(rt; f.is_normal());
+        match solve(rt.alloc(), &f, 1000)? {
+            Answer::Unsat(derivation) => {
+                assert_eq!(rt; check(rt.alloc(), &f, &derivation), Ok(()));
+            }
+            _ => assert!(rt; false),
+        }
     }
     Ok(())
 }
