@@ -4,7 +4,5 @@
 #![tactic(auto)]
 
 mod tables;
-#[cfg(test)]
-mod tests;
 
 pub use tables::{cubes, rows};

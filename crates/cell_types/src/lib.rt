@@ -9,8 +9,6 @@ mod builtin_cells;
 mod builtin_flops;
 mod builtin_parts;
 mod libraries;
-#[cfg(test)]
-mod tests;
 
 pub use builtin_cells::builtin;
 pub use libraries::{Cell, CellKind, CombOut, Flop, FlopOut, Library};

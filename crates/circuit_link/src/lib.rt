@@ -13,8 +13,6 @@ mod numbers;
 mod ordered;
 mod orders;
 mod rows;
-#[cfg(test)]
-mod tests;
 mod trees;
 
 pub use designs::{CircuitDesign, Held, design_of};

@@ -10,8 +10,6 @@ mod links;
 mod numbering;
 mod parts;
 mod ports;
-#[cfg(test)]
-mod tests;
 
 pub use flats::{Flat, FlatFault};
 pub use links::flat_link;

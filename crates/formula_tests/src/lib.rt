@@ -2,9 +2,11 @@
 //!
 //! For each row of a table, a design and a query, every assignment of the formula's variables and every run are tried: the
 //! models are just the runs that answer the query by replay, and there are as many of them as another program has found.
-//! The keys of a query are checked by hand. This crate has tests alone.
+//! The keys of a query, and the rows and cubes of a function, are checked by hand. This crate has tests alone.
 #![tactic(auto)]
 
+#[cfg(test)]
+mod cubes;
 #[cfg(test)]
 mod frames;
 #[cfg(test)]

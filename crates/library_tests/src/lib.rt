@@ -1,9 +1,11 @@
 //! Liberty texts as vendors write them, and one by one their rules: groups, functions and cells, against what is read by
-//! hand.
+//! hand; and the built-in cells by name.
 //!
 //! This crate has tests alone.
 #![tactic(auto)]
 
+#[cfg(test)]
+mod cells;
 #[cfg(test)]
 mod functions;
 #[cfg(test)]

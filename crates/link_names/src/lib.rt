@@ -5,8 +5,6 @@
 
 mod faults;
 mod tables;
-#[cfg(test)]
-mod tests;
 
 pub use faults::NameFault;
 pub use tables::{NetTable, net_table};

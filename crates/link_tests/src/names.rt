@@ -1,7 +1,6 @@
 //! Tables of names by hand.
-use crate::faults::NameFault;
-use crate::tables::net_table;
 use link_defs::NetName;
+use link_names::{NameFault, net_table};
 use sdcv_base::Name;
 use std::alloc::{AllocError, Global};
 

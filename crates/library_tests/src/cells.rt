@@ -1,4 +1,5 @@
-use crate::builtin;
+//! Cells by name.
+use cell_types::builtin;
 use std::alloc::AllocError;
 
 // Places in the table: TIE0 first, SDFFC last of 24.

@@ -1,6 +1,5 @@
 //! Orders worked out by hand.
-use crate::faults::OrderFault;
-use crate::orders::order_of;
+use graph_order::{OrderFault, order_of};
 use sdcv_base::Seq;
 use std::alloc::{AllocError, Global};
 

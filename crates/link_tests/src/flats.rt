@@ -1,5 +1,6 @@
-use crate::{Flat, FlatFault, flat_link};
+//! Flat netlists by hand, and the designs that they are.
 use cell_types::builtin;
+use flat_link::{Flat, FlatFault, flat_link};
 use net_model::Design;
 use sdcv_base::{Name, Seq};
 use std::alloc::{AllocError, Global};

@@ -4,8 +4,7 @@ ghost use Rattle.net_model.specs.Form.{IsOver};
 ghost use Rattle.net_model.specs.Netlist.{AllBelow};
 ghost use Rattle.circuit_link.specs.Lawful.{IsLawfulPart, IsLawfulCircuit};
 
-use crate::designs::{CircuitDesign, Held, design_of};
-use crate::faults::CircuitFault;
+use circuit_link::{CircuitDesign, CircuitFault, Held, design_of};
 use link_defs::{Circuit, Part};
 use net_model::{Func, Gate, Reg, RegOut};
 use sdcv_base::Seq;

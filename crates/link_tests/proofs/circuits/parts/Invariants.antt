@@ -1,6 +1,6 @@
 use Rattle.std.proofs.Common.{All}
 use Rattle.circuit_link.specs.Lawful.{IsLawfulPart}
-use Rattle.circuit_link.proofs.tests.parts.Given as goal
+use Rattle.link_tests.proofs.circuits.parts.Given as goal
 
 abbrev pub invariant-loop-short : goal.invariant-loop-short
 invariant-loop-short l = All (IsLawfulPart 12) l.list

@@ -1,32 +1,17 @@
-ghost use Rattle.std.specs.Prelude.{◌≡◌, IfOk};
-ghost use Rattle.net_model.specs.Form.{PinForm, AndForm, IsOver};
+//! Rows and cubes of a function, by hand.
+ghost use Rattle.std.specs.Prelude.{IfOk};
+ghost use Rattle.net_model.specs.Form.{IsOver};
 
-use crate::{cubes, rows};
-use net_model::{Func, Node, Tern};
+use cell_cubes::{cubes, rows};
+use net_model::{Func, Tern};
 use std::alloc::{AllocError, Global};
 use std::test;
-
-fn pin(place: usize) -> Func
-    ensures { result ≡ PinForm place }
-{
-    Func {
-        node: Node::Pin(place),
-    }
-}
-
-fn and(alloc: Global, f: Func, g: Func) -> Result<Func, AllocError>
-    ensures { IfOk result (λ h. h ≡ AndForm f g) }
-{
-    Ok(Func {
-        node: Node::And(Box::new(alloc, f)?, Box::new(alloc, g)?),
-    })
-}
 
 // The conjunction of the places 0 and 1.
 fn conjunction(alloc: Global) -> Result<Func, AllocError>
     ensures { IfOk result (λ f. IsOver 2 f) }
 {
-    and(alloc, pin(0), pin(1))
+    Func::and(alloc, Func::pin(0), Func::pin(1))
 }
 
 // The first row is all zeros; the third has place 1 alone.
