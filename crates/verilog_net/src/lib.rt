@@ -12,8 +12,6 @@ mod items;
 mod modules;
 mod prims;
 mod sources;
-#[cfg(test)]
-mod tests;
 mod wires;
 
 pub use sources::{Conn, Item, Module, Port, Source, Wire, read_verilog};

@@ -13,8 +13,6 @@ mod implied;
 mod ranges;
 mod scopes;
 mod standing;
-#[cfg(test)]
-mod tests;
 
 pub use decls::{Decl, add_new};
 pub use faults::VerFault;

@@ -16,8 +16,6 @@ mod nets;
 mod parts;
 mod ports;
 mod prims;
-#[cfg(test)]
-mod tests;
 
 pub use declarations::{
     AssignDecl, ConnDecl, Dir, Head, InstDecl, ItemDecl, ModuleDecl, NetKind, Part, PartDecl,

@@ -12,8 +12,6 @@ mod gates;
 mod marks;
 mod names;
 mod numbers;
-#[cfg(test)]
-mod tests;
 mod words;
 
 pub use blanks::skip_blanks;

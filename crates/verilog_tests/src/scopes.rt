@@ -1,6 +1,6 @@
-use super::*;
 use std::alloc::Global;
 use std::test::Fail;
+use verilog_scope::Scope;
 use verilog_syntax::{ModuleDecl, read_modules};
 
 fn told(alloc: Global, decl: &ModuleDecl) -> Result<String, Fail> {

@@ -1,6 +1,6 @@
-use super::*;
 use std::alloc::Global;
 use std::test::Fail;
+use verilog_net::{Conn, Dir, Item, Port, Source, Wire, read_verilog};
 
 fn push_wire(text: &mut String, wire: &Wire) -> Result<(), Fail> {
     match wire {

@@ -1,7 +1,10 @@
-use super::*;
 use sdcv_base::{Cursor, Name};
 use std::alloc::Global;
 use std::test::Fail;
+use verilog_words::{
+    PrimKind, SyntaxFault, Word, begins_name, begins_number, next_word, opens_list, skip_blanks,
+    take_constant, take_name, take_number,
+};
 
 // How much of a text's start is passed over, counted by hand.
 const BLANKS: &[(&str, usize)] = &[

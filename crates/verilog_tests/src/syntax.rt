@@ -1,6 +1,9 @@
-use super::*;
 use std::alloc::Global;
 use std::test::Fail;
+use verilog_syntax::{
+    ConnDecl, Dir, Head, ItemDecl, ModuleDecl, Part, PartDecl, PortDecl, PrimDecl, Range, Select,
+    Spelled, TermDecl, read_modules,
+};
 
 fn show_parts(out: &mut String, parts: &[PartDecl]) -> Result<(), Fail> {
     for part in parts {
