@@ -5,7 +5,5 @@
 #![tactic(auto)]
 
 mod globs;
-#[cfg(test)]
-mod tests;
 
 pub use globs::{is_plain, matches};

@@ -12,8 +12,6 @@ mod faults;
 mod fixed;
 mod inputs;
 mod scripts;
-#[cfg(test)]
-mod tests;
 mod values;
 
 pub use faults::ExpandFault;

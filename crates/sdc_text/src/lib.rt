@@ -18,8 +18,6 @@ mod options;
 mod progresses;
 mod readers;
 mod scripts;
-#[cfg(test)]
-mod tests;
 
 pub use asks::{Asked, first_form};
 pub use readers::read_sdc;

@@ -7,8 +7,6 @@ mod gets;
 mod lists;
 mod nested;
 mod nested_kinds;
-#[cfg(test)]
-mod tests;
 mod values;
 mod variables;
 mod word_texts;

@@ -13,8 +13,6 @@ mod faults;
 mod lines;
 mod pieces;
 mod plain_words;
-#[cfg(test)]
-mod tests;
 mod word_lists;
 mod words;
 

@@ -1,4 +1,4 @@
-use super::*;
+use sdc_values::{Class, Object, Said, SdcFault, Value, Variables, objects_of, said_words};
 use sdc_words::Commands;
 use sdcv_base::{Name, Seq};
 use std::alloc::Global;

@@ -1,5 +1,5 @@
-use super::*;
-use sdcv_base::Seq;
+use sdc_text::{Class, Exception, Object, Script, SdcFault, What, first_form, read_sdc};
+use sdcv_base::{Kind, Name, Seq};
 use std::alloc::Global;
 use std::test::Fail;
 
@@ -65,7 +65,7 @@ fn push_exception(alloc: Global, out: &mut String, exception: &Exception) -> Res
 fn push_clock(
     alloc: Global,
     out: &mut String,
-    name: &Option<sdcv_base::Name>,
+    name: &Option<Name>,
     source: &Seq<Object>,
 ) -> Result<(), Fail> {
     let text = match name {

@@ -1,4 +1,4 @@
-use super::*;
+use sdc_words::{Commands, Piece, RawCommand, Word, WordFault, cleaned, matched_len, original};
 use sdcv_base::Seq;
 use std::alloc::Global;
 use std::test::Fail;

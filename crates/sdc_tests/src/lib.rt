@@ -1,0 +1,16 @@
+//! SDC texts as tools write them, and layer by layer their rules: patterns, words, values, scripts and what these set,
+//! against what is worked out by hand.
+//!
+//! This crate has tests alone.
+#![tactic(auto)]
+
+#[cfg(test)]
+mod patterns;
+#[cfg(test)]
+mod scripts;
+#[cfg(test)]
+mod settings;
+#[cfg(test)]
+mod values;
+#[cfg(test)]
+mod words;
