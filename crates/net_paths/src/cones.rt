@@ -1,12 +1,12 @@
 //! The nets to which paths lead from one start.
-ghost use Rattle.std.specs.Prelude.{◌≡◌, ◌+◌, ◌<◌, ◌≤◌, ◌↔◌, ℕ, IsTrue, OnOk, IfOk, OnErr, length, map, Some, None, ◌∷◌, []};
+ghost use Rattle.std.specs.Prelude.{◌≡◌, ◌+◌, ◌<◌, ◌≤◌, ◌↔◌, IsTrue, OnOk, IfOk, OnErr, length, map, Some, None, ◌∷◌, []};
 ghost use Rattle.net_model.specs.Netlist.{AllBelow};
 ghost use Rattle.net_model.specs.Pins.{start_nets};
 ghost use Rattle.net_model.specs.Paths.{LeadsTo};
 ghost use Rattle.net_model.specs.declared.netlist.RegOut.{RegOut};
 ghost use Rattle.net_model.specs.declared.claims.PinRef.TheVariants.{Net};
 ghost use Rattle.net_paths.specs.Launches.{IsLaunch};
-ghost use Rattle.net_paths.specs.Levels.{IsLevel, level_at, advanced, Reaches, IsAtLeast};
+ghost use Rattle.net_paths.specs.Levels.{AllHaveLevels, level_at, advanced, Reaches, IsAtLeast};
 ghost use Rattle.net_paths.specs.Readers.{AreReaders};
 ghost use Rattle.net_paths.specs.Cones.{IsGrowing, IsEmptyCone, AreNoted, IsRaised, IsGrown, IsToldAt, IsPassed, IsUnchanged};
 
@@ -46,7 +46,7 @@ impl Cone {
         requires launch { IsLaunch launch.now }
         requires readers { AreReaders launch.now.design.now readers.now.rows.items }
         requires empty { IsEmptyCone launch.now.design.now.nets self.old }
-        ensures levels { OnOk result ((net : ℕ) → net < launch.now.design.now.nets → IsLevel launch.now.design.now launch.now.start.now launch.now.sets.now net (level_at self.new.levels net)) }
+        ensures levels { OnOk result (AllHaveLevels launch.now.design.now launch.now.start.now launch.now.sets.now self.new.levels) }
         ensures noted { AreNoted launch.now.design.now.nets self.new }
     {
         self.put_start(launch)?;

@@ -1,9 +1,9 @@
 //! The ends to which paths lead from one start.
-ghost use Rattle.std.specs.Prelude.{◌≡◌, ◌<◌, ℕ, All, IfOk, length};
+ghost use Rattle.std.specs.Prelude.{◌≡◌, All, IfOk, length};
 ghost use Rattle.net_model.specs.Fits.{IsEndIn};
 ghost use Rattle.net_model.specs.Paths.{HasPath};
 ghost use Rattle.net_paths.specs.Launches.{IsLaunch};
-ghost use Rattle.net_paths.specs.Levels.{IsLevel, level_at};
+ghost use Rattle.net_paths.specs.Levels.{AllHaveLevels};
 ghost use Rattle.net_paths.specs.Those.{AreThose};
 
 use crate::cones::Cone;
@@ -23,7 +23,7 @@ pub(crate) fn ends_of(
     requires launch { IsLaunch launch.now }
     requires ends { All (IsEndIn launch.now.design.now) ends.now }
     requires len { length cone.now.levels ≡ launch.now.design.now.nets }
-    requires levels { (net : ℕ) → net < launch.now.design.now.nets → IsLevel launch.now.design.now launch.now.start.now launch.now.sets.now net (level_at cone.now.levels net) }
+    requires levels { AllHaveLevels launch.now.design.now launch.now.start.now launch.now.sets.now cone.now.levels }
     ensures { IfOk result (AreThose (λ end. HasPath launch.now.design.now launch.now.start.now end launch.now.sets.now) ends.now) }
 {
     let mut found = Seq::new(alloc);
