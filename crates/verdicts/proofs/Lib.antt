@@ -1,0 +1,9 @@
+pub mod Shifting
+pub mod Extending
+pub mod Cutting
+pub mod Inducting
+pub mod Keeping
+pub mod Greatest
+pub mod Refuting
+pub mod Certifying
+pub mod HeldInputs
