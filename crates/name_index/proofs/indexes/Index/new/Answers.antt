@@ -1,0 +1,6 @@
+use Rattle.std.proofs.Common.{refl}
+use Rattle.name_index.proofs.indexes.Index.new.Goals as goal
+
+pub returns : goal.returns
+unfolding Rattle.texts.specs.Names.are_distinct
+returns c = record { same = λ distinct. c.new.ensures; once = λ distinct. refl }
