@@ -59,24 +59,37 @@ pub fn justified(design: &Design, claim: &Claim, kept: &[InvClause], limits: Lim
     ensures { Holds design.now claim.now }
 {}
 
-/// Where derivations refute the queries of each kept clause, at one depth, and those of a claim, the kept clauses hold in
-/// every live cycle and the claim in every run from reset.
+/// Where derivations refute the queries of each kept clause, at one depth, the kept clauses hold in every live cycle.
 ///
 /// It asks nothing of how they were found, and serves formulas in either coding.
-pub fn certified(
+pub fn kept_certified(
     coding: Coding,
     design: &Design,
-    claim: &Claim,
     depth: usize,
     kept: &[InvClause],
     proofs: &[InvProof],
+)
+    requires sound { IsSound design.now }
+    requires names { All (NamesRegs design.now) kept.now }
+    requires proved { ProveKept coding design.now kept.now depth proofs.now }
+    ensures { AreAlwaysMet design.now kept.now }
+{}
+
+/// Where the kept clauses hold in every live cycle, and derivations refute the queries of a claim, the claim holds in every
+/// run from reset.
+///
+/// It asks nothing of how they were found, and serves formulas in either coding.
+pub fn claim_certified(
+    coding: Coding,
+    design: &Design,
+    claim: &Claim,
+    kept: &[InvClause],
     proof: &Proof,
 )
     requires sound { IsSound design.now }
     requires fits { Fits design.now claim.now }
     requires names { All (NamesRegs design.now) kept.now }
-    requires kept_proved { ProveKept coding design.now kept.now depth proofs.now }
+    requires met { AreAlwaysMet design.now kept.now }
     requires proved { ProvesPair coding design.now kept.now claim.now proof.now }
-    ensures met { AreAlwaysMet design.now kept.now }
-    ensures holds { Holds design.now claim.now }
+    ensures { Holds design.now claim.now }
 {}

@@ -13,5 +13,8 @@ mod outcomes;
 
 pub use judged::{is_held_start, is_judged};
 pub use kept::{InvProof, InvSet, InvSpent};
-pub use laws::{always_met, certified, holds_at, holds_by_induction, justified, union_inductive};
+pub use laws::{
+    always_met, claim_certified, holds_at, holds_by_induction, justified, kept_certified,
+    union_inductive,
+};
 pub use outcomes::{Cause, Limits, Proof, Verdict};
