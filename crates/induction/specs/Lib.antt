@@ -1,0 +1,4 @@
+pub mod Members
+pub mod Bases
+pub mod Pools
+pub mod Steps

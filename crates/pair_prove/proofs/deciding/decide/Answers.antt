@@ -1,0 +1,49 @@
+use Rattle.std.proofs.Common.{◌+◌, List, subst, sym}
+use Rattle.net_model.specs.Queries.{Query, claim_query}
+use Rattle.net_model.specs.declared.queries.Phase.TheVariants.{Base, Step}
+use Rattle.proof_log.specs.declared.derivations.Derivation.{Derivation}
+use Rattle.query_asks.proofs.Asking.{refuted, answered, spent}
+use Rattle.verdicts.proofs.Cutting.{holds_at}
+use Rattle.pair_prove.proofs.Growing.{OpenSoFar, open_more, stays}
+use Rattle.pair_prove.proofs.deciding.decide.Goals as goal
+
+pub returns-in-Spent-2 : goal.returns-in-Spent-2
+returns-in-Spent-2 c =
+    let d = c.args.design.now in
+    let claim = c.args.claim.now in
+    let kept = c.args.kept.now in
+    let depth = c.loop-base.depth in
+    let base : Query = claim_query d claim Base depth kept in
+    let step : Query = claim_query d claim Step depth kept in (
+      c.loop-base.invariant.reached,
+      holds_at d claim kept depth c.requires.sound
+          (refuted base c.args.limits.budget c.in_ok-run.field-0 c.in-Refuted.derivation c.in-Refuted.is c.in_ok-run.ensures).1,
+      spent step c.args.limits.budget c.in_ok-step.field-0 c.in-Spent-2.log c.in-Spent-2.is c.in_ok-step.ensures,
+    )
+
+pub returns-then-depth-limits : goal.returns-then-depth-limits
+returns-then-depth-limits c =
+    let d = c.args.design.now in
+    let claim = c.args.claim.now in
+    let kept = c.args.kept.now in
+    let depth = c.loop-base.depth in
+    let base : Query = claim_query d claim Base depth kept in
+    let step : Query = claim_query d claim Step depth kept in
+    stays d claim kept c.args.limits depth c.in-Answered-2.stretch c.if-depth-limits.true c.loop-base.invariant.reached
+    (holds_at d claim kept depth c.requires.sound
+    (refuted base c.args.limits.budget c.in_ok-run.field-0 c.in-Refuted.derivation c.in-Refuted.is c.in_ok-run.ensures).1)
+    (answered step c.args.limits.budget c.in_ok-step.field-0 c.in-Answered-2.stretch c.in-Answered-2.is c.in_ok-step.ensures)
+
+pub loop-base-preserved : goal.loop-base-preserved
+loop-base-preserved c =
+    let d = c.args.design.now in
+    let claim = c.args.claim.now in
+    let kept = c.args.kept.now in
+    let depth = c.loop-base.depth in
+    let base : Query = claim_query d claim Base depth kept in
+    let step : Query = claim_query d claim Step depth kept in
+    let none = refuted base c.args.limits.budget c.in_ok-run.field-0 c.in-Refuted.derivation c.in-Refuted.is c.in_ok-run.ensures in
+    let answer = answered step c.args.limits.budget c.in_ok-step.field-0 c.in-Answered-2.stretch c.in-Answered-2.is c.in_ok-step.ensures in
+    subst (λ (logs : List Derivation). OpenSoFar d claim kept c.args.limits.depth (depth + 1) logs) (sym c.in_ok-push.ensures.ok)
+    (open_more d claim kept c.args.limits.depth depth c.loop-base.base c.in-Refuted.derivation c.in-Answered-2.stretch c.requires.sound
+    c.loop-base.invariant c.if-depth-limits.false none answer)

@@ -1,0 +1,82 @@
+//! Queries of growing depth, until one decides.
+ghost use Rattle.std.specs.Prelude.{◌≤◌, ◌<◌, All, IfOk, length};
+ghost use Rattle.net_model.specs.Netlist.{IsSound};
+ghost use Rattle.net_model.specs.Fits.{Fits};
+ghost use Rattle.net_model.specs.Stimuli.{StandsFor};
+ghost use Rattle.query_model.specs.Laws.{NamesRegs};
+ghost use Rattle.verdicts.specs.Verdicts.{IsJudged, IsRight};
+
+use net_model::{Claim, Cycle, Design, InvClause, Phase, Stimulus};
+use query_asks::{Asked, Probe, ask_claim};
+use sdcv_base::Seq;
+use std::alloc::{AllocError, Global};
+use verdicts::{Cause, Limits, Proof, Verdict};
+
+/// The verdict on a claim about which queries are asked.
+pub(crate) fn decide(
+    alloc: Global,
+    design: &Design,
+    claim: &Claim,
+    kept: &[InvClause],
+    limits: Limits,
+) -> Result<Verdict, AllocError>
+    requires sound { IsSound design.now }
+    requires fits { Fits design.now claim.now }
+    requires names { All (NamesRegs design.now) kept.now }
+    requires judged { IsJudged design.now claim.now }
+    requires few { limits.depth ≤ 64 }
+    ensures { IfOk result (IsRight design.now claim.now kept.now limits) }
+{
+    let budget = limits.budget;
+    let mut base = Seq::new(alloc);
+    let mut depth = 0;
+    loop {
+        let phase = Phase::Base;
+        let probe = Probe {
+            phase,
+            depth,
+            budget,
+        };
+        let derivation = match ask_claim(alloc, design, claim, kept, probe)? {
+            Asked::Answered(run) => {
+                let stimulus = stimulus_of(alloc, &run)?;
+                let offset = depth;
+                return Ok(Verdict::Refuted { offset, stimulus });
+            }
+            Asked::Spent(log) => return Ok(Verdict::Undecided(Cause::Budget { phase, depth, log })),
+            Asked::Refuted(derivation) => derivation,
+        };
+        let phase = Phase::Step;
+        let probe = Probe {
+            phase,
+            depth,
+            budget,
+        };
+        let stretch = match ask_claim(alloc, design, claim, kept, probe)? {
+            Asked::Refuted(step) => {
+                return Ok(Verdict::Justified(Proof::Depth { depth, base, step }));
+            }
+            Asked::Spent(log) => return Ok(Verdict::Undecided(Cause::Budget { phase, depth, log })),
+            Asked::Answered(stretch) => stretch,
+        };
+        if depth == limits.depth {
+            return Ok(Verdict::Undecided(Cause::Depth { stretch }));
+        }
+        base.push(derivation)?;
+        depth += 1;
+    }
+}
+
+/// The stimulus of a run: the register bits of its first cycle, and the input bits of each.
+fn stimulus_of(alloc: Global, run: &Seq<Cycle>) -> Result<Stimulus, AllocError>
+    requires { 0 < length run.now }
+    ensures { IfOk result (λ s. StandsFor s run.now) }
+{
+    let mut inputs = Seq::new(alloc);
+    for t in 0..run.len() {
+        let ins = run.item(t).ins.copy(alloc)?;
+        inputs.push(ins)?;
+    }
+    let state = run.item(0).bits.copy(alloc)?;
+    Ok(Stimulus { state, inputs })
+}

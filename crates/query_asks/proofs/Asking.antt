@@ -1,0 +1,76 @@
+-- What is known of a query whose answer is of a kind.
+use Rattle.std.proofs.Common.{◌≡◌, ◌≤◌, ℕ, List, subst, sym, refl, inl, inr, All}
+use Rattle.std.specs.Prelude.{◌⊎◌}
+use Rattle.net_model.specs.Netlist.{IsSound}
+use Rattle.net_model.specs.Fits.{Fits}
+use Rattle.net_model.specs.Queries.{Query, IsAnswer, claim_query, clause_query}
+use Rattle.net_model.specs.declared.netlist.Design.{Design}
+use Rattle.net_model.specs.declared.cycles.Cycle.{Cycle}
+use Rattle.net_model.specs.declared.claims.Claim.{Claim}
+use Rattle.net_model.specs.declared.invariants.InvClause.{InvClause}
+use Rattle.net_model.specs.declared.queries.Phase.{Phase}
+use Rattle.query_model.specs.Laws.{NamesRegs}
+use Rattle.proof_log.specs.NewClauses.{IsSpentLog}
+use Rattle.proof_log.specs.declared.derivations.Derivation.{Derivation}
+use Rattle.sat_solver.specs.Answers.{IsRefutation}
+use Rattle.cnf_encode.specs.Problems.{IsProblemFor, IsMadeFor, IsClaimQuery, IsClauseQuery}
+use Rattle.cnf_encode.specs.declared.problems.Problem.{Problem}
+use Rattle.verdicts.specs.Logs.{own_coding, IsFormulaFor, RefutesQuery, IsSpentOn}
+use Rattle.verdicts.proofs.Refuting.{claim_refuted, clause_refuted}
+use Rattle.query_asks.specs.Asks.{IsRightOf, IsRightFor}
+use Rattle.query_asks.specs.declared.asks.Asked.{Asked}
+use Rattle.query_asks.specs.declared.asks.Asked.TheVariants.{Refuted, Answered, Spent}
+
+-- what is known by the kind of the answer
+pub refuted : (q : Query) (budget : ℕ) (asked : Asked) (derivation : Derivation) → asked ≡ Refuted derivation → IsRightOf q budget asked
+    → RefutesQuery own_coding q derivation × ((run : List Cycle) → ¬ IsAnswer q run)
+refuted q budget asked derivation is right = subst (IsRightOf q budget) is right
+
+pub answered : (q : Query) (budget : ℕ) (asked : Asked) (run : List Cycle) → asked ≡ Answered run → IsRightOf q budget asked → IsAnswer q run
+answered q budget asked run is right = subst (IsRightOf q budget) is right
+
+pub spent : (q : Query) (budget : ℕ) (asked : Asked) (log : Derivation) → asked ≡ Spent log → IsRightOf q budget asked
+    → IsSpentOn own_coding q budget log
+spent q budget asked log is right = subst (IsRightOf q budget) is right
+
+-- the queries that are asked here
+pub claim_asks : (d : Design) (claim : Claim) (phase : Phase) (depth : ℕ) (kept : List InvClause) → Fits d claim → All (NamesRegs d) kept
+    → depth ≤ 64 → IsClaimQuery d (claim_query d claim phase depth kept)
+claim_asks d claim phase depth kept fits names few =
+    record { claim = claim; phase = phase; depth = depth; inv = kept; fits = fits; few = few; names = names; is = refl }
+
+pub clause_asks : (d : Design) (inv : List InvClause) (clause : InvClause) (phase : Phase) (depth : ℕ) → NamesRegs d clause → All (NamesRegs d) inv
+    → depth ≤ 64 → IsClauseQuery d (clause_query d inv clause phase depth)
+clause_asks d inv clause phase depth name names few =
+    record { clause = clause; phase = phase; depth = depth; inv = inv; name = name; few = few; names = names; is = refl }
+
+-- the problem of such a query is one of the design's
+pub made_for : (d : Design) (q : Query) (problem : Problem) → IsClaimQuery d q ⊎ IsClauseQuery d q → IsProblemFor q problem → IsMadeFor d problem
+made_for d q problem asks is = record { query = q; asks = asks; is = is }
+
+-- the formula of a problem is the query's
+formula_of : (q : Query) (problem : Problem) → IsProblemFor q problem → IsFormulaFor own_coding q problem.formula
+formula_of q problem is = (problem.frames, is.clauses)
+
+pub spent_on : (q : Query) (problem : Problem) (budget : ℕ) (log : Derivation) → IsProblemFor q problem → IsSpentLog problem.formula log budget
+    → IsSpentOn own_coding q budget log
+spent_on q problem budget log is spends = (problem.formula, formula_of q problem is, spends)
+
+-- where the formula of a query is refuted, no run answers it
+no_answer : (d : Design) (q : Query) (derivation : Derivation) → IsSound d → IsClaimQuery d q ⊎ IsClauseQuery d q → RefutesQuery own_coding q derivation
+    → (run : List Cycle) → ¬ IsAnswer q run
+no_answer d q derivation sound (inl asks) refutes run =
+    subst (λ (p : Query). ¬ IsAnswer p run) (sym asks.is)
+    (claim_refuted own_coding d asks.claim asks.phase asks.depth asks.inv derivation sound asks.fits asks.names
+    (subst (λ (p : Query). RefutesQuery own_coding p derivation) asks.is refutes) run)
+no_answer d q derivation sound (inr asks) refutes run =
+    subst (λ (p : Query). ¬ IsAnswer p run) (sym asks.is)
+    (clause_refuted own_coding d asks.inv asks.clause asks.phase asks.depth derivation sound asks.name asks.names
+    (subst (λ (p : Query). RefutesQuery own_coding p derivation) asks.is refutes) run)
+
+pub unsatisfied : (d : Design) (q : Query) (problem : Problem) (budget : ℕ) (derivation : Derivation) → IsSound d
+    → IsClaimQuery d q ⊎ IsClauseQuery d q → IsProblemFor q problem → IsRefutation problem.formula budget derivation
+    → RefutesQuery own_coding q derivation × ((run : List Cycle) → ¬ IsAnswer q run)
+unsatisfied d q problem budget derivation sound asks is refutation =
+    let refutes : RefutesQuery own_coding q derivation = (problem.formula, formula_of q problem is, refutation.refutes) in
+    (refutes, no_answer d q derivation sound asks refutes)

@@ -1,0 +1,21 @@
+-- What an answer of the solver says of a query.
+use Rattle.std.specs.Prelude.{ℕ, List, ◌⊎◌}
+use Rattle.net_model.specs.Queries.{Query, IsAnswer}
+use Rattle.net_model.specs.declared.netlist.Design.{Design}
+use Rattle.net_model.specs.declared.cycles.Cycle.{Cycle}
+use Rattle.cnf_encode.specs.Problems.{IsClaimQuery, IsClauseQuery, IsProblemFor}
+use Rattle.cnf_encode.specs.declared.problems.Problem.{Problem}
+use Rattle.verdicts.specs.Logs.{own_coding, RefutesQuery, IsSpentOn}
+use Rattle.query_asks.specs.declared.asks.Asked.{Asked}
+use Rattle.query_asks.specs.declared.asks.Asked.TheVariants.{Refuted, Answered, Spent}
+
+-- no run answers the query, and the derivation refutes its formula; or this run answers it; or the log spends the budget
+abbrev pub IsRightOf : Query → ℕ → Asked → Type 0
+IsRightOf q budget (Refuted derivation) = RefutesQuery own_coding q derivation × ((run : List Cycle) → ¬ IsAnswer q run)
+IsRightOf q budget (Answered run) = IsAnswer q run
+IsRightOf q budget (Spent log) = IsSpentOn own_coding q budget log
+
+-- the same of each query of the design that the problem is of
+abbrev pub IsRightFor : Design → Problem → ℕ → Asked → Type 0
+IsRightFor d problem budget asked =
+    (q : Query) → IsClaimQuery d q ⊎ IsClauseQuery d q → IsProblemFor q problem → IsRightOf q budget asked
