@@ -1,0 +1,12 @@
+use Rattle.std.proofs.Common.{rules, tests, ◌∙◌}
+use Rattle.std.proofs.lemmas.Iterator.Search.{any_from_yields_List}
+use Rattle.std.proofs.lemmas.Iterator.{YieldsList-from_slice}
+use Rattle.std.specs.Str.{bytes_eq}
+use Rattle.verilog_net.specs.declared.sources.Port.{Port}
+use Rattle.link_items.proofs.Searching.{is_among_by}
+use Rattle.link_items.proofs.module_checks.has_port.Goals as goal
+
+pub returns : goal.returns
+returns c =
+    any_from_yields_List (λ (p : Port). bytes_eq c.args.pin.now p.name) _ _ _ c.any.ensures.ran (YieldsList-from_slice c.args.body.now.ports cc)
+    (λ x b q k. search (rules, tests)) ∙ is_among_by (λ (p : Port). p.name) c.args.pin.now c.args.body.now.ports

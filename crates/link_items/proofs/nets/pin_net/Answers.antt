@@ -1,0 +1,10 @@
+use Rattle.std.proofs.Common.{List, All, length, subst, sym}
+use Rattle.verilog_net.specs.declared.sources.Wire.{Wire}
+use Rattle.verilog_net.specs.Lawful.{IsWireBelow}
+use Rattle.link_items.proofs.Pinned.{wires_below}
+use Rattle.link_items.proofs.nets.pin_net.Goals as goal
+
+pub first_net-requires : goal.first_net-requires
+first_net-requires c =
+    subst (λ (ws : List Wire). All (IsWireBelow (length c.args.nets.now)) ws) (sym c.wires_of.ensures)
+    (wires_below (length c.args.nets.now) c.args.conns.now c.args.pin.now c.requires)

@@ -1,0 +1,23 @@
+-- The parts of a cell by its kind.
+use Rattle.std.specs.Prelude.{ℕ, ◌+◌, List, ◌++◌, length}
+use Rattle.verilog_net.specs.declared.sources.Conn.{Conn}
+use Rattle.cell_types.specs.declared.libraries.Cell.{Cell}
+use Rattle.cell_types.specs.declared.libraries.CombOut.{CombOut}
+use Rattle.cell_types.specs.declared.libraries.Flop.{Flop}
+use Rattle.link_defs.specs.declared.circuits.Part.{Part}
+use Rattle.link_defs.specs.declared.circuits.Part.TheVariants as part
+use Rattle.link_defs.specs.Hierarchy.{wires_of}
+use Rattle.link_defs.specs.Parts.{pin_nets, comb_gates, is_buffer_cell, outs_from, clock_net, flop_reg, ties, pin_ties}
+
+-- a combinational cell with these outputs
+abbrev pub comb_part : List ℕ → List Conn → ℕ → Cell → List CombOut → Part
+comb_part nets conns first c outs =
+    let ins = pin_nets nets conns first c.inputs in part.Comb (is_buffer_cell c.inputs outs) ins (comb_gates nets conns ins (outs_from first c) outs)
+
+-- a cell that is this flop
+abbrev pub flop_part : List ℕ → List Conn → ℕ → Cell → Flop → Part
+flop_part nets conns first c f = part.Flop (clock_net nets conns first c f) (flop_reg nets conns first c f)
+
+-- the constants that its input pins and its clock pin are connected to
+abbrev pub flop_ties : List Conn → ℕ → Cell → Flop → List Part
+flop_ties conns first c f = pin_ties conns first c.inputs ++ ties (outs_from first c + length f.outs) (wires_of conns f.clock)

@@ -1,0 +1,33 @@
+-- Instances that no refusal of their connections speaks of.
+use Rattle.std.specs.Prelude.{◌≡◌, ℕ, ◌≤◌, false, All, List, length, Some, slice_get}
+use Rattle.verilog_net.specs.declared.sources.Module.{Module}
+use Rattle.verilog_net.specs.declared.sources.Port.{Port}
+use Rattle.verilog_net.specs.declared.sources.Conn.{Conn}
+use Rattle.verilog_syntax.specs.declared.declarations.Dir.{Dir}
+use Rattle.verilog_syntax.specs.declared.declarations.Dir.TheVariants as dir
+use Rattle.cell_types.specs.declared.libraries.Cell.{Cell}
+use Rattle.link_defs.specs.CellNames.{out_pins, clock_pins}
+use Rattle.link_defs.specs.Faults.{all_pins}
+use Rattle.link_items.specs.Pins.{is_open, is_tied, is_unknown, port_names}
+
+-- every pin is one of the cell, input and clock pins are connected, and no output pin to a constant
+pub record IsFineCell (conns : List Conn) (cell : Cell) : Type 0 where
+  pub few : length cell.inputs ≤ 6
+  pub known : All (λ (c : Conn). is_unknown (all_pins cell) c ≡ false) conns
+  pub inputs : All (λ (pin : List ℕ). is_open conns pin ≡ false) cell.inputs
+  pub clock : All (λ (pin : List ℕ). is_open conns pin ≡ false) (clock_pins cell.kind)
+  pub outs : All (λ (pin : List ℕ). is_tied conns pin ≡ false) (out_pins cell.kind)
+
+-- an input port with bits is connected, and no output port to a constant
+abbrev pub IsFineAs : List Conn → Port → Dir → Type 0
+IsFineAs conns p dir.Input = (bit : ℕ) → slice_get p.bits 0 ≡ Some bit → is_open conns p.name ≡ false
+IsFineAs conns p dir.Output = is_tied conns p.name ≡ false
+
+-- the port is connected as its direction asks
+abbrev pub IsFinePort : List Conn → Port → Type 0
+IsFinePort conns p = IsFineAs conns p p.dir
+
+-- every connection is to a port of the module, and each port is connected as its direction asks
+pub record IsFineModule (conns : List Conn) (m : Module) : Type 0 where
+  pub known : All (λ (c : Conn). is_unknown (port_names m) c ≡ false) conns
+  pub ports : All (IsFinePort conns) m.ports

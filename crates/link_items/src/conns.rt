@@ -1,0 +1,69 @@
+//! The connections of an instance.
+ghost use Rattle.std.specs.Prelude.{◌≡◌, ◌<◌, length, slice_get, Some, find};
+ghost use Rattle.std.specs.Option.{option_copied};
+ghost use Rattle.std.specs.Str.{bytes_eq};
+ghost use Rattle.link_defs.specs.Hierarchy.{wires_in, wires_of};
+ghost use Rattle.link_items.specs.Pins.{is_open, is_const, is_tied};
+
+use sdcv_base::Name;
+use verilog_net::{Conn, Wire};
+
+/// The connection of a pin, if it is named.
+fn conn_of<'a>(conns: &'a [Conn], pin: &Name) -> Option<&'a Conn>
+    ensures { option_copied result ≡ find (λ conn. bytes_eq conn.pin pin.now) conns.now }
+{
+    conns.iter().find(|conn| conn.pin == *pin)
+}
+
+/// The wires of a pin, the most significant first: none where it is open or not named.
+#[tactic(auto, unfolding(link_defs::specs::Hierarchy::wires_of))]
+pub(crate) fn wires_of<'a>(conns: &'a [Conn], pin: &Name) -> &'a [Wire]
+    ensures { result.now ≡ wires_of conns.now pin.now }
+{
+    match conn_of(conns, pin) {
+        Some(conn) => wires_in(conn),
+        None => &[],
+    }
+}
+
+/// The wires of a connection.
+fn wires_in(conn: &Conn) -> &[Wire]
+    ensures { result.now ≡ wires_in (Some conn.now) }
+{
+    match &conn.wires {
+        Some(wires) => wires.as_slice(),
+        None => &[],
+    }
+}
+
+/// The wire at a place.
+pub(crate) fn wire_at(wires: &[Wire], place: usize) -> Wire
+    requires { place < length wires.now }
+    ensures { slice_get wires.now place ≡ Some result }
+{
+    wires[place]
+}
+
+/// Whether nothing is connected to a pin.
+pub(crate) fn is_open(conns: &[Conn], pin: &Name) -> bool
+    ensures { result ≡ is_open conns.now pin.now }
+{
+    wires_of(conns, pin).len() == 0
+}
+
+/// Whether a wire is a constant.
+fn is_const(wire: Wire) -> bool
+    ensures { result ≡ is_const wire }
+{
+    match wire {
+        Wire::Const(_) => true,
+        Wire::Net(_) => false,
+    }
+}
+
+/// Whether a constant is connected to a pin.
+pub(crate) fn is_tied(conns: &[Conn], pin: &Name) -> bool
+    ensures { result ≡ is_tied conns.now pin.now }
+{
+    wires_of(conns, pin).iter().any(|wire| is_const(*wire))
+}

@@ -1,0 +1,135 @@
+//! Refusals of an instance of a module.
+ghost use Rattle.std.specs.Prelude.{◌≡◌, All, Contains, true, false, length, IfErr, OnOk, IfSome, IfNone};
+ghost use Rattle.net_model.specs.Netlist.{AllBelow};
+ghost use Rattle.texts.specs.Names.{is_among};
+ghost use Rattle.verilog_net.specs.declared.sources.Port.{Port as PortRecord};
+ghost use Rattle.verilog_syntax.specs.declared.declarations.Dir.TheVariants as dir;
+ghost use Rattle.link_items.specs.Faults.{IsModuleFault};
+ghost use Rattle.link_items.specs.Fine.{IsFinePort, IsFineModule};
+ghost use Rattle.link_items.specs.Pins.{port_names, is_unknown};
+
+use crate::conns::{is_open, is_tied};
+use crate::names::pin_name;
+use link_defs::LinkFault;
+use sdcv_base::Name;
+use std::alloc::Global;
+use verilog_net::{Conn, Module, Port};
+use verilog_syntax::Dir;
+
+/// Whether a module has a port of that name.
+fn has_port(body: &Module, pin: &Name) -> bool
+    ensures { result ≡ is_among pin.now (port_names body.now) }
+{
+    body.ports.as_slice().iter().any(|port| *pin == port.name)
+}
+
+/// The first connection to a port that the module does not have, if any.
+fn unknown_conn<'a>(conns: &'a [Conn], body: &Module) -> Option<&'a Conn>
+    ensures some { IfSome result (λ conn. Contains conns.now conn.now × (is_unknown (port_names body.now) conn.now ≡ true)) }
+    ensures none { IfNone result (All (λ conn. is_unknown (port_names body.now) conn ≡ false) conns.now) }
+{
+    conns.iter().find(|conn| !has_port(body, &conn.pin))
+}
+
+/// Refuses a connection to a port that the module does not have.
+fn check_known(alloc: Global, full: &Name, conns: &[Conn], body: &Module) -> Result<(), LinkFault>
+    ensures ok { OnOk result (All (λ conn. is_unknown (port_names body.now) conn ≡ false) conns.now) }
+    ensures err { IfErr result (IsModuleFault body.now full.now conns.now) }
+{
+    match unknown_conn(conns, body) {
+        Some(conn) => {
+            let name = pin_name(alloc, full, &conn.pin)?;
+            Err(LinkFault::UnknownPin(name))
+        }
+        None => Ok(()),
+    }
+}
+
+/// Refuses an input port whose bits nothing is connected to, by its first bit.
+fn check_input(
+    alloc: Global,
+    full: &Name,
+    conns: &[Conn],
+    body: &Module,
+    port: &Port,
+) -> Result<(), LinkFault>
+    requires port { Contains body.now.ports port.now }
+    requires input { port.now.dir ≡ dir.Input }
+    requires bits { AllBelow (length body.now.nets) port.now.bits }
+    ensures ok { OnOk result (IsFinePort conns.now port.now) }
+    ensures err { IfErr result (IsModuleFault body.now full.now conns.now) }
+{
+    if port.bits.is_empty() || !is_open(conns, &port.name) {
+        return Ok(());
+    }
+    let first = port.bits.at(0);
+    let name = pin_name(alloc, full, body.nets.item(first))?;
+    Err(LinkFault::OpenInput(name))
+}
+
+/// Refuses an output port that a constant is connected to.
+fn check_output(
+    alloc: Global,
+    full: &Name,
+    conns: &[Conn],
+    body: &Module,
+    port: &Port,
+) -> Result<(), LinkFault>
+    requires port { Contains body.now.ports port.now }
+    requires output { port.now.dir ≡ dir.Output }
+    ensures ok { OnOk result (IsFinePort conns.now port.now) }
+    ensures err { IfErr result (IsModuleFault body.now full.now conns.now) }
+{
+    if is_tied(conns, &port.name) {
+        let name = pin_name(alloc, full, &port.name)?;
+        return Err(LinkFault::ManyDrivers(name));
+    }
+    Ok(())
+}
+
+/// Refuses a port for what it is connected to.
+fn check_port(
+    alloc: Global,
+    full: &Name,
+    conns: &[Conn],
+    body: &Module,
+    port: &Port,
+) -> Result<(), LinkFault>
+    requires port { Contains body.now.ports port.now }
+    requires bits { AllBelow (length body.now.nets) port.now.bits }
+    ensures ok { OnOk result (IsFinePort conns.now port.now) }
+    ensures err { IfErr result (IsModuleFault body.now full.now conns.now) }
+{
+    match port.dir {
+        Dir::Input => check_input(alloc, full, conns, body, port),
+        Dir::Output => check_output(alloc, full, conns, body, port),
+    }
+}
+
+/// Refuses the ports of an instance for what they are connected to.
+fn check_ports(alloc: Global, full: &Name, conns: &[Conn], body: &Module) -> Result<(), LinkFault>
+    requires bits { All (λ (p : PortRecord). AllBelow (length body.now.nets) p.bits) body.now.ports }
+    ensures ok { OnOk result (All (IsFinePort conns.now) body.now.ports) }
+    ensures err { IfErr result (IsModuleFault body.now full.now conns.now) }
+{
+    for k in 0..body.ports.len() {
+        check_port(alloc, full, conns, body, body.ports.item(k))?;
+    }
+    Ok(())
+}
+
+/// Refuses an instance of a module for its connections.
+pub(crate) fn check_module(
+    alloc: Global,
+    full: &Name,
+    conns: &[Conn],
+    body: &Module,
+) -> Result<(), LinkFault>
+    requires bits { All (λ (p : PortRecord). AllBelow (length body.now.nets) p.bits) body.now.ports }
+    ensures ok { OnOk result (IsFineModule conns.now body.now) }
+    ensures err { IfErr result (IsModuleFault body.now full.now conns.now) }
+{
+    check_known(alloc, full, conns, body)?;
+    check_ports(alloc, full, conns, body)?;
+    Ok(())
+}
