@@ -31,7 +31,7 @@ pub fn net_table(alloc: Global, named: &[NetName]) -> Result<NetTable, NameFault
 }
 
 /// Adds a name with its net, where it isn't there with it. A name may come again with the same net.
-fn add_net(
+pub(crate) fn add_net(
     alloc: Global,
     names: &mut NameTable,
     nets: &mut Seq<usize>,

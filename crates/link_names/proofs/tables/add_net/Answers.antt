@@ -1,4 +1,4 @@
-use Rattle.std.proofs.Common.{◌≡◌, ◌<◌, ◌≤◌, length, arith, refl, ◌∙◌, inl, inr}
+use Rattle.std.proofs.Common.{◌≡◌, arith, refl, ◌∙◌, inl, inr}
 use Rattle.link_names.proofs.Tabled.{found_place, absent_at}
 use Rattle.link_names.proofs.tables.add_net.Goals as goal
 

@@ -1,0 +1,2 @@
+pub mod Topping
+pub mod Porting
