@@ -60,7 +60,7 @@ abbrev pub port_places : List PortName → Object → List ℕ
 port_places inputs (Named q) = named_places q inputs
 port_places inputs _ = []
 
--- how a refusal names an object
+-- how a refusal or a warning names an object
 abbrev pub object_text : Object → List ℕ
 object_text (Named q) = q.pattern
 object_text AllInputs = codes "all_inputs"

@@ -27,8 +27,8 @@ fn is_port_class(class: Class) -> bool
     }
 }
 
-// Whether the pattern matches a bit's name or that of its bus.
-fn names_bit(query: &Query, port: &PortName) -> bool
+/// Whether the pattern matches a bit's name or that of its bus.
+pub fn names_bit(query: &Query, port: &PortName) -> bool
     ensures { result ≡ spec.names_bit query.now port.now }
 {
     matches(query.pattern.as_bytes(), port.name.as_bytes(), query.hier)
@@ -73,8 +73,8 @@ fn add_named(
     Ok(())
 }
 
-/// How a refusal names an object.
-pub(crate) fn object_text(alloc: Global, object: &Object) -> Result<Name, AllocError>
+/// How a refusal or a warning names an object.
+pub fn object_text(alloc: Global, object: &Object) -> Result<Name, AllocError>
     ensures { IfOk result (λ text. text ≡ spec.object_text object.now) }
 {
     match object {

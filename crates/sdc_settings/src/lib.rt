@@ -15,5 +15,6 @@ mod scripts;
 mod values;
 
 pub use faults::ExpandFault;
+pub use inputs::{names_bit, object_text};
 pub use scripts::settings;
 pub use values::Settings;

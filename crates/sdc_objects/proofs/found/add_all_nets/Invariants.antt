@@ -1,0 +1,7 @@
+use Rattle.std.proofs.Common.{◌≡◌, ◌++◌, take}
+use Rattle.sdc_objects.specs.Places.{each_at}
+use Rattle.sdc_objects.specs.Things.{net_named}
+use Rattle.sdc_objects.proofs.found.add_all_nets.Given as goal
+
+abbrev pub invariant-loop-place : goal.invariant-loop-place
+invariant-loop-place l = l.found ≡ l.fn.found ++ each_at (net_named l.query) 0 (take l.place l.nets)

@@ -1,0 +1,7 @@
+use Rattle.std.proofs.Common.{◌≡◌, take}
+use Rattle.sdc_objects.specs.Places.{each_at}
+use Rattle.sdc_objects.specs.Things.{any_clock}
+use Rattle.sdc_objects.proofs.found.all_clocks.Given as goal
+
+abbrev pub invariant-loop-place : goal.invariant-loop-place
+invariant-loop-place l = l.found ≡ each_at any_clock 0 (take l.place l.commands)

@@ -1,0 +1,4 @@
+pub mod Places
+pub mod Things
+pub mod Standing
+pub mod Tables

@@ -1,0 +1,182 @@
+-- What each thing stands for in each place of an exception.
+use Rattle.std.specs.Prelude.{ℕ, Bool, true, false, ◌&&◌, ◌==◌, if◌then◌else◌, List, [], ◌∷◌, ◌++◌, map, flat_map, length}
+use Rattle.std.specs.Prelude.{Option, Some, None, slice_get, slice_index, count_by}
+use Rattle.std.specs.List.{list_all}
+use Rattle.net_model.specs.declared.netlist.Design.{Design}
+use Rattle.net_model.specs.declared.netlist.Reg.{Reg}
+use Rattle.net_model.specs.declared.claims.Start.{Start}
+use Rattle.net_model.specs.declared.claims.Start.TheVariants.{Reg as RegStart, Input as InputStart}
+use Rattle.net_model.specs.declared.claims.End.{End}
+use Rattle.net_model.specs.declared.claims.End.TheVariants.{Reg as RegEnd, Output as OutputEnd}
+use Rattle.net_model.specs.declared.claims.PinRef.{PinRef}
+use Rattle.net_model.specs.declared.claims.PinRef.TheVariants.{Net as NetPin, OutPort}
+use Rattle.link_defs.specs.declared.names.Linked.{Linked}
+use Rattle.link_defs.specs.declared.names.CellName.{CellName}
+use Rattle.link_defs.specs.declared.names.PinName.{PinName}
+use Rattle.link_defs.specs.declared.names.PinRole.{PinRole}
+use Rattle.link_defs.specs.declared.names.PinRole.TheVariants.{Clock as ClockRole, Load, Drive}
+use Rattle.sdc_values.specs.declared.values.Object.{Object}
+use Rattle.sdc_text.specs.declared.scripts.Script.{Script}
+use Rattle.sdc_settings.specs.Inputs.{object_text}
+use Rattle.sdc_objects.specs.declared.things.Thing.{Thing}
+use Rattle.sdc_objects.specs.declared.things.Thing.TheVariants as thing
+use Rattle.sdc_objects.specs.declared.things.Place.{Place}
+use Rattle.sdc_objects.specs.declared.things.Place.TheVariants.{From, To, Through}
+use Rattle.sdc_objects.specs.declared.warnings.Warning.{Warning}
+use Rattle.sdc_objects.specs.declared.warnings.Warning.TheVariants.{Nothing, Dropped}
+use Rattle.sdc_objects.specs.Places.{each_at, option_list}
+use Rattle.sdc_objects.specs.Things.{things_of}
+
+-- a row of the table: what a thing stands for in each place; None where it is dropped there
+pub record Stands : Type 0 where
+  pub from : Option (List Start)
+  pub to : Option (List End)
+  pub through : Option (List PinRef)
+
+abbrev pub row : Option (List Start) → Option (List End) → Option (List PinRef) → Stands
+row from to through = record { from = from; to = to; through = through }
+
+abbrev pub dropped : {A : Type 0} → Option (List A)
+dropped = None
+
+abbrev pub one : {A : Type 0} → A → Option (List A)
+one x = Some (x ∷ [])
+
+-- a register as a start and as an end
+abbrev pub reg_start : Option ℕ → Option (List Start)
+reg_start None = dropped
+reg_start (Some r) = one (RegStart r)
+
+abbrev pub reg_end : Option ℕ → Option (List End)
+reg_end None = dropped
+reg_end (Some r) = one (RegEnd r)
+
+-- all registers
+abbrev pub all_reg_starts : Design → List Start
+all_reg_starts d = each_at (λ r (reg : Reg). RegStart r ∷ []) 0 d.regs
+
+abbrev pub all_reg_ends : Design → List End
+all_reg_ends d = each_at (λ r (reg : Reg). RegEnd r ∷ []) 0 d.regs
+
+abbrev pub is_clock_role : PinRole → Bool
+is_clock_role ClockRole = true
+is_clock_role (Load pins) = false
+is_clock_role (Drive net) = false
+
+-- it has no output net and no pin but clock pins: where it is no register, a buffer of the clock tree
+abbrev pub is_on_tree : CellName → Bool
+is_on_tree c = length c.outs == 0 && list_all (λ (p : PinName). is_clock_role p.role) c.pins
+
+-- the output nets of a cell
+abbrev pub cell_outs : CellName → Option ℕ → Option (List PinRef)
+cell_outs c (Some r) = Some (map NetPin c.outs)
+cell_outs c None = if is_on_tree c then dropped else Some (map NetPin c.outs)
+
+-- the three columns: in from, in to, in through
+abbrev pub cell_row : CellName → Stands
+cell_row c = row (reg_start c.reg) (reg_end c.reg) (cell_outs c c.reg)
+
+abbrev pub pin_row : Option ℕ → PinRole → Stands
+pin_row reg ClockRole = row (reg_start reg) dropped dropped
+pin_row reg (Drive net) = row (reg_start reg) dropped (one (NetPin net))
+pin_row reg (Load pins) = row dropped (reg_end reg) (Some pins)
+
+abbrev pub cell_at_row : Option CellName → Stands
+cell_at_row None = row dropped dropped dropped
+cell_at_row (Some c) = cell_row c
+
+abbrev pub role_row : Option ℕ → Option PinName → Stands
+role_row reg None = row dropped dropped dropped
+role_row reg (Some p) = pin_row reg p.role
+
+abbrev pub pin_at_row : Option CellName → ℕ → Stands
+pin_at_row None place = row dropped dropped dropped
+pin_at_row (Some c) place = role_row c.reg (slice_get c.pins place)
+
+abbrev pub stands : Linked → Thing → Stands
+stands l (thing.Cell k) = cell_at_row (slice_get l.names.cells k)
+stands l (thing.Pin k place) = pin_at_row (slice_get l.names.cells k) place
+stands l (thing.In i) = row (one (InputStart i)) dropped (one (NetPin (slice_index l.design.inputs i)))
+stands l (thing.Out o) = row dropped (one (OutputEnd o)) (one (OutPort o))
+stands l thing.ClockPort = row dropped dropped dropped
+stands l (thing.Net n) = row dropped dropped (one (NetPin n))
+stands l (thing.Clock true) = row (Some (all_reg_starts l.design)) (Some (all_reg_ends l.design)) dropped
+stands l (thing.Clock false) = row (Some []) (Some []) (Some [])
+
+-- what a thing gives in a column
+abbrev pub meant_by : {A : Type 0} → Option (List A) → List A
+meant_by None = []
+meant_by (Some xs) = xs
+
+abbrev pub is_dropped : {A : Type 0} → Option (List A) → Bool
+is_dropped None = true
+is_dropped (Some xs) = false
+
+-- what the things that an object names stand for in a column
+abbrev pub meant_of : {A : Type 0} → (Thing → Option (List A)) → List Thing → List A
+meant_of column things = flat_map (λ t. meant_by (column t)) things
+
+-- how many of them are dropped there
+abbrev pub dropped_of : {A : Type 0} → (Thing → Option (List A)) → List Thing → ℕ
+dropped_of column things = count_by (λ t. is_dropped (column t)) things
+
+-- what the objects of a list stand for in one place
+abbrev pub meant : {A : Type 0} → (Linked → Thing → Option (List A)) → Linked → Script → Place → List Object → List A
+meant column l script place objects = flat_map (λ o. meant_of (column l) (things_of l script place o)) objects
+
+-- nothing is named, or so many of the things that are named are dropped
+abbrev pub warning : List ℕ → List Thing → ℕ → List Warning
+warning text [] count = Nothing text ∷ []
+warning text (t ∷ ts) count = if count == 0 then [] else Dropped text count ∷ []
+
+-- the warnings of an object, and those of a list of objects
+abbrev pub warnings_of : {A : Type 0} → (Linked → Thing → Option (List A)) → Linked → Script → Place → Object → List Warning
+warnings_of column l script place o = warning (object_text o) (things_of l script place o) (dropped_of (column l) (things_of l script place o))
+
+abbrev pub warnings : {A : Type 0} → (Linked → Thing → Option (List A)) → Linked → Script → Place → List Object → List Warning
+warnings column l script place objects = flat_map (warnings_of column l script place) objects
+
+-- the three columns by their places
+abbrev pub from_column : Linked → Thing → Option (List Start)
+from_column l t = (stands l t).from
+
+abbrev pub to_column : Linked → Thing → Option (List End)
+to_column l t = (stands l t).to
+
+abbrev pub through_column : Linked → Thing → Option (List PinRef)
+through_column l t = (stands l t).through
+
+abbrev pub starts_of : Linked → Script → List Object → List Start
+starts_of l script = meant from_column l script From
+
+abbrev pub ends_of : Linked → Script → List Object → List End
+ends_of l script = meant to_column l script To
+
+abbrev pub pins_of : Linked → Script → List Object → List PinRef
+pins_of l script = meant through_column l script Through
+
+-- the list of what there is, and dropped where there is nothing
+abbrev pub one_of : {A : Type 0} → Option A → Option (List A)
+one_of None = dropped
+one_of (Some x) = one x
+
+-- the register of a cell, that of which a pin is the clock or an output, and that of which it is another input
+abbrev pub reg_of : Option CellName → Option ℕ
+reg_of None = None
+reg_of (Some c) = c.reg
+
+abbrev pub launch_by : Option ℕ → Option PinName → Option ℕ
+launch_by reg None = None
+launch_by reg (Some p) = elim p.role [ ClockRole ↦ reg | Drive net ↦ reg | Load pins ↦ None ]
+
+abbrev pub launch_reg : Option CellName → ℕ → Option ℕ
+launch_reg None place = None
+launch_reg (Some c) place = launch_by c.reg (slice_get c.pins place)
+
+abbrev pub capture_by : Option ℕ → Option PinName → Option ℕ
+capture_by reg None = None
+capture_by reg (Some p) = elim p.role [ ClockRole ↦ None | Drive net ↦ None | Load pins ↦ reg ]
+
+abbrev pub capture_reg : Option CellName → ℕ → Option ℕ
+capture_reg None place = None
+capture_reg (Some c) place = capture_by c.reg (slice_get c.pins place)

@@ -1,0 +1,32 @@
+-- Tables of the names of a design.
+use Rattle.std.specs.Prelude.{◌≡◌, ℕ, List, ◌∷◌, ◌++◌, map, flat_map}
+use Rattle.texts.specs.Names.{each_once}
+use Rattle.name_index.specs.Indexes.{IsIndexOf}
+use Rattle.link_defs.specs.declared.names.Names.{Names}
+use Rattle.link_defs.specs.declared.names.Linked.{Linked}
+use Rattle.link_defs.specs.declared.names.CellName.{CellName}
+use Rattle.link_defs.specs.declared.names.PortName.{PortName}
+use Rattle.link_defs.specs.declared.names.NetName.{NetName}
+use Rattle.sdc_objects.specs.Places.{option_list}
+use Rattle.sdc_objects.specs.declared.tables.Tables.{Tables}
+
+-- the names of cells and of nets, in their order
+abbrev pub cell_names : List CellName → List (List ℕ)
+cell_names cells = map (λ (c : CellName). c.name) cells
+
+abbrev pub net_names : List NetName → List (List ℕ)
+net_names nets = map (λ (n : NetName). n.name) nets
+
+-- a port bit's own name and that of its bus
+abbrev pub bit_names : PortName → List (List ℕ)
+bit_names p = p.name ∷ option_list p.bus
+
+-- the names by which ports are found
+abbrev pub port_names : Names → List (List ℕ)
+port_names n = flat_map bit_names n.ins ++ option_list n.clock ++ flat_map bit_names n.outs
+
+-- the tables of the names of a design
+pub record IsTablesOf (l : Linked) (t : Tables) : Type 0 where
+  pub ports : t.ports ≡ each_once (port_names l.names)
+  pub cells : IsIndexOf (cell_names l.names.cells) t.cells
+  pub nets : IsIndexOf (net_names l.names.nets) t.nets

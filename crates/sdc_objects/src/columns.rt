@@ -1,0 +1,341 @@
+//! The table of what things stand for, a column for each place of an exception.
+ghost use Rattle.std.specs.Prelude.{◌≡◌, ◌++◌, ◌∷◌, [], true, not, if◌then◌else◌, map, ℕ, List, Option, None, IfOk, OnOk, slice_get, slice_index};
+ghost use Rattle.std.specs.List.{list_all};
+ghost use Rattle.link_defs.specs.declared.names.PinName.{PinName as PinRecord};
+ghost use Rattle.std.specs.Option.{is_some};
+ghost use Rattle.net_model.specs.declared.claims.PinRef.TheVariants.{Net as NetPin};
+ghost use Rattle.link_defs.specs.declared.names.Linked.{Linked as LinkedRecord};
+ghost use Rattle.sdc_objects.specs.declared.things.Thing.{Thing as ThingEnum};
+ghost use Rattle.sdc_objects.specs.declared.things.Place.{Place as PlaceEnum};
+ghost use Rattle.sdc_objects.specs.declared.things.Place.TheVariants as places;
+ghost use Rattle.sdc_objects.specs.Places.{option_list};
+ghost use Rattle.sdc_objects.specs.Standing as spec;
+
+use crate::things::{Place, Thing};
+use link_defs::{CellName, Linked, PinName, PinRole};
+use net_model::{Design, End, PinRef, Start};
+use sdcv_base::Seq;
+use std::alloc::{AllocError, Global};
+
+/// What things stand for in one place of an exception.
+pub trait Column: Copy + Drop {
+    ghost column: { LinkedRecord → ThingEnum → Option (List Self) };
+
+    ghost at: { PlaceEnum };
+
+    /// The place of this column.
+    fn place() -> Place
+        ensures { result ≡ at };
+
+    /// Adds what a thing stands for, and tells whether it isn't dropped.
+    fn add(linked: &Linked, thing: Thing, found: &mut Seq<Self>) -> Result<bool, AllocError>
+        ensures kept { IfOk result (λ kept. kept ≡ not (spec.is_dropped (column linked.now thing))) }
+        ensures added { OnOk result (found.new ≡ found.old ++ spec.meant_by (column linked.now thing)) };
+}
+
+impl Column for Start {
+    ghost column = { spec.from_column };
+
+    ghost at = { places.From };
+
+    fn place() -> Place {
+        Place::From
+    }
+
+    fn add(linked: &Linked, thing: Thing, found: &mut Seq<Start>) -> Result<bool, AllocError> {
+        let cells = &linked.names.cells;
+        match thing {
+            Thing::Cell(k) => add_one(reg_start(cell_reg(cells, k)), found),
+            Thing::Pin(k, place) => add_one(reg_start(launch_reg(cells, k, place)), found),
+            Thing::In(input) => add_one(Some(Start::Input(input)), found),
+            Thing::Out(_) | Thing::ClockPort | Thing::Net(_) => Ok(false),
+            Thing::Clock(sourced) => add_reg_starts(&linked.design, sourced, found),
+        }
+    }
+}
+
+impl Column for End {
+    ghost column = { spec.to_column };
+
+    ghost at = { places.To };
+
+    fn place() -> Place {
+        Place::To
+    }
+
+    fn add(linked: &Linked, thing: Thing, found: &mut Seq<End>) -> Result<bool, AllocError> {
+        let cells = &linked.names.cells;
+        match thing {
+            Thing::Cell(k) => add_one(reg_end(cell_reg(cells, k)), found),
+            Thing::Pin(k, place) => add_one(reg_end(capture_reg(cells, k, place)), found),
+            Thing::Out(output) => add_one(Some(End::Output(output)), found),
+            Thing::In(_) | Thing::ClockPort | Thing::Net(_) => Ok(false),
+            Thing::Clock(sourced) => add_reg_ends(&linked.design, sourced, found),
+        }
+    }
+}
+
+impl Column for PinRef {
+    ghost column = { spec.through_column };
+
+    ghost at = { places.Through };
+
+    fn place() -> Place {
+        Place::Through
+    }
+
+    fn add(linked: &Linked, thing: Thing, found: &mut Seq<PinRef>) -> Result<bool, AllocError> {
+        let cells = &linked.names.cells;
+        match thing {
+            Thing::Cell(k) => add_cell_pins(cells, k, found),
+            Thing::Pin(k, place) => add_pin(cells, k, place, found),
+            Thing::In(input) => add_one(Some(PinRef::Net(input_net(&linked.design, input))), found),
+            Thing::Out(output) => add_one(Some(PinRef::OutPort(output)), found),
+            Thing::Net(net) => add_one(Some(PinRef::Net(net)), found),
+            Thing::ClockPort => Ok(false),
+            Thing::Clock(sourced) => Ok(!sourced),
+        }
+    }
+}
+
+// Adds what there is, and tells whether there is anything.
+fn add_one<T: Copy + Drop>(one: Option<T>, found: &mut Seq<T>) -> Result<bool, AllocError>
+    ensures kept { IfOk result (λ kept. kept ≡ is_some one) }
+    ensures added { OnOk result (found.new ≡ found.old ++ option_list one) }
+{
+    match one {
+        Some(one) => {
+            found.push(one)?;
+            Ok(true)
+        }
+        None => Ok(false),
+    }
+}
+
+fn reg_start(reg: Option<usize>) -> Option<Start>
+    ensures { spec.one_of result ≡ spec.reg_start reg }
+{
+    match reg {
+        Some(reg) => Some(Start::Reg(reg)),
+        None => None,
+    }
+}
+
+fn reg_end(reg: Option<usize>) -> Option<End>
+    ensures { spec.one_of result ≡ spec.reg_end reg }
+{
+    match reg {
+        Some(reg) => Some(End::Reg(reg)),
+        None => None,
+    }
+}
+
+// The register of a cell.
+fn cell_reg(cells: &Seq<CellName>, k: usize) -> Option<usize>
+    ensures { result ≡ spec.reg_of (slice_get cells.now k) }
+{
+    match cells.as_slice().get(k) {
+        Some(cell) => cell.reg,
+        None => None,
+    }
+}
+
+// The register whose clock or output pin it is.
+fn launch_reg(cells: &Seq<CellName>, k: usize, place: usize) -> Option<usize>
+    ensures { result ≡ spec.launch_reg (slice_get cells.now k) place }
+{
+    let cell = cells.as_slice().get(k)?;
+    let pin = cell.pins.as_slice().get(place)?;
+    match &pin.role {
+        PinRole::Clock | PinRole::Drive(_) => cell.reg,
+        PinRole::Load(_) => None,
+    }
+}
+
+// The register whose other input pin it is.
+fn capture_reg(cells: &Seq<CellName>, k: usize, place: usize) -> Option<usize>
+    ensures { result ≡ spec.capture_reg (slice_get cells.now k) place }
+{
+    let cell = cells.as_slice().get(k)?;
+    let pin = cell.pins.as_slice().get(place)?;
+    match &pin.role {
+        PinRole::Clock | PinRole::Drive(_) => None,
+        PinRole::Load(_) => cell.reg,
+    }
+}
+
+// A clock without a source stands for nothing.
+fn add_reg_starts(
+    design: &Design,
+    sourced: bool,
+    found: &mut Seq<Start>,
+) -> Result<bool, AllocError>
+    ensures kept { IfOk result (λ kept. kept ≡ true) }
+    ensures added { OnOk result (found.new ≡ found.old ++ (if sourced then spec.all_reg_starts design.now else [])) }
+{
+    if sourced {
+        push_reg_starts(design, found)?;
+    }
+    Ok(true)
+}
+
+fn push_reg_starts(design: &Design, found: &mut Seq<Start>) -> Result<(), AllocError>
+    ensures { OnOk result (found.new ≡ found.old ++ spec.all_reg_starts design.now) }
+{
+    for reg in 0..design.regs.len() {
+        found.push(Start::Reg(reg))?;
+    }
+    Ok(())
+}
+
+fn add_reg_ends(design: &Design, sourced: bool, found: &mut Seq<End>) -> Result<bool, AllocError>
+    ensures kept { IfOk result (λ kept. kept ≡ true) }
+    ensures added { OnOk result (found.new ≡ found.old ++ (if sourced then spec.all_reg_ends design.now else [])) }
+{
+    if sourced {
+        push_reg_ends(design, found)?;
+    }
+    Ok(true)
+}
+
+fn push_reg_ends(design: &Design, found: &mut Seq<End>) -> Result<(), AllocError>
+    ensures { OnOk result (found.new ≡ found.old ++ spec.all_reg_ends design.now) }
+{
+    for reg in 0..design.regs.len() {
+        found.push(End::Reg(reg))?;
+    }
+    Ok(())
+}
+
+fn input_net(design: &Design, input: usize) -> usize
+    ensures { result ≡ slice_index design.now.inputs input }
+{
+    design.inputs.as_slice().get(input).copied().unwrap_or(0)
+}
+
+// The output nets of a cell that is a register or stands off the clock tree.
+fn add_cell_pins(
+    cells: &Seq<CellName>,
+    k: usize,
+    found: &mut Seq<PinRef>,
+) -> Result<bool, AllocError>
+    ensures kept { IfOk result (λ kept. kept ≡ not (spec.is_dropped (spec.cell_at_row (slice_get cells.now k)).through)) }
+    ensures added { OnOk result (found.new ≡ found.old ++ spec.meant_by (spec.cell_at_row (slice_get cells.now k)).through) }
+{
+    match cells.as_slice().get(k) {
+        Some(cell) => add_cell(cell, found),
+        None => Ok(false),
+    }
+}
+
+fn add_cell(cell: &CellName, found: &mut Seq<PinRef>) -> Result<bool, AllocError>
+    ensures kept { IfOk result (λ kept. kept ≡ not (spec.is_dropped (spec.cell_outs cell.now cell.now.reg))) }
+    ensures added { OnOk result (found.new ≡ found.old ++ spec.meant_by (spec.cell_outs cell.now cell.now.reg)) }
+{
+    match cell.reg {
+        Some(_) => add_outs(cell, found),
+        None => add_free_outs(cell, found),
+    }
+}
+
+fn add_outs(cell: &CellName, found: &mut Seq<PinRef>) -> Result<bool, AllocError>
+    ensures kept { IfOk result (λ kept. kept ≡ true) }
+    ensures added { OnOk result (found.new ≡ found.old ++ map NetPin cell.now.outs) }
+{
+    add_nets(&cell.outs, found)?;
+    Ok(true)
+}
+
+// Of a cell that is no register.
+fn add_free_outs(cell: &CellName, found: &mut Seq<PinRef>) -> Result<bool, AllocError>
+    ensures kept { IfOk result (λ kept. kept ≡ not (spec.is_dropped (spec.cell_outs cell.now None))) }
+    ensures added { OnOk result (found.new ≡ found.old ++ spec.meant_by (spec.cell_outs cell.now None)) }
+{
+    if is_on_tree(cell) {
+        return Ok(false);
+    }
+    add_outs(cell, found)
+}
+
+fn is_on_tree(cell: &CellName) -> bool
+    ensures { result ≡ spec.is_on_tree cell.now }
+{
+    cell.outs.len() == 0 && are_clock_pins(&cell.pins)
+}
+
+fn are_clock_pins(pins: &Seq<PinName>) -> bool
+    ensures { result ≡ list_all (λ (p : PinRecord). spec.is_clock_role p.role) pins.now }
+{
+    for k in 0..pins.len() {
+        if !is_clock_role(&pins.item(k).role) {
+            return false;
+        }
+    }
+    true
+}
+
+fn is_clock_role(role: &PinRole) -> bool
+    ensures { result ≡ spec.is_clock_role role.now }
+{
+    match role {
+        PinRole::Clock => true,
+        PinRole::Load(_) | PinRole::Drive(_) => false,
+    }
+}
+
+fn add_nets(nets: &Seq<usize>, found: &mut Seq<PinRef>) -> Result<(), AllocError>
+    ensures { OnOk result (found.new ≡ found.old ++ map NetPin nets.now) }
+{
+    for k in 0..nets.len() {
+        found.push(PinRef::Net(nets.at(k)))?;
+    }
+    Ok(())
+}
+
+fn add_pin(
+    cells: &Seq<CellName>,
+    k: usize,
+    place: usize,
+    found: &mut Seq<PinRef>,
+) -> Result<bool, AllocError>
+    ensures kept { IfOk result (λ kept. kept ≡ not (spec.is_dropped (spec.pin_at_row (slice_get cells.now k) place).through)) }
+    ensures added { OnOk result (found.new ≡ found.old ++ spec.meant_by (spec.pin_at_row (slice_get cells.now k) place).through) }
+{
+    match cells.as_slice().get(k) {
+        Some(cell) => add_pin_of(cell, place, found),
+        None => Ok(false),
+    }
+}
+
+fn add_pin_of(cell: &CellName, place: usize, found: &mut Seq<PinRef>) -> Result<bool, AllocError>
+    ensures kept { IfOk result (λ kept. kept ≡ not (spec.is_dropped (spec.role_row cell.now.reg (slice_get cell.now.pins place)).through)) }
+    ensures added { OnOk result (found.new ≡ found.old ++ spec.meant_by (spec.role_row cell.now.reg (slice_get cell.now.pins place)).through) }
+{
+    match cell.pins.as_slice().get(place) {
+        Some(pin) => add_role(&pin.role, found),
+        None => Ok(false),
+    }
+}
+
+fn add_role(role: &PinRole, found: &mut Seq<PinRef>) -> Result<bool, AllocError>
+    ensures kept { (reg : Option ℕ) → IfOk result (λ kept. kept ≡ not (spec.is_dropped (spec.pin_row reg role.now).through)) }
+    ensures added { (reg : Option ℕ) → OnOk result (found.new ≡ found.old ++ spec.meant_by (spec.pin_row reg role.now).through) }
+{
+    match role {
+        PinRole::Clock => Ok(false),
+        PinRole::Drive(net) => add_one(Some(PinRef::Net(*net)), found),
+        PinRole::Load(pins) => {
+            add_loads(pins, found)?;
+            Ok(true)
+        }
+    }
+}
+
+fn add_loads(pins: &Seq<PinRef>, found: &mut Seq<PinRef>) -> Result<(), AllocError>
+    ensures { OnOk result (found.new ≡ found.old ++ pins.now) }
+{
+    for k in 0..pins.len() {
+        found.push(pins.at(k))?;
+    }
+    Ok(())
+}

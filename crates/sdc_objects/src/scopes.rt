@@ -1,0 +1,12 @@
+//! Where the objects of a script are looked up.
+use crate::tables::Tables;
+use link_defs::Linked;
+use sdc_text::Script;
+
+/// A linked design, tables of its names, and the script, whose clocks have names too.
+#[derive(Clone, Copy)]
+pub struct Scope<'a> {
+    pub linked: &'a Linked,
+    pub script: &'a Script,
+    pub tables: &'a Tables,
+}

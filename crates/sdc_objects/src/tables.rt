@@ -1,0 +1,104 @@
+//! Tables of the names of a design.
+ghost use Rattle.std.specs.Prelude.{◌≡◌, [], IfOk, OnOk, flat_map};
+ghost use Rattle.texts.specs.Names.{with_names, each_once};
+ghost use Rattle.name_index.specs.Indexes.{IsIndexOf};
+ghost use Rattle.sdc_objects.specs.Places.{option_list};
+ghost use Rattle.sdc_objects.specs.Tables.{IsTablesOf, port_names, bit_names, cell_names, net_names};
+
+use link_defs::{CellName, Linked, Names, NetName, PortName};
+use name_index::Index;
+use sdcv_base::{Name, Seq};
+use std::alloc::{AllocError, Global};
+use texts::NameTable;
+
+/// The names of a design: those of its ports and their buses, and those of its cells and nets with their places. It is made
+/// once for a design.
+#[derive(Drop)]
+pub struct Tables {
+    pub(crate) ports: NameTable,
+    pub(crate) cells: Index,
+    pub(crate) nets: Index,
+}
+
+impl Tables {
+    /// The tables of a linked design.
+    pub fn of(alloc: Global, linked: &Linked) -> Result<Tables, AllocError>
+        ensures { IfOk result (IsTablesOf linked.now) }
+    {
+        let mut tables = Tables {
+            ports: NameTable::new(alloc),
+            cells: Index::new(alloc),
+            nets: Index::new(alloc),
+        };
+        tables.fill(alloc, &linked.names)?;
+        Ok(tables)
+    }
+
+    fn fill(&mut self, alloc: Global, names: &Names) -> Result<(), AllocError>
+        requires ports { self.old.ports ≡ [] }
+        requires cells { IsIndexOf [] self.old.cells }
+        requires nets { IsIndexOf [] self.old.nets }
+        ensures ports { OnOk result (self.new.ports ≡ each_once (port_names names.now)) }
+        ensures cells { OnOk result (IsIndexOf (cell_names names.now.cells) self.new.cells) }
+        ensures nets { OnOk result (IsIndexOf (net_names names.now.nets) self.new.nets) }
+    {
+        add_ports(alloc, names, &mut self.ports)?;
+        add_cells(alloc, &names.cells, &mut self.cells)?;
+        add_nets(alloc, &names.nets, &mut self.nets)
+    }
+}
+
+// Adds the names by which ports are found.
+fn add_ports(alloc: Global, names: &Names, table: &mut NameTable) -> Result<(), AllocError>
+    requires { table.old ≡ [] }
+    ensures { OnOk result (table.new ≡ each_once (port_names names.now)) }
+{
+    add_bits(alloc, &names.ins, table)?;
+    add_option(alloc, &names.clock, table)?;
+    add_bits(alloc, &names.outs, table)
+}
+
+fn add_bits(alloc: Global, ports: &Seq<PortName>, table: &mut NameTable) -> Result<(), AllocError>
+    ensures { OnOk result (table.new ≡ with_names table.old (flat_map bit_names ports.now)) }
+{
+    for k in 0..ports.len() {
+        add_bit(alloc, ports.item(k), table)?;
+    }
+    Ok(())
+}
+
+fn add_bit(alloc: Global, port: &PortName, table: &mut NameTable) -> Result<(), AllocError>
+    ensures { OnOk result (table.new ≡ with_names table.old (bit_names port.now)) }
+{
+    table.add(alloc, &port.name)?;
+    add_option(alloc, &port.bus, table)
+}
+
+fn add_option(alloc: Global, name: &Option<Name>, table: &mut NameTable) -> Result<(), AllocError>
+    ensures { OnOk result (table.new ≡ with_names table.old (option_list name.now)) }
+{
+    if let Some(name) = name {
+        table.add(alloc, name)?;
+    }
+    Ok(())
+}
+
+fn add_cells(alloc: Global, cells: &Seq<CellName>, index: &mut Index) -> Result<(), AllocError>
+    requires { IsIndexOf [] index.old }
+    ensures { OnOk result (IsIndexOf (cell_names cells.now) index.new) }
+{
+    for k in 0..cells.len() {
+        index.add(alloc, &cells.item(k).name)?;
+    }
+    Ok(())
+}
+
+fn add_nets(alloc: Global, nets: &Seq<NetName>, index: &mut Index) -> Result<(), AllocError>
+    requires { IsIndexOf [] index.old }
+    ensures { OnOk result (IsIndexOf (net_names nets.now) index.new) }
+{
+    for k in 0..nets.len() {
+        index.add(alloc, &nets.item(k).name)?;
+    }
+    Ok(())
+}

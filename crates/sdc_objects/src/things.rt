@@ -1,0 +1,48 @@
+//! Things that have names.
+ghost use Rattle.std.specs.Prelude.{◌≡◌, ◌++◌, OnOk};
+ghost use Rattle.sdc_objects.specs.Places.{where_true};
+
+use sdcv_base::Seq;
+use std::alloc::AllocError;
+
+/// A thing that an object of a script can name: a cell, an input bit or an output bit by its place among the names of the
+/// design, a pin by its cell's place and its own there, a net by its number, a clock by whether it has a source.
+#[derive(Clone, Copy, Debug, PartialEq, Eq)]
+pub enum Thing {
+    Cell(usize),
+    Pin(usize, usize),
+    In(usize),
+    Out(usize),
+    ClockPort,
+    Net(usize),
+    Clock(bool),
+}
+
+/// The place of an object in an exception.
+#[derive(Clone, Copy, Debug, PartialEq, Eq)]
+pub enum Place {
+    From,
+    To,
+    Through,
+}
+
+/// On which side of the design a port stands.
+#[derive(Clone, Copy, Debug, PartialEq, Eq)]
+pub enum Side {
+    In,
+    Out,
+}
+
+/// Adds a thing where it is one of those that are looked for.
+pub(crate) fn add_where(
+    wanted: bool,
+    thing: Thing,
+    found: &mut Seq<Thing>,
+) -> Result<(), AllocError>
+    ensures { OnOk result (found.new ≡ found.old ++ where_true wanted thing) }
+{
+    if wanted {
+        found.push(thing)?;
+    }
+    Ok(())
+}
