@@ -3,9 +3,19 @@ ghost use Rattle.std.specs.Prelude.{IfOk};
 ghost use Rattle.net_model.specs.Netlist.{IsSound};
 ghost use Rattle.net_model.specs.Fits.{Fits};
 
-use net_samples::{Ask, Case, Part, case_of};
+use net_model::Design;
+use net_samples::{Ask, Case, Part, case_of, design};
 use std::alloc::{AllocError, Global};
 use std::process::Abort;
+
+/// A design, which is sound.
+pub fn sound_design(rt: &impl Abort, alloc: Global, parts: &[Part]) -> Result<Design, AllocError>
+    ensures { IfOk result IsSound }
+{
+    let design = design(alloc, parts)?;
+    assert!(rt; design.check(alloc).is_ok());
+    Ok(design)
+}
 
 /// A query about a design, which is sound, and whose claim fits it.
 pub fn sound_case(
