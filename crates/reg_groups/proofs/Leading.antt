@@ -1,5 +1,6 @@
 -- A register feeds one of some registers exactly where gates lead from one of its output nets to a pin of one of them.
-use Rattle.std.proofs.Common.{arith, ◌≡◌, ℕ, zero, suc, ◌<◌, Bool, List, [], ◌∷◌, length, map, Option, Some, None, refl, sym, subst, ◌∙◌, inl, inr, Contains, flat_map, slice_get}
+use Rattle.std.proofs.Common.{arith, ◌≡◌, ℕ, zero, suc, ◌<◌, Bool, List, [], ◌∷◌, length, map, Option, Some, None}
+use Rattle.std.proofs.Common.{refl, sym, subst, ◌∙◌, inl, inr, Contains, flat_map, slice_get}
 use Rattle.std.specs.Prelude.{slice_index}
 use Rattle.std.proofs.lemmas.List.Elements.{Contains-append_left, Contains-append_right, Contains-append_cases, Contains-get_or}
 use Rattle.std.proofs.lemmas.List.{get_or_default}
@@ -79,7 +80,8 @@ leads_on d regs to pin (next ∷ path) has (leads, goes) = step_back d regs pin 
 abbrev GoesToSome : Design → List ℕ → ℕ → Type 0
 GoesToSome d regs net = (to : ℕ) × Contains regs to × ((path : List PinRef) × GoesOn d (RegEnd to) (Net net) path)
 
-goes_into_reg : (d : Design) (regs : List ℕ) (r net : ℕ) (o : Option Reg) → Contains regs r → slice_get d.regs r ≡ o → Contains (ins_of o) net → GoesToSome d regs net
+goes_into_reg : (d : Design) (regs : List ℕ) (r net : ℕ) (o : Option Reg) → Contains regs r → slice_get d.regs r ≡ o → Contains (ins_of o) net
+    → GoesToSome d regs net
 goes_into_reg d regs r net None has at (i, below, is) = absurd (omega (arith, below))
 goes_into_reg d regs r net (Some reg) has at among =
     let (i, below, is) = place_of_item reg.ins net among in (
@@ -124,7 +126,8 @@ shows_from_feeds d regs marks are r feeds =
     let (net, starts, into) = net_from_feeds d regs r feeds in (net, starts, (are.exact net).1 into)
 
 -- only a register of the design has output nets
-outs_in_range : (d : Design) (r net : ℕ) (o : Option Reg) → slice_get d.regs r ≡ o → Contains (map (λ (q : RegOut). q.net) (outs_of_reg o)) net → r < length d.regs
+outs_in_range : (d : Design) (r net : ℕ) (o : Option Reg) → slice_get d.regs r ≡ o → Contains (map (λ (q : RegOut). q.net) (outs_of_reg o)) net
+    → r < length d.regs
 outs_in_range d r net None at (i, below, is) = absurd (omega (arith, below))
 outs_in_range d r net (Some reg) at has = slice_get_within d.regs r reg at
 
