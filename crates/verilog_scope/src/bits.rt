@@ -1,27 +1,44 @@
 //! The names of nets.
 ghost use Rattle.std.specs.Prelude.{◌≡◌, ◌≤◌, ◌++◌, ℕ, map, IfOk, OnOk};
 ghost use Rattle.std.specs.List.{range_with_len};
+ghost use Rattle.std.specs.Option.{option_copied};
 ghost use Rattle.verilog_scope.specs.Scopes as spec;
 
 use crate::decls::{Decl, decl_at};
 use crate::ranges::width;
 use sdcv_base::{Name, Seq, push_decimal};
 use std::alloc::{AllocError, Global};
+use texts::NameTable;
 use verilog_syntax::Range;
 
-/// Appends the names of the nets of these names.
+/// Appends the names of the nets of these names, the first of which is at place 0.
 pub fn push_nets(
     alloc: Global,
     nets: &mut Seq<Name>,
     decls: &Seq<Decl>,
-    names: &[Name],
+    names: &NameTable,
 ) -> Result<(), AllocError>
     ensures { OnOk result (nets.new ≡ nets.old ++ spec.nets_from decls.now 0 names.now) }
 {
-    for (place, name) in names.iter().enumerate() {
-        push_bits(alloc, nets, name, &decl_at(decls, place).range)?;
+    for place in 0..names.len() {
+        push_named(alloc, nets, decls, place, names.name(place))?;
     }
     Ok(())
+}
+
+fn push_named(
+    alloc: Global,
+    nets: &mut Seq<Name>,
+    decls: &Seq<Decl>,
+    place: usize,
+    name: Option<&Name>,
+) -> Result<(), AllocError>
+    ensures { OnOk result (nets.new ≡ nets.old ++ spec.named_nets decls.now place (option_copied name.entry)) }
+{
+    match name {
+        None => Ok(()),
+        Some(name) => push_bits(alloc, nets, name, &decl_at(decls, place).range),
+    }
 }
 
 fn push_bits(
