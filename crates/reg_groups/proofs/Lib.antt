@@ -1,0 +1,5 @@
+pub mod Leading
+pub mod Marking
+pub mod Growing
+pub mod Grouping
+pub mod Owning
