@@ -1,0 +1,4 @@
+pub mod ClauseNumbers
+pub mod Adding
+pub mod Standing
+pub mod Claiming

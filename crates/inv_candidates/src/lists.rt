@@ -1,0 +1,62 @@
+//! The clauses that an induction tries.
+ghost use Rattle.std.specs.Prelude.{◌≡◌, All, IfOk, OnOk};
+ghost use Rattle.net_model.specs.Netlist.{IsSound};
+ghost use Rattle.net_model.specs.Fits.{Fits};
+ghost use Rattle.query_model.specs.Laws.{NamesRegs};
+ghost use Rattle.verdicts.specs.Inductive.{StandOnce};
+ghost use Rattle.inv_candidates.specs.Candidates.{AddsClaim, AreCandidates};
+
+use crate::listings::Listing;
+use net_model::{Claim, Design, InvClause};
+use reg_groups::group;
+use sdcv_base::Seq;
+use std::alloc::{AllocError, Global};
+use verdicts::is_judged;
+
+/// So many clauses are tried at most.
+const MOST_CLAUSES: usize = 8192;
+
+/// The clauses of one or two literals over different registers near each claim that is judged, claim by claim, each once. The list
+/// ends where it has 8,192.
+pub fn candidates(
+    alloc: Global,
+    design: &Design,
+    claims: &Seq<Claim>,
+) -> Result<Seq<InvClause>, AllocError>
+    requires sound { IsSound design.now }
+    requires fit { All (Fits design.now) claims.now }
+    ensures candidates { IfOk result (AreCandidates design.now claims.now) }
+    ensures names { IfOk result (All (NamesRegs design.now)) }
+    ensures once { IfOk result StandOnce }
+{
+    let mut listing = Listing::new(alloc);
+    for k in 0..claims.len() {
+        add_claim(alloc, design, claims.item(k), &mut listing)?;
+    }
+    let clauses = listing.first(alloc, MOST_CLAUSES)?;
+    Ok(clauses)
+}
+
+/// Adds the clauses of a claim's group, where the claim is judged and the list is not full.
+fn add_claim(
+    alloc: Global,
+    design: &Design,
+    claim: &Claim,
+    listing: &mut Listing,
+) -> Result<(), AllocError>
+    requires sound { IsSound design.now }
+    requires fits { Fits design.now claim.now }
+    requires names { All (NamesRegs design.now) listing.old }
+    ensures added { OnOk result (AddsClaim design.now claim.now listing.old listing.new) }
+    ensures names { OnOk result (All (NamesRegs design.now) listing.new) }
+{
+    if listing.len() >= MOST_CLAUSES {
+        return Ok(());
+    }
+    if !is_judged(design, claim) {
+        return Ok(());
+    }
+    let group = group(alloc, design, claim)?;
+    listing.add_group(&group)?;
+    Ok(())
+}
