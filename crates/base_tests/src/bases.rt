@@ -3,6 +3,7 @@ use sdcv_base::{
     push_decimal, read_decimal,
 };
 use std::alloc::{AllocError, Global};
+use std::process::Abort;
 use std::test;
 
 // Judged captures by multiplier, counted by hand.
@@ -50,28 +51,48 @@ fn file(alloc: Global, name: &[u8], bytes: &[u8]) -> Result<FileRec, AllocError>
     })
 }
 
-// Of two files of one name the first counts; call 3 is planned to fail after two bytes.
-#[test]
-fn a_host_in_memory_does_as_planned(rt: HostRuntime) -> Result<(), test::Fail> {
-    let alloc = rt.alloc();
+fn two_files(alloc: Global) -> Result<Vec<FileRec>, AllocError> {
     let mut files = Vec::new(alloc);
     files.push(file(alloc, b"v", b"first")?)?;
     files.push(file(alloc, b"v", b"second")?)?;
-    let mut fails = Vec::new(alloc);
-    fails.push(Fail { call: 3, taken: 2 })?;
-    let mut host = MemHost::new(alloc, files, fails, 8)?;
+    Ok(files)
+}
+
+fn planned_host(alloc: Global) -> Result<MemHost, AllocError> {
+    let files = two_files(alloc)?;
+    let fails = Vec::from_slice(alloc, &[Fail { call: 3, taken: 2 }])?;
+    MemHost::new(alloc, files, fails, 8)
+}
+
+fn has_read(rt: &impl Abort, alloc: Global, host: &mut MemHost) -> Result<(), ReadFault> {
     assert!(rt; host.read_file(alloc, "v", 5)?.as_slice() == b"first".as_slice());
     assert!(rt; matches!(host.read_file(alloc, "v", 4), Err(ReadFault::TooLong)));
+    Ok(())
+}
+
+fn has_written(rt: &impl Abort, alloc: Global, host: &mut MemHost) {
     assert!(rt; host.print(b"abc").is_err());
     assert!(rt; host.print(b"def").is_ok());
     assert!(rt; host.print(b"too long").is_err());
     assert!(rt; host.save("c", b"kept").is_ok());
     assert!(rt; host.save("d", b"not").is_err());
     assert!(rt; matches!(host.read_file(alloc, "w", 9), Err(ReadFault::Failed)));
+}
+
+fn has_kept(rt: &impl Abort, host: &MemHost) {
     assert!(rt; host.printed() == b"abdef".as_slice());
     assert_eq!(rt; host.faults(), 4);
     assert_eq!(rt; host.asked().len(), 3);
     assert_eq!(rt; host.saved().len(), 1);
+}
+
+// Of two files of one name the first counts; call 3 is planned to fail after two bytes.
+#[test]
+fn a_host_in_memory_does_as_planned(rt: HostRuntime) -> Result<(), test::Fail> {
+    let mut host = planned_host(rt.alloc())?;
+    has_read(&rt, rt.alloc(), &mut host)?;
+    has_written(&rt, rt.alloc(), &mut host);
+    has_kept(&rt, &host);
     Ok(())
 }
 
@@ -95,19 +116,28 @@ fn faults_have_their_words(rt: HostRuntime) -> Result<(), test::Fail> {
     Ok(())
 }
 
-#[test]
-fn names_lists_and_cursors_give_what_they_hold(rt: HostRuntime) -> Result<(), test::Fail> {
-    let alloc = rt.alloc();
+fn shows_its_bytes(rt: &impl Abort, alloc: Global) -> Result<(), test::Fail> {
     let name = Name::new(alloc, b"a\x07z")?;
     assert!(rt; name.copy(alloc)? == name);
     let shown = format!(in alloc; "{name} {}", LimitName::Pairs)?;
     assert_eq!(rt; shown.as_str(), "a?z pairs");
+    Ok(())
+}
+
+fn holds_numbers(rt: &impl Abort, alloc: Global) -> Result<(), AllocError> {
     let mut numbers = Seq::new(alloc);
     numbers.push(5_usize)?;
     assert_eq!(rt; numbers.copy(alloc)?.at(0), 5);
     assert_eq!(rt; Seq::of(alloc, &[3_u8, 4])?.at(1), 4);
     assert_eq!(rt; Seq::filled(alloc, 7_u8, 3)?.at(2), 7);
     assert_eq!(rt; Seq::one(alloc, 9_u8)?.len(), 1);
+    Ok(())
+}
+
+#[test]
+fn names_lists_and_cursors_give_what_they_hold(rt: HostRuntime) -> Result<(), test::Fail> {
+    shows_its_bytes(&rt, rt.alloc())?;
+    holds_numbers(&rt, rt.alloc())?;
     let mut cursor = Cursor::new(b"xy");
     cursor.bump();
     assert_eq!(rt; cursor.peek(), Some(b'y'));

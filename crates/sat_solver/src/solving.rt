@@ -1,11 +1,11 @@
 //! The solver: search, learn, and search again.
-ghost use Rattle.std.specs.Prelude.{◌≡◌, ◌+◌, ◌^◌, ◌≤◌, length, IfOk, MatchOption};
+ghost use Rattle.std.specs.Prelude.{◌≡◌, ◌+◌, ◌^◌, ◌≤◌, [], length, IfOk, MatchOption};
 ghost use Rattle.proof_log.specs.Formulas.{IsFormula};
 ghost use Rattle.sat_solver.specs.Searches.{IsQuiet, IsFalseAt, AllSet};
-ghost use Rattle.sat_solver.specs.Answers.{IsAnswer, IsSpent};
+ghost use Rattle.sat_solver.specs.Answers.{IsAnswer, IsSpent, formula_of, answer_of};
 
 use crate::engines::Engine;
-use proof_log::{Derivation, Formula, Model};
+use proof_log::{DerivStep, Derivation, Formula, Model};
 use sdcv_base::Seq;
 use std::alloc::{AllocError, Global};
 
@@ -32,17 +32,54 @@ pub fn solve(alloc: Global, formula: &Formula, budget: u64) -> Result<Answer, Al
 {
     let mut engine = Engine::load(alloc, formula)?;
     let mut steps = Seq::new(alloc);
+    let end = log(alloc, &mut engine, budget, &mut steps)?;
+    Ok(answered(end, steps))
+}
+
+/// How a search with learning ends.
+#[derive(Drop)]
+pub(crate) enum End {
+    /// With a value for each variable.
+    Values(Seq<bool>),
+    /// With a conflict at level 0.
+    Refuted,
+    /// With as many new clauses as the budget says.
+    Spent,
+}
+
+// The answer that an end is, with the clauses that were learnt.
+fn answered(end: End, steps: Seq<DerivStep>) -> Answer
+    ensures { result ≡ answer_of end steps }
+{
+    match end {
+        End::Values(values) => Answer::Sat(Model { values }),
+        End::Refuted => Answer::Unsat(Derivation { steps }),
+        End::Spent => Answer::Spent(Derivation { steps }),
+    }
+}
+
+// Searches and learns, and notes each clause that is learnt and the last step of a refutation.
+fn log(
+    alloc: Global,
+    engine: &mut Engine,
+    budget: u64,
+    steps: &mut Seq<DerivStep>,
+) -> Result<End, AllocError>
+    requires { steps.old ≡ [] }
+    ensures answer { IfOk result (λ end. IsAnswer (formula_of engine.old) budget (answer_of end steps.new)) }
+    ensures never_spent { 3 ^ engine.old.vars ≤ budget → IfOk result (λ end. IsSpent (answer_of end steps.new) → ⊥) }
+{
     loop {
-        let Some(conflict) = search(&mut engine) else {
+        let Some(conflict) = search(engine) else {
             let values = engine.values(alloc)?;
-            return Ok(Answer::Sat(Model { values }));
+            return Ok(End::Values(values));
         };
         if engine.level() == 0 {
             steps.push(engine.last_step(alloc, conflict)?)?;
-            return Ok(Answer::Unsat(Derivation { steps }));
+            return Ok(End::Refuted);
         }
         if steps.len() as u64 == budget {
-            return Ok(Answer::Spent(Derivation { steps }));
+            return Ok(End::Spent);
         }
         let learnt = engine.learn(alloc, conflict)?;
         steps.push(learnt.step)?;

@@ -11,3 +11,4 @@ pub mod ScopeLemmas
 pub mod StandLemmas
 pub mod RunLemmas
 pub mod NewLemmas
+pub mod ImpliedLemmas

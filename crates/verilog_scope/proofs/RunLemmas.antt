@@ -4,13 +4,14 @@ use Rattle.std.proofs.Common.{is_some, refl, sym, ap, ◌∙◌, subst, inl, inr
 use Rattle.std.proofs.lemmas.Bool.{cases_lt}
 use Rattle.std.proofs.lemmas.List.{get_or_past}
 use Rattle.std.proofs.lemmas.Option.{slice_get_within}
-use Rattle.texts.specs.Names.{is_among, place_of}
+use Rattle.texts.specs.Names.{is_among, place_of, each_once}
 use Rattle.texts.proofs.NameLemmas.{slice_get-place_of}
 use Rattle.verilog_syntax.specs.declared.declarations.Select.{Select}
 use Rattle.verilog_syntax.specs.declared.declarations.ModuleDecl.{ModuleDecl}
 use Rattle.verilog_scope.specs.declared.decls.Decl.{Decl}
 use Rattle.verilog_scope.specs.declared.ranges.Run.{Run}
 use Rattle.verilog_scope.specs.declared.scopes.Scope.{Scope}
+use Rattle.verilog_scope.specs.Standing.{implied}
 use Rattle.verilog_scope.specs.Ranges.{width, selected}
 use Rattle.verilog_scope.specs.Decls.{blank, decl_at}
 use Rattle.verilog_scope.specs.Scopes.{bases_from, net_names, is_known, decl_of, base_of, all_bits, as_nets, run_of}
@@ -19,6 +20,7 @@ use Rattle.verilog_scope.proofs.CountLemmas.{last_from, bases_within, nets_lengt
 use Rattle.verilog_scope.proofs.RangeLemmas.{selected_within}
 use Rattle.verilog_scope.proofs.ScopeLemmas.{IsScope}
 use Rattle.verilog_scope.proofs.StandLemmas.{standing_implied}
+use Rattle.verilog_scope.proofs.ImpliedLemmas.{among_fewer}
 
 -- a name has a place
 abbrev pub HasPlace : Scope → List ℕ → Type 0
@@ -67,7 +69,7 @@ module _ (m : ModuleDecl) (s : Scope) (made : IsScope m s) where
     | inl less ↦ less
     | inr upto ↦
         let none : is_among n s.implied ≡ true = rw (past n upto) at e in
-        let here : is_among n s.names ≡ true = rw made.names (standing_implied n m (rw made.known at none)) in
+        let here : is_among n s.names ≡ true = rw made.names (standing_implied n m (among_fewer n _ (each_once (implied m)) (rw made.known at none))) in
         absurd cc
   ]
 

@@ -19,7 +19,7 @@ use Rattle.verilog_scope.specs.Folds.{fold_ok}
 use Rattle.verilog_scope.specs.Standing.{standing, implied}
 use Rattle.verilog_scope.specs.Decls.{blank, decl_at, takes_port, takes_net, declare_port, declare_net, declare_listed, declare_item, declare_head}
 use Rattle.verilog_scope.specs.Decls.{declares, listed_in, inst_names}
-use Rattle.verilog_scope.specs.Scopes.{scope_of, bases_from}
+use Rattle.verilog_scope.specs.Scopes.{scope_of, bases_from, implied_wires}
 use Rattle.verilog_scope.proofs.KeepLemmas.{step_gave, fold_keeps}
 
 -- as many declarations as before
@@ -74,7 +74,7 @@ head_keeps n names decls (head.Ports ports) next kept e =
     fold_keeps (Keeps n) (declare_port names) (λ ds p ds2. port_keeps n names ds p ds2) decls ports next kept e
 
 -- one declaration for each name
-declares_length : (names listed : List (List ℕ)) (m : ModuleDecl) (decls : List Decl) → declares names listed m ≡ Ok decls → length decls ≡ length names
+pub declares_length : (names listed : List (List ℕ)) (m : ModuleDecl) (decls : List Decl) → declares names listed m ≡ Ok decls → length decls ≡ length names
 unfolding declares
 declares_length names listed m decls e =
     let n = length names in
@@ -85,7 +85,7 @@ declares_length names listed m decls e =
 -- what a scope that was made is
 pub record IsScope (m : ModuleDecl) (s : Scope) : Type 0 where
   pub names : s.names ≡ standing m
-  pub known : s.implied ≡ each_once (implied m)
+  pub known : s.implied ≡ implied_wires (standing m) s.decls m
   pub bases : s.bases ≡ bases_from 0 s.decls
   pub counted : length s.decls ≡ length s.names
   pub listed : (ls : List (List ℕ)) × (listed_in m.head ≡ Ok ls)
@@ -96,7 +96,7 @@ scope_is m s e =
     let (ls, listed, e1) = step_gave (listed_in m.head) _ s e in
     let (decls, declared, e2) = step_gave (declares (standing m) ls m) _ s e1 in
     let (insts, differ, e3) = step_gave (inst_names m) _ s e2 in
-    let made : Scope = record { names = standing m; decls = decls; implied = each_once (implied m); bases = bases_from 0 decls } in
+    let made : Scope = record { names = standing m; decls = decls; implied = implied_wires (standing m) decls m; bases = bases_from 0 decls } in
     let same : made ≡ s = cc in
     subst (IsScope m) same (record {
       names = refl;

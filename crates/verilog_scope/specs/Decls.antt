@@ -1,5 +1,5 @@
 -- What is declared of each name of a module, once.
-use Rattle.std.specs.Prelude.{ℕ, Bool, true, false, not, ◌&&◌, if◌then◌else◌, List, [], ◌∷◌, ◌++◌, length, map, replicate, slice_set, slice_index_or}
+use Rattle.std.specs.Prelude.{ℕ, Bool, true, false, not, ◌&&◌, ◌||◌, if◌then◌else◌, List, [], ◌∷◌, ◌++◌, length, map, replicate, slice_set, slice_index_or}
 use Rattle.std.specs.Prelude.{Option, Some, None, is_some, Result, Ok, Err}
 use Rattle.texts.specs.Names.{is_among, place_of}
 use Rattle.texts.specs.Rules.{◌>>=◌}
@@ -28,6 +28,10 @@ with_new names n = if is_among n names then Err (fault.TwiceName n) else Ok (nam
 -- of a name of which nothing is declared
 abbrev pub blank : Decl
 blank = record { dir = None; kind = None; range = None }
+
+-- something is declared: a direction, or a kind of net
+abbrev pub is_declared : Decl → Bool
+is_declared d = is_some d.dir || is_some d.kind
 
 -- what is declared of the name at a place
 abbrev pub decl_at : List Decl → ℕ → Decl

@@ -2,7 +2,8 @@
 --
 -- The nets are numbered from 0 name by name, in the order in which the names first stand in the module's text; the bits of
 -- a bus stand together, the most significant first.
-use Rattle.std.specs.Prelude.{ℕ, Bool, ◌+◌, ◌-◌, ◌||◌, nat_le, if◌then◌else◌, List, [], ◌∷◌, ◌++◌, map, slice_index_or, Option, Some, None, is_some, Result, Ok}
+use Rattle.std.specs.Prelude.{ℕ, Bool, ◌+◌, ◌-◌, ◌||◌, not, nat_le, if◌then◌else◌, List, []}
+use Rattle.std.specs.Prelude.{◌∷◌, ◌++◌, map, filter, slice_index_or, Option, Some, None, Result, Ok}
 use Rattle.std.specs.List.{range_with_len}
 use Rattle.std.specs.Fmt.{decimal}
 use Rattle.texts.specs.Names.{is_among, place_of, each_once}
@@ -16,7 +17,7 @@ use Rattle.verilog_scope.specs.declared.scopes.Scope.{Scope}
 use Rattle.verilog_scope.specs.declared.faults.VerFault.{VerFault}
 use Rattle.verilog_scope.specs.Ranges.{width, selected}
 use Rattle.verilog_scope.specs.Standing.{standing, implied}
-use Rattle.verilog_scope.specs.Decls.{decl_at, listed_in, declares, inst_names}
+use Rattle.verilog_scope.specs.Decls.{decl_at, is_declared, listed_in, declares, inst_names}
 
 -- the number of the first net of each name, from n on
 unfoldable pub bases_from : ℕ → List Decl → List ℕ
@@ -40,16 +41,30 @@ unfoldable pub nets_from : List Decl → ℕ → List (List ℕ) → List (List 
 nets_from decls place [] = []
 nets_from decls place (n ∷ names) = bit_names n (decl_at decls place).range ++ nets_from decls (place + 1) names
 
+-- the names of the nets of the name at a place, if there is one
+abbrev pub named_nets : List Decl → ℕ → Option (List ℕ) → List (List ℕ)
+named_nets decls place None = []
+named_nets decls place (Some n) = bit_names n (decl_at decls place).range
+
 -- the names of the nets of a scope, each at its number
 abbrev pub net_names : Scope → List (List ℕ)
 net_names s = nets_from s.decls 0 s.names
 
--- a name that is declared, or that is a wire without a declaration
-abbrev pub is_known : Scope → List ℕ → Bool
-is_known s n = let d = decl_at s.decls (place_of n s.names) in (is_some d.dir || is_some d.kind) || is_among n s.implied
-
+-- what is declared of a name
 abbrev pub decl_of : Scope → List ℕ → Decl
 decl_of s n = decl_at s.decls (place_of n s.names)
+
+-- a name that is declared, or that is a wire without a declaration
+abbrev pub is_known : Scope → List ℕ → Bool
+is_known s n = is_declared (decl_of s n) || is_among n s.implied
+
+-- nothing is declared of a name of the module
+abbrev pub is_undeclared : List (List ℕ) → List Decl → List ℕ → Bool
+is_undeclared names decls n = not (is_declared (decl_at decls (place_of n names)))
+
+-- the wires without a declaration, in the order in which they first stand where they are implied
+abbrev pub implied_wires : List (List ℕ) → List Decl → ModuleDecl → List (List ℕ)
+implied_wires names decls m = filter (is_undeclared names decls) (each_once (implied m))
 
 -- the number of the first net of a name
 abbrev pub base_of : Scope → List ℕ → ℕ
@@ -74,4 +89,4 @@ scope_of m =
     listed_in m.head >>= λ listed.
     declares (standing m) listed m >>= λ decls.
     inst_names m >>= λ insts.
-    Ok (record { names = standing m; decls = decls; implied = each_once (implied m); bases = bases_from 0 decls })
+    Ok (record { names = standing m; decls = decls; implied = implied_wires (standing m) decls m; bases = bases_from 0 decls })

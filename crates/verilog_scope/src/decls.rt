@@ -1,5 +1,5 @@
 //! What is declared of each name of a module, once.
-ghost use Rattle.std.specs.Prelude.{◌≡◌, [], length, map, slice_set};
+ghost use Rattle.std.specs.Prelude.{◌≡◌, [], map, slice_set};
 ghost use Rattle.texts.specs.Rules.{Gives};
 ghost use Rattle.verilog_scope.specs.Fails.{Fails};
 ghost use Rattle.verilog_scope.specs.Folds.{fold_ok};
@@ -18,6 +18,15 @@ pub struct Decl {
     pub dir: Option<Dir>,
     pub kind: Option<NetKind>,
     pub range: Option<Range>,
+}
+
+impl Decl {
+    /// Whether anything is declared: a direction, or a kind of net.
+    pub fn is_declared(&self) -> bool
+        ensures { result ≡ spec.is_declared self.now }
+    {
+        self.dir.is_some() || self.kind.is_some()
+    }
 }
 
 /// What is declared of the name at a place.
@@ -79,16 +88,14 @@ pub fn listed_in(alloc: Global, head: &Head) -> Result<NameTable, VerFault>
     }
 }
 
-/// What is declared of each of `names`, of which there are `count`.
+/// What is declared of each of `names`.
 #[tactic(auto, unfolding(crate::specs::Decls::declares))]
 pub fn declares(
     alloc: Global,
     names: &NameTable,
-    count: usize,
     listed: &NameTable,
     decl: &ModuleDecl,
 ) -> Result<Seq<Decl>, VerFault>
-    requires { count ≡ length names.now }
     ensures { Gives Fails (λ decls. decls) result (spec.declares names.now listed.now decl.now) }
 {
     let blank = Decl {
@@ -96,7 +103,7 @@ pub fn declares(
         kind: None,
         range: None,
     };
-    let mut decls = Seq::filled(alloc, blank, count)?;
+    let mut decls = Seq::filled(alloc, blank, names.len())?;
     declare_head(alloc, names, &mut decls, &decl.head)?;
     declare_items(alloc, names, listed, &mut decls, decl.items.as_slice())?;
     Ok(decls)

@@ -1,14 +1,15 @@
 //! The nets of a module by number.
-ghost use Rattle.std.specs.Prelude.{◌≡◌, ◌||◌, is_some, slice_index_or, IfOk};
+ghost use Rattle.std.specs.Prelude.{◌≡◌, ◌||◌, slice_index_or, IfOk};
 ghost use Rattle.texts.specs.Names.{is_among};
 ghost use Rattle.texts.specs.Rules.{Gives};
+ghost use Rattle.verilog_scope.specs.Decls.{is_declared};
 ghost use Rattle.verilog_scope.specs.Fails.{Fails};
 ghost use Rattle.verilog_scope.specs.Scopes as spec;
 
 use crate::bits::push_nets;
 use crate::decls::{Decl, check_insts, decl_at, declares, listed_in};
 use crate::faults::VerFault;
-use crate::implied::implied_names;
+use crate::implied::implied_wires;
 use crate::ranges::{Run, selected, width};
 use crate::standing::standing;
 use sdcv_base::{Name, Seq};
@@ -35,16 +36,15 @@ impl Scope {
     /// `TwiceName` is a name that stands twice in the port list, is declared twice, or is a port and a net of another
     /// range or a supply, or the name of two instances. `Syntax` is a direction that is declared of a name that the port
     /// list does not list, at that name.
-    #[tactic(auto, unfolding(crate::specs::Scopes::scope_of))]
+    #[tactic(auto, unfolding(crate::specs::Scopes::scope_of), using(crate::proofs::ScopeLemmas::declares_length))]
     pub fn of(alloc: Global, decl: &ModuleDecl) -> Result<Scope, VerFault>
         ensures { Gives Fails (λ scope. scope) result (spec.scope_of decl.now) }
     {
         let listed = listed_in(alloc, &decl.head)?;
         let names = standing(alloc, decl)?;
-        let count = names.names(alloc)?.len();
-        let decls = declares(alloc, &names, count, &listed, decl)?;
+        let decls = declares(alloc, &names, &listed, decl)?;
         check_insts(alloc, decl.items.as_slice())?;
-        let implied = implied_names(alloc, decl)?;
+        let implied = implied_wires(alloc, &names, &decls, decl)?;
         let bases = bases(alloc, decls.as_slice())?;
         Ok(Scope {
             names,
@@ -94,9 +94,9 @@ impl Scope {
 
     /// Whether a name of which this is declared stands for nets.
     fn knows_as(&self, name: &Name, decl: &Decl) -> bool
-        ensures { result ≡ ((is_some decl.now.dir || is_some decl.now.kind) || is_among name.now self.now.implied) }
+        ensures { result ≡ (is_declared decl.now || is_among name.now self.now.implied) }
     {
-        decl.dir.is_some() || decl.kind.is_some() || self.implied.contains(name)
+        decl.is_declared() || self.implied.contains(name)
     }
 
     /// The nets of a selection of a name's bits, by number. None where the name stands for no net or has no such bits.
@@ -125,9 +125,8 @@ impl Scope {
     pub fn net_names(&self, alloc: Global) -> Result<Seq<Name>, AllocError>
         ensures { IfOk result (λ nets. nets ≡ spec.net_names self.now) }
     {
-        let names = self.names.names(alloc)?;
         let mut nets = Seq::new(alloc);
-        push_nets(alloc, &mut nets, &self.decls, &names)?;
+        push_nets(alloc, &mut nets, &self.decls, &self.names)?;
         Ok(nets)
     }
 }

@@ -8,6 +8,6 @@ pub loop-i-preserved : goal.loop-i-preserved
 loop-i-preserved c =
     let f = λ (i : ℕ). spec.bit_name c.args.name.now (spec.index_at c.args.range.now i) in
     let i = c.loop-i.i in
-    c.in_ok-push.ensures.ok ∙ rw (c.loop-i.invariant, c.in_ok-bit_name.ensures, c.index_at.ensures)
+    c.in_ok-push_bit.ensures ∙ rw (c.loop-i.invariant, c.index_at.ensures)
     (append_assoc c.args.nets.now (map f (range_with_len 0 i)) (f i ∷ []) ∙ ap (λ ys. c.args.nets.now ++ ys)
     (sym (map-range_with_len_more f 0 i i (omega arith))))

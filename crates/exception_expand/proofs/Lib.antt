@@ -1,0 +1,10 @@
+pub mod Results
+pub mod Sharing
+pub mod Placing
+pub mod Cutting
+pub mod Ranging
+pub mod Choosing
+pub mod Naming
+pub mod Counting
+pub mod Stepping
+pub mod Adding

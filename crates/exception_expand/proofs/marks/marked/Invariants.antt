@@ -1,0 +1,7 @@
+use Rattle.std.proofs.Common.{◌≡◌, take}
+use Rattle.sdc_objects.specs.Places.{each_at, where_true}
+use Rattle.exception_expand.specs.Points.{has_mark}
+use Rattle.exception_expand.proofs.marks.marked.Given as goal
+
+abbrev pub invariant-loop-k : goal.invariant-loop-k
+invariant-loop-k g l = l.found ≡ each_at (λ k x. where_true (has_mark l.marks k) x) 0 (take l.k l.all)

@@ -1,0 +1,11 @@
+use Rattle.std.proofs.Common.{arith, ◌<◌, length, refl, [], ◌∷◌}
+use Rattle.net_model.specs.declared.netlist.Reg.{Reg}
+use Rattle.net_model.specs.declared.claims.End.TheVariants.{Reg as RegEnd}
+use Rattle.sdc_objects.proofs.Joining.{added_any}
+use Rattle.exception_expand.proofs.points.push_reg_ends.Goals as goal
+
+pub loop-reg-preserved : goal.loop-reg-preserved
+loop-reg-preserved c =
+    let low : c.loop-reg.reg < length c.args.design.now.regs = omega (arith, c.loop-reg-test.true, c.len-reg-end.ensures, c.loop-reg.auto.reg-end) in
+    added_any (λ r (reg : Reg). RegEnd r ∷ []) c.args.design.now.regs c.args.ends.now c.loop-reg.ends c.push.new.self (RegEnd c.loop-reg.reg ∷ [])
+    c.loop-reg.reg low (λ x. refl) c.loop-reg.invariant c.in_ok-push.ensures.ok

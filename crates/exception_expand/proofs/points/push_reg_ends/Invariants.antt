@@ -1,0 +1,8 @@
+use Rattle.std.proofs.Common.{◌≡◌, ◌++◌, ◌∷◌, [], take}
+use Rattle.net_model.specs.declared.netlist.Reg.{Reg}
+use Rattle.net_model.specs.declared.claims.End.TheVariants.{Reg as RegEnd}
+use Rattle.sdc_objects.specs.Places.{each_at}
+use Rattle.exception_expand.proofs.points.push_reg_ends.Given as goal
+
+abbrev pub invariant-loop-reg : goal.invariant-loop-reg
+invariant-loop-reg l = l.ends ≡ l.fn.ends ++ each_at (λ r (reg : Reg). RegEnd r ∷ []) 0 (take l.reg l.design.regs)

@@ -1,0 +1,8 @@
+use Rattle.std.proofs.Common.{◌≡◌, ◌++◌, ◌∷◌, [], take}
+use Rattle.net_model.specs.declared.netlist.Reg.{Reg}
+use Rattle.net_model.specs.declared.claims.Start.TheVariants.{Reg as RegStart}
+use Rattle.sdc_objects.specs.Places.{each_at}
+use Rattle.exception_expand.proofs.points.push_reg_starts.Given as goal
+
+abbrev pub invariant-loop-reg : goal.invariant-loop-reg
+invariant-loop-reg l = l.starts ≡ l.fn.starts ++ each_at (λ r (reg : Reg). RegStart r ∷ []) 0 (take l.reg l.design.regs)

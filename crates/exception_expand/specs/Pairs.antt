@@ -1,0 +1,47 @@
+-- Pairs of a start and an end, the paths between them, and claims of them.
+use Rattle.std.specs.Prelude.{ℕ, Bool, true, not, ◌&&◌, ◌||◌, ◌==◌, nat_lt, List, map, flat_map}
+use Rattle.std.specs.List.{list_any}
+use Rattle.sdcv_base.specs.Kinds.{judged_count}
+use Rattle.sdcv_base.specs.declared.kinds.Kind.{Kind}
+use Rattle.net_model.specs.Fits.{IsStartIn, IsEndIn}
+use Rattle.net_model.specs.Paths.{HasPath}
+use Rattle.net_model.specs.declared.netlist.Design.{Design}
+use Rattle.net_model.specs.declared.netlist.Fixed.{Fixed}
+use Rattle.net_model.specs.declared.claims.Start.{Start}
+use Rattle.net_model.specs.declared.claims.Start.TheVariants.{Reg as RegStart, Input as InputStart}
+use Rattle.net_model.specs.declared.claims.End.{End}
+use Rattle.net_model.specs.declared.claims.PinRef.{PinRef}
+use Rattle.net_model.specs.declared.claims.Claim.{Claim}
+use Rattle.exception_expand.specs.declared.pairs.Pair.{Pair}
+
+abbrev pub pair : Start → End → Pair
+pair start end = record { start = start; end = end }
+
+-- the start and the end are of the design
+abbrev pub IsPairIn : Design → Pair → Type 0
+IsPairIn d p = IsStartIn d p.start × IsEndIn d p.end
+
+-- the pairs of these starts and these ends, by start and then by end
+abbrev pub pairs_between : List Start → List End → List Pair
+pairs_between starts ends = flat_map (λ start. map (pair start) ends) starts
+
+-- a path leads from the start of the pair to its end, through these sets in their order
+abbrev pub IsConnected : Design → List (List PinRef) → Pair → Type 0
+IsConnected d sets p = HasPath d p.start p.end sets
+
+-- a claim of a pair, by what the claims of an exception have in common
+abbrev pub claim_with : Kind → Bool → List (List PinRef) → Pair → Claim
+claim_with kind hazard sets p = record { kind = kind; hazard = hazard; start = p.start; end = p.end; through = sets }
+
+-- the input is one of those that have a value
+abbrev pub is_set : ℕ → List Fixed → Bool
+is_set input settings = list_any (λ (f : Fixed). f.input == input) settings
+
+-- the start is no fixed and no reset input
+abbrev pub is_free : Design → Start → Bool
+is_free d (RegStart r) = true
+is_free d (InputStart i) = not (is_set i d.fixed || is_set i d.resets)
+
+-- a claim that needs a verdict: it judges some capture, and its start may toggle
+abbrev pub is_judged : Design → Claim → Bool
+is_judged d c = nat_lt 0 (judged_count c.kind) && is_free d c.start

@@ -1,0 +1,51 @@
+//! Selected pairs as they are listed.
+ghost use Rattle.std.specs.Prelude.{◌≡◌, ◌++◌, All, IfOk, OnOk, map};
+ghost use Rattle.exception_expand.specs.Naming.{AreRegCells};
+ghost use Rattle.exception_expand.specs.Selections.{pair_line as line};
+ghost use Rattle.exception_expand.specs.Pairs.{IsPairIn};
+
+use crate::names::{end_name, start_name};
+use crate::pairs::Pair;
+use crate::selections::PairLine;
+use link_defs::Linked;
+use sdcv_base::Seq;
+use std::alloc::{AllocError, Global};
+
+/// Names for what is listed: a linked design, and the places of the cells of its registers.
+#[derive(Clone, Copy)]
+pub(crate) struct Names<'a> {
+    pub linked: &'a Linked,
+    pub cells: &'a Seq<Option<usize>>,
+}
+
+/// Adds a line for each pair of the exception of this number.
+pub(crate) fn push_lines(
+    alloc: Global,
+    names: &Names,
+    number: u64,
+    pairs: &Seq<Pair>,
+    lines: &mut Seq<PairLine>,
+) -> Result<(), AllocError>
+    requires cells { AreRegCells names.now.linked.now names.now.cells.now }
+    requires pairs { All (IsPairIn names.now.linked.now.design) pairs.now }
+    ensures { OnOk result (lines.new ≡ lines.old ++ map (line names.now.linked.now number) pairs.now) }
+{
+    for k in 0..pairs.len() {
+        lines.push(pair_line(alloc, names, number, pairs.at(k))?)?;
+    }
+    Ok(())
+}
+
+fn pair_line(alloc: Global, names: &Names, number: u64, pair: Pair) -> Result<PairLine, AllocError>
+    requires cells { AreRegCells names.now.linked.now names.now.cells.now }
+    requires pair { IsPairIn names.now.linked.now.design pair }
+    ensures { IfOk result (λ made. made ≡ line names.now.linked.now number pair) }
+{
+    let start = start_name(alloc, names.linked, names.cells, pair.start)?;
+    let end = end_name(alloc, names.linked, names.cells, pair.end)?;
+    Ok(PairLine {
+        command: number,
+        start,
+        end,
+    })
+}

@@ -1,0 +1,51 @@
+//! The call that finds all that a script selects.
+ghost use Rattle.std.specs.Prelude.{◌≡◌, ◌<◌, IfOk, IfErr, OnOk, length};
+ghost use Rattle.link_defs.specs.Usable.{IsUsable};
+ghost use Rattle.exception_expand.specs.Selections.{IsSelectionOf, HasMultipliers};
+ghost use Rattle.exception_expand.specs.Causes.{IsExpandCause};
+
+use crate::commands::all_selected;
+use crate::judged::has_many_judged;
+use crate::names::reg_cells;
+use crate::points::Points;
+use crate::selections::Selected;
+use crate::tasks::Task;
+use link_defs::Linked;
+use sdc_objects::{Scope, Tables};
+use sdc_settings::ExpandFault;
+use sdc_text::Script;
+use sdcv_base::LimitName;
+use std::alloc::Global;
+
+/// The pairs that the exceptions of a script select in a linked design, each with its claim, and the exceptions with their
+/// warnings. With `hazard` the claims allow no glitch either.
+pub fn expand(
+    alloc: Global,
+    linked: &Linked,
+    script: &Script,
+    hazard: bool,
+) -> Result<Selected, ExpandFault>
+    requires linked { IsUsable linked.now }
+    requires script { HasMultipliers script.now }
+    ensures ok { IfOk result (IsSelectionOf linked.now script.now hazard) }
+    ensures err { IfErr result (IsExpandCause linked.now script.now hazard) }
+{
+    let tables = Tables::of(alloc, linked)?;
+    let points = Points::of(alloc, &linked.design)?;
+    let cells = reg_cells(alloc, linked)?;
+    let task = Task {
+        scope: Scope {
+            linked,
+            script,
+            tables: &tables,
+        },
+        points: &points,
+        cells: &cells,
+        hazard,
+    };
+    let selected = all_selected(alloc, &task)?;
+    if has_many_judged(&linked.design, &selected.claims) {
+        return Err(ExpandFault::Limit(LimitName::Judged, 10_001));
+    }
+    Ok(selected)
+}

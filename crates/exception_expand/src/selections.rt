@@ -1,0 +1,38 @@
+//! Selections as callers see them.
+use net_model::Claim;
+use sdc_objects::Warning;
+use sdcv_base::{Kind, Name, Seq};
+
+/// What an exception does: it claims something of so many pairs, or it is a `-hold` command, or this option, which it has,
+/// sets it aside.
+#[derive(Debug, Drop)]
+pub enum Listing {
+    Claiming(Kind, u64),
+    Hold,
+    Aside(Name),
+}
+
+/// An exception, the line of its first byte, from 1, and the warnings of its objects: those after `-from`, after each
+/// `-through`, and after `-to`.
+#[derive(Debug, Drop)]
+pub struct CommandLine {
+    pub line: u64,
+    pub listing: Listing,
+    pub warnings: Seq<Warning>,
+}
+
+/// A selected pair: its command, by its place among the exceptions from 1, and the names of its start and its end.
+#[derive(Debug, Drop)]
+pub struct PairLine {
+    pub command: u64,
+    pub start: Name,
+    pub end: Name,
+}
+
+/// All exceptions of a script, and the pairs that they select, each with its claim at the same place.
+#[derive(Drop)]
+pub struct Selected {
+    pub commands: Seq<CommandLine>,
+    pub pairs: Seq<PairLine>,
+    pub claims: Seq<Claim>,
+}

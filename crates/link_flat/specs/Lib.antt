@@ -1,0 +1,5 @@
+pub mod Flats
+pub mod Pending
+pub mod Frames
+pub mod Steps
+pub mod UnderWay
