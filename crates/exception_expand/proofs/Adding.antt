@@ -79,7 +79,8 @@ pub adds_nothing : (l : Linked) (script : Script) (hazard : Bool) (line : ℕ) (
     → Adds l script hazard line what old old
 adds_nothing l script hazard line kind what old is never sets few none =
     subst (λ (w : What). Adds l script hazard line w old old) (sym is)
-    (adds_none l script hazard line kind old old never sets few (sym (append-nil old.commands) ∙ sym (ap (λ (xs : List CommandLine). old.commands ++ xs) none)) refl refl)
+    (adds_none l script hazard line kind old old never sets few
+    (sym (append-nil old.commands) ∙ sym (ap (λ (xs : List CommandLine). old.commands ++ xs) none)) refl refl)
 
 contains_at : {A : Type 0} (xs : List A) (k : ℕ) (x : A) → slice_get xs k ≡ Some x → Contains xs x
 contains_at xs k x here = (k, slice_get_within xs k x here, get_or_from_slice_get xs k x x here)

@@ -39,7 +39,8 @@ choice_exact l script e lists most found are cut few =
     let all = pairs_between lists.starts lists.ends in
     let whole : cut.first ≡ all = sym (append-nil cut.first) ∙ sym (ap (λ (r : List Pair). cut.first ++ r) (cut.done few)) ∙ sym cut.whole in
     let those : AreThose (IsConnected l.design (sets_of l script e)) all found =
-    subst (λ (ps : List Pair). AreThose (IsConnected l.design (sets_of l script e)) ps found) whole (connected_by l script e lists cut.first found are cut.those) in
+    subst (λ (ps : List Pair). AreThose (IsConnected l.design (sets_of l script e)) ps found) whole
+    (connected_by l script e lists cut.first found are cut.those) in
     those_within (IsListed l script e) (IsConnected l.design (sets_of l script e)) (all_pairs l.design) all found (listed_pairs l script e lists are) those
 
 -- more than so many among those that come first
@@ -48,7 +49,8 @@ pub choice_more : (l : Linked) (script : Script) (e : Exception) (lists : Lists)
     → HasMore (Selects l script e) (all_pairs l.design) most
 choice_more l script e lists most found are cut more =
     let begun : First (IsListed l script e) (all_pairs l.design) cut.first =
-    those_first (IsListed l script e) (all_pairs l.design) cut.first cut.rest (pairs_between lists.starts lists.ends) cut.whole (listed_pairs l script e lists are) in
+    those_first (IsListed l script e) (all_pairs l.design) cut.first cut.rest (pairs_between lists.starts lists.ends) cut.whole
+    (listed_pairs l script e lists are) in
     record {
       first = begun.first;
       rest = begun.rest;

@@ -4,6 +4,8 @@ pub mod Placing
 pub mod Cutting
 pub mod Ranging
 pub mod Choosing
+pub mod Fitting
+pub mod Claiming
 pub mod Naming
 pub mod Counting
 pub mod Stepping

@@ -43,7 +43,8 @@ pub cell_left : (cells : List CellName) (k regs : ℕ) (c : CellName) (row : Lis
     → ((r : ℕ) → r < regs → is_reg r c ≡ false) → AreCellsFrom cells (k + 1) regs row → AreCellsFrom cells k regs row
 cell_left cells k regs c row here none are = record {
   len = are.len;
-  cell = λ r low. are.cell r low ∙ sym (name_no c (drop (k + 1) cells) r (none r low)) ∙ sym (ap (λ (cs : List CellName). reg_name cs r) (drop_next cells k c here));
+  cell = λ r low. are.cell r low ∙ sym (name_no c (drop (k + 1) cells) r (none r low)) ∙ sym
+      (ap (λ (cs : List CellName). reg_name cs r) (drop_next cells k c here));
 }
 
 -- a cell before them that has one

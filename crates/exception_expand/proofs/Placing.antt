@@ -160,7 +160,8 @@ put_mark_at {A} all marks new place k item x len here there is only =
     (put_mark marks place k item x low (λ e. same_Some item x (sym here ∙ sym (ap (slice_get all) e) ∙ there))
     (λ e. only (there ∙ ap (λ (y : A). Some y) (sym e))))
 
-contains_next : {A : Type 0} (xs : List A) (k : ℕ) (item x : A) → slice_get xs k ≡ Some item → Contains (take (k + 1) xs) x → Contains (take k xs) x ⊎ (item ≡ x)
+contains_next : {A : Type 0} (xs : List A) (k : ℕ) (item x : A) → slice_get xs k ≡ Some item → Contains (take (k + 1) xs) x
+    → Contains (take k xs) x ⊎ (item ≡ x)
 contains_next {A} xs k item x here has =
     let split : In x (take k xs ++ item ∷ []) = subst (In x) (take_next xs k item here) (In-from_Contains (take (k + 1) xs) x has) in
     elim (In-cases x (take k xs) (item ∷ []) split) [
@@ -168,7 +169,8 @@ contains_next {A} xs k item x here has =
       | inr last ↦ elim last [ inl e ↦ inr e | inr none ↦ absurd none ]
     ]
 
-next_contains : {A : Type 0} (xs : List A) (k : ℕ) (item x : A) → slice_get xs k ≡ Some item → Contains (take k xs) x ⊎ (item ≡ x) → Contains (take (k + 1) xs) x
+next_contains : {A : Type 0} (xs : List A) (k : ℕ) (item x : A) → slice_get xs k ≡ Some item → Contains (take k xs) x ⊎ (item ≡ x)
+    → Contains (take (k + 1) xs) x
 next_contains {A} xs k item x here has =
     let joined : In x (take k xs ++ item ∷ []) = elim has [
       | inl before ↦ In-left x (take k xs) (item ∷ []) (In-from_Contains (take k xs) x before)
@@ -192,7 +194,8 @@ marks_next all xs k item old new here before len marked = record {
 }
 
 -- no marks
-pub no_marks : {A : Type 0} (all : List A) (marks : List Bool) → length marks ≡ length all → ((k : ℕ) → has_mark marks k ≡ false) → AreMarks (Contains []) all marks
+pub no_marks : {A : Type 0} (all : List A) (marks : List Bool) → length marks ≡ length all → ((k : ℕ) → has_mark marks k ≡ false)
+    → AreMarks (Contains []) all marks
 no_marks all marks len none = record {
   len = len;
   wanted = λ k x here. (λ h. absurd (grind (arith, none k)), λ h. absurd (omega (arith, h.1)));

@@ -54,7 +54,7 @@ pair_in d p has =
     let by_end = from_map (pair by_start.0) p (all_ends d) by_start.2 in
     subst (IsPairIn d) by_end.2 (start_in d by_start.0 by_start.1, end_in d by_end.0 by_end.1)
 
-all_from_in : {A : Type 0} (Q : A → Type 0) (xs : List A) → ((x : A) → In x xs → Q x) → All Q xs
+pub all_from_in : {A : Type 0} (Q : A → Type 0) (xs : List A) → ((x : A) → In x xs → Q x) → All Q xs
 all_from_in Q [] each = All-nil Q
 all_from_in Q (x ∷ xs) each = All-cons Q x xs (each x (inl refl)) (all_from_in Q xs (λ y has. each y (inr has)))
 

@@ -25,6 +25,8 @@ use Rattle.exception_expand.specs.Selections.{Chosen}
 use Rattle.exception_expand.specs.Causes.{HasMore, HasMoreJudged}
 use Rattle.exception_expand.specs.Pairs.{is_judged}
 use Rattle.exception_expand.specs.Progress.{IsUpTo, Adds}
+use Rattle.link_defs.specs.Usable.{IsUsable}
+use Rattle.exception_expand.proofs.Claiming.{claims_fit}
 use Rattle.exception_expand.proofs.Counting.{count_append, count_own, count_other, each_at_same, lines_count, map_map}
 
 -- a pair that a command selects, with the command's place
@@ -53,7 +55,8 @@ more_those : (l : Linked) (script : Script) (k : ℕ) (c : Command) (chosen : Li
 more_those l script k c chosen more here before those =
     subst (λ (xs : List Chosen). AreThose (spec.IsSelected l script) xs (chosen ++ map (spec.chosen_by k) more))
     (sym (each_at_more (spec.pairs_at l.design) script.commands k c here))
-    (those_append (spec.IsSelected l script) (each_at (spec.pairs_at l.design) 0 (take k script.commands)) chosen (map (spec.chosen_by k) (spec.all_pairs l.design))
+    (those_append (spec.IsSelected l script) (each_at (spec.pairs_at l.design) 0 (take k script.commands)) chosen
+    (map (spec.chosen_by k) (spec.all_pairs l.design))
     (map (spec.chosen_by k) more) before (command_those l script k c (spec.all_pairs l.design) more here those))
 
 count_more : (chosen : List Chosen) (k place : ℕ) (more : List Pair) → spec.count_at (chosen ++ map (spec.chosen_by k) more) place ≡
@@ -146,7 +149,8 @@ upto_none l script hazard s commands pairs claims = record {
 }
 
 -- a command that selects too many pairs
-pub more_in_script : (l : Linked) (script : Script) (hazard : Bool) (k : ℕ) (c : Command) (e : Exception) (old : Selected) → slice_get script.commands k ≡ Some c
+pub more_in_script : (l : Linked) (script : Script) (hazard : Bool) (k : ℕ) (c : Command) (e : Exception) (old : Selected)
+    → slice_get script.commands k ≡ Some c
     → c.what ≡ Claiming e → IsUpTo l script hazard k old → HasMore (spec.Selects l script e) (spec.all_pairs l.design) (100000 - length old.claims)
     → HasMore (spec.IsSelected l script) (spec.script_pairs l script) 100000
 more_in_script l script hazard k c e old here claiming before has =
@@ -162,7 +166,8 @@ more_in_script l script hazard k c e old here claiming before has =
     let mid : each_at at 0 (take (k + 1) cs) ≡ E ++ (A ++ B) =
     each_at_more at cs k c here ∙ ap (λ (ps : List Pair). E ++ map by ps) has.whole ∙ ap (λ (xs : List Chosen). E ++ xs) (map-append by has.first has.rest) in
     let count : length before.chosen ≡ length old.claims =
-    sym (length-map before.chosen (spec.claim_of l script hazard)) ∙ sym (ap (λ (xs : List (Option Claim)). length xs) before.claims) ∙ length-map old.claims Some in
+    sym (length-map before.chosen (spec.claim_of l script hazard)) ∙ sym (ap (λ (xs : List (Option Claim)). length xs) before.claims) ∙ length-map
+    old.claims Some in
     record {
       first = E ++ A;
       rest = B ++ R;
@@ -175,21 +180,26 @@ more_in_script l script hazard k c e old here claiming before has =
     }
 
 -- all commands, of whose claims few enough need a verdict
-pub selection_of : (l : Linked) (script : Script) (hazard : Bool) (s : Selected) → IsUpTo l script hazard (length script.commands) s
+pub selection_of : (l : Linked) (script : Script) (hazard : Bool) (s : Selected) → IsUsable l → spec.HasMultipliers script
+    → IsUpTo l script hazard (length script.commands) s
     → count_by (is_judged l.design) s.claims ≤ 10000 → spec.IsSelectionOf l script hazard s
-selection_of l script hazard s upto few =
+selection_of l script hazard s usable kinds upto few =
     let whole : take (length script.commands) script.commands ≡ script.commands = take_all (length script.commands) script.commands (omega arith) in
     let count : length upto.chosen ≡ length s.claims =
     sym (length-map upto.chosen (spec.claim_of l script hazard)) ∙ sym (ap (λ (xs : List (Option Claim)). length xs) upto.claims) ∙ length-map s.claims Some in
+    let those : AreThose (spec.IsSelected l script) (spec.script_pairs l script) upto.chosen =
+    subst (λ (cs : List Command). AreThose (spec.IsSelected l script) (each_at (spec.pairs_at l.design) 0 cs) upto.chosen) whole upto.those in
+    let sets : All (λ (d : Command). spec.HasFewSets d.what) script.commands = subst (All (λ (d : Command). spec.HasFewSets d.what)) whole upto.sets in
     record {
       chosen = upto.chosen;
-      those = subst (λ (cs : List Command). AreThose (spec.IsSelected l script) (each_at (spec.pairs_at l.design) 0 cs) upto.chosen) whole upto.those;
+      those = those;
       pairs = upto.pairs;
       claims = upto.claims;
       commands = upto.commands ∙ ap (each_at (spec.lines_at l script upto.chosen) 0) whole;
-      sets = subst (All (λ (d : Command). spec.HasFewSets d.what)) whole upto.sets;
+      sets = sets;
       few = omega (arith, upto.few, count);
       judged = few;
+      fit = claims_fit l script hazard upto.chosen s.claims usable kinds sets those upto.claims;
     }
 
 -- of whose claims too many need one

@@ -1,7 +1,7 @@
 -- What the exceptions of a script select in a linked design, and what is listed of it.
 use Rattle.std.specs.Prelude.{◌≡◌, ℕ, ◌+◌, ◌≤◌, Bool, true, false, ◌==◌, List, [], ◌∷◌, ◌++◌}
 use Rattle.std.specs.Prelude.{map, flat_map, take, length, All, Option, Some, None, slice_get, count_by}
-use Rattle.net_model.specs.Fits.{IsKindFit}
+use Rattle.net_model.specs.Fits.{IsKindFit, Fits}
 use Rattle.net_model.specs.Paths.{HasPath}
 use Rattle.net_model.specs.declared.netlist.Design.{Design}
 use Rattle.net_model.specs.declared.claims.PinRef.{PinRef}
@@ -133,7 +133,8 @@ HasMultiplier _ = Unit {0}
 abbrev pub HasMultipliers : Script → Type 0
 HasMultipliers script = All (λ (c : Command). HasMultiplier c.what) script.commands
 
--- exactly the selected pairs, command by command, by start and then by end, within the limits
+-- exactly the selected pairs, command by command, by start and then by end, within the limits; each with a claim that fits
+-- the design
 pub record IsSelectionOf (l : Linked) (script : Script) (hazard : Bool) (s : Selected) : Type 0 where
   pub chosen : List Chosen
   pub those : AreThose (IsSelected l script) (script_pairs l script) chosen
@@ -143,3 +144,4 @@ pub record IsSelectionOf (l : Linked) (script : Script) (hazard : Bool) (s : Sel
   pub sets : All (λ (c : Command). HasFewSets c.what) script.commands
   pub few : length chosen ≤ 100000
   pub judged : count_by (is_judged l.design) s.claims ≤ 10000
+  pub fit : All (Fits l.design) s.claims

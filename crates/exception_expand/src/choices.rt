@@ -1,5 +1,5 @@
 //! What one exception selects.
-ghost use Rattle.std.specs.Prelude.{◌≡◌, IfOk, IfErr};
+ghost use Rattle.std.specs.Prelude.{IfOk, IfErr};
 ghost use Rattle.net_model.specs.Netlist.{IsSound};
 ghost use Rattle.net_paths.specs.Searches.{IsSearchOf};
 ghost use Rattle.sdc_objects.specs.Tables.{IsTablesOf};

@@ -1,5 +1,5 @@
 //! The claims of an exception.
-ghost use Rattle.std.specs.Prelude.{◌≡◌, ◌++◌, ◌∷◌, [], IfOk, OnOk, map};
+ghost use Rattle.std.specs.Prelude.{◌≡◌, ◌++◌, IfOk, OnOk, map};
 ghost use Rattle.exception_expand.specs.Pairs.{claim_with};
 
 use crate::pairs::Pair;

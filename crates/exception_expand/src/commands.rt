@@ -4,7 +4,6 @@ ghost use Rattle.net_model.specs.Netlist.{IsSound};
 ghost use Rattle.net_paths.specs.Searches.{IsSearchOf};
 ghost use Rattle.exception_expand.specs.Progress.{IsTask, IsUpTo, Adds, IsWhatCause};
 ghost use Rattle.exception_expand.specs.Causes.{IsExpandCause};
-ghost use Rattle.exception_expand.specs.Choices.{IsChoiceCause};
 ghost use Rattle.exception_expand.specs.Pairs.{IsPairIn, claim_with};
 ghost use Rattle.exception_expand.specs.Selections as spec;
 ghost use Rattle.exception_expand.specs.declared.selections.Listing.TheVariants as listings;

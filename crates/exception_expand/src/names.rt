@@ -1,7 +1,6 @@
 //! The names of starts and ends.
 ghost use Rattle.std.specs.Prelude.{◌≡◌, ◌+◌, ◌<◌, IfOk, length, slice_get};
 ghost use Rattle.net_model.specs.Fits.{IsStartIn, IsEndIn};
-ghost use Rattle.link_defs.specs.Usable.{IsUsable};
 ghost use Rattle.exception_expand.specs.Naming as spec;
 
 use link_defs::{CellName, Linked, PortName};

@@ -2,7 +2,6 @@
 ghost use Rattle.std.specs.Prelude.{◌≡◌, ◌++◌, All, IfOk, OnOk, map};
 ghost use Rattle.net_model.specs.Netlist.{IsSound};
 ghost use Rattle.net_model.specs.Fits.{IsStartIn, IsEndIn};
-ghost use Rattle.net_model.specs.Paths.{HasPath};
 ghost use Rattle.net_paths.specs.Searches.{IsSearchOf};
 ghost use Rattle.exception_expand.specs.Pairs.{pair, pairs_between, IsConnected};
 ghost use Rattle.exception_expand.specs.Cuts.{IsCut, AddsThose};

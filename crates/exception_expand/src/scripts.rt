@@ -1,5 +1,5 @@
 //! The call that finds all that a script selects.
-ghost use Rattle.std.specs.Prelude.{◌≡◌, ◌<◌, IfOk, IfErr, OnOk, length};
+ghost use Rattle.std.specs.Prelude.{IfOk, IfErr};
 ghost use Rattle.link_defs.specs.Usable.{IsUsable};
 ghost use Rattle.exception_expand.specs.Selections.{IsSelectionOf, HasMultipliers};
 ghost use Rattle.exception_expand.specs.Causes.{IsExpandCause};

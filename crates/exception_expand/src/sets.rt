@@ -1,5 +1,5 @@
 //! The through sets of an exception.
-ghost use Rattle.std.specs.Prelude.{◌≡◌, ◌++◌, ◌∷◌, [], IfOk, OnOk, map, flat_map};
+ghost use Rattle.std.specs.Prelude.{◌≡◌, ◌++◌, IfOk, OnOk, map, flat_map};
 ghost use Rattle.sdc_objects.specs.Tables.{IsTablesOf};
 ghost use Rattle.sdc_objects.specs.Standing.{pins_of, through_column, warnings as warnings_of};
 ghost use Rattle.sdc_objects.specs.declared.things.Place.TheVariants as places;

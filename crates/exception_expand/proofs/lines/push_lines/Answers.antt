@@ -9,4 +9,5 @@ loop-k-preserved c =
     let of = pair_line c.args.names.now.linked.now c.args.number in
     let xs = c.args.pairs.now in
     pushed c.args.lines.now c.loop-k.lines c.push.new.self (of c.at.result ∷ []) (map of (take (c.loop-k.k + 1) xs)) (map of (take c.loop-k.k xs))
-    c.loop-k.invariant (c.in_ok-push.ensures.ok ∙ ap (λ (x : PairLine). c.loop-k.lines ++ x ∷ []) c.in_ok-pair_line.ensures) (map_next of xs c.loop-k.k c.at.result c.at.ensures)
+    c.loop-k.invariant (c.in_ok-push.ensures.ok ∙ ap (λ (x : PairLine). c.loop-k.lines ++ x ∷ []) c.in_ok-pair_line.ensures)
+    (map_next of xs c.loop-k.k c.at.result c.at.ensures)

@@ -17,4 +17,5 @@ pub returns : goal.returns
 returns g c =
     let all = g.T.Listed.all c.args.design.now in
     let W = Contains c.args.items.now in
-    if_ok c.marked.result c.marked.ensures (λ found is. subst (AreThose W all) (sym is) (marked_those W all c.args.all.now c.mark_all.new.marks c.requires.all c.mark_all.ensures))
+    if_ok c.marked.result c.marked.ensures (λ found is. subst (AreThose W all) (sym is)
+    (marked_those W all c.args.all.now c.mark_all.new.marks c.requires.all c.mark_all.ensures))

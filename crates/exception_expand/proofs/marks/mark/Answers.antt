@@ -5,7 +5,12 @@ use Rattle.exception_expand.proofs.marks.mark.Goals as goal
 
 pub put-requires : goal.put-requires
 put-requires g c =
-    omega (arith, c.requires.len, slice_get_within (g.T.Listed.all c.args.design.now) c.in-Some.place c.args.item (c.place_in.ensures.here c.in-Some.place c.in-Some.is))
+    omega (
+      arith,
+      c.requires.len,
+      slice_get_within (g.T.Listed.all c.args.design.now) c.in-Some.place c.args.item
+          (c.place_in.ensures.here c.in-Some.place c.in-Some.is),
+    )
 
 pub returns-in-Some-clause-marked : goal.returns-in-Some-clause-marked
 returns-in-Some-clause-marked g c = λ k x there.

@@ -20,4 +20,5 @@ returns-in-None-clause-those g c =
     let of = standing.meant g.T.Column.column l c.args.scope.now.script.now g.T.Column.at in
     let all = g.T.Listed.all l.design in
     subst (λ (o : Option (List Object)). IfOk c.copy.result (AreThose (IsMeant of o) all)) (sym c.in-None.is)
-    (if_ok c.copy.result c.copy.ensures (λ found is. subst (AreThose (IsMeant of None) all) (sym (is ∙ c.requires.all)) (those_everything (IsMeant of None) all (λ x. tt))))
+    (if_ok c.copy.result c.copy.ensures (λ found is. subst (AreThose (IsMeant of None) all) (sym (is ∙ c.requires.all))
+    (those_everything (IsMeant of None) all (λ x. tt))))

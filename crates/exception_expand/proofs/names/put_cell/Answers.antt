@@ -16,7 +16,8 @@ pub returns-else-reg-len : goal.returns-else-reg-len
 returns-else-reg-len c =
     let row = c.args.row.now in
     let far : length row ≤ c.in-Some.reg = omega (arith, c.if-reg-len.false, c.len.ensures) in
-    cell_left c.args.cells.now c.args.k (length row) c.item.result.now row c.item.ensures (far_reg (length row) c.in-Some.reg c.item.result.now c.in-Some.is far)
+    cell_left c.args.cells.now c.args.k (length row) c.item.result.now row c.item.ensures
+    (far_reg (length row) c.in-Some.reg c.item.result.now c.in-Some.is far)
     c.requires.cells
 
 pub returns-in-None : goal.returns-in-None
