@@ -1,14 +1,16 @@
 -- Which literals of a clause are false, one by one.
-use Rattle.std.proofs.Common.{◌≡◌, ℕ, ◌+◌, ◌<◌, true, false, eqb, leb, ltb, List, [], ◌∷◌, ◌++◌, length, get_or, take, sym, ap, ◌∙◌, inl, inr, arith}
+use Rattle.std.proofs.Common.{◌≡◌, ℕ, ◌+◌, ◌<◌, ◌≤◌, true, false, subst, Option, Some, None, eqb, leb, ltb, List, [], ◌∷◌, ◌++◌, length, get_or, take, drop, sym, ap, ◌∙◌, inl, inr, arith}
 use Rattle.std.specs.Bool.{MatchBool}
+use Rattle.std.specs.Prelude.{MatchOption}
 use Rattle.std.proofs.lemmas.Bool.{false≢true, or_cases, eqb-true, le-leb, leb-true, ltb-true, lt-ltb, false_from_ne_true, cases_lt}
-use Rattle.std.proofs.lemmas.List.{take_more}
+use Rattle.std.proofs.lemmas.List.{take_more, take-append-drop, length-take-le, get_or-take}
 use Rattle.proof_log.specs.Literals.{negated}
 use Rattle.proof_log.specs.Clauses.{is_set}
 use Rattle.proof_log.proofs.LiteralLemmas.{negated-negated}
-use Rattle.proof_log.proofs.Members.{is_set-push, is_set-nil, is_set-at, is_set-take}
+use Rattle.proof_log.proofs.Members.{is_set-push, is_set-nil, is_set-at, is_set-take, is_set-append}
 use Rattle.sat_solver.specs.Learning.{OthersFalse, OtherOpen}
 use Rattle.sat_solver.specs.Cuts.{FalseBy}
+use Rattle.sat_solver.specs.Watches.{IsOpenAt}
 
 pub OthersFalse-none : (set : List ℕ) (u : ℕ) → OthersFalse set [] u
 OthersFalse-none set u l h ne = absurd (false≢true (sym (is_set-nil l) ∙ h))
@@ -49,3 +51,27 @@ OthersFalse-at_decision trail cut at h f l m ne =
 -- what is false by a front is false by the whole
 pub FalseBy-whole : (trail cut : List ℕ) (n : ℕ) → FalseBy (take n trail) cut → FalseBy trail cut
 FalseBy-whole trail cut n f l m = is_set-take n trail (negated l) (f l m)
+
+-- the literals before a place and those from it on are false, so all are
+pub OthersFalse-parts : (set clause : List ℕ) (u n : ℕ) → OthersFalse set (take n clause) u → OthersFalse set (drop n clause) u → OthersFalse set clause u
+OthersFalse-parts set clause u n front back l m ne =
+    elim (or_cases (is_set (take n clause) l) (is_set (drop n clause) l)
+    (sym (is_set-append (take n clause) (drop n clause) l) ∙ (ap (λ xs. is_set xs l) (take-append-drop n clause) ∙ m))) [
+      | inl t ↦ front l t ne
+      | inr t ↦ back l t ne
+    ]
+
+-- a search from a place on that finds none is followed by one in the literals before
+pub OthersFalse-search : (set clause front back : List ℕ) (u n : ℕ) → n ≤ length clause → front ≡ take n clause → back ≡ drop n clause
+    → OthersFalse set back u → (found : Option ℕ) → MatchOption found (OthersFalse set front u) (IsOpenAt set front u)
+    → MatchOption found (OthersFalse set clause u) (IsOpenAt set clause u)
+OthersFalse-search set clause front back u n few front_is back_is none None h =
+    let P : List ℕ → Type 0 = λ xs. OthersFalse set xs u in
+    OthersFalse-parts set clause u n (subst P front_is h) (subst P back_is none)
+OthersFalse-search set clause front back u n few front_is back_is none (Some at) h =
+    let long : length front ≡ n = ap length front_is ∙ length-take-le n clause few in
+    let same : get_or front at 0 ≡ get_or clause at 0 = ap (λ xs. get_or xs at 0) front_is ∙ get_or-take n clause at 0 (omega (arith, h.0)) in (
+      omega (arith, h.0),
+      λ e. h.1 (same ∙ e),
+      ap (λ x. is_set set (negated x)) (sym same) ∙ h.2,
+    )

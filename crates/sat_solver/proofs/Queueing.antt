@@ -124,7 +124,7 @@ IsEngine-decide clauses t b starts walks q d r e quiet vars lits reasons =
 pub IsEngine-back : (clauses : List (List ℕ)) (t b : Trailed) (starts walks : List ℕ) (q new : Queue) (level n : ℕ)
     → IsEngine clauses t starts walks q → level < length starts → n ≡ get_or starts level 0 → b.vars ≡ t.vars → b.lits ≡ take n t.lits
     → b.reasons ≡ take n t.reasons
-    → new ≡ record { watches = q.watches; done = get_or walks level 0; looked = q.looked } → IsEngine clauses b (take level starts) (take level walks) new
+    → new ≡ record { watches = q.watches; done = get_or walks level 0; looked = q.looked; starts = q.starts } → IsEngine clauses b (take level starts) (take level walks) new
 IsEngine-back clauses t b starts walks q new level n e below n_is vars lits reasons new_is =
     let on = q.watches.literals in
     let few : n < length t.lits = omega (arith, e.search.within level below) in
@@ -376,7 +376,7 @@ pub IsEngine-learn : (clauses : List (List ℕ)) (t b : Trailed) (starts walks :
 IsEngine-learn clauses t b starts walks q more new step level u second e learnt h room is_second put limit waiting done looked vars lits reasons =
     let n = get_or starts level 0 in
     let m : Trailed = record { vars = t.vars; lits = take n t.lits; reasons = take n t.reasons } in
-    let back : Queue = record { watches = q.watches; done = get_or walks level 0; looked = q.looked } in
+    let back : Queue = record { watches = q.watches; done = get_or walks level 0; looked = q.looked; starts = q.starts } in
     let e1 = IsEngine-back clauses t m starts walks q back level n e learnt.back.below refl refl refl refl refl in
     let search = IsSearch-learn clauses t b starts step level u e.search learnt vars lits reasons in
     let unset = unit_unset_at clauses t starts step level u e.search learnt in

@@ -1,6 +1,7 @@
 -- Watches of clauses, through each step of a walk.
+use Rattle.std.specs.declared.alloc.Global.{Global}
 use Rattle.std.proofs.Common.{◌≡◌, ℕ, ◌+◌, ◌*◌, ◌%◌, ◌<◌, ◌≤◌, Bool, true, false, not, ◌||◌, eqb, List, [], ◌∷◌, ◌++◌, map, length, get_or, set, take}
-use Rattle.std.proofs.Common.{refl, sym, ap, ◌∙◌, subst, inl, inr, arith}
+use Rattle.std.proofs.Common.{refl, sym, ap, ◌∙◌, subst, inl, inr, arith, Vec}
 use Rattle.std.specs.List.{All, IsDistinct}
 use Rattle.std.proofs.lemmas.Bool.{false≢true, cases_Bool, cases_eq, cases_lt, or_cases, eqb-true, ne_eqb, both_ways, false_from_ne_true, cond-true}
 use Rattle.std.proofs.lemmas.Bool.{not_from_false}
@@ -516,7 +517,7 @@ Settles-extends clauses a b q queued e =
 -- one more clause is looked at
 pub Settles-look : (clauses : List (List ℕ)) (a b : Trailed) (q : Queue) → IsQueued clauses a q → Extends clauses a b → q.looked < length clauses
     → (length (clause_at clauses q.looked) < 2 → HasTrue b.lits (clause_at clauses q.looked))
-    → Settles clauses a q b (record { watches = q.watches; done = q.done; looked = q.looked + 1 })
+    → Settles clauses a q b (record { watches = q.watches; done = q.done; looked = q.looked + 1; starts = q.starts })
 Settles-look clauses a b q queued e within holds =
     let s = Settles-extends clauses a b q queued e in
     record {
@@ -539,10 +540,10 @@ Settles-look clauses a b q queued e within holds =
     }
 
 -- the watches of one more set literal are walked, or a clause is false on the way
-pub Settles-walk : (clauses : List (List ℕ)) (f : ℕ) (a b : Trailed) (q : Queue) (w new : Watching) (done : ℕ) → IsQueued clauses a q
+pub Settles-walk : (clauses : List (List ℕ)) (f : ℕ) (a b : Trailed) (q : Queue) (w new : Watching) (done : ℕ) {starts : Vec ℕ Global} → IsQueued clauses a q
     → w.literals ≡ q.watches.literals → Walks clauses f a w b new → new.waiting ≡ [] → done ≤ length b.lits
     → Halves new.literals (take done b.lits) b.lits
-    → Settles clauses a q b (record { watches = new; done = done; looked = q.looked })
+    → Settles clauses a q b (record { watches = new; done = done; looked = q.looked; starts = starts })
 Settles-walk clauses f a b q w new done queued same k none few walked =
     let K : List ℕ → Type 0 = λ on. KeepsHalves a.lits on b.lits new.literals in
     record {
@@ -567,12 +568,24 @@ pub HasMore-add : (old now : Queue) (w : Watching) → HasMore old now → w ≡
   literals = now.watches.literals ++ 0
       ∷ [];
   waiting = now.watches.waiting;
-} → HasMore old (record { watches = w; done = now.done; looked = now.looked })
+} → HasMore old (record { watches = w; done = now.done; looked = now.looked; starts = now.starts })
 HasMore-add old now w h e = record {
   same = λ n. ap (λ (v : Watching). watched v.literals n) e ∙ (zero_more now.watches.literals n ∙ h.same n);
   longer = omega (arith, h.longer, ap (λ (v : Watching). length v.literals) e, length_push now.watches.literals 0);
   waiting = ap (λ (v : Watching). v.waiting) e ∙ h.waiting;
   limit = ap (λ (v : Watching). v.limit) e ∙ h.limit;
+  done = h.done;
+  looked = h.looked;
+}
+
+-- where searches begin plays no part
+pub HasMore-starts : (old now : Queue) (starts : Vec ℕ Global) → HasMore old now
+    → HasMore old (record { watches = now.watches; done = now.done; looked = now.looked; starts = starts })
+HasMore-starts old now starts h = record {
+  same = h.same;
+  longer = h.longer;
+  waiting = h.waiting;
+  limit = h.limit;
   done = h.done;
   looked = h.looked;
 }
@@ -619,19 +632,19 @@ gathered_can clauses t q w p f in_vars normal queued holds f_is limit literals o
     }
 
 -- walking the watches of one more set literal: without a conflict all of them are done, else the count stays
-pub walk_settles : (clauses : List (List ℕ)) (a b : Trailed) (q : Queue) (w new : Watching) (p f : ℕ) → IsQueued clauses a q → q.done < length a.lits
-    → p ≡ get_or a.lits q.done 0 → f ≡ negated p → w.literals ≡ q.watches.literals
+pub walk_settles : (clauses : List (List ℕ)) (a b : Trailed) (q : Queue) (w new : Watching) (p f : ℕ) {starts : Vec ℕ Global} → IsQueued clauses a q
+    → q.done < length a.lits → p ≡ get_or a.lits q.done 0 → f ≡ negated p → w.literals ≡ q.watches.literals
     → ((n : ℕ) → watched q.watches.literals n ≡ f → is_set w.waiting n ≡ true) → Walks clauses f a w b new → new.waiting ≡ []
     → ((done : ℕ) → done ≤ length a.lits → AreWalked done a w → AreWalked done b new)
-    → Settles clauses a q b (record { watches = new; done = q.done + 1; looked = q.looked })
+    → Settles clauses a q b (record { watches = new; done = q.done + 1; looked = q.looked; starts = starts })
 walk_settles clauses a b q w new p f queued within p_is f_is same all k none walked =
     Settles-walk clauses f a b q w new (q.done + 1) queued same k none (omega (arith, k.extends.longer))
     (walked_halves b new (q.done + 1) none
     (walked (q.done + 1) (omega arith) (gathered_walked a w q.watches.literals q.done p same within p_is queued.walked (λ n e. all n (e ∙ sym f_is)))))
 
-pub walk_conflicts : (clauses : List (List ℕ)) (a b : Trailed) (q : Queue) (w new : Watching) (f : ℕ) → IsQueued clauses a q
+pub walk_conflicts : (clauses : List (List ℕ)) (a b : Trailed) (q : Queue) (w new : Watching) (f : ℕ) {starts : Vec ℕ Global} → IsQueued clauses a q
     → w.literals ≡ q.watches.literals → Walks clauses f a w b new → new.waiting ≡ []
-    → Settles clauses a q b (record { watches = new; done = q.done; looked = q.looked })
+    → Settles clauses a q b (record { watches = new; done = q.done; looked = q.looked; starts = starts })
 walk_conflicts clauses a b q w new f queued same k none =
     let K : List ℕ → Type 0 = λ on. KeepsHalves a.lits on b.lits new.literals in
     Settles-walk clauses f a b q w new q.done queued same k none (omega (arith, queued.few, k.extends.longer))

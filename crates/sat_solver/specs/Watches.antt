@@ -43,10 +43,15 @@ KeepsHalves lits on new new_on =
 abbrev pub HasTrue : List ℕ → List ℕ → Type 0
 HasTrue set clause = (u : ℕ) × (is_set clause u ≡ true) × (is_set set u ≡ true)
 
+-- the clause's literal at that place is another one, and not false
+abbrev pub IsOpenAt : List ℕ → List ℕ → ℕ → ℕ → Type 0
+IsOpenAt set clause other at =
+    (at < length clause) × (slice_index clause at ≡ other → ⊥) × (is_set set (negated (slice_index clause at)) ≡ false)
+
 -- what a clause's literals tell where one of its watched literals became false, and the other one is `other`
 abbrev pub LookMeans : List ℕ → List ℕ → ℕ → Look → Type 0
 LookMeans set clause other Satisfied = is_set set other ≡ true
-LookMeans set clause other (Moves q) = (is_set clause q ≡ true) × (q ≡ other → ⊥) × (is_set set (negated q) ≡ false)
+LookMeans set clause other (Moves q at) = (is_set clause q ≡ true) × (q ≡ other → ⊥) × (is_set set (negated q) ≡ false)
 LookMeans set clause other Implies = OthersFalse set clause other × (is_set set other ≡ false) × (is_set set (negated other) ≡ false)
 LookMeans set clause other Falsified = OthersFalse set clause other × (is_set set (negated other) ≡ true)
 

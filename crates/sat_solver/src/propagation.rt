@@ -38,6 +38,7 @@ ghost use Rattle.sat_solver.specs.Watches.{
   IsAdded,
   HasMore,
   HasTrue,
+  IsOpenAt,
   clause_at,
   watched,
 };
@@ -47,13 +48,17 @@ use proof_log::{Clause, Effect, Lit, LitSet};
 use std::alloc::{AllocError, Global};
 use watch_lists::Watches;
 
-/// The watches of the clauses, how many set literals have had their watches walked, and how many
-/// clauses have been looked at for a first time.
+/// The watches of the clauses, how many set literals have had their watches walked, how many
+/// clauses have been looked at for a first time, and for each clause the place of the literal that
+/// was last found to be watched: the next search begins there (Gent, JAIR 2013).
+///
+/// Of the places where searches begin nothing is known, and nothing depends on them.
 #[derive(Drop)]
 pub struct Queue {
     pub watches: Watches,
     pub done: usize,
     pub looked: usize,
+    pub starts: Vec<u32>,
 }
 
 /// What a clause tells where one of its two watched literals became false.
@@ -61,8 +66,9 @@ pub struct Queue {
 pub enum Look {
     /// Its other watched literal is true.
     Satisfied,
-    /// A literal that is not false can be watched in place of the false one.
-    Moves(Lit),
+    /// A literal that is not false can be watched in place of the false one, and stands at that
+    /// place of the clause.
+    Moves(Lit, usize),
     /// Its other watched literal is unset, and all else is false.
     Implies,
     /// All its literals are false.
@@ -91,6 +97,7 @@ impl Queue {
             watches,
             done: 0,
             looked: 0,
+            starts: Vec::new(alloc),
         })
     }
 
@@ -102,6 +109,9 @@ impl Queue {
     {
         while self.watches.len() / 2 <= place {
             self.watches.add()?;
+        }
+        if self.starts.len() <= place {
+            self.starts.push(0)?;
         }
         Ok(())
     }
@@ -202,7 +212,13 @@ impl Queue {
     {
         let falsified = trail.lits()[self.done].negated();
         self.watches.gather(falsified.index() as u32);
-        match walk(clauses, trail, &mut self.watches, falsified) {
+        match walk(
+            clauses,
+            trail,
+            &mut self.watches,
+            &mut self.starts,
+            falsified,
+        ) {
             Some(place) => Some(place),
             None => {
                 self.done += 1;
@@ -239,6 +255,7 @@ fn walk(
     clauses: &[Clause],
     trail: &mut Trail,
     watches: &mut Watches,
+    starts: &mut [u32],
     falsified: Lit,
 ) -> Option<usize>
     requires { CanWalk clauses.now falsified trail.old watches.old }
@@ -251,7 +268,7 @@ fn walk(
     let _len = trail.len();
     let _lits = trail.lits();
     loop {
-        match visit_one(clauses, trail, watches, falsified) {
+        match visit_one(clauses, trail, watches, starts, falsified) {
             Visit::End => return None,
             Visit::Next => {}
             Visit::Conflict(place) => {
@@ -274,14 +291,17 @@ fn put_back(watches: &mut Watches, falsified: Lit)
 }
 
 /// Looks at a clause whose other watched literal is this one.
-fn look_into(trail: &Trail, clause: &[Lit], other: Lit) -> Look
-    ensures { LookMeans trail.now.lits clause.now other result }
+fn look_into(trail: &Trail, clauses: &[Clause], place: usize, other: Lit, starts: &[u32]) -> Look
+    requires { place < length clauses.now }
+    ensures { LookMeans trail.now.lits (clause_at clauses.now place) other result }
 {
     if trail.is_set(other) {
         return Look::Satisfied;
     }
-    if let Some(q) = open_other(trail, clause, other) {
-        return Look::Moves(q);
+    let clause = clauses[place].as_slice();
+    let start = starts.get(place).copied().unwrap_or(0);
+    if let Some(at) = open_other(trail, clause, other, start as usize) {
+        return Look::Moves(clause[at], at);
     }
     if trail.is_set(other.negated()) {
         Look::Falsified
@@ -290,14 +310,28 @@ fn look_into(trail: &Trail, clause: &[Lit], other: Lit) -> Look
     }
 }
 
-fn open_other(trail: &Trail, clause: &[Lit], other: Lit) -> Option<Lit>
+/// The place of a literal that is another one and not false, looked for from the start to the end
+/// and then from the front.
+fn open_other(trail: &Trail, clause: &[Lit], other: Lit, start: usize) -> Option<usize>
     ensures { MatchOption result
         (OthersFalse trail.now.lits clause.now other)
-        (λ q. (is_set clause.now q ≡ true) × (q ≡ other → ⊥) × (is_set trail.now.lits (negated q) ≡ false)) }
+        (λ at. IsOpenAt trail.now.lits clause.now other at) }
 {
-    for l in clause {
+    let (front, back) = clause.split_at(start.min(clause.len()));
+    if let Some(at) = first_open(trail, back, other) {
+        return Some(front.len() + at);
+    }
+    first_open(trail, front, other)
+}
+
+fn first_open(trail: &Trail, lits: &[Lit], other: Lit) -> Option<usize>
+    ensures { MatchOption result
+        (OthersFalse trail.now.lits lits.now other)
+        (λ at. IsOpenAt trail.now.lits lits.now other at) }
+{
+    for (at, l) in lits.iter().enumerate() {
         if is_open(trail, *l, other) {
-            return Some(*l);
+            return Some(at);
         }
     }
     None
@@ -327,8 +361,21 @@ fn lit_of(number: u32) -> Lit
     Lit::new(number / 2, number % 2 == 0)
 }
 
+/// Lets the next search in the clause at that place begin at that literal.
+fn start_at(starts: &mut [u32], place: usize, at: usize) {
+    if place < starts.len() && at < 0xffff_ffff {
+        starts[place] = at as u32;
+    }
+}
+
 /// Visits one of the watches on the false literal.
-fn visit_one(clauses: &[Clause], trail: &mut Trail, watches: &mut Watches, falsified: Lit) -> Visit
+fn visit_one(
+    clauses: &[Clause],
+    trail: &mut Trail,
+    watches: &mut Watches,
+    starts: &mut [u32],
+    falsified: Lit,
+) -> Visit
     requires { CanWalk clauses.now falsified trail.old watches.old }
     ensures { VisitMeans clauses.now falsified trail.old watches.old trail.new watches.new result }
 {
@@ -340,12 +387,13 @@ fn visit_one(clauses: &[Clause], trail: &mut Trail, watches: &mut Watches, falsi
     };
     let place = watch / 2;
     let other = lit_of(watches.literal(other_watch(watch)));
-    match look_into(trail, clauses[place].as_slice(), other) {
+    match look_into(trail, clauses, place, other, starts) {
         Look::Satisfied => {
             watches.attach(watch, falsified.index() as u32);
             Visit::Next
         }
-        Look::Moves(q) => {
+        Look::Moves(q, at) => {
+            start_at(starts, place, at);
             watches.attach(watch, q.index() as u32);
             Visit::Next
         }
