@@ -7,4 +7,5 @@ use Rattle.sat_solver.proofs.solving.solve.Goals as goal
 pub returns-clause-answer : goal.returns-clause-answer
 returns-clause-answer c =
     let of_engine : Search → Type 0 = λ e. IsAnswer (formula_of e) c.args.budget (answer_of c.in_ok-end.end c.log.new.steps) in
-    subst (λ (a : Answer). IsAnswer c.args.formula.now c.args.budget a) (sym c.answered.ensures) (subst of_engine c.in_ok-engine.ensures c.in_ok-end.ensures.answer)
+    let of_formula : Answer → Type 0 = IsAnswer c.args.formula.now c.args.budget in
+    subst of_formula (sym c.answered.ensures) (subst of_engine c.in_ok-engine.ensures c.in_ok-end.ensures.answer)
