@@ -290,21 +290,6 @@ impl Cut {
     }
 }
 
-/// Whether the first `len` set literals make all literals but one false.
-pub fn others_false(trail: &Trail, len: usize, lits: &[Lit], unit: Lit) -> bool
-    requires { FalseBy trail.now.lits lits.now }
-    ensures { MatchBool result
-        (OthersFalse (take len trail.now.lits) lits.now unit)
-        (OtherOpen (take len trail.now.lits) lits.now unit) }
-{
-    for l in lits {
-        if is_open_other(trail, len, *l, unit) {
-            return false;
-        }
-    }
-    true
-}
-
 /// Whether the literal is another one that the first `len` set literals do not make false.
 pub fn is_open_other(trail: &Trail, len: usize, l: Lit, unit: Lit) -> bool
     requires { (l ≡ unit → ⊥) → is_set trail.now.lits (negated l) ≡ true }
