@@ -26,9 +26,8 @@ ghost use Rattle.proof_log.specs.Literals.{lit_var, negated};
 ghost use Rattle.proof_log.specs.Clauses.{is_set};
 ghost use Rattle.sat_solver.specs.Searches.{IsUnitAt, IsFalseAt};
 ghost use Rattle.sat_solver.specs.Trails.{Justified};
-ghost use Rattle.sat_solver.specs.Learning.{OthersFalse, OtherOpen};
 ghost use Rattle.sat_solver.specs.Watches.{clause_at};
-ghost use Rattle.sat_solver.specs.Cuts.{FalseBy, CutState, IsUnitCut, ResolvedBelow};
+ghost use Rattle.sat_solver.specs.Cuts.{CutState, IsUnitCut, ResolvedBelow};
 ghost use Rattle.sat_solver.specs.Markings.{is_marked, marked_lits, Gathered, AreMarked, AreReplaced};
 
 use crate::marks::Marks;
