@@ -1,5 +1,6 @@
 -- Which literals of a clause are false, one by one.
-use Rattle.std.proofs.Common.{◌≡◌, ℕ, ◌+◌, ◌<◌, ◌≤◌, true, false, subst, Option, Some, None, eqb, leb, ltb, List, [], ◌∷◌, ◌++◌, length, get_or, take, drop, sym, ap, ◌∙◌, inl, inr, arith}
+use Rattle.std.proofs.Common.{◌≡◌, ℕ, ◌+◌, ◌<◌, ◌≤◌, true, false, eqb, leb, ltb, Option, Some, None, List, [], ◌∷◌, ◌++◌, length, get_or, take, drop}
+use Rattle.std.proofs.Common.{sym, ap, ◌∙◌, subst, inl, inr, arith}
 use Rattle.std.specs.Bool.{MatchBool}
 use Rattle.std.specs.Prelude.{MatchOption}
 use Rattle.std.proofs.lemmas.Bool.{false≢true, or_cases, eqb-true, le-leb, leb-true, ltb-true, lt-ltb, false_from_ne_true, cases_lt}
@@ -8,8 +9,9 @@ use Rattle.proof_log.specs.Literals.{negated}
 use Rattle.proof_log.specs.Clauses.{is_set}
 use Rattle.proof_log.proofs.LiteralLemmas.{negated-negated}
 use Rattle.proof_log.proofs.Members.{is_set-push, is_set-nil, is_set-at, is_set-take, is_set-append}
-use Rattle.sat_solver.specs.Learning.{OthersFalse, OtherOpen}
+use Rattle.sat_solver.specs.Learning.{OthersFalse, OtherOpen, IsFrontLen}
 use Rattle.sat_solver.specs.Cuts.{FalseBy}
+use Rattle.sat_solver.proofs.Trailing.{is_set-take_more}
 use Rattle.sat_solver.specs.Watches.{IsOpenAt}
 
 pub OthersFalse-none : (set : List ℕ) (u : ℕ) → OthersFalse set [] u
@@ -75,3 +77,32 @@ OthersFalse-search set clause front back u n few front_is back_is none (Some at)
       λ e. h.1 (same ∙ e),
       ap (λ x. is_set set (negated x)) (sym same) ∙ h.2,
     )
+
+pub IsFrontLen-none : (lits : List ℕ) (u : ℕ) → IsFrontLen lits [] u 0
+IsFrontLen-none lits u = record { falsified = λ n h. OthersFalse-none (take n lits) u; least = λ n h. absurd (omega arith) }
+
+-- one more literal is false by the same front
+pub IsFrontLen-kept : (lits clause : List ℕ) (u i x len : ℕ) → i < length clause → x ≡ get_or clause i 0
+    → ((x ≡ u → ⊥) → is_set (take len lits) (negated x) ≡ true) → IsFrontLen lits (take i clause) u len → IsFrontLen lits (take (i + 1) clause) u len
+IsFrontLen-kept lits clause u i x len within e here before = record {
+  falsified = λ n h. OthersFalse-more (take n lits) clause u i x within e (before.falsified n h) (λ ne. is_set-take_more len n lits h (negated x) (here ne));
+  least = λ n h. let o = before.least n h in (o.0, is_set-take_more i (i + 1) clause (omega arith) o.0 o.1, o.2, o.3);
+}
+
+-- one more literal is false by a longer front, which ends with its complement
+pub IsFrontLen-longer : (lits clause : List ℕ) (u i x len place : ℕ) → i < length clause → x ≡ get_or clause i 0
+    → (x ≡ u → ⊥) × (is_set (take len lits) (negated x) ≡ false) → ((n : ℕ) → is_set (take n lits) (negated x) ≡ ltb place n)
+    → IsFrontLen lits (take i clause) u len → IsFrontLen lits (take (i + 1) clause) u (place + 1)
+IsFrontLen-longer lits clause u i x len place within e here front before = record {
+  falsified = λ n h. OthersFalse-more (take n lits) clause u i x within e (before.falsified n (omega (arith, low)))
+      (λ ne. front n ∙ lt-ltb place n (omega arith));
+  least = λ n h. OtherOpen-at (take n lits) (take (i + 1) clause) u i x (omega (arith, length-take-le (i + 1) clause (omega arith)))
+      (e ∙ sym (get_or-take (i + 1) clause i 0 (omega arith)))
+      (here.0, front n ∙ false_from_ne_true _ (λ t. let k = ltb-true place n t in absurd (omega arith)));
+}
+  where
+    low : len ≤ place
+    low = elim (cases_lt place len) [
+      | inl lt ↦ absurd (false≢true (sym here.1 ∙ (front len ∙ lt-ltb place len lt)))
+      | inr ge ↦ ge
+    ]

@@ -124,7 +124,8 @@ IsEngine-decide clauses t b starts walks q d r e quiet vars lits reasons =
 pub IsEngine-back : (clauses : List (List ℕ)) (t b : Trailed) (starts walks : List ℕ) (q new : Queue) (level n : ℕ)
     → IsEngine clauses t starts walks q → level < length starts → n ≡ get_or starts level 0 → b.vars ≡ t.vars → b.lits ≡ take n t.lits
     → b.reasons ≡ take n t.reasons
-    → new ≡ record { watches = q.watches; done = get_or walks level 0; looked = q.looked; starts = q.starts } → IsEngine clauses b (take level starts) (take level walks) new
+    → new ≡ record { watches = q.watches; done = get_or walks level 0; looked = q.looked; starts = q.starts }
+    → IsEngine clauses b (take level starts) (take level walks) new
 IsEngine-back clauses t b starts walks q new level n e below n_is vars lits reasons new_is =
     let on = q.watches.literals in
     let few : n < length t.lits = omega (arith, e.search.within level below) in

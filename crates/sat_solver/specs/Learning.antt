@@ -1,5 +1,5 @@
 -- What is learnt from a conflict.
-use Rattle.std.specs.Prelude.{◌≡◌, ℕ, ◌-◌, ◌<◌, true, false, List, length, map, take, All, slice_index}
+use Rattle.std.specs.Prelude.{◌≡◌, ℕ, ◌-◌, ◌<◌, ◌≤◌, true, false, List, length, map, take, All, slice_index}
 use Rattle.proof_log.specs.Literals.{negated, InVars}
 use Rattle.proof_log.specs.Clauses.{is_set, IsNormal}
 use Rattle.proof_log.specs.Derivations.{LeadsToConflict}
@@ -14,6 +14,11 @@ OthersFalse set clause u = (l : ℕ) → is_set clause l ≡ true → (l ≡ u �
 -- some literal of the clause other than u is not false
 abbrev pub OtherOpen : List ℕ → List ℕ → ℕ → Type 0
 OtherOpen set clause u = (l : ℕ) × (is_set clause l ≡ true) × (l ≡ u → ⊥) × (is_set set (negated l) ≡ false)
+
+-- the first set literals, so many, make each literal of the clause but u false, and fewer of them do not
+pub record IsFrontLen (lits clause : List ℕ) (u len : ℕ) : Type 0 where
+  pub falsified : (n : ℕ) → len ≤ n → OthersFalse (take n lits) clause u
+  pub least : (n : ℕ) → n < len → OtherOpen (take n lits) clause u
 
 -- the level is the greatest of the clause's literals other than u, or 0 where there is none:
 -- up to it they are all false, and up to each lower level one is not

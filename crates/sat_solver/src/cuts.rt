@@ -26,9 +26,8 @@ ghost use Rattle.proof_log.specs.Literals.{lit_var, negated};
 ghost use Rattle.proof_log.specs.Clauses.{is_set};
 ghost use Rattle.sat_solver.specs.Searches.{IsUnitAt, IsFalseAt};
 ghost use Rattle.sat_solver.specs.Trails.{Justified};
-ghost use Rattle.sat_solver.specs.Learning.{OthersFalse, OtherOpen};
 ghost use Rattle.sat_solver.specs.Watches.{clause_at};
-ghost use Rattle.sat_solver.specs.Cuts.{FalseBy, CutState, IsUnitCut, ResolvedBelow};
+ghost use Rattle.sat_solver.specs.Cuts.{CutState, IsUnitCut, ResolvedBelow};
 ghost use Rattle.sat_solver.specs.Markings.{is_marked, marked_lits, Gathered, AreMarked, AreReplaced};
 
 use crate::marks::Marks;
@@ -288,21 +287,6 @@ impl Cut {
         }
         Ok(())
     }
-}
-
-/// Whether the first `len` set literals make all literals but one false.
-pub fn others_false(trail: &Trail, len: usize, lits: &[Lit], unit: Lit) -> bool
-    requires { FalseBy trail.now.lits lits.now }
-    ensures { MatchBool result
-        (OthersFalse (take len trail.now.lits) lits.now unit)
-        (OtherOpen (take len trail.now.lits) lits.now unit) }
-{
-    for l in lits {
-        if is_open_other(trail, len, *l, unit) {
-            return false;
-        }
-    }
-    true
 }
 
 /// Whether the literal is another one that the first `len` set literals do not make false.

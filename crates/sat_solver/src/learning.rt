@@ -5,10 +5,10 @@ ghost use Rattle.proof_log.specs.Derivations.{LeadsToConflict};
 ghost use Rattle.sat_solver.specs.Searches.{IsFalseAt, search_of};
 ghost use Rattle.proof_log.specs.Clauses.{is_set};
 ghost use Rattle.sat_solver.specs.Engines.{IsSearch, level_floor};
-ghost use Rattle.sat_solver.specs.Learning.{OthersFalse, IsLevel, IsLearnt};
+ghost use Rattle.sat_solver.specs.Learning.{OthersFalse, IsFrontLen, IsLevel, IsLearnt};
 ghost use Rattle.sat_solver.specs.Cuts.{FalseBy, IsAsserting};
 
-use crate::cuts::{Cut, is_open_other, others_false};
+use crate::cuts::{Cut, is_open_other};
 use crate::marks::Marks;
 use crate::trails::Trail;
 use proof_log::{Clause, DerivStep, Lit};
@@ -95,13 +95,30 @@ fn asserting_level(trail: &Trail, starts: &[usize], lits: &[Lit], unit: Lit) -> 
     requires top { OthersFalse (take (slice_index starts.now (length starts.now - 1)) trail.now.lits) lits.now unit }
     ensures { IsLevel trail.now.lits starts.now lits.now unit result }
 {
+    let len = front_len(trail, lits, unit);
     let top = starts.len() - 1;
     for level in 0..top {
-        if others_false(trail, starts[level], lits, unit) {
+        if len <= starts[level] {
             return level;
         }
     }
     top
+}
+
+/// How many of the set literals, oldest first, make all but the unit false.
+fn front_len(trail: &Trail, lits: &[Lit], unit: Lit) -> usize
+    requires { FalseBy trail.now.lits lits.now }
+    ensures { IsFrontLen trail.now.lits lits.now unit result }
+{
+    let _vars = trail.vars();
+    let _len = trail.len();
+    let mut len = 0;
+    for l in lits {
+        if is_open_other(trail, len, *l, unit) {
+            len = trail.place(l.negated()) + 1;
+        }
+    }
+    len
 }
 
 /// The empty step by which a false clause refutes the clauses, at level 0.
