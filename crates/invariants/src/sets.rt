@@ -1,0 +1,33 @@
+//! The clauses that are kept for some claims.
+ghost use Rattle.std.specs.Prelude.{◌<◌, ◌≤◌, All, IfOk};
+ghost use Rattle.net_model.specs.Netlist.{IsSound};
+ghost use Rattle.net_model.specs.Fits.{Fits};
+ghost use Rattle.query_model.specs.Laws.{NamesRegs};
+ghost use Rattle.invariants.specs.Invariants.{AreInvariants};
+
+use induction::greatest_set;
+use inv_candidates::candidates;
+use net_model::{Claim, Design};
+use sdcv_base::Seq;
+use std::alloc::{AllocError, Global};
+use verdicts::InvSet;
+
+/// The greatest inductive set, at a depth, of the clauses near some claims. A clause whose query spends the budget is left out,
+/// with an entry.
+pub fn invariants(
+    alloc: Global,
+    design: &Design,
+    claims: &Seq<Claim>,
+    depth: usize,
+    budget: u64,
+) -> Result<InvSet, AllocError>
+    requires sound { IsSound design.now }
+    requires fit { All (Fits design.now) claims.now }
+    requires few { depth ≤ 8 }
+    requires some { 0 < budget }
+    ensures kept { IfOk result (AreInvariants design.now claims.now depth budget) }
+    ensures names { IfOk result (λ set. All (NamesRegs design.now) set.kept) }
+{
+    let clauses = candidates(alloc, design, claims)?;
+    greatest_set(alloc, design, &clauses, depth, budget)
+}
