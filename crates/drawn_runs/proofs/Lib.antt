@@ -1,0 +1,5 @@
+pub mod Drawing
+pub mod Stepping
+pub mod Filling
+pub mod Running
+pub mod Sifting
