@@ -5,6 +5,7 @@ ghost use Rattle.net_model.specs.Fits.{Fits};
 ghost use Rattle.query_model.specs.Laws.{NamesRegs};
 ghost use Rattle.invariants.specs.Invariants.{AreInvariants};
 
+use drawn_runs::survivors;
 use induction::greatest_set;
 use inv_candidates::candidates;
 use net_model::{Claim, Design};
@@ -14,6 +15,9 @@ use verdicts::InvSet;
 
 /// The greatest inductive set, at a depth, of the clauses near some claims. A clause whose query spends the budget is left out,
 /// with an entry.
+///
+/// A clause that fails in a live cycle of a run from reset is in no inductive set, so no query is asked about those that fail in
+/// one of the 64 drawn runs.
 pub fn invariants(
     alloc: Global,
     design: &Design,
@@ -29,5 +33,7 @@ pub fn invariants(
     ensures names { IfOk result (λ set. All (NamesRegs design.now) set.kept) }
 {
     let clauses = candidates(alloc, design, claims)?;
-    greatest_set(alloc, design, &clauses, depth, budget)
+    let left = survivors(alloc, design, clauses)?;
+    let set = greatest_set(alloc, design, &left, depth, budget)?;
+    Ok(set)
 }

@@ -1,0 +1,26 @@
+use Rattle.query_model.specs.Laws.{NamesRegs}
+use Rattle.drawn_runs.specs.Drawn.{HoldsDrawn, FailsDrawn}
+use Rattle.invariants.proofs.Surviving.{All-sifted, StandOnce-sifted, kept_all, entries_hold}
+use Rattle.invariants.proofs.sets.invariants.Goals as goal
+
+pub greatest_set-requires-clause-names : goal.greatest_set-requires-clause-names
+greatest_set-requires-clause-names c =
+    let d = c.args.design.now in
+    All-sifted (NamesRegs d) (HoldsDrawn d) (FailsDrawn d) c.in_ok-clauses.clauses c.in_ok-left.left c.in_ok-left.ensures c.in_ok-clauses.ensures.names
+
+pub greatest_set-requires-clause-once : goal.greatest_set-requires-clause-once
+greatest_set-requires-clause-once c =
+    let d = c.args.design.now in
+    StandOnce-sifted (HoldsDrawn d) (FailsDrawn d) c.in_ok-clauses.clauses c.in_ok-left.left c.in_ok-left.ensures c.in_ok-clauses.ensures.once
+
+pub returns-clause-kept : goal.returns-clause-kept
+returns-clause-kept c =
+    let d = c.args.design.now in
+    let clauses = c.in_ok-clauses.clauses in
+    let left = c.in_ok-left.left in
+    record {
+      candidates = clauses;
+      of_claims = c.in_ok-clauses.ensures.candidates;
+      kept = kept_all d c.args.depth c.args.budget clauses left c.in_ok-set.set c.in_ok-left.ensures c.in_ok-set.ensures.kept;
+      drawn = entries_hold d c.args.depth c.args.budget clauses left c.in_ok-set.set c.in_ok-left.ensures c.in_ok-set.ensures.kept;
+    }
