@@ -1,5 +1,6 @@
 -- The inputs that are written so far, and one more.
-use Rattle.std.proofs.Common.{◌≡◌, ℕ, suc, ◌+◌, ◌<◌, Bool, true, false, not, List, [], ◌∷◌, length, set, get_or, Some, refl, ap, subst, sym, ◌∙◌, arith, inl, inr}
+use Rattle.std.proofs.Common.{◌≡◌, ℕ, suc, ◌+◌, ◌<◌, Bool, true, false, not, List, [], ◌∷◌}
+use Rattle.std.proofs.Common.{length, set, get_or, Some, refl, ap, subst, sym, ◌∙◌, arith, inl, inr}
 use Rattle.std.proofs.Common.{below_more, get_or-set_other, get_or-set_same, ext_get_or}
 use Rattle.std.specs.Prelude.{◌||◌, Contains, All, slice_get, if◌then◌else◌}
 use Rattle.std.specs.List.{list_any}
@@ -81,7 +82,8 @@ neither_left false b none = refl
 -- one more setting is written, in one lane
 pub lane_settings_more : (i : ℕ) (settings : List Fixed) (active : Bool) (start ins : List Lanes) (k : ℕ) (t : Fixed) (w : Lanes)
     → AllBelow (length start) (setting_inputs settings) → AreApart settings → slice_get settings k ≡ Some t → lane w i ≡ set_bit active t
-    → SettingsDone settings active (lane_row i start) (lane_row i ins) k → SettingsDone settings active (lane_row i start) (lane_row i (set ins t.input w)) (k + 1)
+    → SettingsDone settings active (lane_row i start) (lane_row i ins) k
+    → SettingsDone settings active (lane_row i start) (lane_row i (set ins t.input w)) (k + 1)
 lane_settings_more i settings active start ins k t w below apart at is done =
     subst (λ (row : List Bool). SettingsDone settings active (lane_row i start) row (k + 1)) (sym (map-set (lane_at i) ins t.input w))
     (settings_more settings active (lane_row i start) (lane_row i ins) k t (lane w i)
