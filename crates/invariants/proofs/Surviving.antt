@@ -1,5 +1,5 @@
 -- What is kept of the survivors is kept of all candidates.
-use Rattle.std.proofs.Common.{subst, ◌≡◌, ℕ, false, true, List, [], ◌∷◌, Some, arith, inl, inr}
+use Rattle.std.proofs.Common.{subst, ℕ, List, inl, inr}
 use Rattle.std.specs.Prelude.{◌⊎◌, Contains, All}
 use Rattle.std.proofs.lemmas.Bool.{both_ways}
 use Rattle.std.proofs.lemmas.List.Elements.{All-nil, All-cons, All-head, All-tail}
@@ -9,8 +9,7 @@ use Rattle.net_model.specs.declared.invariants.InvClause.{InvClause}
 use Rattle.net_model.specs.declared.queries.Phase.{Phase}
 use Rattle.net_model.specs.declared.queries.Phase.TheVariants.{Base, Step}
 use Rattle.net_model.proofs.Members.{In, In-from_Contains, Contains-from_In}
-use Rattle.net_model.proofs.Settling.{All-at}
-use Rattle.verdicts.specs.Inductive.{IsWithin, IsInductive, IsGreatest, CoversInductive, StandOnce}
+use Rattle.verdicts.specs.Inductive.{IsWithin, IsInductive, IsGreatest, StandOnce}
 use Rattle.verdicts.specs.Kept.{IsAskedAgainst, IsEntry, IsUnspent, IsKeptSet}
 use Rattle.verdicts.specs.declared.kept.InvSpent.{InvSpent}
 use Rattle.verdicts.specs.declared.kept.InvSet.{InvSet}
