@@ -4,3 +4,4 @@ pub mod Logs
 pub mod Verdicts
 pub mod Certified
 pub mod Kept
+pub mod Forms

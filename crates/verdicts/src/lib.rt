@@ -2,8 +2,9 @@
 //!
 //! Begin with `specs/`: `Offsets` (at which offsets runs and stretches are violated), `Inductive` (clauses over register
 //! bits that hold in every live cycle), `Logs` (derivations from a query's formula), `Verdicts` (what each verdict says),
-//! `Kept` (what a set of kept clauses says) and `Certified` (what derivations alone show). Nothing here searches: crates
-//! above find verdicts, and what is accepted of a certificate rests on this crate and on no search.
+//! `Kept` (what a set of kept clauses says), `Certified` (what derivations alone show) and `Forms` (which of all these the
+//! text of a certificate can spell). Nothing here searches: crates above find verdicts, and what is accepted of a certificate
+//! rests on this crate and on no search.
 #![tactic(auto)]
 
 mod judged;
