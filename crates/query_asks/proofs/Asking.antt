@@ -17,13 +17,14 @@ use Rattle.cnf_encode.specs.Problems.{IsProblemFor, IsMadeFor, IsClaimQuery, IsC
 use Rattle.cnf_encode.specs.declared.problems.Problem.{Problem}
 use Rattle.verdicts.specs.Logs.{own_coding, IsFormulaFor, RefutesQuery, IsSpentOn}
 use Rattle.verdicts.proofs.Refuting.{claim_refuted, clause_refuted}
-use Rattle.query_asks.specs.Asks.{IsRightOf, IsRightFor}
+use Rattle.verdicts.specs.Forms.{IsInForm}
+use Rattle.query_asks.specs.Asks.{IsRefutedBy, IsRightOf}
 use Rattle.query_asks.specs.declared.asks.Asked.{Asked}
 use Rattle.query_asks.specs.declared.asks.Asked.TheVariants.{Refuted, Answered, Spent}
 
 -- what is known by the kind of the answer
 pub refuted : (q : Query) (budget : ℕ) (asked : Asked) (derivation : Derivation) → asked ≡ Refuted derivation → IsRightOf q budget asked
-    → RefutesQuery own_coding q derivation × ((run : List Cycle) → ¬ IsAnswer q run)
+    → IsRefutedBy q derivation
 refuted q budget asked derivation is right = subst (IsRightOf q budget) is right
 
 pub answered : (q : Query) (budget : ℕ) (asked : Asked) (run : List Cycle) → asked ≡ Answered run → IsRightOf q budget asked → IsAnswer q run
@@ -69,8 +70,8 @@ no_answer d q derivation sound (inr asks) refutes run =
     (subst (λ (p : Query). RefutesQuery own_coding p derivation) asks.is refutes) run)
 
 pub unsatisfied : (d : Design) (q : Query) (problem : Problem) (budget : ℕ) (derivation : Derivation) → IsSound d
-    → IsClaimQuery d q ⊎ IsClauseQuery d q → IsProblemFor q problem → IsRefutation problem.formula budget derivation
-    → RefutesQuery own_coding q derivation × ((run : List Cycle) → ¬ IsAnswer q run)
-unsatisfied d q problem budget derivation sound asks is refutation =
+    → IsClaimQuery d q ⊎ IsClauseQuery d q → IsProblemFor q problem → IsRefutation problem.formula budget derivation → IsInForm derivation
+    → IsRefutedBy q derivation
+unsatisfied d q problem budget derivation sound asks is refutation form =
     let refutes : RefutesQuery own_coding q derivation = (problem.formula, formula_of q problem is, refutation.refutes) in
-    (refutes, no_answer d q derivation sound asks refutes)
+    record { refutes = refutes; none = no_answer d q derivation sound asks refutes; in_form = form }

@@ -91,7 +91,11 @@ fn answer_of(
             let run = read_back(alloc, design, problem, &model)?;
             Ok(Asked::Answered(run))
         }
-        Answer::Unsat(derivation) => Ok(Asked::Refuted(derivation)),
+        Answer::Unsat(derivation) => {
+            // It has as many steps as a slice, so fewer than 2^63.
+            let _steps = derivation.steps.as_slice();
+            Ok(Asked::Refuted(derivation))
+        }
         Answer::Spent(log) => Ok(Asked::Spent(log)),
     }
 }

@@ -1,12 +1,16 @@
-use Rattle.std.proofs.Common.{◌≡◌, subst}
+use Rattle.std.proofs.Common.{subst, ap, length, arith}
 use Rattle.sat_solver.specs.Answers.{IsAnswer}
 use Rattle.query_asks.proofs.Asking.{unsatisfied, spent_on}
+use Rattle.query_asks.proofs.Forming.{refutation_in_form}
 use Rattle.query_asks.proofs.asks.answer_of.Goals as goal
 
 pub returns-in-Unsat : goal.returns-in-Unsat
 returns-in-Unsat c q asks is =
-    unsatisfied c.args.design.now q c.args.problem.now c.args.budget c.in-Unsat.derivation c.requires.sound asks is
-    (subst (IsAnswer c.args.problem.now.formula c.args.budget) c.in-Unsat.is c.in_ok-model.ensures.answer)
+    let formula = c.args.problem.now.formula in
+    let derivation = c.in-Unsat.derivation in
+    let refutation = subst (IsAnswer formula c.args.budget) c.in-Unsat.is c.in_ok-model.ensures.answer in
+    unsatisfied c.args.design.now q c.args.problem.now c.args.budget derivation c.requires.sound asks is refutation
+    (refutation_in_form formula c.args.budget derivation c.requires.normal.few (omega (arith, ap length c.as_slice-steps.ensures)) refutation)
 
 pub returns-in-Spent : goal.returns-in-Spent
 returns-in-Spent c q asks is =
