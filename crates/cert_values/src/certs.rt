@@ -1,0 +1,21 @@
+//! What a certificate tells.
+use net_model::InvClause;
+use sdcv_base::Seq;
+use verdicts::{InvProof, Proof};
+
+/// Why the claim of that number holds. Claims count from 1.
+#[derive(Drop)]
+pub struct PairProof {
+    pub number: u64,
+    pub proof: Proof,
+}
+
+/// Clauses over register bits, each with its derivations at the same place of `proofs`, by an induction of this depth; and
+/// the claims that are justified with them.
+#[derive(Drop)]
+pub struct Cert {
+    pub depth: usize,
+    pub kept: Seq<InvClause>,
+    pub proofs: Seq<InvProof>,
+    pub pairs: Seq<PairProof>,
+}

@@ -1,0 +1,11 @@
+//! Certificates as values: kept clauses and pairs, each with its derivations, and why a certificate is refused.
+//!
+//! Begin with `specs/Certs`: which certificates have all their derivations, and which one is made of what was found. How a
+//! certificate is spelled, and when it is accepted, is left to the crates above.
+#![tactic(auto)]
+
+mod certs;
+mod faults;
+
+pub use certs::{Cert, PairProof};
+pub use faults::CertFault;
