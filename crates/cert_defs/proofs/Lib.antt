@@ -1,0 +1,4 @@
+pub mod Numbering
+pub mod Holding
+pub mod Refusing
+pub mod Justifying
