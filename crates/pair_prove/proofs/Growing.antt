@@ -1,7 +1,8 @@
 -- What queries of growing depth leave known.
-use Rattle.std.proofs.Common.{◌≡◌, ◌≢◌, ℕ, ◌+◌, ◌-◌, ◌<◌, ◌≤◌, List, [], ◌∷◌, ◌++◌, refl, subst, arith, inl, inr}
+use Rattle.std.proofs.Common.{◌≡◌, ◌≢◌, ℕ, ◌+◌, ◌<◌, ◌≤◌, List, [], ◌∷◌, ◌++◌, refl, subst, arith, inl, inr, All}
 use Rattle.std.proofs.lemmas.Bool.{cases_lt}
 use Rattle.std.proofs.lemmas.List.{length-append}
+use Rattle.std.proofs.lemmas.List.Elements.{All-nil, All-push}
 use Rattle.net_model.specs.Netlist.{IsSound}
 use Rattle.net_model.specs.Stimuli.{StandsFor}
 use Rattle.net_model.specs.Queries.{Query, IsAnswer, claim_query}
@@ -16,6 +17,7 @@ use Rattle.verdicts.specs.Offsets.{HoldsAtOffset, IsOpenAt}
 use Rattle.verdicts.specs.Logs.{own_coding, RefutesQuery, RefuteEach}
 use Rattle.verdicts.specs.Verdicts.{IsJudged, IsReached, IsWitness, IsRight, IsRightProof}
 use Rattle.verdicts.specs.Inductive.{AreAlwaysMet}
+use Rattle.verdicts.specs.Forms.{IsInForm, AreInForm}
 use Rattle.verdicts.specs.declared.outcomes.Limits.{Limits}
 use Rattle.verdicts.specs.declared.outcomes.Cause.TheVariants.{Depth as Stays}
 use Rattle.verdicts.specs.declared.outcomes.Verdict.{Verdict}
@@ -23,12 +25,14 @@ use Rattle.verdicts.specs.declared.outcomes.Verdict.TheVariants.{Justified, Refu
 use Rattle.verdicts.proofs.Cutting.{holds_at}
 use Rattle.verdicts.proofs.Certifying.{justified_holds}
 use Rattle.verdicts.proofs.Extending.{push_cases}
+use Rattle.query_asks.specs.Asks.{IsRefutedBy}
 use Rattle.pair_prove.specs.Proving.{HoldsWhereJustified, IsLeastWhereRefuted}
 
--- the queries below a depth leave the claim open, and their base queries are refuted
+-- the queries below a depth leave the claim open, and their base queries are refuted, by derivations in form
 pub record OpenSoFar (d : Design) (claim : Claim) (kept : List InvClause) (limit depth : ℕ) (base : List Derivation) : Type 0 where
   pub reached : IsReached d claim kept limit depth
   pub refuted : RefuteEach own_coding (λ k. claim_query d claim Base k kept) depth base
+  pub in_form : All IsInForm base
 
 pub open_first : (d : Design) (claim : Claim) (kept : List InvClause) (limit : ℕ) → IsJudged d claim → OpenSoFar d claim kept limit 0 []
 open_first d claim kept limit judged =
@@ -40,6 +44,7 @@ open_first d claim kept limit judged =
             open_ = record { holds = λ offset low. absurd (omega (arith, low)); answered = λ offset low. absurd (omega (arith, low)) };
           };
       refuted = record { as_many = refl; each = λ k derivation at. cc };
+      in_form = All-nil IsInForm;
     }
 
 -- a fact of all smaller numbers and of this one
@@ -67,8 +72,7 @@ refute_more query count derivations derivation all one =
 -- where neither query of a depth decides, and it isn't the greatest, the next one is reached
 pub open_more : (d : Design) (claim : Claim) (kept : List InvClause) (limit depth : ℕ) (base : List Derivation) (derivation : Derivation)
     (stretch : List Cycle) → IsSound d → OpenSoFar d claim kept limit depth base → depth ≢ limit
-    → RefutesQuery own_coding (claim_query d claim Base depth kept) derivation × ((run : List Cycle) → ¬ IsAnswer (claim_query d claim Base depth kept) run)
-    → IsAnswer (claim_query d claim Step depth kept) stretch → OpenSoFar d claim kept limit (depth + 1) (base ++ derivation ∷ [])
+    → IsRefutedBy (claim_query d claim Base depth kept) derivation → IsAnswer (claim_query d claim Step depth kept) stretch → OpenSoFar d claim kept limit (depth + 1) (base ++ derivation ∷ [])
 open_more d claim kept limit depth base derivation stretch sound so other refuted answer =
     record {
       reached =
@@ -77,11 +81,12 @@ open_more d claim kept limit depth base derivation stretch sound so other refute
             allowed = below limit depth so.reached.allowed other;
             open_ =
                 record {
-                  holds = up_to (HoldsAtOffset d claim) depth so.reached.open_.holds (holds_at d claim kept depth sound refuted.1);
+                  holds = up_to (HoldsAtOffset d claim) depth so.reached.open_.holds (holds_at d claim kept depth sound refuted.none);
                   answered = up_to (IsOpenAt d claim kept) depth so.reached.open_.answered (stretch, answer);
                 };
           };
-      refuted = refute_more (λ k. claim_query d claim Base k kept) depth base derivation so.refuted refuted.0;
+      refuted = refute_more (λ k. claim_query d claim Base k kept) depth base derivation so.refuted refuted.refutes;
+      in_form = All-push IsInForm base derivation so.in_form refuted.in_form;
     }
   where
     below : (limit depth : ℕ) → depth ≤ limit → depth ≢ limit → depth + 1 ≤ limit
@@ -90,6 +95,14 @@ open_more d claim kept limit depth base derivation stretch sound so other refute
           | inl less ↦ omega (arith, less)
           | inr more ↦ absurd (other (let e : depth ≡ limit = omega (arith, allowed, more) in e))
         ]
+
+-- the derivations of a claim that is justified at a depth are in form
+pub justified_in_form : (d : Design) (claim : Claim) (kept : List InvClause) (limit depth : ℕ) (base : List Derivation) (step : Derivation) → limit ≤ 64
+    → OpenSoFar d claim kept limit depth base → IsInForm step → (depth ≤ 64) × AreInForm depth base step
+justified_in_form d claim kept limit depth base step few so last = (
+  omega (arith, so.reached.allowed, few),
+  record { as_many = so.refuted.as_many; bases = so.in_form; step = last },
+)
 
 -- at the greatest depth the claim stays open
 pub stays : (d : Design) (claim : Claim) (kept : List InvClause) (limits : Limits) (depth : ℕ) (stretch : List Cycle) → depth ≡ limits.depth

@@ -5,6 +5,7 @@ ghost use Rattle.net_model.specs.Fits.{Fits};
 ghost use Rattle.net_model.specs.Stimuli.{StandsFor};
 ghost use Rattle.query_model.specs.Laws.{NamesRegs};
 ghost use Rattle.verdicts.specs.Verdicts.{IsJudged, IsRight};
+ghost use Rattle.verdicts.specs.Forms.{IsVerdictInForm};
 
 use net_model::{Claim, Cycle, Design, InvClause, Phase, Stimulus};
 use query_asks::{Asked, Probe, ask_claim};
@@ -25,7 +26,8 @@ pub(crate) fn decide(
     requires names { All (NamesRegs design.now) kept.now }
     requires judged { IsJudged design.now claim.now }
     requires few { limits.depth ≤ 64 }
-    ensures { IfOk result (IsRight design.now claim.now kept.now limits) }
+    ensures right { IfOk result (IsRight design.now claim.now kept.now limits) }
+    ensures in_form { IfOk result IsVerdictInForm }
 {
     let budget = limits.budget;
     let mut base = Seq::new(alloc);

@@ -5,6 +5,7 @@ ghost use Rattle.net_model.specs.Fits.{Fits};
 ghost use Rattle.query_model.specs.Laws.{NamesRegs};
 ghost use Rattle.verdicts.specs.Inductive.{AreAlwaysMet};
 ghost use Rattle.verdicts.specs.Verdicts.{IsRight};
+ghost use Rattle.verdicts.specs.Forms.{IsVerdictInForm};
 ghost use Rattle.pair_prove.specs.Proving.{HoldsWhereJustified, IsLeastWhereRefuted};
 
 use crate::deciding::decide;
@@ -34,6 +35,7 @@ pub fn prove(
     ensures right { IfOk result (IsRight design.now claim.now inv.now.kept limits.now) }
     ensures holds { IfOk result (HoldsWhereJustified design.now claim.now) }
     ensures violated { IfOk result (IsLeastWhereRefuted design.now claim.now) }
+    ensures in_form { IfOk result IsVerdictInForm }
 {
     verdict_of(alloc, design, claim, inv, limits)
 }
@@ -50,7 +52,8 @@ fn verdict_of(
     requires fits { Fits design.now claim.now }
     requires names { All (NamesRegs design.now) inv.now.kept }
     requires few { limits.now.depth ≤ 64 }
-    ensures { IfOk result (IsRight design.now claim.now inv.now.kept limits.now) }
+    ensures right { IfOk result (IsRight design.now claim.now inv.now.kept limits.now) }
+    ensures in_form { IfOk result IsVerdictInForm }
 {
     if claim.kind.judged_count() == 0 {
         return Ok(Verdict::Justified(Proof::Single));

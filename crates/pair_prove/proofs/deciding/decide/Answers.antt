@@ -4,11 +4,11 @@ use Rattle.net_model.specs.declared.queries.Phase.TheVariants.{Base, Step}
 use Rattle.proof_log.specs.declared.derivations.Derivation.{Derivation}
 use Rattle.query_asks.proofs.Asking.{refuted, answered, spent}
 use Rattle.verdicts.proofs.Cutting.{holds_at}
-use Rattle.pair_prove.proofs.Growing.{OpenSoFar, open_more, stays}
+use Rattle.pair_prove.proofs.Growing.{OpenSoFar, open_more, justified_in_form, stays}
 use Rattle.pair_prove.proofs.deciding.decide.Goals as goal
 
-pub returns-in-Spent-2 : goal.returns-in-Spent-2
-returns-in-Spent-2 c =
+pub returns-in-Spent-2-clause-right : goal.returns-in-Spent-2-clause-right
+returns-in-Spent-2-clause-right c =
     let d = c.args.design.now in
     let claim = c.args.claim.now in
     let kept = c.args.kept.now in
@@ -17,12 +17,25 @@ returns-in-Spent-2 c =
     let step : Query = claim_query d claim Step depth kept in (
       c.loop-base.invariant.reached,
       holds_at d claim kept depth c.requires.sound
-          (refuted base c.args.limits.budget c.in_ok-run.field-0 c.in-Refuted.derivation c.in-Refuted.is c.in_ok-run.ensures).1,
+          (refuted base c.args.limits.budget c.in_ok-run.field-0 c.in-Refuted.derivation c.in-Refuted.is c.in_ok-run.ensures).none,
       spent step c.args.limits.budget c.in_ok-step.field-0 c.in-Spent-2.log c.in-Spent-2.is c.in_ok-step.ensures,
     )
 
-pub returns-then-depth-limits : goal.returns-then-depth-limits
-returns-then-depth-limits c =
+pub returns-in-Refuted-2-clause-right : goal.returns-in-Refuted-2-clause-right
+returns-in-Refuted-2-clause-right c =
+    let step : Query = claim_query c.args.design.now c.args.claim.now Step c.loop-base.depth c.args.kept.now in
+    let found = refuted step c.args.limits.budget c.in_ok-step.field-0 c.in-Refuted-2.step c.in-Refuted-2.is c.in_ok-step.ensures in
+    (c.loop-base.invariant.reached, record { none = found.none; base_refuted = c.loop-base.invariant.refuted; step_refuted = found.refutes })
+
+pub returns-in-Refuted-2-clause-in_form : goal.returns-in-Refuted-2-clause-in_form
+returns-in-Refuted-2-clause-in_form c =
+    let step : Query = claim_query c.args.design.now c.args.claim.now Step c.loop-base.depth c.args.kept.now in
+    let found = refuted step c.args.limits.budget c.in_ok-step.field-0 c.in-Refuted-2.step c.in-Refuted-2.is c.in_ok-step.ensures in
+    justified_in_form c.args.design.now c.args.claim.now c.args.kept.now c.args.limits.depth c.loop-base.depth c.loop-base.base c.in-Refuted-2.step
+    c.requires.few c.loop-base.invariant found.in_form
+
+pub returns-then-depth-limits-clause-right : goal.returns-then-depth-limits-clause-right
+returns-then-depth-limits-clause-right c =
     let d = c.args.design.now in
     let claim = c.args.claim.now in
     let kept = c.args.kept.now in
@@ -31,7 +44,7 @@ returns-then-depth-limits c =
     let step : Query = claim_query d claim Step depth kept in
     stays d claim kept c.args.limits depth c.in-Answered-2.stretch c.if-depth-limits.true c.loop-base.invariant.reached
     (holds_at d claim kept depth c.requires.sound
-    (refuted base c.args.limits.budget c.in_ok-run.field-0 c.in-Refuted.derivation c.in-Refuted.is c.in_ok-run.ensures).1)
+    (refuted base c.args.limits.budget c.in_ok-run.field-0 c.in-Refuted.derivation c.in-Refuted.is c.in_ok-run.ensures).none)
     (answered step c.args.limits.budget c.in_ok-step.field-0 c.in-Answered-2.stretch c.in-Answered-2.is c.in_ok-step.ensures)
 
 pub loop-base-preserved : goal.loop-base-preserved

@@ -11,7 +11,7 @@ returns-clause-holds c =
     let kept = c.args.inv.now.kept in
     let limits = c.args.limits.now in
     IfOk-weaker c.verdict_of.result (IsRight d claim kept limits) (HoldsWhereJustified d claim)
-    (λ v right. holds_of_right d claim kept limits v c.requires.sound c.requires.met right) c.verdict_of.ensures
+    (λ v right. holds_of_right d claim kept limits v c.requires.sound c.requires.met right) c.verdict_of.ensures.right
 
 pub returns-clause-violated : goal.returns-clause-violated
 returns-clause-violated c =
@@ -20,4 +20,4 @@ returns-clause-violated c =
     let kept = c.args.inv.now.kept in
     let limits = c.args.limits.now in
     IfOk-weaker c.verdict_of.result (IsRight d claim kept limits) (IsLeastWhereRefuted d claim)
-    (λ v right. least_of_right d claim kept limits v right) c.verdict_of.ensures
+    (λ v right. least_of_right d claim kept limits v right) c.verdict_of.ensures.right
