@@ -4,7 +4,7 @@ use Rattle.std.proofs.Common.{arith, inl, inr, append_assoc, append-nil, add-one
 use Rattle.std.specs.Prelude.{slice_get, All, Contains, ◌⊎◌}
 use Rattle.std.proofs.lemmas.Bool.{cases_lt}
 use Rattle.std.proofs.lemmas.List.{length-append, map-append}
-use Rattle.std.proofs.lemmas.List.Elements.{All-nil, Contains-push_cases}
+use Rattle.std.proofs.lemmas.List.Elements.{All-nil, All-push, Contains-push_cases}
 use Rattle.std.proofs.lemmas.Option.{slice_get_within, get_or_from_slice_get}
 use Rattle.std.proofs.Math.Seq.{drop-cons}
 use Rattle.std.proofs.Math.ListN.{drop_of_length-le}
@@ -19,10 +19,11 @@ use Rattle.proof_log.specs.declared.derivations.Derivation.{Derivation}
 use Rattle.verdicts.specs.Inductive.{StandOnce}
 use Rattle.verdicts.specs.Kept.{IsEntry}
 use Rattle.verdicts.specs.Logs.{own_coding, RefutesQuery, RefuteEach, IsSpentOn}
+use Rattle.verdicts.specs.Forms.{IsInForm}
 use Rattle.verdicts.proofs.Extending.{push_cases}
 use Rattle.verdicts.proofs.Keeping.{met_first}
 use Rattle.induction.specs.Members.{clause_of}
-use Rattle.query_asks.specs.Asks.{IsRightOf}
+use Rattle.query_asks.specs.Asks.{IsRefutedBy, IsRightOf}
 use Rattle.query_asks.specs.declared.asks.Asked.{Asked}
 use Rattle.induction.specs.Bases.{FailsLive, IsBased, IsRightBase}
 use Rattle.induction.specs.declared.bases.Based.{Based}
@@ -34,21 +35,22 @@ use Rattle.induction.proofs.Filters.{middle_within, middle_here, middle_cases}
 use Rattle.induction.proofs.Standing.{once_middle, absent_middle}
 use Rattle.induction.proofs.Searching.{search_first, search_failed, search_spent}
 
--- derivations of the base queries below an offset, none of which has an answer
+-- derivations in form of the base queries below an offset, none of which has an answer
 pub record AreOffsetsDone (d : Design) (clause : InvClause) (count : ℕ) (base : List Derivation) : Type 0 where
   pub refuted : RefuteEach own_coding (λ offset. clause_query d (clause ∷ []) clause Base offset) count base
   pub none : (offset : ℕ) (run : List Cycle) → offset < count → ¬ IsAnswer (clause_query d (clause ∷ []) clause Base offset) run
+  pub in_form : All IsInForm base
 
 pub offsets_first : (d : Design) (clause : InvClause) → AreOffsetsDone d clause 0 []
 offsets_first d clause =
     record {
       refuted = record { as_many = refl; each = λ k derivation at. cc };
       none = λ offset run low. absurd (omega (arith, low));
+      in_form = All-nil IsInForm;
     }
 
 pub offsets_more : (d : Design) (clause : InvClause) (count : ℕ) (base : List Derivation) (derivation : Derivation)
-    → RefutesQuery own_coding (clause_query d (clause ∷ []) clause Base count) derivation
-    × ((run : List Cycle) → ¬ IsAnswer (clause_query d (clause ∷ []) clause Base count) run) → AreOffsetsDone d clause count base
+    → IsRefutedBy (clause_query d (clause ∷ []) clause Base count) derivation → AreOffsetsDone d clause count base
     → AreOffsetsDone d clause (count + 1) (base ++ derivation ∷ [])
 offsets_more d clause count base derivation refuted done =
     record {
@@ -60,10 +62,11 @@ offsets_more d clause count base derivation refuted done =
               | inr last ↦
                   let same : count ≡ k = omega (arith, last.0, done.refuted.as_many) in
                   subst (RefutesQuery own_coding (clause_query d (clause ∷ []) clause Base k)) last.1
-                  (subst (λ (j : ℕ). RefutesQuery own_coding (clause_query d (clause ∷ []) clause Base j) derivation) same refuted.0)
+                  (subst (λ (j : ℕ). RefutesQuery own_coding (clause_query d (clause ∷ []) clause Base j) derivation) same refuted.refutes)
             ];
           };
       none = λ offset run low. by (cases_lt offset count) low run;
+      in_form = All-push IsInForm base derivation done.in_form refuted.in_form;
     }
   where
     by : {offset : ℕ} → (offset < count) ⊎ (count ≤ offset) → offset < count + 1 → (run : List Cycle)
@@ -71,10 +74,11 @@ offsets_more d clause count base derivation refuted done =
     by (inl less) low run = done.none _ run less
     by {offset} (inr more) low run =
         let same : count ≡ offset = omega (arith, low, more) in
-        subst (λ (j : ℕ). ¬ IsAnswer (clause_query d (clause ∷ []) clause Base j) run) same (refuted.1 run)
+        subst (λ (j : ℕ). ¬ IsAnswer (clause_query d (clause ∷ []) clause Base j) run) same (refuted.none run)
 
 pub offsets_all : (d : Design) (clause : InvClause) (depth : ℕ) (base : List Derivation) → AreOffsetsDone d clause depth base → IsBased d depth clause base
-offsets_all d clause depth base done = record { refuted = done.refuted; first = met_first d (clause ∷ []) clause depth done.none }
+offsets_all d clause depth base done =
+    record { refuted = done.refuted; first = met_first d (clause ∷ []) clause depth done.none; in_form = done.in_form }
 
 -- what is left after some candidates, as the next one and the others
 next_left : (candidates : List InvClause) (count : ℕ) (clause : InvClause) → slice_get candidates count ≡ Some clause

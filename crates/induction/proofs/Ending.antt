@@ -1,5 +1,5 @@
 -- Where each step query is refuted, what is left is the greatest inductive set, and has its derivations.
-use Rattle.std.proofs.Common.{◌≡◌, ℕ, zero, suc, ◌+◌, ◌<◌, List, [], ◌∷◌, ◌++◌, length, map, reverse, Some, refl, ap, subst, sym, ◌∙◌, arith, append_assoc}
+use Rattle.std.proofs.Common.{◌≡◌, ℕ, zero, suc, ◌^◌, ◌<◌, ◌≤◌, List, [], ◌∷◌, ◌++◌, length, map, reverse, Some, refl, ap, subst, sym, ◌∙◌, arith, append_assoc}
 use Rattle.std.specs.Prelude.{slice_get, All, Contains}
 use Rattle.std.proofs.lemmas.List.{length-map, length-append, reverse-append}
 use Rattle.std.proofs.lemmas.List.Elements.{All-nil, All-contains, Contains-get_or}
@@ -10,12 +10,12 @@ use Rattle.net_model.specs.Queries.{clause_query}
 use Rattle.net_model.specs.declared.netlist.Design.{Design}
 use Rattle.net_model.specs.declared.invariants.InvClause.{InvClause}
 use Rattle.net_model.specs.declared.queries.Phase.TheVariants.{Base}
-use Rattle.query_model.specs.Laws.{NamesRegs}
 use Rattle.proof_log.specs.declared.derivations.Derivation.{Derivation}
 use Rattle.verdicts.specs.Inductive.{IsInductive, IsMetFirst, IsGreatest, StandOnce}
 use Rattle.verdicts.specs.Logs.{own_coding, RefuteEach}
 use Rattle.verdicts.specs.Certified.{ProvesClause, ProveKept}
 use Rattle.verdicts.specs.Kept.{IsEntry, IsUnspent, IsKeptSet}
+use Rattle.verdicts.specs.Forms.{IsInForm, AreInForm, IsKeptClause, IsSetInForm}
 use Rattle.verdicts.specs.declared.kept.InvProof.{InvProof}
 use Rattle.verdicts.specs.declared.kept.InvSpent.{InvSpent}
 use Rattle.verdicts.specs.declared.kept.InvSet.{InvSet}
@@ -28,11 +28,11 @@ use Rattle.induction.specs.Pools.{IsSearch, AreBased, IsEmptySet}
 use Rattle.induction.specs.Steps.{AreStepsRefuted}
 use Rattle.induction.specs.declared.members.Member.{Member}
 
--- the clauses that are left name registers, as the candidates do
-pub names_left : (d : Design) (depth budget : ℕ) (candidates left : List InvClause) (spent : List InvSpent) → All (NamesRegs d) candidates
-    → IsSearch d depth budget candidates left spent → All (NamesRegs d) left
-names_left d depth budget candidates left spent names so = λ k o low.
-    let has = (so.unspent _ (Contains-get_or left k o low)).candidate in All-contains (NamesRegs d) candidates _ names has
+-- a fact of all candidates is one of the clauses that are left
+pub all_left : (P : InvClause → Type 0) (d : Design) (depth budget : ℕ) (candidates left : List InvClause) (spent : List InvSpent) → All P candidates
+    → IsSearch d depth budget candidates left spent → All P left
+all_left P d depth budget candidates left spent all so = λ k o low.
+    let has = (so.unspent _ (Contains-get_or left k o low)).candidate in All-contains P candidates _ all has
 
 -- the derivations of the first members, where one more is known
 pub proofs_push : (members : List Member) (steps : List Derivation) (m : Member) (step : Derivation) → length members ≡ length steps
@@ -93,6 +93,48 @@ proves_at d depth members steps place clause proof based refuted at there =
           (subst (λ (x : InvClause). RefuteEach own_coding (λ offset. clause_query d (map clause_of members) x Base offset) depth m.base) same
           (base_against d depth (map clause_of members) m.clause m.base (based m has)));
       step = (refuted.each place clause proof.step at part.step_at).refuted;
+    }
+
+form_at : (d : Design) (depth : ℕ) (members : List Member) (steps : List Derivation) (place : ℕ) (proof : InvProof) → AreBased d depth members
+    → AreStepsRefuted d (map clause_of members) depth (length (map clause_of members)) steps → slice_get (proofs_of members steps) place ≡ Some proof
+    → AreInForm depth proof.base proof.step
+form_at d depth members steps place proof based refuted there =
+    let part = part_at members steps place proof there in
+    let m = part.member in
+    let has : Contains members m = (place, slice_get_within members place m part.at, get_or_from_slice_get members place m m part.at) in
+    let low : place < length steps = slice_get_within steps place proof.step part.step_at in
+    let clause = item_at (map clause_of members) place (omega (arith, low, refuted.as_many)) in
+    record {
+      as_many = ap length part.base ∙ (based m has).refuted.as_many;
+      bases = subst (All IsInForm) (sym part.base) (based m has).in_form;
+      step = (refuted.each place clause.0 proof.step clause.1 part.step_at).in_form;
+    }
+
+-- the set is in form, where the candidates are
+pub done_in_form : (d : Design) (depth budget : ℕ) (candidates : List InvClause) (members : List Member) (spent : List InvSpent) (steps : List Derivation)
+    → 0 < depth → depth ≤ 8 → length (map clause_of members) < 2 ^ 63 → AreBased d depth members
+    → AreStepsRefuted d (map clause_of members) depth (length (map clause_of members)) steps
+    → IsSearch d depth budget candidates (map clause_of members) spent → All IsKeptClause candidates
+    → IsSetInForm (record { depth = depth; kept = map clause_of members; proofs = proofs_of members steps; spent = spent })
+done_in_form d depth budget candidates members spent steps deep low few based refuted so all =
+    record {
+      low = low;
+      none = λ zero_is. absurd (omega (arith, deep, zero_is));
+      few = few;
+      clauses = all_left IsKeptClause d depth budget candidates (map clause_of members) spent all so;
+      as_many = length-proofs members steps (omega (arith, refuted.as_many, length-map members clause_of)) ∙ sym (length-map members clause_of);
+      each = λ k o within. form_at d depth members steps k _ based refuted (slice_get-get_or (proofs_of members steps) k o within);
+    }
+
+pub empty_in_form : (set : InvSet) → IsEmptySet set → IsSetInForm set
+empty_in_form set empty =
+    record {
+      low = omega (arith, empty.at_depth);
+      none = λ zero_is. empty.kept;
+      few = omega (arith, ap length empty.kept);
+      clauses = subst (All IsKeptClause) (sym empty.kept) (All-nil IsKeptClause);
+      as_many = ap length empty.proofs ∙ sym (ap length empty.kept);
+      each = subst (All (λ (p : InvProof). AreInForm set.depth p.base p.step)) (sym empty.proofs) (All-nil (λ (p : InvProof). AreInForm set.depth p.base p.step));
     }
 
 pub search_done : (d : Design) (depth budget : ℕ) (candidates : List InvClause) (members : List Member) (spent : List InvSpent) (steps : List Derivation)

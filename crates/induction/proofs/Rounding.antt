@@ -12,13 +12,13 @@ use Rattle.net_model.specs.declared.queries.Phase.TheVariants.{Step}
 use Rattle.net_model.proofs.Existence.{item_at}
 use Rattle.net_model.proofs.Members.{In-from_Contains, Contains-from_In, from_map}
 use Rattle.proof_log.specs.declared.derivations.Derivation.{Derivation}
-use Rattle.verdicts.specs.Logs.{own_coding, RefutesQuery, IsSpentOn}
+use Rattle.verdicts.specs.Logs.{own_coding, IsSpentOn}
 use Rattle.verdicts.specs.Kept.{IsEntry}
 use Rattle.verdicts.specs.Inductive.{IsWithin, StandOnce}
 use Rattle.verdicts.specs.declared.kept.InvSpent.{InvSpent}
 use Rattle.verdicts.proofs.Extending.{push_cases}
 use Rattle.verdicts.proofs.Keeping.{met_next}
-use Rattle.query_asks.specs.Asks.{IsRightOf}
+use Rattle.query_asks.specs.Asks.{IsRefutedBy, IsRightOf}
 use Rattle.query_asks.specs.declared.asks.Asked.{Asked}
 use Rattle.induction.specs.Members.{clause_of, holds_of}
 use Rattle.induction.specs.Pools.{IsSearch, AreBased}
@@ -36,10 +36,8 @@ steps_first d clauses depth = record { as_many = refl; each = λ k clause step a
 
 -- one more step query that is refuted
 pub steps_more : (d : Design) (clauses : List InvClause) (depth place : ℕ) (steps : List Derivation) (clause : InvClause) (step : Derivation)
-    → slice_get clauses place ≡ Some clause
-    → RefutesQuery own_coding (clause_query d clauses clause Step depth) step
-    × ((run : List Cycle) → ¬ IsAnswer (clause_query d clauses clause Step depth) run) → AreStepsRefuted d clauses depth place steps
-    → AreStepsRefuted d clauses depth (place + 1) (steps ++ step ∷ [])
+    → slice_get clauses place ≡ Some clause → IsRefutedBy (clause_query d clauses clause Step depth) step
+    → AreStepsRefuted d clauses depth place steps → AreStepsRefuted d clauses depth (place + 1) (steps ++ step ∷ [])
 steps_more d clauses depth place steps clause step here refuted all =
     record {
       as_many = omega (arith, length-append steps (step ∷ []), all.as_many);
@@ -50,7 +48,8 @@ steps_more d clauses depth place steps clause step here refuted all =
             let at_place : slice_get clauses place ≡ Some other = subst (λ (j : ℕ). slice_get clauses j ≡ Some other) same_place at in
             let same : clause ≡ other = same_Some clause other (sym here ∙ at_place) in
             subst (λ (x : InvClause). IsStepRefuted d clauses depth x found) same
-            (subst (IsStepRefuted d clauses depth clause) last.1 (record { refuted = refuted.0; next = met_next d clauses clause depth refuted.1 }))
+            (subst (IsStepRefuted d clauses depth clause) last.1
+            (record { refuted = refuted.refutes; next = met_next d clauses clause depth refuted.none; in_form = refuted.in_form }))
       ];
     }
 

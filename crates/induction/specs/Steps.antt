@@ -8,13 +8,16 @@ use Rattle.net_model.specs.declared.queries.Phase.TheVariants.{Step}
 use Rattle.proof_log.specs.declared.derivations.Derivation.{Derivation}
 use Rattle.verdicts.specs.Inductive.{IsMetNext}
 use Rattle.verdicts.specs.Logs.{own_coding, RefutesQuery, IsSpentOn}
+use Rattle.verdicts.specs.Forms.{IsInForm}
 use Rattle.induction.specs.declared.steps.Round.{Round}
 use Rattle.induction.specs.declared.steps.Round.TheVariants.{Refuted, Broken, Spent}
 
--- a clause follows after a stretch that meets all clauses, and its derivation refutes its step query against them
+-- a clause follows after a stretch that meets all clauses, and its derivation, which is in form, refutes its step query against
+-- them
 pub record IsStepRefuted (d : Design) (clauses : List InvClause) (depth : ℕ) (clause : InvClause) (step : Derivation) : Type 0 where
   pub refuted : RefutesQuery own_coding (clause_query d clauses clause Step depth) step
   pub next : IsMetNext d depth clauses clause
+  pub in_form : IsInForm step
 
 -- the first clauses, so many of them, are refuted, each by the derivation at its place
 pub record AreStepsRefuted (d : Design) (clauses : List InvClause) (depth count : ℕ) (steps : List Derivation) : Type 0 where

@@ -4,6 +4,7 @@ ghost use Rattle.net_model.specs.Netlist.{IsSound};
 ghost use Rattle.query_model.specs.Laws.{NamesRegs};
 ghost use Rattle.verdicts.specs.Inductive.{StandOnce};
 ghost use Rattle.verdicts.specs.Kept.{IsKeptSet};
+ghost use Rattle.verdicts.specs.Forms.{IsKeptClause, IsSetInForm};
 ghost use Rattle.induction.specs.Pools.{IsEmptySet};
 
 use crate::members::{clauses_of, holding_in, proofs_of, take_out};
@@ -33,6 +34,7 @@ pub fn greatest_set(
     requires some { 0 < budget }
     ensures kept { IfOk result (IsKeptSet design.now depth budget candidates.now) }
     ensures names { IfOk result (λ set. All (NamesRegs design.now) set.kept) }
+    ensures in_form { IfOk result (λ set. All IsKeptClause candidates.now → IsSetInForm set) }
 {
     if depth == 0 {
         return Ok(empty_set(alloc));
@@ -48,6 +50,8 @@ pub fn greatest_set(
             Round::Refuted(steps) => {
                 let proofs = proofs_of(alloc, members, steps)?;
                 let kept = clauses;
+                // There are as many as in a slice, so fewer than 2^63.
+                let _kept = kept.as_slice();
                 return Ok(InvSet {
                     depth,
                     kept,

@@ -1,7 +1,8 @@
-use Rattle.std.proofs.Common.{◌≡◌, ◌<◌, List, All, length, map, subst, sym, arith}
+use Rattle.std.proofs.Common.{◌≡◌, ◌^◌, ◌<◌, List, All, length, map, ap, subst, sym, arith}
 use Rattle.net_model.specs.declared.invariants.InvClause.{InvClause}
 use Rattle.query_model.specs.Laws.{NamesRegs}
 use Rattle.verdicts.specs.Kept.{IsKeptSet}
+use Rattle.verdicts.specs.Forms.{IsSetInForm}
 use Rattle.verdicts.specs.declared.kept.InvProof.{InvProof}
 use Rattle.verdicts.specs.declared.kept.InvSet.{InvSet}
 use Rattle.verdicts.specs.declared.kept.InvSpent.{InvSpent}
@@ -11,7 +12,7 @@ use Rattle.induction.specs.Steps.{AreStepsRefuted}
 use Rattle.induction.specs.declared.members.Member.{Member}
 use Rattle.induction.proofs.Rounding.{refuted_round, broken_round, spent_round, answered_low, spent_low, members_low, round_broken, round_less}
 use Rattle.induction.proofs.Rounding.{based_holding, spent_members, spent_based, spent_less}
-use Rattle.induction.proofs.Ending.{names_left, search_done, empty_kept}
+use Rattle.induction.proofs.Ending.{all_left, search_done, done_in_form, empty_kept, empty_in_form}
 use Rattle.induction.proofs.searches.greatest_set.Goals as goal
 
 pub returns-then-depth-eq0-clause-kept : goal.returns-then-depth-eq0-clause-kept
@@ -22,7 +23,7 @@ pub ask_steps-requires-clause-names : goal.ask_steps-requires-clause-names
 ask_steps-requires-clause-names c =
     let d = c.args.design.now in
     subst (All (NamesRegs d)) (sym c.in_ok-clauses.ensures)
-    (names_left d c.args.depth c.args.budget c.args.candidates.now (map clause_of c.loop-spent.members) c.loop-spent.spent c.requires.names
+    (all_left (NamesRegs d) d c.args.depth c.args.budget c.args.candidates.now (map clause_of c.loop-spent.members) c.loop-spent.spent c.requires.names
     c.loop-spent.invariant.search)
 
 pub returns-in-Refuted-clause-kept : goal.returns-in-Refuted-clause-kept
@@ -49,8 +50,32 @@ pub returns-in-Refuted-clause-names : goal.returns-in-Refuted-clause-names
 returns-in-Refuted-clause-names c =
     let d = c.args.design.now in
     subst (All (NamesRegs d)) (sym c.in_ok-clauses.ensures)
-    (names_left d c.args.depth c.args.budget c.args.candidates.now (map clause_of c.loop-spent.members) c.loop-spent.spent c.requires.names
+    (all_left (NamesRegs d) d c.args.depth c.args.budget c.args.candidates.now (map clause_of c.loop-spent.members) c.loop-spent.spent c.requires.names
     c.loop-spent.invariant.search)
+
+pub returns-in-Refuted-clause-in_form : goal.returns-in-Refuted-clause-in_form
+returns-in-Refuted-clause-in_form c all =
+    let d = c.args.design.now in
+    let depth = c.args.depth in
+    let budget = c.args.budget in
+    let candidates = c.args.candidates.now in
+    let members = c.loop-spent.members in
+    let spent = c.loop-spent.spent in
+    let steps = c.in-Refuted.steps in
+    let clauses = c.in_ok-clauses.clauses in
+    let same : clauses ≡ map clause_of members = c.in_ok-clauses.ensures in
+    let refuted = subst (λ (xs : List InvClause). AreStepsRefuted d xs depth (length xs) steps) same
+    (refuted_round d clauses depth budget c.in_ok-steps.field-0 steps c.in-Refuted.is c.in_ok-steps.ensures) in
+    let set : List InvClause → List InvProof → InvSet =
+    λ (ks : List InvClause) (ps : List InvProof). record { depth = depth; kept = ks; proofs = ps; spent = spent } in
+    let few : length (map clause_of members) < 2 ^ 63 = omega (arith, ap length same, ap length c.as_slice-kept.ensures) in
+    subst (λ (ks : List InvClause). IsSetInForm (set ks c.in_ok-proofs-in-Refuted.proofs)) (sym same)
+    (subst (λ (ps : List InvProof). IsSetInForm (set (map clause_of members) ps)) (sym c.in_ok-proofs-in-Refuted.ensures)
+    (done_in_form d depth budget candidates members spent steps (omega (arith, c.if-depth-eq0.false)) c.requires.few few c.loop-spent.invariant.based
+    refuted c.loop-spent.invariant.search all))
+
+pub returns-then-depth-eq0-clause-in_form : goal.returns-then-depth-eq0-clause-in_form
+returns-then-depth-eq0-clause-in_form c all = empty_in_form c.empty_set.result c.empty_set.ensures
 
 pub holding_in-members-requires : goal.holding_in-members-requires
 holding_in-members-requires c =
