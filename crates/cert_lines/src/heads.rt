@@ -1,0 +1,86 @@
+//! The first line, the line of kept clauses, and the first line of a derivation.
+ghost use Rattle.std.specs.Prelude.{◌≡◌, ◌∷◌, ◌<◌, ℕ, true, false, IfOk, IfErr, OnOk, length};
+ghost use Rattle.cert_words.specs.Lines.{Spells, IsLineStop};
+ghost use Rattle.cert_words.specs.Numbers.{IsDue};
+ghost use Rattle.cert_words.specs.Parts.{left, IsOneStop};
+ghost use Rattle.cert_lines.specs.Kinds.{first_words, IsVersion, inv_words, IsInvHead, phase_word, head_words, IsCount};
+
+use cert_words::{Stop, Words, take_end, take_number, take_word};
+use net_model::Phase;
+
+/// The greatest number of steps, and of kept clauses.
+const MOST: u64 = 9_223_372_036_854_775_807;
+
+/// The greatest depth of kept clauses.
+const MOST_DEPTH: u64 = 8;
+
+/// The depth of the kept clauses, and how many there are.
+#[derive(Clone, Copy, Debug, PartialEq, Eq)]
+pub struct InvHead {
+    pub depth: usize,
+    pub count: u64,
+}
+
+/// The version of a first line.
+pub fn read_first(line: &[u8], cut: bool) -> Result<u64, Stop>
+    ensures ok { IfOk result (Spells IsVersion first_words line.now) }
+    ensures whole { OnOk result (cut ≡ false) }
+    ensures err { IfErr result (IsLineStop IsVersion first_words cut line.now) }
+{
+    let mut words = Words::new(line, cut);
+    take_word(&mut words, b"sdcv-cert")?;
+    take_word(&mut words, b"1")?;
+    take_end(&words)?;
+    Ok(1)
+}
+
+/// How many clauses may be kept at most at a depth.
+fn most_kept(depth: u64) -> u64
+    ensures none { depth ≡ 0 → result ≡ 0 }
+    ensures some { 0 < depth → result ≡ 9223372036854775807 }
+{
+    if depth == 0 { 0 } else { MOST }
+}
+
+/// The line of kept clauses.
+pub fn read_inv(line: &[u8], cut: bool) -> Result<InvHead, Stop>
+    ensures ok { IfOk result (Spells IsInvHead inv_words line.now) }
+    ensures whole { OnOk result (cut ≡ false) }
+    ensures err { IfErr result (IsLineStop IsInvHead inv_words cut line.now) }
+{
+    let mut words = Words::new(line, cut);
+    take_word(&mut words, b"inv")?;
+    let depth = take_number(&mut words, MOST_DEPTH)?;
+    let count = take_number(&mut words, most_kept(depth))?;
+    take_end(&words)?;
+    Ok(InvHead {
+        depth: depth as usize,
+        count,
+    })
+}
+
+/// Passes the word of a derivation.
+fn take_phase(words: &mut Words<'_>, phase: Phase) -> Result<(), Stop>
+    ensures ok { OnOk result (left words.old ≡ phase_word phase ∷ left words.new) }
+    ensures more { OnOk result (words.old.cut ≡ true → 0 < length (left words.new)) }
+    ensures cut { words.new.cut ≡ words.old.cut }
+    ensures err { IfErr result (IsOneStop (IsDue (phase_word phase)) words.old.cut (left words.old)) }
+{
+    match phase {
+        Phase::Base => take_word(words, b"b"),
+        Phase::Step => take_word(words, b"i"),
+    }
+}
+
+/// How many steps a derivation has, by its first line.
+pub fn read_head(phase: Phase, line: &[u8], cut: bool) -> Result<u64, Stop>
+    ensures ok { IfOk result (Spells IsCount (head_words phase) line.now) }
+    ensures whole { OnOk result (cut ≡ false) }
+    ensures err { IfErr result (IsLineStop IsCount (head_words phase) cut line.now) }
+{
+    let mut words = Words::new(line, cut);
+    take_phase(&mut words, phase)?;
+    let count = take_number(&mut words, MOST)?;
+    take_end(&words)?;
+    Ok(count)
+}
