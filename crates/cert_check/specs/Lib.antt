@@ -1,0 +1,3 @@
+pub mod Inducting
+pub mod Listing
+pub mod Checking
