@@ -1,10 +1,10 @@
-//! The bits of input ports by name.
+//! The bits of ports by name.
 ghost use Rattle.std.specs.Prelude.{◌≡◌, ◌++◌, ◌<◌, All, length, map, IfOk, OnOk, if◌then◌else◌, Some, None};
 ghost use Rattle.net_model.specs.Netlist.{AllBelow};
 ghost use Rattle.verilog_net.specs.declared.sources.Port.{Port as PortRecord};
-ghost use Rattle.link_defs.specs.Circuits.{is_input as reads, input_bits};
+ghost use Rattle.link_defs.specs.Circuits.{is_input as reads, input_bits, output_bits};
 ghost use Rattle.link_defs.specs.Links.{ports_of};
-ghost use Rattle.link_tops.specs.Ports.{bit_name, input_bit_names};
+ghost use Rattle.link_tops.specs.Ports.{bit_name, bit_names_if};
 
 use link_defs::PortName;
 use sdcv_base::{Name, Seq};
@@ -52,17 +52,18 @@ fn push_bits(
     Ok(())
 }
 
-/// Appends the names of the bits of a port, if it is an input.
-fn push_input(
+/// Appends the names of the bits of a port, if it is wanted.
+fn push_if(
     alloc: Global,
     list: &mut Seq<PortName>,
     body: &Module,
     port: &Port,
+    wanted: bool,
 ) -> Result<(), AllocError>
     requires { AllBelow (length body.now.nets) port.now.bits }
-    ensures { OnOk result (list.new ≡ list.old ++ input_bit_names body.now port.now) }
+    ensures { OnOk result (list.new ≡ list.old ++ bit_names_if wanted body.now port.now) }
 {
-    if is_input(port.dir) {
+    if wanted {
         return push_bits(alloc, list, body, port);
     }
     Ok(())
@@ -75,7 +76,21 @@ pub fn input_names(alloc: Global, body: &Module) -> Result<Seq<PortName>, AllocE
 {
     let mut list = Seq::new(alloc);
     for k in 0..body.ports.len() {
-        push_input(alloc, &mut list, body, body.ports.item(k))?;
+        let port = body.ports.item(k);
+        push_if(alloc, &mut list, body, port, is_input(port.dir))?;
+    }
+    Ok(list)
+}
+
+/// The bits of its output ports, likewise.
+pub fn output_names(alloc: Global, body: &Module) -> Result<Seq<PortName>, AllocError>
+    requires { All (λ (p : PortRecord). AllBelow (length body.now.nets) p.bits) body.now.ports }
+    ensures { IfOk result (λ list. list ≡ ports_of (output_bits body.now)) }
+{
+    let mut list = Seq::new(alloc);
+    for k in 0..body.ports.len() {
+        let port = body.ports.item(k);
+        push_if(alloc, &mut list, body, port, !is_input(port.dir))?;
     }
     Ok(list)
 }

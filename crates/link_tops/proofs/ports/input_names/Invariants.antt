@@ -1,7 +1,9 @@
 use Rattle.std.proofs.Common.{◌≡◌, take}
 use Rattle.std.specs.Prelude.{flat_map}
-use Rattle.link_tops.specs.Ports.{input_bit_names}
+use Rattle.verilog_net.specs.declared.sources.Port.{Port}
+use Rattle.link_defs.specs.Circuits.{is_input}
+use Rattle.link_tops.specs.Ports.{bit_names_if}
 use Rattle.link_tops.proofs.ports.input_names.Given as goal
 
 abbrev pub invariant-loop-k : goal.invariant-loop-k
-invariant-loop-k l = l.list ≡ flat_map (input_bit_names l.body) (take l.k l.body.ports)
+invariant-loop-k l = l.list ≡ flat_map (λ (p : Port). bit_names_if (is_input p.dir) l.body p) (take l.k l.body.ports)
