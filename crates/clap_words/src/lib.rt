@@ -1,0 +1,14 @@
+//! The words of a run as `clap` reads them: the name of a command, and the texts of its arguments.
+//!
+//! `rows` is the table of the commands with their positions and options, from which the command for `clap` is built.
+//! `reading_of` is the call to read first. What a text means, and the reading of words by their places, are left to the
+//! crate above.
+#![tactic(auto)]
+
+mod apps;
+mod commands;
+mod parses;
+mod readings;
+
+pub use commands::{CommandRow, Form, OptionRow, rows};
+pub use readings::{Given, Reading, reading_of};
