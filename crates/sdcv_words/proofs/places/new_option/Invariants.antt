@@ -1,0 +1,10 @@
+use Rattle.std.proofs.Common.{◌≡◌, map, drop}
+use Rattle.clap_words.specs.Commands.{seen_option}
+use Rattle.clap_words.specs.Readings.{seen_given}
+use Rattle.sdcv_words.specs.Places.{new_option}
+use Rattle.sdcv_words.proofs.places.new_option.Given as goal
+
+abbrev pub invariant-loop-row : goal.invariant-loop-row
+invariant-loop-row l =
+    new_option (map seen_option l.rows) (map seen_given l.given) l.word
+    ≡ new_option (map seen_option (drop l.row-index l.rows)) (map seen_given l.given) l.word

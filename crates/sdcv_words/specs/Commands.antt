@@ -1,0 +1,41 @@
+-- The commands, as texts and numbers.
+use Rattle.std.specs.Prelude.{ℕ, Bool, List}
+use Rattle.sdcv_words.specs.declared.commands.Texts.{Texts as TheTexts}
+use Rattle.sdcv_words.specs.declared.commands.Options.{Options}
+use Rattle.sdcv_words.specs.declared.commands.Proving.{Proving}
+use Rattle.sdcv_words.specs.declared.commands.Job.{Job as TheJob}
+use Rattle.sdcv_words.specs.declared.commands.Job.TheVariants as the_job
+use Rattle.sdcv_words.specs.declared.commands.Command.{Command as TheCommand}
+use Rattle.sdcv_words.specs.declared.commands.Command.TheVariants as the_command
+
+abbrev pub Text : Type 0
+Text = List ℕ
+
+-- the names of the files that a command reads; `cells` may be the word `builtin`
+pub record Texts : Type 0 where
+  pub netlist : Text
+  pub cells : Text
+  pub constraints : Text
+
+-- what is done with the pairs that are selected
+pub data Job : Type 0 where
+  Verify : (out : Text) → (json : Bool) → (proving : Proving) → Job
+  Check : (cert : Text) → Job
+  Replay : (report : Text) → (pair : ℕ) → Job
+
+pub data Command : Type 0 where
+  Over : (texts : Texts) → (options : Options) → (job : Job) → Command
+  Demo : (seed : ℕ) → (size : ℕ) → Command
+
+-- the same of the program, without its references
+abbrev pub seen_texts : TheTexts → Texts
+seen_texts t = record { netlist = t.netlist.now; cells = t.cells.now; constraints = t.constraints.now }
+
+abbrev pub seen_job : TheJob → Job
+seen_job (the_job.Verify out json proving) = Verify out.now json proving
+seen_job (the_job.Check cert) = Check cert.now
+seen_job (the_job.Replay report pair) = Replay report.now pair
+
+abbrev pub seen_command : TheCommand → Command
+seen_command (the_command.Over texts options job) = Over (seen_texts texts) options (seen_job job)
+seen_command (the_command.Demo seed size) = Demo seed size

@@ -1,0 +1,34 @@
+-- The options of a run over texts.
+use Rattle.std.specs.Prelude.{ℕ, List, [], codes, Option, None, Some}
+use Rattle.texts.specs.Lookups.{in_table}
+use Rattle.texts.specs.Reads.{◌>>=◌}
+use Rattle.sdcv_base.specs.declared.settings.Setting.{Setting}
+use Rattle.clap_words.specs.Readings.{Given}
+use Rattle.sdcv_words.specs.declared.commands.Options.{Options}
+use Rattle.sdcv_words.specs.declared.commands.Proving.{Proving}
+use Rattle.sdcv_words.specs.Givens.{stands}
+use Rattle.sdcv_words.specs.Numbers.{number_or}
+use Rattle.sdcv_words.specs.Settings.{settings_of}
+
+abbrev pub resets_of : Option (List ℕ) → Option (List Setting)
+resets_of None = Some []
+resets_of (Some text) = settings_of text
+
+-- how many cycles reset is held for where no word says so: one, if a list of resets is given
+abbrev pub default_cycles : Option (List ℕ) → ℕ
+default_cycles None = 0
+default_cycles (Some text) = 1
+
+abbrev pub options_of : List Given → Option Options
+options_of given =
+    let list = in_table given (codes "reset") in
+    number_or (default_cycles list) 0 64 (in_table given (codes "reset-cycles")) >>= λ cycles.
+    resets_of list >>= λ resets.
+    Some (record { hazard = stands given (codes "hazard"); resets = resets; reset_len = cycles })
+
+abbrev pub proving_of : List Given → Option Proving
+proving_of given =
+    number_or 8 0 64 (in_table given (codes "depth")) >>= λ depth.
+    number_or 20000 1 10000000 (in_table given (codes "budget")) >>= λ budget.
+    number_or 1 0 8 (in_table given (codes "inv-depth")) >>= λ inv_depth.
+    Some (record { depth = depth; budget = budget; inv_depth = inv_depth })

@@ -1,0 +1,62 @@
+//! The commands, as the program carries them out.
+
+use sdcv_base::{Seq, Setting};
+
+/// The names of the files that a command reads.
+#[derive(Clone, Copy)]
+pub struct Texts<'a> {
+    pub netlist: &'a str,
+    /// The name of a file, or the word `builtin`.
+    pub cells: &'a str,
+    pub constraints: &'a str,
+}
+
+/// How runs are judged, and how they begin.
+#[derive(Drop)]
+pub struct Options {
+    pub hazard: bool,
+    /// The values of the reset ports. The names of no two are equal, and none is empty.
+    pub resets: Seq<Setting>,
+    pub reset_len: usize,
+}
+
+/// How far a proof is sought.
+#[derive(Clone, Copy)]
+pub struct Proving {
+    pub depth: usize,
+    pub budget: u64,
+    pub inv_depth: usize,
+}
+
+/// What is done with the pairs that are selected.
+#[derive(Clone, Copy)]
+pub enum Job<'a> {
+    Verify {
+        out: &'a str,
+        json: bool,
+        proving: Proving,
+    },
+    Check {
+        cert: &'a str,
+    },
+    Replay {
+        report: &'a str,
+        pair: u64,
+    },
+}
+
+/// A command that words name.
+#[derive(Drop)]
+pub enum Command<'a> {
+    /// A job over the texts of files.
+    Over {
+        texts: Texts<'a>,
+        options: Options,
+        job: Job<'a>,
+    },
+    /// A verification of generated texts.
+    Demo {
+        seed: u64,
+        size: usize,
+    },
+}

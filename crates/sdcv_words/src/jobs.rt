@@ -1,0 +1,106 @@
+//! The command of a reading, judged.
+ghost use Rattle.std.specs.Prelude.{◌≡◌, IfOk, Some, map};
+ghost use Rattle.std.specs.Option.{option_map};
+ghost use Rattle.clap_words.specs.Readings.{seen_given, seen_reading};
+ghost use Rattle.sdcv_words.specs.Commands.{seen_command, seen_job, seen_texts};
+ghost use Rattle.sdcv_words.specs.Jobs.{check_of, demo_of, job_of, judged, over_of, replay_of, texts_of, verify_of};
+
+use crate::commands::{Command, Job, Texts};
+use crate::givens::{stands, text_of};
+use crate::numbers::number_in;
+use crate::options::{options_of, proving_of};
+use clap_words::{Given, Reading};
+use std::alloc::{AllocError, Global};
+
+fn texts_of<'a>(given: &[Given<'a>]) -> Option<Texts<'a>>
+    ensures { option_map seen_texts result ≡ texts_of (map seen_given given.now) }
+{
+    Some(Texts {
+        netlist: text_of(given, "V")?,
+        cells: text_of(given, "L")?,
+        constraints: text_of(given, "S")?,
+    })
+}
+
+fn verify_of<'a>(given: &[Given<'a>]) -> Option<Job<'a>>
+    ensures { option_map seen_job result ≡ verify_of (map seen_given given.now) }
+{
+    Some(Job::Verify {
+        out: text_of(given, "out")?,
+        json: stands(given, "json"),
+        proving: proving_of(given)?,
+    })
+}
+
+fn check_of<'a>(given: &[Given<'a>]) -> Option<Job<'a>>
+    ensures { option_map seen_job result ≡ check_of (map seen_given given.now) }
+{
+    Some(Job::Check {
+        cert: text_of(given, "CERT")?,
+    })
+}
+
+fn replay_of<'a>(given: &[Given<'a>]) -> Option<Job<'a>>
+    ensures { option_map seen_job result ≡ replay_of (map seen_given given.now) }
+{
+    Some(Job::Replay {
+        report: text_of(given, "REPORT")?,
+        pair: number_in(text_of(given, "PAIR")?, 1, u64::MAX)?,
+    })
+}
+
+fn job_of<'a>(name: &str, given: &[Given<'a>]) -> Option<Job<'a>>
+    ensures { option_map seen_job result ≡ job_of name.now (map seen_given given.now) }
+{
+    match name {
+        "verify" => verify_of(given),
+        "check" => check_of(given),
+        "replay" => replay_of(given),
+        _ => None,
+    }
+}
+
+fn over_of<'a>(
+    alloc: Global,
+    name: &str,
+    given: &[Given<'a>],
+) -> Result<Option<Command<'a>>, AllocError>
+    ensures { IfOk result (λ found. option_map seen_command found ≡ over_of name.now (map seen_given given.now)) }
+{
+    let Some(texts) = texts_of(given) else {
+        return Ok(None);
+    };
+    let Some(job) = job_of(name, given) else {
+        return Ok(None);
+    };
+    let Some(options) = options_of(alloc, given)? else {
+        return Ok(None);
+    };
+    Ok(Some(Command::Over {
+        texts,
+        options,
+        job,
+    }))
+}
+
+fn demo_of<'a>(given: &[Given<'a>]) -> Option<Command<'a>>
+    ensures { option_map seen_command result ≡ demo_of (map seen_given given.now) }
+{
+    let seed = number_in(text_of(given, "SEED")?, 0, u64::MAX)?;
+    let size = number_in(text_of(given, "SIZE")?, 1, 160)?;
+    Some(Command::Demo {
+        seed,
+        size: size as usize,
+    })
+}
+
+/// The command of these texts, if each keeps its rule.
+pub fn judged<'a>(alloc: Global, reading: &Reading<'a>) -> Result<Option<Command<'a>>, AllocError>
+    ensures { IfOk result (λ found. option_map seen_command found ≡ judged (seen_reading reading.now)) }
+{
+    if reading.name == "demo" {
+        Ok(demo_of(&reading.given))
+    } else {
+        over_of(alloc, reading.name, &reading.given)
+    }
+}

@@ -1,0 +1,19 @@
+//! The words of a run, and the command that they name.
+//!
+//! Words are first read by their places: the name of a command, its positions, then its options, each a word of its own
+//! with its value in the next. Words that no command reads so are read with `clap`. Either way they give texts to the
+//! arguments of a command, and these are judged by the same rules: numbers in their ranges, and a list of values for
+//! ports. `command_of` is the call to read first; what is done with a command is left to the crate above.
+#![tactic(auto)]
+
+mod commands;
+mod givens;
+mod jobs;
+mod numbers;
+mod options;
+mod places;
+mod settings;
+mod words;
+
+pub use commands::{Command, Job, Options, Proving, Texts};
+pub use words::command_of;

@@ -1,0 +1,55 @@
+//! The options of a run over texts, judged.
+ghost use Rattle.std.specs.Prelude.{◌≡◌, IfOk, Some, map};
+ghost use Rattle.std.specs.Option.{option_map};
+ghost use Rattle.clap_words.specs.Readings.{seen_given};
+ghost use Rattle.sdcv_words.specs.Options.{options_of, proving_of, resets_of};
+
+use crate::commands::{Options, Proving};
+use crate::givens::{stands, text_of};
+use crate::numbers::number_or;
+use crate::settings::settings_of;
+use clap_words::Given;
+use sdcv_base::{Seq, Setting};
+use std::alloc::{AllocError, Global};
+
+fn resets_of(alloc: Global, list: Option<&str>) -> Result<Option<Seq<Setting>>, AllocError>
+    ensures { IfOk result (λ found. found ≡ resets_of (option_map (λ t. t.now) list.entry)) }
+{
+    match list {
+        Some(text) => settings_of(alloc, text),
+        None => Ok(Some(Seq::new(alloc))),
+    }
+}
+
+/// The options of a run, if their texts keep the rules.
+pub fn options_of(alloc: Global, given: &[Given<'_>]) -> Result<Option<Options>, AllocError>
+    ensures { IfOk result (λ found. found ≡ options_of (map seen_given given.now)) }
+{
+    let list = text_of(given, "reset");
+    let default = if list.is_some() { 1 } else { 0 };
+    let Some(cycles) = number_or(text_of(given, "reset-cycles"), default, 0, 64) else {
+        return Ok(None);
+    };
+    let Some(resets) = resets_of(alloc, list)? else {
+        return Ok(None);
+    };
+    Ok(Some(Options {
+        hazard: stands(given, "hazard"),
+        resets,
+        reset_len: cycles as usize,
+    }))
+}
+
+/// How far proofs are sought, if the numbers lie in their ranges.
+pub fn proving_of(given: &[Given<'_>]) -> Option<Proving>
+    ensures { result ≡ proving_of (map seen_given given.now) }
+{
+    let depth = number_or(text_of(given, "depth"), 8, 0, 64)?;
+    let budget = number_or(text_of(given, "budget"), 20_000, 1, 10_000_000)?;
+    let inv_depth = number_or(text_of(given, "inv-depth"), 1, 0, 8)?;
+    Some(Proving {
+        depth: depth as usize,
+        budget,
+        inv_depth: inv_depth as usize,
+    })
+}
