@@ -120,6 +120,27 @@ stop_part Fits ws kind Has Before pre tail into onto line cut rest at Early e =
     stop_early Fits ws cut line e.0 (line_early Fits ws line (subst (λ (y : List (List ℕ)). Grows (HasWords Fits ws) y) (sym at.is) (Grows-after (HasWords Fits ws) pre rest (at.more e.0) (Grows-map (Before tail) (λ x. HasWords Fits ws (pre ++ x)) onto rest (e.1 tail)))))
 stop_part Fits ws kind Has Before pre tail into onto line cut rest at Memory m = stop_memory Fits ws cut line
 
+Grows-some : (L M : List (List ℕ) → Type 0) → ((ws : List (List ℕ)) → 0 < length ws → L ws → M ws) → (ws : List (List ℕ)) → Grows L ws → Grows M ws
+Grows-some L M f [] g = absurd g
+Grows-some L M f (p ∷ []) g = (g.0, g.1, f _ (omega arith) g.2)
+Grows-some L M f (p ∷ (q ∷ ws)) g = Grows-some (λ rest. L (p ∷ rest)) (λ rest. M (p ∷ rest)) (λ rest some l. f _ (omega arith) l) (q ∷ ws) g
+
+Fails-some : (cut : Bool) (L M : List (List ℕ) → Type 0) → ((ws : List (List ℕ)) → 0 < length ws → M ws → L ws) → (ws : List (List ℕ)) → 0 < length ws → Fails cut L ws → Fails cut M ws
+Fails-some false L M f ws some fails = λ m. fails (f ws some m)
+Fails-some true L M f ws some fails = λ g. fails (Grows-some M L f ws g)
+
+-- a part is missing where words are left, which need not be so in each line
+pub stop_more : {V : Type 0} (Fits : V → Type 0) (ws : V → List (List ℕ)) → IsKind Fits ws
+    → (Has : List (List ℕ) → Type 0) (Before : List (List ℕ) → List (List ℕ) → Type 0) (pre tail : List (List ℕ))
+    → ((x : List (List ℕ)) (v : V) → 0 < length x → Fits v → pre ++ x ≡ ws v → Has x)
+    → ((x : List (List ℕ)) → Before tail x → HasWords Fits ws (pre ++ x))
+    → (line : List ℕ) (cut : Bool) (rest : List (List ℕ)) → IsAt line cut pre rest → 0 < length rest → (stop : Stop) → IsPartStop Has Before cut rest stop → IsLineStop Fits ws cut line stop
+stop_more Fits ws kind Has Before pre tail into onto line cut rest at some Bad fails =
+    line_bad Fits ws kind cut line (subst (λ (y : List (List ℕ)). Fails cut (HasWords Fits ws) y) (sym at.is) (Fails-after cut (HasWords Fits ws) pre rest at.more (Fails-some cut Has (λ x. HasWords Fits ws (pre ++ x)) (λ x l m. into x m.0 l m.1 m.2) rest some fails)))
+stop_more Fits ws kind Has Before pre tail into onto line cut rest at some Early e =
+    stop_early Fits ws cut line e.0 (line_early Fits ws line (subst (λ (y : List (List ℕ)). Grows (HasWords Fits ws) y) (sym at.is) (Grows-after (HasWords Fits ws) pre rest (at.more e.0) (Grows-map (Before tail) (λ x. HasWords Fits ws (pre ++ x)) onto rest (e.1 tail)))))
+stop_more Fits ws kind Has Before pre tail into onto line cut rest at some Memory m = stop_memory Fits ws cut line
+
 grows_some : (L : List (List ℕ) → Type 0) → (ws : List (List ℕ)) → Grows L ws → (x : List (List ℕ)) × (0 < length x) × L x
 grows_some L [] g = absurd g
 grows_some L (p ∷ []) g = ((p ++ g.0) ∷ g.1, omega arith, g.2)

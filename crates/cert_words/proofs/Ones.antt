@@ -3,7 +3,7 @@ use Rattle.std.proofs.Common.{if◌then◌else◌, ◌≡◌, ◌≢◌, ℕ, �
 use Rattle.cert_words.specs.declared.stops.Stop.TheVariants.{Bad, Early}
 use Rattle.cert_words.specs.Growth.{Grows, Fails}
 use Rattle.cert_words.specs.Numbers.{IsDue}
-use Rattle.cert_words.specs.Parts.{HasOne, HasOneBefore, IsOneStop}
+use Rattle.cert_words.specs.Parts.{HasOne, HasOneBefore, IsOneStop, IsPartStop}
 use Rattle.cert_words.proofs.RowLemmas.{Grows-before, Grows-words, never}
 
 -- the last word is cut off
@@ -43,3 +43,9 @@ due_begins due p (Some x) front t = (x.now, sym front)
 pub due_begun : (due p : List ℕ) (o : Option (Bor (List ℕ))) → MatchOption o ((rest : List ℕ) → due ≢ p ++ rest) (λ x. due ≡ p ++ x.now) → (more : List ℕ) → IsDue due (p ++ more) → is_some o ≡ true
 due_begun due p None none more is = absurd (none more (sym is))
 due_begun due p (Some x) front more is = refl
+
+-- the same, where what may follow hangs on the word
+pub choice_cut : (P : List ℕ → Type 0) (Before : List (List ℕ) → Type 0) (p : List ℕ) (ws : List (List ℕ)) (b : Bool) → ws ≡ p ∷ [] → (b ≡ true → (more : List ℕ) × (others : List (List ℕ)) × Before ((p ++ more) ∷ others)) → ((more : List ℕ) → P (p ++ more) → b ≡ true)
+    → IsPartStop (HasOne P) (λ tail. Before) true ws (if b then Early else Bad)
+choice_cut P Before p ws true is to from = (refl, λ tail. subst (λ (y : List (List ℕ)). Grows Before y) (sym is) (to refl))
+choice_cut P Before p ws false is to from = one_cut P p ws false is (λ t. absurd (never t)) from

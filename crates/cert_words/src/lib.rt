@@ -15,6 +15,6 @@ mod writing;
 pub use numbers::number_of;
 pub use parts::{take_end, take_lit, take_number, take_word};
 pub use rows::{take_hints, take_lits};
-pub use stops::Stop;
+pub use stops::{Stop, cut_off};
 pub use words::Words;
 pub use writing::{push_hints, push_lit, push_lits};
