@@ -20,7 +20,8 @@ texts_more rows ids i d before after text below is found adds =
     let f : Bor Text → List Given = λ id. given_as id.now (first_of id.now rows) in
     adds ∙ ap (λ t. before ++ given_as (get_or ids i d).now t) found ∙ ap (λ b. b ++ f (get_or ids i d)) is
     ∙ ap (λ e. flat_map f (take i ids) ++ e) (sym (append-nil (f (get_or ids i d))))
-    ∙ sym (flat_map-append f (take i ids) (get_or ids i d ∷ [])) ∙ ap (flat_map f) (sym (take-suc ids i d below)) ∙ ap (λ n. flat_map f (take n ids)) (sym (add-one i))
+    ∙ sym (flat_map-append f (take i ids) (get_or ids i d ∷ [])) ∙ ap (flat_map f) (sym (take-suc ids i d below))
+    ∙ ap (λ n. flat_map f (take n ids)) (sym (add-one i))
 
 pub all_texts : (rows : List Row) (ids : List (Bor Text)) → map (λ (id : Bor Text). id.now) ids ≡ argument_ids → texts_at rows ids ≡ texts_in rows
 all_texts rows ids shown =
