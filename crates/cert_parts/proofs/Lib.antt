@@ -1,0 +1,5 @@
+pub mod Leading
+pub mod LineTexts
+pub mod ManyTexts
+pub mod Shortest
+pub mod DerivationTexts

@@ -1,0 +1,21 @@
+use Rattle.std.proofs.Common.{refl, arith}
+use Rattle.sdcv_base.specs.Cursors.{rest, place_of}
+use Rattle.cert_lines.specs.declared.sections.Section.TheVariants.{End}
+use Rattle.cert_lines.specs.Kinds.{first_words, IsVersion, inv_words, IsInvHead, kept_words, IsKept, head_words, IsCount, section_words, IsSection, step_words, IsStep}
+use Rattle.cert_lines.proofs.KindLemmas.{first_kind, inv_kind, head_kind, kept_kind, section_kind, step_kind}
+use Rattle.cert_parts.proofs.LineTexts.{line_read, line_fault}
+use Rattle.cert_parts.proofs.Shortest.{no_inv, no_inv_fits, one_state, one_state_fits, no_step, no_step_fits}
+use Rattle.cert_parts.proofs.standing.take_section.Goals as goal
+
+pub skip-requires : goal.skip-requires
+skip-requires c =
+    let read = line_read IsSection section_words (rest c.args.cursor.now) c.next_line-line.result.text.now (place_of c.args.cursor.now) c.next_line-line.result.at c.next_line-line.result.end c.next_line-line.result.cut c.in-Ok.value c.next_line-line.ensures c.in-Ok.ensures.whole c.in-Ok.ensures.ok in
+    read.some
+
+pub returns-in-Ok-clause-ok : goal.returns-in-Ok-clause-ok
+returns-in-Ok-clause-ok c =
+    let read = line_read IsSection section_words (rest c.args.cursor.now) c.next_line-line.result.text.now (place_of c.args.cursor.now) c.next_line-line.result.at c.next_line-line.result.end c.next_line-line.result.cut c.in-Ok.value c.next_line-line.ensures c.in-Ok.ensures.whole c.in-Ok.ensures.ok in
+    (read.fits, rw c.skip.ensures.rest read.is)
+
+pub returns-in-Err-clause-err : goal.returns-in-Err-clause-err
+returns-in-Err-clause-err c = rw c.fault_of.ensures (line_fault IsSection section_words section_kind End tt (rest c.args.cursor.now) c.next_line-line.result.text.now (place_of c.args.cursor.now) c.next_line-line.result.at c.next_line-line.result.end c.next_line-line.result.cut c.next_line-line.ensures c.in-Err.stop c.in-Err.ensures.err)
