@@ -1,0 +1,235 @@
+use sdcv_base::{Seq, Setting};
+use sdcv_words::{Command, Job, Options, command_of};
+use std::alloc::{AllocError, Global};
+use std::test::Fail;
+
+// The words between the bars.
+fn words_in(alloc: Global, text: &str) -> Result<Vec<String>, AllocError> {
+    let mut words = Vec::new(alloc);
+    for word in text.split('|') {
+        words.push(word.to_string(alloc)?)?;
+    }
+    Ok(words)
+}
+
+fn resets_text(alloc: Global, resets: &Seq<Setting>) -> Result<String, AllocError> {
+    let mut text = String::new(alloc);
+    for setting in resets.as_slice() {
+        let name = &setting.name;
+        let value = setting.value;
+        let one = format!(in alloc; " {name}={value}")?;
+        text.push_str(&one)?;
+    }
+    Ok(text)
+}
+
+fn options_text(alloc: Global, options: &Options) -> Result<String, AllocError> {
+    let mode = if options.hazard { "hazard" } else { "plain" };
+    let resets = resets_text(alloc, &options.resets)?;
+    let cycles = options.reset_len;
+    format!(in alloc; "{mode}{resets} cycles {cycles}")
+}
+
+fn job_text(alloc: Global, job: &Job<'_>) -> Result<String, AllocError> {
+    match job {
+        Job::Verify { out, json, proving } => {
+            let depth = proving.depth;
+            let budget = proving.budget;
+            let inv = proving.inv_depth;
+            format!(in alloc; "verify <{out}> json {json} depth {depth} budget {budget} inv {inv}")
+        }
+        Job::Check { cert } => format!(in alloc; "check <{cert}>"),
+        Job::Replay { report, pair } => format!(in alloc; "replay <{report}> pair {pair}"),
+    }
+}
+
+// A command in one line.
+fn told(alloc: Global, command: &Command<'_>) -> Result<String, AllocError> {
+    match command {
+        Command::Over {
+            texts,
+            options,
+            job,
+        } => {
+            let job = job_text(alloc, job)?;
+            let options = options_text(alloc, options)?;
+            let v = texts.netlist;
+            let l = texts.cells;
+            let s = texts.constraints;
+            format!(in alloc; "<{v}> <{l}> <{s}> {options} {job}")
+        }
+        Command::Demo { seed, size } => format!(in alloc; "demo {seed} {size}"),
+    }
+}
+
+// What the words between the bars name.
+fn named(alloc: Global, text: &str) -> Result<String, AllocError> {
+    let words = words_in(alloc, text)?;
+    match command_of(alloc, &words)? {
+        Some(command) => told(alloc, &command),
+        None => "none".to_string(alloc),
+    }
+}
+
+// By their places: the name, the positions, then options, each value in a word of its own.
+const BY_PLACE: [(&str, &str); 9] = [
+    (
+        "verify|v|builtin|s|--out|c",
+        "<v> <builtin> <s> plain cycles 0 verify <c> json false depth 8 budget 20000 inv 1",
+    ),
+    (
+        "verify|v|l|s|--out|c|--reset|rst=1",
+        "<v> <l> <s> plain rst=true cycles 1 verify <c> json false depth 8 budget 20000 inv 1",
+    ),
+    (
+        "verify|v|l|s|--json|--hazard|--reset|a=0,b=1|--reset-cycles|64|--depth|64|--budget|10000000|--inv-depth|8|--out|c",
+        "<v> <l> <s> hazard a=false b=true cycles 64 verify <c> json true depth 64 budget 10000000 inv 8",
+    ),
+    (
+        "verify|v|l|s|--out|c|--reset-cycles|2|--budget|01|--depth|0|--inv-depth|0",
+        "<v> <l> <s> plain cycles 2 verify <c> json false depth 0 budget 1 inv 0",
+    ),
+    (
+        "check|v|l|s|c|--reset|a=b=1|--hazard",
+        "<v> <l> <s> hazard a=b=true cycles 1 check <c>",
+    ),
+    ("check|v|l|s|c", "<v> <l> <s> plain cycles 0 check <c>"),
+    (
+        "replay|v|l|s|r|1|--reset|rst=1",
+        "<v> <l> <s> plain rst=true cycles 1 replay <r> pair 1",
+    ),
+    (
+        "replay|v|l|s|r|18446744073709551615",
+        "<v> <l> <s> plain cycles 0 replay <r> pair 18446744073709551615",
+    ),
+    ("demo|007|160", "demo 7 160"),
+];
+
+// Not by their places: `clap` takes these.
+const BY_CLAP: [(&str, &str); 8] = [
+    (
+        "verify|v|l|s|--out=c",
+        "<v> <l> <s> plain cycles 0 verify <c> json false depth 8 budget 20000 inv 1",
+    ),
+    (
+        "verify|--out|c|v|--json|l|s",
+        "<v> <l> <s> plain cycles 0 verify <c> json true depth 8 budget 20000 inv 1",
+    ),
+    (
+        "verify|--out|c|--|-v|l|s",
+        "<-v> <l> <s> plain cycles 0 verify <c> json false depth 8 budget 20000 inv 1",
+    ),
+    (
+        "verify|v|l|s|--out=-c",
+        "<v> <l> <s> plain cycles 0 verify <-c> json false depth 8 budget 20000 inv 1",
+    ),
+    (
+        "verify|v||s|--out=",
+        "<v> <> <s> plain cycles 0 verify <> json false depth 8 budget 20000 inv 1",
+    ),
+    (
+        "check|--hazard|v|-|s|c",
+        "<v> <-> <s> hazard cycles 0 check <c>",
+    ),
+    (
+        "replay|--reset=a=0|v|l|s|r|2",
+        "<v> <l> <s> plain a=false cycles 1 replay <r> pair 2",
+    ),
+    ("demo|--|7|20", "demo 7 20"),
+];
+
+// Words that name no command, each with what is wrong with it.
+const NONE: [(&str, &str); 36] = [
+    ("", "an empty word"),
+    ("verify|v|l", "too few positions"),
+    ("verify|v|l|s", "no certificate is named"),
+    ("verify|v|l|s|--out", "no value for an option"),
+    ("verify|v|l|s|--out|c|--depth|65", "a depth past its range"),
+    ("verify|v|l|s|--out|c|--budget|0", "a budget of nothing"),
+    (
+        "verify|v|l|s|--out|c|--budget|10000001",
+        "a budget past its range",
+    ),
+    (
+        "verify|v|l|s|--out|c|--inv-depth|9",
+        "an invariant depth past its range",
+    ),
+    (
+        "verify|v|l|s|--out|c|--reset-cycles|65",
+        "more cycles than reset is held",
+    ),
+    ("verify|v|l|s|--out|c|--depth|+1", "a sign"),
+    ("verify|v|l|s|--out|c|--depth|", "a number without digits"),
+    (
+        "verify|v|l|s|--out|c|--depth|000000000000000000001",
+        "twenty-one digits",
+    ),
+    (
+        "verify|v|l|s|--out|c|--reset|rst=2",
+        "a value that is no bit",
+    ),
+    ("verify|v|l|s|--out|c|--reset|rst", "no value for a port"),
+    ("verify|v|l|s|--out|c|--reset|=1", "a port without a name"),
+    (
+        "verify|v|l|s|--out|c|--reset|a=1,",
+        "an empty part of a list",
+    ),
+    ("verify|v|l|s|--out|c|--reset|a=1,a=0", "a port twice"),
+    ("verify|v|l|s|--out|c|--reset|a=01", "a value of two digits"),
+    ("verify|v|l|s|--out|c|--out|d", "an option twice"),
+    ("verify|v|l|s|--out|c|--json|--json", "a flag twice"),
+    ("verify|v|l|s|--out|c|--json=true", "a flag with a value"),
+    ("verify|v|l|s|--out|-c", "a value that begins with a dash"),
+    ("verify|v|l|s|--ou|c", "a part of an option's word"),
+    ("verify|v|l|s|x|--out|c", "one position more"),
+    ("verify|--help", "a request for help"),
+    ("--help", "the same before a command"),
+    ("help", "a word for help"),
+    (
+        "--json|verify|v|l|s|--out|c",
+        "an option before the command",
+    ),
+    ("check|v|l|s|c|--out|d", "an option of another command"),
+    ("check|v|l|s|c|--json", "a flag of another command"),
+    ("replay|v|l|s|r|0", "a pair before the first"),
+    (
+        "replay|v|l|s|r|18446744073709551616",
+        "a pair past all numbers",
+    ),
+    ("demo|7|0", "a design of no blocks"),
+    ("demo|7|161", "a design past its size"),
+    ("demo|-7|20", "a negative number"),
+    ("detect|v|l|s|--out|c", "a command of another name"),
+];
+
+fn names_all(alloc: Global, rows: &[(&str, &str)]) -> Result<Option<String>, AllocError> {
+    for (words, want) in rows {
+        let found = named(alloc, words)?;
+        if found.as_str() != *want {
+            return Ok(Some(format!(in alloc; "{words}: {found}")?));
+        }
+    }
+    Ok(None)
+}
+
+#[test]
+fn words_in_their_places_name_a_command(rt: HostRuntime) -> Result<(), Fail> {
+    assert_eq!(rt; names_all(rt.alloc(), &BY_PLACE)?, None);
+    Ok(())
+}
+
+#[test]
+fn words_in_another_order_name_what_clap_takes(rt: HostRuntime) -> Result<(), Fail> {
+    assert_eq!(rt; names_all(rt.alloc(), &BY_CLAP)?, None);
+    Ok(())
+}
+
+#[test]
+fn other_words_name_no_command(rt: HostRuntime) -> Result<(), Fail> {
+    for (words, wrong) in &NONE {
+        let found = named(rt.alloc(), words)?;
+        assert_eq!(rt; found.as_str(), "none", "{wrong}");
+    }
+    assert!(rt; command_of(rt.alloc(), &[])?.is_none());
+    Ok(())
+}
