@@ -27,7 +27,7 @@ inline_append [] b ia ib = ib
 inline_append (x ∷ a) b ia ib = let (here, more) = and_parts (not (x == 10)) (is_inline a) ia in rw (here, inline_append a b more ib) refl
 
 -- the first line is told by its newline
-newline_same : (a b x y : List ℕ) → is_inline a ≡ true → is_inline b ≡ true → a ++ 10 ∷ x ≡ b ++ 10 ∷ y → (a ≡ b) × (x ≡ y)
+pub newline_same : (a b x y : List ℕ) → is_inline a ≡ true → is_inline b ≡ true → a ++ 10 ∷ x ≡ b ++ 10 ∷ y → (a ≡ b) × (x ≡ y)
 newline_same [] [] x y ia ib e = (refl, cc)
 newline_same [] (k ∷ b) x y ia ib e =
     let first : k ≡ 10 = cc in
@@ -46,7 +46,7 @@ newline_same (h ∷ a) (k ∷ b) x y ia ib e =
     (cc, rest)
 
 -- no line has a newline in it
-no_newline : (a b x : List ℕ) → is_inline a ≡ true → a ≢ b ++ 10 ∷ x
+pub no_newline : (a b x : List ℕ) → is_inline a ≡ true → a ≢ b ++ 10 ∷ x
 no_newline [] [] x ia e = cc
 no_newline [] (k ∷ b) x ia e = cc
 no_newline (h ∷ a) [] x ia e =
@@ -100,7 +100,7 @@ next_line_is s len place at end is within same last = record {
 }
 
 -- the lines of a kind have no newline in them
-token_inline : (w : List ℕ) → is_token w ≡ true → is_inline w ≡ true
+pub token_inline : (w : List ℕ) → is_token w ≡ true → is_inline w ≡ true
 token_inline [] all = refl
 token_inline (b ∷ w) all =
     let (first, more) = and_parts (nat_lt 32 b) (is_token w) all in

@@ -11,4 +11,5 @@ mod standing;
 
 pub use derivations::{push_derivation, take_derivation};
 pub use faults::Fault;
+pub use places::{Line, next_line};
 pub use standing::{take_first, take_head, take_inv, take_kept, take_section, take_step};
