@@ -1,7 +1,7 @@
-//! Names of a flat netlist in tables: each full name once, and no name for two nets.
+//! The names of a flat netlist in a table: each full name once, and no name for two nets.
 //!
-//! Read `tables.rt` and `scopes.rt`; `specs/Tables.antt` and `specs/Scopes.antt` say what stands in a table. The names of cells
-//! are left to a crate above.
+//! Read `scopes.rt` first: the table is fed instance by instance. `specs/Scopes.antt` says what stands in it. The names of
+//! cells are left to a crate above.
 #![tactic(auto)]
 
 mod faults;
@@ -9,4 +9,4 @@ mod scopes;
 mod tables;
 
 pub use faults::NameFault;
-pub use tables::{NetTable, net_table};
+pub use tables::NetTable;

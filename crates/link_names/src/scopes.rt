@@ -8,7 +8,7 @@ ghost use Rattle.link_names.specs.Tables.{IsOther};
 ghost use Rattle.sdcv_base.specs.Seqs.{is_marked as marked};
 
 use crate::faults::NameFault;
-use crate::tables::{NetTable, add_net};
+use crate::tables::{NetTable, add_name};
 use link_defs::NetName;
 use link_items::full_name;
 use sdcv_base::{Name, Seq};
@@ -128,7 +128,7 @@ fn add_marked(
         return Ok(());
     }
     let name = full_name(alloc, prefix, name)?;
-    add_net(
+    add_name(
         alloc,
         &mut table.names,
         &mut table.nets,

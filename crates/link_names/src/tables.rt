@@ -1,7 +1,6 @@
 //! The nets of full names.
-ghost use Rattle.std.specs.Prelude.{◌≡◌, length, IfOk, IfErr, OnOk};
-ghost use Rattle.link_defs.specs.declared.names.NetName.{NetName};
-ghost use Rattle.link_names.specs.Tables.{IsTable, IsAdded, IsOther, IsClash, AreApart};
+ghost use Rattle.std.specs.Prelude.{◌≡◌, length, IfErr, OnOk};
+ghost use Rattle.link_names.specs.Tables.{IsAdded, IsOther};
 
 use crate::faults::NameFault;
 use link_defs::NetName;
@@ -16,22 +15,8 @@ pub struct NetTable {
     pub nets: Seq<usize>,
 }
 
-/// The names, each once with its net; or one that two nets have. A name may stand twice with one net.
-pub fn net_table(alloc: Global, named: &[NetName]) -> Result<NetTable, NameFault>
-    ensures ok { IfOk result (λ table. IsTable named.now table.names table.nets) }
-    ensures err { IfErr result (IsClash named.now) }
-    ensures none { OnOk result (AreApart named.now) }
-{
-    let mut names = NameTable::new(alloc);
-    let mut nets = Seq::new(alloc);
-    for one in named {
-        add_net(alloc, &mut names, &mut nets, one)?;
-    }
-    Ok(NetTable { names, nets })
-}
-
 /// Adds a name with its net, where it isn't there with it. A name may come again with the same net.
-pub(crate) fn add_net(
+pub(crate) fn add_name(
     alloc: Global,
     names: &mut NameTable,
     nets: &mut Seq<usize>,

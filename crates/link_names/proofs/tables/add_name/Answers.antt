@@ -1,6 +1,6 @@
 use Rattle.std.proofs.Common.{◌≡◌, arith, refl, ◌∙◌, inl, inr}
 use Rattle.link_names.proofs.Tabled.{found_place, absent_at}
-use Rattle.link_names.proofs.tables.add_net.Goals as goal
+use Rattle.link_names.proofs.tables.add_name.Goals as goal
 
 pub returns-then-at-one-clause-ok : goal.returns-then-at-one-clause-ok
 returns-then-at-one-clause-ok c =
