@@ -1,0 +1,40 @@
+-- The lines of texts that are not read.
+use Rattle.std.specs.Prelude.{ℕ, List, codes, Option, Some, None}
+use Rattle.cell_lib.specs.declared.faults.LibFault.{LibFault}
+use Rattle.cell_lib.specs.declared.faults.LibFault.TheVariants as liberty
+use Rattle.sdc_values.specs.declared.faults.SdcFault.{SdcFault}
+use Rattle.sdc_values.specs.declared.faults.SdcFault.TheVariants as sdc
+use Rattle.verilog_scope.specs.declared.faults.VerFault.{VerFault}
+use Rattle.verilog_scope.specs.declared.faults.VerFault.TheVariants as verilog
+use Rattle.fault_lines.specs.declared.sources.Origin.{Origin}
+use Rattle.fault_lines.specs.declared.sources.Origin.TheVariants as origin
+use Rattle.fault_lines.specs.Shapes.{name_line, number_line, numbered_line, plain_line}
+
+-- the text has more bytes than its limit
+abbrev pub too_long_line : Origin → List ℕ
+too_long_line origin.Verilog = plain_line (codes "refused verilog 0 TooLong")
+too_long_line origin.Liberty = plain_line (codes "refused liberty 0 TooLong")
+too_long_line origin.Sdc = plain_line (codes "refused sdc 0 TooLong")
+too_long_line origin.Cert = plain_line (codes "refused cert 0 TooLong")
+too_long_line origin.Stimulus = plain_line (codes "refused stimulus 0 TooLong")
+
+abbrev pub verilog_line : VerFault → Option (List ℕ)
+verilog_line (verilog.Syntax place) = Some (number_line (codes "refused verilog 1 Syntax") place)
+verilog_line (verilog.Unsupported place word) = Some (numbered_line (codes "refused verilog 2 Unsupported") place word)
+verilog_line (verilog.TwiceName name) = Some (name_line (codes "refused verilog 3 TwiceName") name)
+verilog_line (verilog.Width place) = Some (number_line (codes "refused verilog 4 Width") place)
+verilog_line verilog.Memory = None
+
+abbrev pub liberty_line : LibFault → Option (List ℕ)
+liberty_line (liberty.Syntax place) = Some (number_line (codes "refused liberty 1 Syntax") place)
+liberty_line (liberty.Function place) = Some (number_line (codes "refused liberty 2 Function") place)
+liberty_line (liberty.TwiceCell name) = Some (name_line (codes "refused liberty 3 TwiceCell") name)
+liberty_line liberty.Memory = None
+
+abbrev pub sdc_line : SdcFault → Option (List ℕ)
+sdc_line (sdc.Syntax place) = Some (number_line (codes "refused sdc 1 Syntax") place)
+sdc_line (sdc.UnknownCommand line word) = Some (numbered_line (codes "refused sdc 2 UnknownCommand") line word)
+sdc_line (sdc.UnknownVariable line word) = Some (numbered_line (codes "refused sdc 3 UnknownVariable") line word)
+sdc_line (sdc.BadOption line word) = Some (numbered_line (codes "refused sdc 4 BadOption") line word)
+sdc_line (sdc.BadNumber line word) = Some (numbered_line (codes "refused sdc 5 BadNumber") line word)
+sdc_line sdc.Memory = None
