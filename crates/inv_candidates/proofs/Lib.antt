@@ -2,3 +2,4 @@ pub mod ClauseNumbers
 pub mod Adding
 pub mod Standing
 pub mod Claiming
+mod Shaping

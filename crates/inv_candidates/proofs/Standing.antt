@@ -77,7 +77,7 @@ pair_names d r s low high =
     (All-cons P (two_of r true s true) [] (two_names d r true s true low high) (All-nil P))))
 
 -- what holds of each part holds of the whole
-all_flat : (P : InvClause → Type 0) (f : ℕ → List InvClause) (xs : List ℕ) → ((x : ℕ) → Contains xs x → All P (f x)) → All P (flat_map f xs)
+pub all_flat : (P : InvClause → Type 0) (f : ℕ → List InvClause) (xs : List ℕ) → ((x : ℕ) → Contains xs x → All P (f x)) → All P (flat_map f xs)
 all_flat P f [] each = All-nil P
 all_flat P f (x ∷ xs) each =
     All-append P (f x) (flat_map f xs) (each x (first_item x xs)) (all_flat P f xs (λ y has. each y (Contains-append_right (x ∷ []) xs y has)))

@@ -4,6 +4,7 @@ ghost use Rattle.net_model.specs.Netlist.{IsSound};
 ghost use Rattle.net_model.specs.Fits.{Fits};
 ghost use Rattle.query_model.specs.Laws.{NamesRegs};
 ghost use Rattle.verdicts.specs.Inductive.{StandOnce};
+ghost use Rattle.verdicts.specs.Forms.{IsKeptClause};
 ghost use Rattle.inv_candidates.specs.Candidates.{AddsClaim, AreCandidates};
 
 use crate::listings::Listing;
@@ -28,6 +29,7 @@ pub fn candidates(
     ensures candidates { IfOk result (AreCandidates design.now claims.now) }
     ensures names { IfOk result (All (NamesRegs design.now)) }
     ensures once { IfOk result StandOnce }
+    ensures in_form { IfOk result (All IsKeptClause) }
 {
     let mut listing = Listing::new(alloc);
     for k in 0..claims.len() {

@@ -6,6 +6,7 @@ use Rattle.query_model.specs.Laws.{NamesRegs}
 use Rattle.verdicts.specs.Inductive.{StandOnce}
 use Rattle.inv_candidates.specs.Candidates.{IsListedTo}
 use Rattle.inv_candidates.proofs.Claiming.{listed_first, listed_next, candidates_from, once_from}
+use Rattle.inv_candidates.proofs.Shaping.{candidates_in_form}
 use Rattle.inv_candidates.proofs.lists.candidates.Goals as goal
 
 pub loop-k-init : goal.loop-k-init
@@ -39,3 +40,12 @@ pub returns-clause-once : goal.returns-clause-once
 returns-clause-once c =
     subst StandOnce (sym c.in_ok-clauses.ensures)
     (once_from c.args.design.now c.args.claims.now c.loop-k.k 8192 c.loop-k.listing c.loop-k.invariant.listed)
+
+pub returns-clause-in_form : goal.returns-clause-in_form
+returns-clause-in_form c =
+    let d = c.args.design.now in
+    let claims = c.args.claims.now in
+    let clauses = c.in_ok-clauses.clauses in
+    candidates_in_form d claims clauses c.requires.sound
+    (candidates_from d claims c.loop-k.k c.loop-k.listing clauses (omega arith) c.in_ok-clauses.ensures c.loop-k.invariant.listed)
+    (subst (All (NamesRegs d)) (sym c.in_ok-clauses.ensures) (All-take (NamesRegs d) 8192 c.loop-k.listing c.loop-k.invariant.names))
