@@ -3,6 +3,7 @@ ghost use Rattle.std.specs.Prelude.{◌<◌, ◌≤◌, All, IfOk};
 ghost use Rattle.net_model.specs.Netlist.{IsSound};
 ghost use Rattle.net_model.specs.Fits.{Fits};
 ghost use Rattle.query_model.specs.Laws.{NamesRegs};
+ghost use Rattle.verdicts.specs.Forms.{IsSetInForm};
 ghost use Rattle.invariants.specs.Invariants.{AreInvariants};
 
 use drawn_runs::survivors;
@@ -31,6 +32,7 @@ pub fn invariants(
     requires some { 0 < budget }
     ensures kept { IfOk result (AreInvariants design.now claims.now depth budget) }
     ensures names { IfOk result (λ set. All (NamesRegs design.now) set.kept) }
+    ensures in_form { IfOk result IsSetInForm }
 {
     let clauses = candidates(alloc, design, claims)?;
     let left = survivors(alloc, design, clauses)?;

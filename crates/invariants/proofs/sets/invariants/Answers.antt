@@ -1,5 +1,6 @@
 use Rattle.query_model.specs.Laws.{NamesRegs}
 use Rattle.drawn_runs.specs.Drawn.{HoldsDrawn, FailsDrawn}
+use Rattle.verdicts.specs.Forms.{IsKeptClause}
 use Rattle.invariants.proofs.Surviving.{All-sifted, StandOnce-sifted, kept_all, entries_hold}
 use Rattle.invariants.proofs.sets.invariants.Goals as goal
 
@@ -24,3 +25,9 @@ returns-clause-kept c =
       kept = kept_all d c.args.depth c.args.budget clauses left c.in_ok-set.set c.in_ok-left.ensures c.in_ok-set.ensures.kept;
       drawn = entries_hold d c.args.depth c.args.budget clauses left c.in_ok-set.set c.in_ok-left.ensures c.in_ok-set.ensures.kept;
     }
+
+pub returns-clause-in_form : goal.returns-clause-in_form
+returns-clause-in_form c =
+    let d = c.args.design.now in
+    c.in_ok-set.ensures.in_form
+    (All-sifted IsKeptClause (HoldsDrawn d) (FailsDrawn d) c.in_ok-clauses.clauses c.in_ok-left.left c.in_ok-left.ensures c.in_ok-clauses.ensures.in_form)
