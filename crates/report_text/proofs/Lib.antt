@@ -1,0 +1,2 @@
+mod Lining
+pub mod Rowing

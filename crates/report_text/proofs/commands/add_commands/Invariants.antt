@@ -1,0 +1,7 @@
+use Rattle.std.proofs.Common.{◌≡◌, ◌++◌, take}
+use Rattle.sdc_objects.specs.Places.{each_at}
+use Rattle.report_text.specs.Reports.{command_lines}
+use Rattle.report_text.proofs.commands.add_commands.Given as goal
+
+abbrev pub invariant-loop-k : goal.invariant-loop-k
+invariant-loop-k l = l.report ≡ l.initial.report ++ each_at command_lines 0 (take l.k l.commands)

@@ -1,0 +1,134 @@
+-- The texts of a report's lines, each without its newline. A name, a pattern or a word is shown with a `?` for each byte outside
+-- 32 to 126.
+use Rattle.std.specs.Prelude.{ℕ, Bool, true, false, if◌then◌else◌, List, [], ◌++◌, length, count_by, codes}
+use Rattle.std.specs.Fmt.{decimal}
+use Rattle.sdcv_base.specs.Shown.{shown}
+use Rattle.sdcv_base.specs.declared.kinds.Kind.{Kind}
+use Rattle.sdcv_base.specs.declared.kinds.Kind.TheVariants.{False, Multi}
+use Rattle.net_model.specs.declared.claims.Claim.{Claim}
+use Rattle.net_model.specs.declared.queries.Phase.{Phase}
+use Rattle.net_model.specs.declared.queries.Phase.TheVariants.{Base, Step}
+use Rattle.sdc_objects.specs.declared.warnings.Warning.{Warning}
+use Rattle.sdc_objects.specs.declared.warnings.Warning.TheVariants.{Nothing, Dropped}
+use Rattle.exception_expand.specs.declared.selections.Listing.{Listing}
+use Rattle.exception_expand.specs.declared.selections.Listing.TheVariants.{Claiming, Hold, Aside}
+use Rattle.exception_expand.specs.declared.selections.CommandLine.{CommandLine}
+use Rattle.exception_expand.specs.declared.selections.PairLine.{PairLine}
+use Rattle.verdicts.specs.declared.outcomes.Proof.{Proof}
+use Rattle.verdicts.specs.declared.outcomes.Proof.TheVariants.{Single, Fixed, Depth}
+use Rattle.verdicts.specs.declared.outcomes.Cause.{Cause}
+use Rattle.verdicts.specs.declared.outcomes.Cause.TheVariants.{Depth as Stays, Budget}
+use Rattle.verdicts.specs.declared.outcomes.Verdict.{Verdict}
+use Rattle.verdicts.specs.declared.outcomes.Verdict.TheVariants.{Justified, Refuted, Undecided}
+use Rattle.report_text.specs.declared.options.RunOptions.{RunOptions}
+use Rattle.report_text.specs.declared.tallies.Tally.{Tally}
+
+-- one text, and then another
+infixr 5 ◌⁀◌
+abbrev pub ◌⁀◌ : List ℕ → List ℕ → List ℕ
+first ⁀ next = first ++ next
+
+abbrev pub mode_text : Bool → List ℕ
+mode_text hazard = if hazard then codes "hazard" else codes "plain"
+
+-- the options of the run
+abbrev pub header_text : RunOptions → List ℕ
+header_text o =
+    codes "sdcv 1 mode " ⁀ mode_text o.hazard ⁀ codes " reset " ⁀ decimal o.reset_len ⁀ codes " depth " ⁀ decimal o.depth ⁀ codes " budget "
+    ⁀ decimal o.budget ⁀ codes " inv " ⁀ decimal o.inv_depth
+
+-- what is claimed of a pair
+abbrev pub kind_text : Kind → List ℕ
+kind_text False = codes "false"
+kind_text (Multi multiplier) = codes "multi " ⁀ decimal multiplier
+
+-- what an exception does
+abbrev pub what_text : Listing → List ℕ
+what_text (Claiming kind pairs) = kind_text kind
+what_text Hold = codes "hold"
+what_text (Aside option) = codes "aside " ⁀ shown option
+
+-- how many pairs it claims something of
+abbrev pub count_text : Listing → List ℕ
+count_text (Claiming kind pairs) = codes " pairs " ⁀ decimal pairs
+count_text Hold = []
+count_text (Aside option) = []
+
+abbrev pub command_text : ℕ → CommandLine → List ℕ
+command_text number c =
+    codes "command " ⁀ decimal number ⁀ codes " line " ⁀ decimal c.line ⁀ codes " " ⁀ what_text c.listing ⁀ count_text c.listing
+
+-- nothing goes by a pattern, or so many of the things that it names can't stand in its place
+abbrev pub warning_text : Warning → List ℕ
+warning_text (Nothing pattern) = codes "nothing " ⁀ shown pattern
+warning_text (Dropped pattern count) = codes "dropped " ⁀ shown pattern ⁀ codes " " ⁀ decimal count
+
+abbrev pub warning_line : ℕ → Warning → List ℕ
+warning_line number warning = codes "warning command " ⁀ decimal number ⁀ codes " " ⁀ warning_text warning
+
+abbrev pub verdict_word : Verdict → List ℕ
+verdict_word (Justified proof) = codes "justified"
+verdict_word (Refuted offset stimulus) = codes "refuted"
+verdict_word (Undecided cause) = codes "undecided"
+
+abbrev pub proof_text : Proof → List ℕ
+proof_text Single = codes "single"
+proof_text Fixed = codes "fixed"
+proof_text (Depth depth base step) = codes "depth " ⁀ decimal depth
+
+abbrev pub phase_text : Phase → List ℕ
+phase_text Base = codes "base"
+phase_text Step = codes "step"
+
+-- a stretch stays at the greatest depth that the run allows, or the budget is spent on a query
+abbrev pub cause_text : ℕ → Cause → List ℕ
+cause_text limit (Stays stretch) = codes "depth " ⁀ decimal limit
+cause_text limit (Budget phase depth log) = codes "budget " ⁀ phase_text phase ⁀ codes " " ⁀ decimal depth
+
+-- why the verdict is that
+abbrev pub why_text : ℕ → Verdict → List ℕ
+why_text limit (Justified proof) = proof_text proof
+why_text limit (Refuted offset stimulus) = codes "offset " ⁀ decimal offset
+why_text limit (Undecided cause) = cause_text limit cause
+
+-- from where to where
+abbrev pub ends_text : PairLine → List ℕ
+ends_text p = shown p.start ⁀ codes " -> " ⁀ shown p.end
+
+-- what is found out
+abbrev pub found_text : ℕ → Verdict → List ℕ
+found_text limit v = verdict_word v ⁀ codes " " ⁀ why_text limit v
+
+abbrev pub pair_text : ℕ → ℕ → PairLine → Claim → Verdict → List ℕ
+pair_text limit number p claim v =
+    codes "pair " ⁀ decimal number ⁀ codes " command " ⁀ decimal p.command ⁀ codes " " ⁀ kind_text claim.kind ⁀ codes " " ⁀ ends_text p ⁀ codes " "
+    ⁀ found_text limit v
+
+abbrev pub is_justified : Verdict → Bool
+is_justified (Justified proof) = true
+is_justified (Refuted offset stimulus) = false
+is_justified (Undecided cause) = false
+
+abbrev pub is_refuted : Verdict → Bool
+is_refuted (Justified proof) = false
+is_refuted (Refuted offset stimulus) = true
+is_refuted (Undecided cause) = false
+
+abbrev pub is_undecided : Verdict → Bool
+is_undecided (Justified proof) = false
+is_undecided (Refuted offset stimulus) = false
+is_undecided (Undecided cause) = true
+
+-- how many pairs have which verdict
+abbrev pub tally_of : List Verdict → Tally
+tally_of vs = record {
+  pairs = length vs;
+  justified = count_by is_justified vs;
+  refuted = count_by is_refuted vs;
+  undecided = count_by is_undecided vs;
+}
+
+abbrev pub total_text : List Verdict → List ℕ
+total_text vs =
+    codes "total " ⁀ decimal (tally_of vs).pairs ⁀ codes " justified " ⁀ decimal (tally_of vs).justified ⁀ codes " refuted " ⁀ decimal (tally_of vs).refuted
+    ⁀ codes " undecided " ⁀ decimal (tally_of vs).undecided

@@ -1,0 +1,25 @@
+//! The report of a run: its options, the exceptions with their warnings, a verdict for each selected pair, the stimulus of
+//! each pair that is refuted, and the totals.
+//!
+//! Read `specs/Reports.antt` first: which lines a report has, in which order. `specs/Words.antt` has the words of a line.
+//! `reports.rt` has the call that makes the lines.
+#![tactic(auto)]
+
+mod blocks;
+mod commands;
+mod lines;
+mod options;
+mod outcomes;
+mod pairs;
+mod reports;
+mod rows;
+mod tallies;
+mod words;
+
+pub use blocks::bits_text;
+pub use options::RunOptions;
+pub use outcomes::{verdict_word, why_text};
+pub use reports::write_report;
+pub use rows::{PairRow, row_at};
+pub use tallies::{Tally, tally_of};
+pub use words::{kind_text, mode_text, warning_text, what_text};

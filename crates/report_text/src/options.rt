@@ -1,0 +1,11 @@
+//! The options of a run, as its report says them.
+
+/// How far a run looks, and what its claims allow.
+#[derive(Clone, Copy, Debug, PartialEq, Eq)]
+pub struct RunOptions {
+    pub hazard: bool,
+    pub reset_len: usize,
+    pub depth: usize,
+    pub budget: u64,
+    pub inv_depth: usize,
+}

@@ -1,0 +1,44 @@
+//! The call that makes a report.
+ghost use Rattle.std.specs.Prelude.{◌≡◌, IfOk, string_bytes};
+ghost use Rattle.report_text.specs.Words.{header_text};
+ghost use Rattle.report_text.specs.Reports.{bytes_of_lines, report_lines};
+ghost use Rattle.report_text.specs.Rows.{HasRows};
+
+use crate::commands::add_commands;
+use crate::lines::ReportLines;
+use crate::options::RunOptions;
+use crate::pairs::add_pairs;
+use crate::tallies::total_text;
+use crate::words::mode_text;
+use exception_expand::Selected;
+use std::alloc::{AllocError, Global};
+use verdicts::Verdict;
+
+fn header_text(alloc: Global, options: &RunOptions) -> Result<String, AllocError>
+    ensures { IfOk result (λ text. string_bytes text ≡ header_text options.now) }
+{
+    let mode = mode_text(options.hazard);
+    let reset = options.reset_len;
+    let depth = options.depth;
+    let budget = options.budget;
+    let inv = options.inv_depth;
+    format!(in alloc; "sdcv 1 mode {mode} reset {reset} depth {depth} budget {budget} inv {inv}")
+}
+
+/// The lines of the report of a selection and its verdicts, each with the newline that ends it.
+pub fn write_report(
+    alloc: Global,
+    options: &RunOptions,
+    selected: &Selected,
+    verdicts: &[Verdict],
+) -> Result<Vec<Vec<u8>>, AllocError>
+    requires { HasRows selected.now verdicts.now }
+    ensures { IfOk result (λ lines. bytes_of_lines lines.items ≡ report_lines options.now selected.now verdicts.now) }
+{
+    let mut report = ReportLines::new(alloc);
+    report.add(header_text(alloc, options)?)?;
+    add_commands(alloc, &selected.commands, &mut report)?;
+    add_pairs(alloc, options.depth, selected, verdicts, &mut report)?;
+    report.add(total_text(alloc, verdicts)?)?;
+    Ok(report.into_vec())
+}

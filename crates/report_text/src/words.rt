@@ -1,0 +1,56 @@
+//! The words of an option, of an exception and of a warning.
+ghost use Rattle.std.specs.Prelude.{◌≡◌, IfOk, string_bytes};
+ghost use Rattle.report_text.specs.Words.{mode_text, kind_text, what_text, count_text, warning_text};
+
+use exception_expand::Listing;
+use sdc_objects::Warning;
+use sdcv_base::Kind;
+use std::alloc::{AllocError, Global};
+
+/// Whether glitches count.
+pub fn mode_text(hazard: bool) -> &'static str
+    ensures { result.now ≡ mode_text hazard }
+{
+    if hazard { "hazard" } else { "plain" }
+}
+
+/// The kind of an exception, with its multiplier.
+pub fn kind_text(alloc: Global, kind: Kind) -> Result<String, AllocError>
+    ensures { IfOk result (λ text. string_bytes text ≡ kind_text kind) }
+{
+    match kind {
+        Kind::False => String::from_str(alloc, "false"),
+        Kind::Multi(multiplier) => format!(in alloc; "multi {multiplier}"),
+    }
+}
+
+/// What an exception does.
+pub fn what_text(alloc: Global, listing: &Listing) -> Result<String, AllocError>
+    ensures { IfOk result (λ text. string_bytes text ≡ what_text listing.now) }
+{
+    match listing {
+        Listing::Claiming(kind, _pairs) => kind_text(alloc, *kind),
+        Listing::Hold => String::from_str(alloc, "hold"),
+        Listing::Aside(option) => format!(in alloc; "aside {option}"),
+    }
+}
+
+/// How many pairs it claims something of, where it claims something.
+pub(crate) fn count_text(alloc: Global, listing: &Listing) -> Result<String, AllocError>
+    ensures { IfOk result (λ text. string_bytes text ≡ count_text listing.now) }
+{
+    match listing {
+        Listing::Claiming(_kind, pairs) => format!(in alloc; " pairs {pairs}"),
+        Listing::Hold | Listing::Aside(_) => Ok(String::new(alloc)),
+    }
+}
+
+/// What a warning says of a pattern.
+pub fn warning_text(alloc: Global, warning: &Warning) -> Result<String, AllocError>
+    ensures { IfOk result (λ text. string_bytes text ≡ warning_text warning.now) }
+{
+    match warning {
+        Warning::Nothing(pattern) => format!(in alloc; "nothing {pattern}"),
+        Warning::Dropped(pattern, count) => format!(in alloc; "dropped {pattern} {count}"),
+    }
+}
