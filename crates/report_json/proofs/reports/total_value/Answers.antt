@@ -1,0 +1,6 @@
+use Rattle.std.proofs.Common.{◌∙◌}
+use Rattle.report_json.proofs.reports.total_value.Goals as goal
+
+pub returns : goal.returns
+returns c =
+    c.into_value.ensures ∙ rw (c.in_ok-put_count-4.ensures, c.in_ok-put_count-3.ensures, c.in_ok-put_count-2.ensures, c.in_ok-put_count.ensures, c.new-object.ensures, c.tally_of-all.ensures)

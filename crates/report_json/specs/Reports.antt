@@ -1,0 +1,106 @@
+-- A report as JSON: the value, and its text.
+use Rattle.std.specs.Prelude.{ℕ, ◌+◌, Bool, List, [], ◌∷◌, ◌++◌, map, codes}
+use Rattle.serde_json.specs.Data.{Data, null, number, unsigned, string, array, object, member, no_members}
+use Rattle.serde_json.specs.View.{items_of}
+use Rattle.serde_json.specs.Written.{compact_text}
+use Rattle.sdcv_base.specs.Shown.{shown}
+use Rattle.net_model.specs.declared.claims.Claim.{Claim}
+use Rattle.net_model.specs.declared.cycles.Stimulus.{Stimulus}
+use Rattle.sdc_objects.specs.Places.{each_at}
+use Rattle.sdc_objects.specs.declared.warnings.Warning.{Warning}
+use Rattle.exception_expand.specs.declared.selections.Listing.{Listing}
+use Rattle.exception_expand.specs.declared.selections.Listing.TheVariants.{Claiming, Hold, Aside}
+use Rattle.exception_expand.specs.declared.selections.CommandLine.{CommandLine}
+use Rattle.exception_expand.specs.declared.selections.PairLine.{PairLine}
+use Rattle.exception_expand.specs.declared.selections.Selected.{Selected}
+use Rattle.verdicts.specs.declared.outcomes.Verdict.{Verdict}
+use Rattle.verdicts.specs.declared.outcomes.Verdict.TheVariants.{Justified, Refuted, Undecided}
+use Rattle.witness_replay.specs.StimulusTexts.{digits_of}
+use Rattle.report_text.specs.declared.options.RunOptions.{RunOptions}
+use Rattle.report_text.specs.Rows.{each_pair}
+use Rattle.report_text.specs.Words.{mode_text, kind_text, what_text, warning_text, verdict_word, why_text, tally_of}
+
+-- a number that is written without a sign
+abbrev pub count_data : ℕ → Data
+count_data n = number (unsigned n)
+
+-- texts in order
+abbrev pub texts_data : {A : Type 0} → (A → List ℕ) → List A → Data
+texts_data text xs = array (items_of (map (λ x. string (text x)) xs))
+
+-- of how many pairs an exception claims something
+abbrev pub pairs_of : Listing → ℕ
+pairs_of (Claiming kind pairs) = pairs
+pairs_of Hold = 0
+pairs_of (Aside option) = 0
+
+abbrev pub warnings_data : List Warning → Data
+warnings_data = texts_data warning_text
+
+-- the exception at a place; exceptions are numbered from 1
+abbrev pub command_data : ℕ → CommandLine → Data
+command_data place c =
+    object (member (codes "line") (count_data c.line)
+    (member (codes "number") (count_data (place + 1))
+    (member (codes "pairs") (count_data (pairs_of c.listing))
+    (member (codes "warnings") (warnings_data c.warnings)
+    (member (codes "what") (string (what_text c.listing)) no_members)))))
+
+abbrev pub one_command : ℕ → CommandLine → List Data
+one_command place c = command_data place c ∷ []
+
+abbrev pub commands_data : List CommandLine → Data
+commands_data cs = array (items_of (each_at one_command 0 cs))
+
+-- the input bits of each cycle, as in the block of a stimulus
+abbrev pub inputs_data : List (List Bool) → Data
+inputs_data = texts_data digits_of
+
+abbrev pub stimulus_data : Stimulus → Data
+stimulus_data s = object (member (codes "inputs") (inputs_data s.inputs) (member (codes "state") (string (digits_of s.state)) no_members))
+
+-- the stimulus by which a pair is refuted
+abbrev pub evidence_data : Verdict → Data
+evidence_data (Justified proof) = null
+evidence_data (Refuted offset stimulus) = stimulus_data stimulus
+evidence_data (Undecided cause) = null
+
+abbrev pub pair_data : ℕ → ℕ → PairLine → Claim → Verdict → Data
+pair_data limit n p claim v =
+    object (member (codes "command") (count_data p.command)
+    (member (codes "end") (string (shown p.end))
+    (member (codes "kind") (string (kind_text claim.kind))
+    (member (codes "number") (count_data n)
+    (member (codes "start") (string (shown p.start))
+    (member (codes "stimulus") (evidence_data v)
+    (member (codes "verdict") (string (verdict_word v))
+    (member (codes "why") (string (why_text limit v)) no_members))))))))
+
+abbrev pub one_pair : ℕ → ℕ → PairLine → Claim → Verdict → List Data
+one_pair limit n p claim v = pair_data limit n p claim v ∷ []
+
+-- pairs are numbered from 1
+abbrev pub pairs_data : ℕ → Selected → List Verdict → Data
+pairs_data limit selected verdicts = array (items_of (each_pair (one_pair limit) 1 selected.pairs selected.claims verdicts))
+
+abbrev pub total_data : List Verdict → Data
+total_data vs =
+    object (member (codes "justified") (count_data (tally_of vs).justified)
+    (member (codes "pairs") (count_data (tally_of vs).pairs)
+    (member (codes "refuted") (count_data (tally_of vs).refuted)
+    (member (codes "undecided") (count_data (tally_of vs).undecided) no_members))))
+
+abbrev pub report_data : RunOptions → Selected → List Verdict → Data
+report_data o selected verdicts =
+    object (member (codes "budget") (count_data o.budget)
+    (member (codes "commands") (commands_data selected.commands)
+    (member (codes "depth") (count_data o.depth)
+    (member (codes "inv") (count_data o.inv_depth)
+    (member (codes "mode") (string (mode_text o.hazard))
+    (member (codes "pairs") (pairs_data o.depth selected verdicts)
+    (member (codes "reset") (count_data o.reset_len)
+    (member (codes "total") (total_data verdicts) no_members))))))))
+
+-- the text without spaces, and a newline
+abbrev pub json_text : RunOptions → Selected → List Verdict → List ℕ
+json_text o selected verdicts = compact_text (report_data o selected verdicts) ++ 10 ∷ []

@@ -1,0 +1,57 @@
+//! Objects, member by member.
+ghost use Rattle.std.specs.Prelude.{◌≡◌, OnOk};
+ghost use Rattle.serde_json.specs.Data.{array, number, unsigned, string, object, no_members};
+ghost use Rattle.serde_json.specs.Data.{put as with_member};
+ghost use Rattle.serde_json.specs.View.{view, items_view};
+ghost use Rattle.report_json.specs.Objects.{made};
+
+use serde_json::{Map, Value, put};
+use std::alloc::{AllocError, Global};
+
+/// An object that is being made. Its keys ascend, in whatever order they are put.
+#[derive(Drop)]
+pub(crate) struct Object {
+    map: Map<String, Value>,
+}
+
+impl Object {
+    pub fn new(alloc: Global) -> Object
+        ensures { made result ≡ no_members }
+    {
+        Object {
+            map: Map::new(alloc),
+        }
+    }
+
+    pub fn put_value(&mut self, alloc: Global, key: &str, value: Value) -> Result<(), AllocError>
+        ensures { OnOk result (made self.new ≡ with_member key.now (view value) (made self.old)) }
+    {
+        put(&mut self.map, alloc, key, value)
+    }
+
+    pub fn put_count(&mut self, alloc: Global, key: &str, count: u64) -> Result<(), AllocError>
+        ensures { OnOk result (made self.new ≡ with_member key.now (number (unsigned count)) (made self.old)) }
+    {
+        self.put_value(alloc, key, Value::from(count))
+    }
+
+    pub fn put_text(&mut self, alloc: Global, key: &str, text: &str) -> Result<(), AllocError>
+        ensures { OnOk result (made self.new ≡ with_member key.now (string text.now) (made self.old)) }
+    {
+        self.put_value(alloc, key, Value::try_from_str(alloc, text)?)
+    }
+
+    pub fn into_value(self) -> Value
+        ensures { view result ≡ object (made self) }
+    {
+        let Object { map } = self;
+        Value::Object(map)
+    }
+}
+
+/// The array of these values.
+pub(crate) fn array_of(list: Vec<Value>) -> Value
+    ensures { view result ≡ array (items_view list.items) }
+{
+    Value::Array(list)
+}

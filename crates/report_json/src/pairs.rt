@@ -1,0 +1,82 @@
+//! The selected pairs as values.
+ghost use Rattle.std.specs.Prelude.{◌≡◌, codes, IfOk, OnOk};
+ghost use Rattle.serde_json.specs.Data.{string};
+ghost use Rattle.serde_json.specs.Data.{put as with_member};
+ghost use Rattle.sdcv_base.specs.Shown.{shown};
+ghost use Rattle.serde_json.specs.View.{view};
+ghost use Rattle.report_text.specs.Words.{kind_text, why_text};
+ghost use Rattle.report_text.specs.Rows.{HasRows};
+ghost use Rattle.report_json.specs.Objects.{made};
+ghost use Rattle.report_json.specs.Reports.{evidence_data, pair_data, pairs_data};
+
+use crate::objects::{Object, array_of};
+use crate::stimuli::evidence_value;
+use exception_expand::Selected;
+use report_text::{PairRow, kind_text, row_at, verdict_word, why_text};
+use sdcv_base::{Kind, Name};
+use serde_json::Value;
+use std::alloc::{AllocError, Global};
+use verdicts::Verdict;
+
+fn put_name(alloc: Global, object: &mut Object, key: &str, name: &Name) -> Result<(), AllocError>
+    ensures { OnOk result (made object.new ≡ with_member key.now (string (shown name.now)) (made object.old)) }
+{
+    let shown = format!(in alloc; "{name}")?;
+    object.put_text(alloc, key, &shown)
+}
+
+fn put_kind(alloc: Global, object: &mut Object, kind: Kind) -> Result<(), AllocError>
+    ensures { OnOk result (made object.new ≡ with_member (codes "kind") (string (kind_text kind)) (made object.old)) }
+{
+    object.put_text(alloc, "kind", &kind_text(alloc, kind)?)
+}
+
+fn put_evidence(alloc: Global, object: &mut Object, verdict: &Verdict) -> Result<(), AllocError>
+    ensures { OnOk result (made object.new ≡ with_member (codes "stimulus") (evidence_data verdict.now) (made object.old)) }
+{
+    object.put_value(alloc, "stimulus", evidence_value(alloc, verdict)?)
+}
+
+fn put_why(
+    alloc: Global,
+    object: &mut Object,
+    limit: usize,
+    verdict: &Verdict,
+) -> Result<(), AllocError>
+    ensures { OnOk result (made object.new ≡ with_member (codes "why") (string (why_text limit verdict.now)) (made object.old)) }
+{
+    object.put_text(alloc, "why", &why_text(alloc, limit, verdict)?)
+}
+
+fn pair_value(alloc: Global, limit: usize, row: &PairRow<'_>) -> Result<Value, AllocError>
+    ensures { IfOk result (λ v. view v ≡ pair_data limit row.now.number row.now.pair.now row.now.claim.now row.now.verdict.now) }
+{
+    let mut object = Object::new(alloc);
+    object.put_count(alloc, "command", row.pair.command)?;
+    put_name(alloc, &mut object, "end", &row.pair.end)?;
+    put_kind(alloc, &mut object, row.claim.kind)?;
+    object.put_count(alloc, "number", row.number)?;
+    put_name(alloc, &mut object, "start", &row.pair.start)?;
+    put_evidence(alloc, &mut object, row.verdict)?;
+    object.put_text(alloc, "verdict", verdict_word(row.verdict))?;
+    put_why(alloc, &mut object, limit, row.verdict)?;
+    Ok(object.into_value())
+}
+
+/// All pairs, in order, in a run whose greatest depth is `limit`.
+pub(crate) fn pairs_value(
+    alloc: Global,
+    limit: usize,
+    selected: &Selected,
+    verdicts: &[Verdict],
+) -> Result<Value, AllocError>
+    requires { HasRows selected.now verdicts.now }
+    ensures { IfOk result (λ v. view v ≡ pairs_data limit selected.now verdicts.now) }
+{
+    let mut list = Vec::new(alloc);
+    for k in 0..verdicts.len() {
+        let value = pair_value(alloc, limit, &row_at(selected, verdicts, k))?;
+        list.push(value)?;
+    }
+    Ok(array_of(list))
+}

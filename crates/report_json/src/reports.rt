@@ -1,0 +1,98 @@
+//! The call that writes a report as JSON.
+ghost use Rattle.std.specs.Prelude.{◌≡◌, codes, IfOk, OnOk};
+ghost use Rattle.serde_json.specs.Data.{put as with_member};
+ghost use Rattle.serde_json.specs.View.{view};
+ghost use Rattle.report_text.specs.Rows.{HasRows};
+ghost use Rattle.report_json.specs.Objects.{made};
+ghost use Rattle.report_json.specs.Reports.{commands_data, pairs_data, total_data, report_data, json_text};
+
+use crate::commands::commands_value;
+use crate::objects::Object;
+use crate::pairs::pairs_value;
+use exception_expand::Selected;
+use report_text::{RunOptions, mode_text, tally_of};
+use serde_json::Value;
+use std::alloc::{AllocError, Global};
+use verdicts::Verdict;
+
+fn total_value(alloc: Global, verdicts: &[Verdict]) -> Result<Value, AllocError>
+    ensures { IfOk result (λ v. view v ≡ total_data verdicts.now) }
+{
+    let all = tally_of(verdicts);
+    let mut object = Object::new(alloc);
+    object.put_count(alloc, "justified", all.justified as u64)?;
+    object.put_count(alloc, "pairs", all.pairs as u64)?;
+    object.put_count(alloc, "refuted", all.refuted as u64)?;
+    object.put_count(alloc, "undecided", all.undecided as u64)?;
+    Ok(object.into_value())
+}
+
+fn put_commands(alloc: Global, object: &mut Object, selected: &Selected) -> Result<(), AllocError>
+    ensures { OnOk result (made object.new ≡ with_member (codes "commands") (commands_data selected.now.commands) (made object.old)) }
+{
+    object.put_value(
+        alloc,
+        "commands",
+        commands_value(alloc, &selected.commands)?,
+    )
+}
+
+fn put_pairs(
+    alloc: Global,
+    object: &mut Object,
+    limit: usize,
+    selected: &Selected,
+    verdicts: &[Verdict],
+) -> Result<(), AllocError>
+    requires { HasRows selected.now verdicts.now }
+    ensures { OnOk result (made object.new ≡ with_member (codes "pairs") (pairs_data limit selected.now verdicts.now) (made object.old)) }
+{
+    object.put_value(
+        alloc,
+        "pairs",
+        pairs_value(alloc, limit, selected, verdicts)?,
+    )
+}
+
+fn put_total(alloc: Global, object: &mut Object, verdicts: &[Verdict]) -> Result<(), AllocError>
+    ensures { OnOk result (made object.new ≡ with_member (codes "total") (total_data verdicts.now) (made object.old)) }
+{
+    object.put_value(alloc, "total", total_value(alloc, verdicts)?)
+}
+
+fn report_value(
+    alloc: Global,
+    options: &RunOptions,
+    selected: &Selected,
+    verdicts: &[Verdict],
+) -> Result<Value, AllocError>
+    requires { HasRows selected.now verdicts.now }
+    ensures { IfOk result (λ v. view v ≡ report_data options.now selected.now verdicts.now) }
+{
+    let mut object = Object::new(alloc);
+    object.put_count(alloc, "budget", options.budget)?;
+    put_commands(alloc, &mut object, selected)?;
+    object.put_count(alloc, "depth", options.depth as u64)?;
+    object.put_count(alloc, "inv", options.inv_depth as u64)?;
+    object.put_text(alloc, "mode", mode_text(options.hazard))?;
+    put_pairs(alloc, &mut object, options.depth, selected, verdicts)?;
+    object.put_count(alloc, "reset", options.reset_len as u64)?;
+    put_total(alloc, &mut object, verdicts)?;
+    Ok(object.into_value())
+}
+
+/// The report of a selection and its verdicts as JSON, with a newline at its end.
+pub fn write_json(
+    alloc: Global,
+    options: &RunOptions,
+    selected: &Selected,
+    verdicts: &[Verdict],
+) -> Result<Vec<u8>, AllocError>
+    requires { HasRows selected.now verdicts.now }
+    ensures { IfOk result (λ text. text.items ≡ json_text options.now selected.now verdicts.now) }
+{
+    let report = report_value(alloc, options, selected, verdicts)?;
+    let mut text = report.to_vec(alloc)?;
+    text.push(b'\n')?;
+    Ok(text)
+}
