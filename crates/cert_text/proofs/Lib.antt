@@ -1,0 +1,5 @@
+pub mod ProofTexts
+pub mod PairTexts
+pub mod CertTexts
+pub mod ReadLemmas
+pub mod VersionLemmas

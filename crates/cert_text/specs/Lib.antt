@@ -1,0 +1,2 @@
+pub mod Certs
+pub mod Causes

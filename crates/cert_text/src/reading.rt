@@ -1,0 +1,56 @@
+//! A certificate, read.
+ghost use Rattle.std.specs.Prelude.{◌≡◌, ◌+◌, ◌++◌, ℕ, length, IfOk, IfErr, OnOk, MatchOption};
+ghost use Rattle.sdcv_base.specs.Cursors.{rest, place_of};
+ghost use Rattle.cert_parts.specs.Texts.{IsFault};
+ghost use Rattle.cert_text.specs.Certs.{cert_bytes, IsSpellable};
+ghost use Rattle.cert_text.specs.Causes.{IsOtherVersion};
+
+use crate::pairs::take_pairs;
+use crate::proofs_at::{take_clauses, take_proofs};
+use cert_parts::{Fault, next_line, take_first, take_inv};
+use cert_values::Cert;
+use cert_words::number_of;
+use sdcv_base::Cursor;
+use std::alloc::Global;
+
+/// The greatest number of a version.
+const MOST: u64 = 9_223_372_036_854_775_807;
+
+/// The version of the first line, where it is another one.
+pub fn other_version(bytes: &[u8]) -> Option<u64>
+    ensures { MatchOption result ((n : ℕ) → ¬ IsOtherVersion bytes.now n) (IsOtherVersion bytes.now) }
+{
+    let Some(rest) = bytes.strip_prefix(b"sdcv-cert ") else {
+        return None;
+    };
+    let line = next_line(&Cursor::new(rest));
+    if line.cut {
+        return None;
+    }
+    let Some(version) = number_of(line.text, MOST) else {
+        return None;
+    };
+    if version == 1 {
+        return None;
+    }
+    Some(version)
+}
+
+/// Passes a certificate.
+pub fn take_cert(alloc: Global, cursor: &mut Cursor<'_>) -> Result<Cert, Fault>
+    ensures ok { IfOk result (λ c. IsSpellable c × (rest cursor.old ≡ cert_bytes c ++ rest cursor.new)) }
+    ensures place { OnOk result (place_of cursor.new + length (rest cursor.new) ≡ place_of cursor.old + length (rest cursor.old)) }
+    ensures err { IfErr result (IsFault IsSpellable cert_bytes (rest cursor.old) (place_of cursor.old)) }
+{
+    take_first(cursor)?;
+    let head = take_inv(cursor)?;
+    let kept = take_clauses(alloc, cursor, head.count)?;
+    let proofs = take_proofs(alloc, cursor, head.count, head.depth)?;
+    let pairs = take_pairs(alloc, cursor)?;
+    Ok(Cert {
+        depth: head.depth,
+        kept,
+        proofs,
+        pairs,
+    })
+}
