@@ -1,14 +1,15 @@
 //! A certificate, read.
 ghost use Rattle.std.specs.Prelude.{◌≡◌, ◌+◌, ◌++◌, ℕ, length, IfOk, IfErr, OnOk, MatchOption};
 ghost use Rattle.sdcv_base.specs.Cursors.{rest, place_of};
+ghost use Rattle.cert_values.specs.declared.certs.Cert.{Cert};
 ghost use Rattle.cert_parts.specs.Texts.{IsFault};
-ghost use Rattle.cert_text.specs.Certs.{cert_bytes, IsSpellable};
-ghost use Rattle.cert_text.specs.Causes.{IsOtherVersion};
+ghost use Rattle.cert_text.specs.Certs.{cert_bytes, IsSpellable, Spells};
+ghost use Rattle.cert_text.specs.Causes.{IsOtherVersion, IsReadCause, Recalls};
 
 use crate::pairs::take_pairs;
 use crate::proofs_at::{take_clauses, take_proofs};
 use cert_parts::{Fault, next_line, take_first, take_inv};
-use cert_values::Cert;
+use cert_values::{Cert, CertFault};
 use cert_words::number_of;
 use sdcv_base::Cursor;
 use std::alloc::Global;
@@ -17,7 +18,7 @@ use std::alloc::Global;
 const MOST: u64 = 9_223_372_036_854_775_807;
 
 /// The version of the first line, where it is another one.
-pub fn other_version(bytes: &[u8]) -> Option<u64>
+fn other_version(bytes: &[u8]) -> Option<u64>
     ensures { MatchOption result ((n : ℕ) → ¬ IsOtherVersion bytes.now n) (IsOtherVersion bytes.now) }
 {
     let Some(rest) = bytes.strip_prefix(b"sdcv-cert ") else {
@@ -37,7 +38,7 @@ pub fn other_version(bytes: &[u8]) -> Option<u64>
 }
 
 /// Passes a certificate.
-pub fn take_cert(alloc: Global, cursor: &mut Cursor<'_>) -> Result<Cert, Fault>
+fn take_cert(alloc: Global, cursor: &mut Cursor<'_>) -> Result<Cert, Fault>
     ensures ok { IfOk result (λ c. IsSpellable c × (rest cursor.old ≡ cert_bytes c ++ rest cursor.new)) }
     ensures place { OnOk result (place_of cursor.new + length (rest cursor.new) ≡ place_of cursor.old + length (rest cursor.old)) }
     ensures err { IfErr result (IsFault IsSpellable cert_bytes (rest cursor.old) (place_of cursor.old)) }
@@ -53,4 +54,27 @@ pub fn take_cert(alloc: Global, cursor: &mut Cursor<'_>) -> Result<Cert, Fault>
         proofs,
         pairs,
     })
+}
+
+/// The certificate that the bytes spell.
+pub fn read_cert(alloc: Global, bytes: &[u8]) -> Result<Cert, CertFault>
+    ensures ok { IfOk result (Spells bytes.now) }
+    ensures err { IfErr result (IsReadCause bytes.now) }
+    ensures only { (c : Cert) → Spells bytes.now c → Recalls result c }
+{
+    if let Some(version) = other_version(bytes) {
+        return Err(CertFault::Version(version));
+    }
+    let mut cursor = Cursor::new(bytes);
+    match take_cert(alloc, &mut cursor) {
+        Ok(cert) => {
+            if cursor.rest().is_empty() {
+                Ok(cert)
+            } else {
+                Err(CertFault::Form(cursor.place()))
+            }
+        }
+        Err(Fault::Form(offset)) => Err(CertFault::Form(offset)),
+        Err(Fault::Memory) => Err(CertFault::Memory),
+    }
 }
