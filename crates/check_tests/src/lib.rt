@@ -1,4 +1,4 @@
-//! Certificates over a small design, beside the answers that they must have by hand.
+//! Certificates over a small design, as values and as texts, beside the answers that they must have by hand.
 //!
 //! This crate has tests alone.
 #![tactic(auto)]
@@ -7,3 +7,5 @@
 mod answers;
 #[cfg(test)]
 mod builders;
+#[cfg(test)]
+mod texts;
