@@ -1,0 +1,5 @@
+pub mod Driving
+pub mod Leafing
+pub mod Roles
+pub mod Counting
+pub mod Listed
