@@ -95,7 +95,8 @@ pub(crate) fn design_outs(
     n: &Numbering,
     part: &Part,
 ) -> Result<Seq<usize>, AllocError>
-    ensures { IfOk result (λ list. list ≡ (if is_on_tree n.now.tree.now part.now then [] else map (number_in n.now.numbers.now n.now.nets) (part_outs part.now))) }
+    ensures { IfOk result (λ list. list
+        ≡ (if is_on_tree n.now.tree.now part.now then [] else map (number_in n.now.numbers.now n.now.nets) (part_outs part.now))) }
 {
     if n.is_on_tree(part) {
         return Ok(Seq::new(alloc));
