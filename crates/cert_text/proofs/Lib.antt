@@ -3,3 +3,4 @@ pub mod PairTexts
 pub mod CertTexts
 pub mod ReadLemmas
 pub mod VersionLemmas
+pub mod FoundLemmas

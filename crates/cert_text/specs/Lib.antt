@@ -1,2 +1,3 @@
 pub mod Certs
 pub mod Causes
+pub mod Found

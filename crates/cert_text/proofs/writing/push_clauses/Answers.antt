@@ -1,0 +1,10 @@
+use Rattle.std.proofs.Common.{sym, subst, arith}
+use Rattle.net_model.specs.declared.invariants.InvClause.{InvClause}
+use Rattle.verdicts.specs.Forms.{IsKeptClause}
+use Rattle.cert_text.proofs.FoundLemmas.{clause_kept}
+use Rattle.cert_text.proofs.writing.push_clauses.Goals as goal
+
+pub push_kept-requires : goal.push_kept-requires
+push_kept-requires c =
+    let N : InvClause → Type 0 = IsKeptClause in
+    clause_kept c.clause-item.result (subst N (sym c.clause-item.is) (c.requires c.loop-clause.clause-index c.clause-item.result (omega arith)))
