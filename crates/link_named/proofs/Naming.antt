@@ -1,0 +1,560 @@
+-- What a refusal of a circuit speaks of has a full name.
+use Rattle.std.proofs.Common.{◌≡◌, ℕ, zero, suc, ◌+◌, ◌<◌, ◌≤◌, Bool, true, false, not, List, [], ◌∷◌, ◌++◌, length, map, All, Some, None, refl, ap, subst, sym}
+use Rattle.std.proofs.Common.{◌∙◌, arith, inl, inr, ◌⊎◌, get_or}
+use Rattle.std.specs.Prelude.{Option, Contains, slice_get, filter, flat_map, count_by, ◌==◌, slice_index}
+use Rattle.std.proofs.lemmas.Bool.{cases_eq}
+use Rattle.std.proofs.lemmas.List.{map-append}
+use Rattle.std.proofs.lemmas.List.Concat.{flat_map-append}
+use Rattle.std.proofs.lemmas.List.Elements.{All-head, All-tail, All-filter, All-map}
+use Rattle.net_model.specs.Netlist.{AllBelow, gate_nets, reg_nets}
+use Rattle.net_model.specs.declared.netlist.Gate.{Gate}
+use Rattle.net_model.specs.declared.netlist.Reg.{Reg}
+use Rattle.net_model.proofs.Members.{In, In-cases, In-left, In-right, In-map, In-flat, from_flat, in_or, In-from_Contains, Contains-from_In}
+use Rattle.net_model.proofs.Order.{count_append, count_cons, counted, count_contains}
+use Rattle.verilog_net.specs.declared.sources.Source.{Source}
+use Rattle.verilog_net.specs.declared.sources.Module.{Module}
+use Rattle.verilog_net.specs.declared.sources.Port.{Port}
+use Rattle.verilog_net.specs.declared.sources.Conn.{Conn}
+use Rattle.verilog_net.specs.declared.sources.Wire.{Wire}
+use Rattle.verilog_net.specs.declared.sources.Wire.TheVariants as wire
+use Rattle.verilog_net.specs.declared.sources.Item.{Item}
+use Rattle.verilog_net.specs.declared.sources.Item.TheVariants as item
+use Rattle.verilog_net.specs.Lawful.{module_of, IsLawful, IsLawfulModule}
+use Rattle.cell_types.specs.declared.libraries.Library.{Library}
+use Rattle.cell_types.specs.declared.libraries.Cell.{Cell}
+use Rattle.cell_types.specs.declared.libraries.CellKind.{CellKind}
+use Rattle.cell_types.specs.declared.libraries.CellKind.TheVariants as kind
+use Rattle.cell_types.specs.Libraries.{IsLawful as IsLawfulLibrary}
+use Rattle.circuit_link.specs.Faults.{IsCause}
+use Rattle.circuit_link.specs.Lawful.{IsLawfulPart, IsLawfulGate, IsLawfulCircuit}
+use Rattle.circuit_link.specs.declared.faults.CircuitFault.{CircuitFault}
+use Rattle.circuit_link.specs.declared.faults.CircuitFault.TheVariants as fault
+use Rattle.link_defs.specs.declared.circuits.Part.{Part}
+use Rattle.link_defs.specs.declared.circuits.Part.TheVariants as part
+use Rattle.link_defs.specs.CellNames.{Leaf, leaves, leaves_of, last_part, leaf_if_any}
+use Rattle.link_defs.specs.Circuits.{PortBit, circuit_of, bits_of, port_bit, input_bits, output_bits, is_input, is_clock, data_bits, clock_bits, bit_nets}
+use Rattle.link_defs.specs.Circuits.{part_gates, part_regs, part_reads, part_outs, part_data, regs_of, all_gates, all_drivers, all_reads, all_data}
+use Rattle.link_defs.specs.Circuits.{OnTree, LeadsTo, IsOnCycle}
+use Rattle.link_defs.specs.Circuits as net
+use Rattle.link_defs.specs.Hierarchy.{cell_of, wires_of}
+use Rattle.link_defs.specs.Flatten.{Scope, Located, Flat, numbers, top_scope, flat_of}
+use Rattle.link_defs.specs.Parts.{parts_of, inst_parts, ties, pin_ties, bit_ties, cell_ties, cell_part, pin_nets, comb_gates}
+use Rattle.link_defs.specs.Parts.{is_buffer_cell, is_buffer_prim, prim_gate, wire_nets, wire_net, outs_from, clock_net, flop_reg}
+use Rattle.link_items.specs.Prims.{copy_parts}
+use Rattle.verilog_words.specs.declared.gates.PrimKind.{PrimKind}
+use Rattle.verilog_words.specs.declared.gates.PrimKind.TheVariants as prim
+use Rattle.link_flat.specs.Flats.{AreFine}
+use Rattle.link_items.specs.Faults.{IsFaultless}
+use Rattle.link_items.proofs.Listing.{contains_at}
+use Rattle.link_items.proofs.Pinned.{port_bits}
+use Rattle.link_circuit.proofs.Lawfully.{all_flat}
+use Rattle.link_circuit.proofs.Circuited.{circuit_lawful}
+use Rattle.link_named.specs.Names.{HasNet, HasName}
+use Rattle.link_named.proofs.Spread.{zero_of}
+use Rattle.link_named.proofs.Driving.{outs_of}
+use Rattle.link_named.proofs.Reading.{IsConst, gates_of, reads_of, item_known}
+use Rattle.link_named.proofs.Seating.{IsSeen, IsWhole, item_outs, flat_whole}
+
+below_in : (limit : ℕ) (ns : List ℕ) (n : ℕ) → AllBelow limit ns → In n ns → n < limit
+below_in limit [] n below has = absurd has
+below_in limit (m ∷ ns) n below (inl same) = let lt : m < limit = All-head (λ (k : ℕ). k < limit) m ns below in omega (arith, lt, same)
+below_in limit (m ∷ ns) n below (inr rest) = below_in limit ns n (All-tail (λ (k : ℕ). k < limit) m ns below) rest
+
+all_in : {X : Type 0} (P : X → Type 0) (xs : List X) (x : X) → All P xs → In x xs → P x
+all_in P [] x all has = absurd has
+all_in P (y ∷ ys) x all (inl same) = subst P same (All-head P y ys all)
+all_in P (y ∷ ys) x all (inr rest) = all_in P ys x (All-tail P y ys all) rest
+
+in_numbers : (count first n : ℕ) → first ≤ n → n < first + count → In n (numbers first count)
+in_numbers zero first n from to = absurd (omega (arith, from, to))
+in_numbers (suc count) first n from to = elim (cases_eq first n) [
+  | inl same ↦ inl same
+  | inr differs ↦ inr (in_numbers count (first + 1) n (omega (arith, from, differs)) (omega (arith, to)))
+]
+
+-- the nets of the top module's ports
+abbrev IsBit : ℕ → PortBit → Type 0
+IsBit total b = b.net < total
+
+bits_below : (m : Module) (total : ℕ) (ports : List Port) → All (λ (p : Port). AllBelow total p.bits) ports → All (IsBit total) (flat_map (bits_of m) ports)
+bits_below m total ports below =
+    all_flat (IsBit total) (bits_of m) ports
+    (λ k d lt. All-map (IsBit total) (port_bit m (get_or ports k d)) (get_or ports k d).bits (below k d lt))
+
+nets_below : (total : ℕ) (bits : List PortBit) → All (IsBit total) bits → AllBelow total (bit_nets bits)
+nets_below total bits below = All-map (λ (n : ℕ). n < total) (λ (b : PortBit). b.net) bits below
+
+record ArePortsBelow (top : Module) (clock : Option (List ℕ)) : Type 0 where
+  pub clocks : AllBelow (length top.nets) (bit_nets (clock_bits clock top))
+  pub inputs : AllBelow (length top.nets) (bit_nets (data_bits clock top))
+  pub outputs : AllBelow (length top.nets) (bit_nets (output_bits top))
+
+ports_below : (s : Source) (top : Module) (clock : Option (List ℕ)) → IsLawfulModule s top → ArePortsBelow top clock
+ports_below s top clock is =
+    let total = length top.nets in
+    let below : All (λ (p : Port). AllBelow total p.bits) top.ports = port_bits s top is in
+    let ins : All (IsBit total) (input_bits top) =
+    bits_below top total (filter (λ (p : Port). is_input p.dir) top.ports)
+    (All-filter (λ (p : Port). is_input p.dir) (λ (p : Port). AllBelow total p.bits) top.ports below) in
+    let outs : All (IsBit total) (output_bits top) =
+    bits_below top total (filter (λ (p : Port). not (is_input p.dir)) top.ports)
+    (All-filter (λ (p : Port). not (is_input p.dir)) (λ (p : Port). AllBelow total p.bits) top.ports below) in
+    record {
+      clocks = nets_below total (clock_bits clock top) (All-filter (is_clock clock) (IsBit total) (input_bits top) ins);
+      inputs = nets_below total (data_bits clock top) (All-filter (λ (b : PortBit). not (is_clock clock b)) (IsBit total) (input_bits top) ins);
+      outputs = nets_below total (output_bits top) outs;
+    }
+
+-- what is known of the flat netlist below a module
+record IsSettled (s : Source) (lib : Library) (top : Module) (flat : Flat) : Type 0 where
+  pub whole : IsWhole s lib top flat
+  pub fine : AreFine s lib flat
+
+abbrev parts_in : Source → Library → Flat → List Part
+parts_in s lib flat = flat_map (parts_of s lib) flat.items
+
+top_seen : (s : Source) (lib : Library) (top : Module) (flat : Flat) (n : ℕ) → IsWhole s lib top flat → n < length top.nets → IsSeen flat.scopes n
+top_seen s lib top flat n whole lt = (top_scope top, whole.top_there, in_numbers (length top.nets) 0 n (omega arith) (omega (arith, lt)))
+
+ports_seen : (s : Source) (lib : Library) (top : Module) (flat : Flat) (nets : List ℕ) (n : ℕ) → IsWhole s lib top flat → AllBelow (length top.nets) nets
+    → In n nets → IsSeen flat.scopes n
+ports_seen s lib top flat nets n whole below has = top_seen s lib top flat n whole (below_in (length top.nets) nets n below has)
+
+seen_none : (x : Scope) (xs : List Scope) (n : ℕ) → (In n x.nets → ⊥) → (IsSeen xs n → ⊥) → IsSeen (x ∷ xs) n → ⊥
+seen_none x xs n not_here none (scope, inl same, has) = not_here (subst (λ (y : Scope). In n y.nets) (sym same) has)
+seen_none x xs n not_here none (scope, inr later, has) = none (scope, later, has)
+
+-- a net has an instance or it has none
+seen_or : (scopes : List Scope) (n : ℕ) → IsSeen scopes n ⊎ (IsSeen scopes n → ⊥)
+seen_or [] n = inr (λ seen. seen.1)
+seen_or (x ∷ xs) n = elim (in_or n x.nets) [
+  | inl here ↦ inl (x, inl refl, here)
+  | inr not_here ↦ elim (seen_or xs n) [
+    | inl later ↦ inl (later.0, inr later.1, later.2)
+    | inr none ↦ inr (seen_none x xs n not_here none)
+  ]
+]
+
+const_more : (s : Source) (lib : Library) (flat : Flat) (at : Located) (n : ℕ) → In at flat.items → IsConst (gates_of (parts_of s lib at)) n
+    → IsConst (gates_of (parts_in s lib flat)) n
+const_more s lib flat at n at_there (g, there, out, none) =
+    let (q, q_of, has) = from_flat part_gates g (parts_of s lib at) there in
+    (g, In-flat part_gates g q (parts_in s lib flat) (In-flat (parts_of s lib) q at flat.items at_there q_of) has, out, none)
+
+-- what a part of the circuit reads
+reads_known : (s : Source) (lib : Library) (top : Module) (flat : Flat) (n : ℕ) → IsSettled s lib top flat → In n (reads_of (parts_in s lib flat))
+    → IsSeen flat.scopes n ⊎ IsConst (gates_of (parts_in s lib flat)) n
+reads_known s lib top flat n known has =
+    let (p, p_there, reads) = from_flat part_reads n (parts_in s lib flat) has in
+    let (at, at_there, p_of) = from_flat (parts_of s lib) p flat.items p_there in
+    let seat = known.whole.seated.items at at_there in
+    let free = all_in (λ (a : Located). IsFaultless s lib a.scope a.item) flat.items at known.fine.items at_there in
+    elim (item_known s lib at.scope at.first at.item n seat.lawful free (In-flat part_reads n p (parts_of s lib at) p_of reads)) [
+      | inl here ↦ inl (at.scope, seat.there, here)
+      | inr const ↦ inr (const_more s lib flat at n at_there const)
+    ]
+
+flat_flat : (s : Source) (lib : Library) (items : List Located) → outs_of (flat_map (parts_of s lib) items) ≡ flat_map (item_outs s lib) items
+flat_flat s lib [] = refl
+flat_flat s lib (at ∷ items) =
+    flat_map-append part_outs (parts_of s lib at) (flat_map (parts_of s lib) items)
+    ∙ ap (λ (ns : List ℕ). item_outs s lib at ++ ns) (flat_flat s lib items)
+
+-- registers and gates are counted with their parts
+split_count : (n : ℕ) (ps : List Part)
+    → count_by (λ m. m == n) (flat_map reg_nets (flat_map part_regs ps)) + count_by (λ m. m == n) (gate_nets (gates_of ps)) ≡ count_by (λ m. m == n) (outs_of ps)
+split_count n [] = omega arith
+split_count n (part.Comb buffer ins gates ∷ ps) =
+    let p : ℕ → Bool = λ m. m == n in
+    let nets = ap (λ (ns : List ℕ). count_by p ns) (map-append (λ (g : Gate). g.out) gates (gates_of ps)) in
+    omega (arith, nets, count_append p (gate_nets gates) (gate_nets (gates_of ps)), count_append p (gate_nets gates) (outs_of ps), split_count n ps)
+split_count n (part.Flop clock reg ∷ ps) =
+    let p : ℕ → Bool = λ m. m == n in
+    omega (arith, count_append p (reg_nets reg) (flat_map reg_nets (flat_map part_regs ps)), count_append p (reg_nets reg) (outs_of ps), split_count n ps)
+
+-- a net that no instance has is driven once
+drivers_once : (s : Source) (lib : Library) (top : Module) (clock : Option (List ℕ)) (n : ℕ) → IsWhole s lib top (flat_of s lib top) → ArePortsBelow top clock
+    → (IsSeen (flat_of s lib top).scopes n → ⊥) → count_by (λ m. m == n) (all_drivers (circuit_of s lib top clock)) ≤ 1
+unfolding circuit_of
+drivers_once s lib top clock n whole ports unseen =
+    let flat = flat_of s lib top in
+    let p : ℕ → Bool = λ m. m == n in
+    let clocks = bit_nets (clock_bits clock top) in
+    let inputs = bit_nets (data_bits clock top) in
+    let ps = parts_in s lib flat in
+    let regs = flat_map reg_nets (flat_map part_regs ps) in
+    let gates = gate_nets (gates_of ps) in
+    let no_clock = zero_of n clocks (λ has. unseen (ports_seen s lib top flat clocks n whole ports.clocks has)) in
+    let no_input = zero_of n inputs (λ has. unseen (ports_seen s lib top flat inputs n whole ports.inputs has)) in
+    let once = whole.seated.once n unseen in
+    let all = ap (λ (ns : List ℕ). count_by p ns) (flat_flat s lib flat.items) in
+    omega (
+      arith,
+      count_append p ((clocks ++ inputs) ++ regs) gates,
+      count_append p (clocks ++ inputs) regs,
+      count_append p clocks inputs,
+      no_clock,
+      no_input,
+      split_count n ps,
+      all,
+      once,
+    )
+
+gate_counted : (gates : List Gate) (g : Gate) (n : ℕ) → In g gates → g.out ≡ n → 1 ≤ count_by (λ m. m == n) (gate_nets gates)
+gate_counted gates g n there out =
+    count_contains n (gate_nets gates) (subst (λ (m : ℕ). Contains (gate_nets gates) m) out
+    (Contains-from_In (gate_nets gates) g.out (In-map (λ (g : Gate). g.out) g gates there)))
+
+-- a constant and a gate that reads are two drivers
+two_counted : (gates : List Gate) (g h : Gate) (n m : ℕ) → In g gates → In h gates → g.out ≡ n → h.out ≡ n → g.ins ≡ [] → In m h.ins
+    → 2 ≤ count_by (λ m. m == n) (gate_nets gates)
+two_counted [] g h n m there here one other none reads = absurd there
+two_counted (x ∷ xs) g h n m (inl there) (inl here) one other none reads =
+    let same : g ≡ h = sym there ∙ here in
+    absurd (subst (λ (ns : List ℕ). In m ns) (sym (ap (λ (y : Gate). y.ins) same) ∙ none) reads)
+two_counted (x ∷ xs) g h n m (inl there) (inr here) one other none reads =
+    omega (arith, count_cons (λ m. m == n) x.out (gate_nets xs), counted n x.out (ap (λ (y : Gate). y.out) there ∙ one), gate_counted xs h n here other)
+two_counted (x ∷ xs) g h n m (inr there) (inl here) one other none reads =
+    omega (arith, count_cons (λ m. m == n) x.out (gate_nets xs), counted n x.out (ap (λ (y : Gate). y.out) here ∙ other), gate_counted xs g n there one)
+two_counted (x ∷ xs) g h n m (inr there) (inr here) one other none reads =
+    omega (arith, count_cons (λ m. m == n) x.out (gate_nets xs), two_counted xs g h n m there here one other none reads)
+
+-- a gate that reads and drives the net
+abbrev IsReader : List Gate → ℕ → Type 0
+IsReader gates n = (h : Gate) × (m : ℕ) × In h gates × (h.out ≡ n) × In m h.ins
+
+two_many : (s : Source) (lib : Library) (top : Module) (clock : Option (List ℕ)) (n : ℕ)
+    → count_by (λ m. m == n) (all_drivers (circuit_of s lib top clock)) ≤ 1
+    → 2 ≤ count_by (λ m. m == n) (gate_nets (gates_of (parts_in s lib (flat_of s lib top)))) → ⊥
+unfolding circuit_of
+two_many s lib top clock n most two =
+    let ps = parts_in s lib (flat_of s lib top) in
+    let before = bit_nets (clock_bits clock top) ++ bit_nets (data_bits clock top) ++ flat_map reg_nets (flat_map part_regs ps) in
+    omega (arith, most, two, count_append (λ m. m == n) before (gate_nets (gates_of ps)))
+
+-- a constant's net that a gate drives which reads is driven twice
+seen_of : (s : Source) (lib : Library) (top : Module) (clock : Option (List ℕ)) (n : ℕ) → IsSettled s lib top (flat_of s lib top) → ArePortsBelow top clock
+    → IsSeen (flat_of s lib top).scopes n ⊎ IsConst (gates_of (parts_in s lib (flat_of s lib top))) n
+    → IsReader (gates_of (parts_in s lib (flat_of s lib top))) n → IsSeen (flat_of s lib top).scopes n
+seen_of s lib top clock n known ports (inl seen) reader = seen
+seen_of s lib top clock n known ports (inr (g, there, one, none)) (h, m, here, other, reads) =
+    elim (seen_or (flat_of s lib top).scopes n) [
+      | inl seen ↦ seen
+      | inr unseen ↦
+          let most = drivers_once s lib top clock n known.whole ports unseen in
+          let two = two_counted (gates_of (parts_in s lib (flat_of s lib top))) g h n m there here one other none reads in
+          absurd (two_many s lib top clock n most two)
+    ]
+
+-- the gates of lawful parts read what the parts read
+gate_reads : (nets : ℕ) (ps : List Part) (g : Gate) (m : ℕ) → All (IsLawfulPart nets) ps → In g (gates_of ps) → In m g.ins → In m (reads_of ps)
+gate_reads nets [] g m lawful has reads = absurd has
+gate_reads nets (part.Comb buffer ins gates ∷ ps) g m lawful has reads = elim (In-cases g gates (gates_of ps) has) [
+  | inl here ↦
+      let is = All-head (IsLawfulPart nets) (part.Comb buffer ins gates) ps lawful in
+      let gate = all_in (IsLawfulGate nets ins) gates g is.drives here in
+      In-left m ins (reads_of ps) (subst (λ (ns : List ℕ). In m ns) gate.reads reads)
+  | inr later ↦
+      In-right m ins (reads_of ps) (gate_reads nets ps g m (All-tail (IsLawfulPart nets) (part.Comb buffer ins gates) ps lawful) later reads)
+]
+gate_reads nets (part.Flop clock reg ∷ ps) g m lawful has reads =
+    In-right m (clock ∷ reg.ins) (reads_of ps) (gate_reads nets ps g m (All-tail (IsLawfulPart nets) (part.Flop clock reg) ps lawful) has reads)
+
+-- the last gate on a way
+way_end : (gates : List Gate) (from to : ℕ) (g : Gate) (m : ℕ) → In g gates → g.out ≡ from → In m g.ins → LeadsTo gates from to → IsReader gates to
+way_end gates from to g m there out reads (net.Stay n) = (g, m, there, out, reads)
+way_end gates from to g m there out reads (net.Go_on first last h has first_in rest) =
+    way_end gates h.out to h first (In-from_Contains gates h has) refl (In-from_Contains h.ins first first_in) rest
+
+data_reads : (ps : List Part) (n : ℕ) → In n (flat_map part_data ps) → In n (reads_of ps)
+data_reads [] n has = has
+data_reads (part.Comb true ins gates ∷ ps) n has = In-right n ins (reads_of ps) (data_reads ps n has)
+data_reads (part.Comb false ins gates ∷ ps) n has = elim (In-cases n ins (flat_map part_data ps) has) [
+  | inl here ↦ In-left n ins (reads_of ps) here
+  | inr later ↦ In-right n ins (reads_of ps) (data_reads ps n later)
+]
+data_reads (part.Flop clock reg ∷ ps) n has = elim (In-cases n reg.ins (flat_map part_data ps) has) [
+  | inl here ↦ In-left n (clock ∷ reg.ins) (reads_of ps) (inr here)
+  | inr later ↦ In-right n (clock ∷ reg.ins) (reads_of ps) (data_reads ps n later)
+]
+
+net_of : (scopes : List Scope) (n : ℕ) → IsSeen scopes n → HasNet scopes n
+net_of scopes n (scope, there, has) = (scope, Contains-from_In scopes scope there, Contains-from_In scope.nets n has)
+
+-- constants are no registers
+ties_flopless : (own : ℕ) (ws : List Wire) (clock : ℕ) (reg : Reg) → In (part.Flop clock reg) (ties own ws) → ⊥
+ties_flopless own [] clock reg has = has
+ties_flopless own (wire.Const b ∷ ws) clock reg (inl same) = cc
+ties_flopless own (wire.Const b ∷ ws) clock reg (inr rest) = ties_flopless (own + 1) ws clock reg rest
+ties_flopless own (wire.Net n ∷ ws) clock reg has = ties_flopless (own + 1) ws clock reg has
+
+pin_ties_flopless : (conns : List Conn) (own : ℕ) (pins : List (List ℕ)) (clock : ℕ) (reg : Reg) → In (part.Flop clock reg) (pin_ties conns own pins) → ⊥
+pin_ties_flopless conns own [] clock reg has = has
+pin_ties_flopless conns own (pin ∷ pins) clock reg has =
+    elim (In-cases (part.Flop clock reg) (ties own (wires_of conns pin)) (pin_ties conns (own + 1) pins) has) [
+      | inl here ↦ ties_flopless own (wires_of conns pin) clock reg here
+      | inr later ↦ pin_ties_flopless conns (own + 1) pins clock reg later
+    ]
+
+bit_ties_flopless : (first : ℕ) (bits : List ℕ) (ws : List Wire) (clock : ℕ) (reg : Reg) → In (part.Flop clock reg) (bit_ties first bits ws) → ⊥
+bit_ties_flopless first [] ws clock reg has = has
+bit_ties_flopless first (bit ∷ bits) [] clock reg has = has
+bit_ties_flopless first (bit ∷ bits) (wire.Const b ∷ ws) clock reg (inl same) = cc
+bit_ties_flopless first (bit ∷ bits) (wire.Const b ∷ ws) clock reg (inr rest) = bit_ties_flopless first bits ws clock reg rest
+bit_ties_flopless first (bit ∷ bits) (wire.Net m ∷ ws) clock reg has = bit_ties_flopless first bits ws clock reg has
+
+last_is : (xs : List Part) (p : Part) → last_part (xs ++ p ∷ []) ≡ Some p
+last_is [] p = refl
+last_is (x ∷ []) p = refl
+last_is (x ∷ y ∷ xs) p = last_is (y ∷ xs) p
+
+-- the only register among parts with constants before it
+last_flop : (xs : List Part) (p : Part) (clock : ℕ) (reg : Reg) → (In (part.Flop clock reg) xs → ⊥) → In (part.Flop clock reg) (xs ++ p ∷ [])
+    → p ≡ part.Flop clock reg
+last_flop xs p clock reg none has = elim (In-cases (part.Flop clock reg) xs (p ∷ []) has) [
+  | inl here ↦ absurd (none here)
+  | inr last ↦ elim last [ inl same ↦ same | inr rest ↦ absurd rest ]
+]
+
+-- a leaf that is the register
+abbrev IsLeafOf : List Leaf → ℕ → Reg → Type 0
+IsLeafOf ls clock reg = (l : Leaf) × In l ls × (l.part ≡ part.Flop clock reg)
+
+comb_no_flop : (buffer : Bool) (ins : List ℕ) (gates : List Gate) (clock : ℕ) (reg : Reg) → part.Comb buffer ins gates ≡ part.Flop clock reg → ⊥
+comb_no_flop buffer ins gates clock reg same = cc
+
+leaf_some : (full : List ℕ) (c : Cell) (found : Option Part) (p : Part) (clock : ℕ) (reg : Reg) → found ≡ Some p → p ≡ part.Flop clock reg
+    → IsLeafOf (leaf_if_any full (Some c) found) clock reg
+leaf_some full c None p clock reg is same = cc
+leaf_some full c (Some q) p clock reg is same =
+    let l : Leaf = record { name = full; cell = Some c; part = q } in let same2 : q ≡ p = cc in (l, inl refl, same2 ∙ same)
+
+cell_leaf : (nets full : List ℕ) (conns : List Conn) (first : ℕ) (c : Cell) (k : CellKind) (clock : ℕ) (reg : Reg) → c.kind ≡ k
+    → In (part.Flop clock reg) (cell_ties conns first c ++ cell_part nets conns first c)
+    → IsLeafOf (leaf_if_any full (Some c) (last_part (cell_ties conns first c ++ cell_part nets conns first c))) clock reg
+cell_leaf nets full conns first c (kind.Comb outs) clock reg is has =
+    let ins = pin_nets nets conns first c.inputs in
+    let own : Part = part.Comb (is_buffer_cell c.inputs outs) ins (comb_gates nets conns ins (outs_from first c) outs) in
+    let ties_are : cell_ties conns first c ≡ pin_ties conns first c.inputs = rw is refl in
+    let part_is : cell_part nets conns first c ≡ own ∷ [] = rw is refl in
+    let all : cell_ties conns first c ++ cell_part nets conns first c ≡ pin_ties conns first c.inputs ++ own ∷ [] =
+    ap (λ (ps : List Part). ps ++ cell_part nets conns first c) ties_are ∙ ap (λ (ps : List Part). pin_ties conns first c.inputs ++ ps) part_is in
+    let same = last_flop (pin_ties conns first c.inputs) own clock reg (pin_ties_flopless conns first c.inputs clock reg)
+    (subst (λ (ps : List Part). In (part.Flop clock reg) ps) all has) in
+    absurd (comb_no_flop (is_buffer_cell c.inputs outs) ins (comb_gates nets conns ins (outs_from first c) outs) clock reg same)
+cell_leaf nets full conns first c (kind.Flop f) clock reg is has =
+    let pins = pin_ties conns first c.inputs in
+    let last = outs_from first c + length f.outs in
+    let tied = ties last (wires_of conns f.clock) in
+    let own : Part = part.Flop (clock_net nets conns first c f) (flop_reg nets conns first c f) in
+    let ties_are : cell_ties conns first c ≡ pins ++ tied = rw is refl in
+    let part_is : cell_part nets conns first c ≡ own ∷ [] = rw is refl in
+    let all : cell_ties conns first c ++ cell_part nets conns first c ≡ (pins ++ tied) ++ own ∷ [] =
+    ap (λ (ps : List Part). ps ++ cell_part nets conns first c) ties_are ∙ ap (λ (ps : List Part). (pins ++ tied) ++ ps) part_is in
+    let none : In (part.Flop clock reg) (pins ++ tied) → ⊥ = λ here. elim (In-cases (part.Flop clock reg) pins tied here) [
+      | inl l ↦ pin_ties_flopless conns first c.inputs clock reg l
+      | inr r ↦ ties_flopless last (wires_of conns f.clock) clock reg r
+    ] in
+    let same = last_flop (pins ++ tied) own clock reg none (subst (λ (ps : List Part). In (part.Flop clock reg) ps) all has) in
+    leaf_some full c (last_part (cell_ties conns first c ++ cell_part nets conns first c)) own clock reg
+    (ap last_part all ∙ last_is (pins ++ tied) own) same
+cell_leaf nets full conns first c kind.Other clock reg is has =
+    let none : cell_ties conns first c ++ cell_part nets conns first c ≡ [] = rw is refl in
+    absurd (subst (λ (ps : List Part). In (part.Flop clock reg) ps) none has)
+
+ports_flopless : (first : ℕ) (conns : List Conn) (ports : List Port) (clock : ℕ) (reg : Reg)
+    → In (part.Flop clock reg) (flat_map (λ (p : Port). bit_ties first p.bits (wires_of conns p.name)) ports) → ⊥
+ports_flopless first conns [] clock reg has = has
+ports_flopless first conns (p ∷ ports) clock reg has =
+    elim (In-cases (part.Flop clock reg) (bit_ties first p.bits (wires_of conns p.name))
+    (flat_map (λ (p : Port). bit_ties first p.bits (wires_of conns p.name)) ports) has) [
+      | inl here ↦ bit_ties_flopless first p.bits (wires_of conns p.name) clock reg here
+      | inr later ↦ ports_flopless first conns ports clock reg later
+    ]
+
+-- the parts of an instance, of what its reference stands for
+abbrev inst_parts_of : List ℕ → List Conn → ℕ → Option Module → Option Cell → List Part
+inst_parts_of nets conns first found owned = elim found [
+  | Some m ↦ flat_map (λ (p : Port). bit_ties first p.bits (wires_of conns p.name)) m.ports
+  | None ↦ elim owned [ None ↦ [] | Some c ↦ cell_ties conns first c ++ cell_part nets conns first c ]
+]
+
+abbrev inst_leaves_of : List ℕ → List Part → Option Module → Option Cell → List Leaf
+inst_leaves_of full ps found owned = elim found [
+  | Some m ↦ []
+  | None ↦ elim owned [ None ↦ [] | Some c ↦ leaf_if_any full (Some c) (last_part ps) ]
+]
+
+inst_leaf : (nets full : List ℕ) (conns : List Conn) (first : ℕ) (found : Option Module) (owned : Option Cell) (clock : ℕ) (reg : Reg)
+    → In (part.Flop clock reg) (inst_parts_of nets conns first found owned)
+    → IsLeafOf (inst_leaves_of full (inst_parts_of nets conns first found owned) found owned) clock reg
+inst_leaf nets full conns first None None clock reg has = absurd has
+inst_leaf nets full conns first None (Some c) clock reg has = cell_leaf nets full conns first c c.kind clock reg refl has
+inst_leaf nets full conns first (Some m) owned clock reg has = absurd (ports_flopless first conns m.ports clock reg has)
+
+abbrev prim_parts : List ℕ → ℕ → PrimKind → List ℕ → List Wire → List Part
+prim_parts nets first k outs ins =
+    let pins = wire_nets nets first ins in
+    ties first ins ++ part.Comb (is_buffer_prim k) pins (map (λ (out : ℕ). prim_gate k pins (slice_index nets out)) outs) ∷ []
+
+prim_flopless : (nets : List ℕ) (first : ℕ) (k : PrimKind) (outs : List ℕ) (ins : List Wire) (clock : ℕ) (reg : Reg)
+    → In (part.Flop clock reg) (prim_parts nets first k outs ins) → ⊥
+prim_flopless nets first k outs ins clock reg has =
+    let pins = wire_nets nets first ins in
+    let gates = map (λ (out : ℕ). prim_gate k pins (slice_index nets out)) outs in
+    comb_no_flop (is_buffer_prim k) pins gates clock reg
+    (last_flop (ties first ins) (part.Comb (is_buffer_prim k) pins gates) clock reg (ties_flopless first ins clock reg) has)
+
+copy_flopless : (nets : List ℕ) (first to : ℕ) (from : Wire) (clock : ℕ) (reg : Reg) → In (part.Flop clock reg) (copy_parts nets first to from) → ⊥
+copy_flopless nets first to from clock reg has =
+    let pins = wire_net nets first from ∷ [] in
+    let gates = prim_gate prim.Buf pins (slice_index nets to) ∷ [] in
+    comb_no_flop true pins gates clock reg
+    (last_flop (ties first (from ∷ [])) (part.Comb true pins gates) clock reg (ties_flopless first (from ∷ []) clock reg) has)
+
+-- the leaf of a register
+leaf_at : (s : Source) (lib : Library) (at : Located) (x : Item) (clock : ℕ) (reg : Reg) → at.item ≡ x → In (part.Flop clock reg) (parts_of s lib at)
+    → IsLeafOf (leaves_of s lib at) clock reg
+unfolding leaves_of inst_parts
+leaf_at s lib at (item.Inst cell name conns) clock reg is has =
+    let ps : parts_of s lib at ≡ inst_parts_of at.scope.nets conns at.first (module_of s cell) (cell_of lib cell) = rw is refl in
+    let ls : leaves_of s lib at ≡ inst_leaves_of (at.scope.prefix ++ name) (parts_of s lib at) (module_of s cell) (cell_of lib cell) = rw is refl in
+    subst (λ (xs : List Leaf). IsLeafOf xs clock reg)
+    (sym (ls ∙ ap (λ (qs : List Part). inst_leaves_of (at.scope.prefix ++ name) qs (module_of s cell) (cell_of lib cell)) ps))
+    (inst_leaf at.scope.nets (at.scope.prefix ++ name) conns at.first (module_of s cell) (cell_of lib cell) clock reg
+    (subst (λ (qs : List Part). In (part.Flop clock reg) qs) ps has))
+leaf_at s lib at (item.Prim k name outs ins) clock reg is has =
+    let ps : parts_of s lib at ≡ prim_parts at.scope.nets at.first k outs ins = rw is refl in
+    absurd (prim_flopless at.scope.nets at.first k outs ins clock reg (subst (λ (qs : List Part). In (part.Flop clock reg) qs) ps has))
+leaf_at s lib at (item.Copy to from) clock reg is has =
+    let ps : parts_of s lib at ≡ copy_parts at.scope.nets at.first to from = rw is refl in
+    absurd (copy_flopless at.scope.nets at.first to from clock reg (subst (λ (qs : List Part). In (part.Flop clock reg) qs) ps has))
+
+-- the register at a place among the parts has a leaf
+reg_named : (s : Source) (lib : Library) (flat : Flat) (place clock : ℕ) (reg : Reg)
+    → slice_get (parts_in s lib flat) place ≡ Some (part.Flop clock reg)
+    → (l : Leaf) × Contains (leaves s lib flat) l × (slice_get (parts_in s lib flat) place ≡ Some l.part)
+reg_named s lib flat place clock reg at =
+    let there = In-from_Contains (parts_in s lib flat) (part.Flop clock reg) (contains_at (parts_in s lib flat) place (part.Flop clock reg) at) in
+    let (a, a_there, has) = from_flat (parts_of s lib) (part.Flop clock reg) flat.items there in
+    let (l, l_there, is) = leaf_at s lib a a.item clock reg refl has in (
+      l,
+      Contains-from_In (leaves s lib flat) l (In-flat (leaves_of s lib) l a flat.items a_there l_there),
+      at ∙ ap (λ (p : Part). Some p) (sym is),
+    )
+
+-- what is known where a circuit is refused
+record IsRefusedBelow (s : Source) (lib : Library) (top : Module) (clock : Option (List ℕ)) : Type 0 where
+  pub known : IsSettled s lib top (flat_of s lib top)
+  pub ports : ArePortsBelow top clock
+  pub lawful : IsLawfulCircuit (circuit_of s lib top clock)
+
+abbrev all_parts : Source → Library → Module → List Part
+all_parts s lib top = parts_in s lib (flat_of s lib top)
+
+read_seen : (s : Source) (lib : Library) (top : Module) (clock : Option (List ℕ)) (n : ℕ) → IsRefusedBelow s lib top clock
+    → In n (all_reads (circuit_of s lib top clock)) → IsSeen (flat_of s lib top).scopes n ⊎ IsConst (gates_of (all_parts s lib top)) n
+unfolding circuit_of
+read_seen s lib top clock n r has =
+    elim (In-cases n (bit_nets (output_bits top)) (reads_of (all_parts s lib top)) has) [
+      | inl out ↦ inl (ports_seen s lib top (flat_of s lib top) (bit_nets (output_bits top)) n r.known.whole r.ports.outputs out)
+      | inr pin ↦ reads_known s lib top (flat_of s lib top) n r.known pin
+    ]
+
+data_seen : (s : Source) (lib : Library) (top : Module) (clock : Option (List ℕ)) (n : ℕ) → IsRefusedBelow s lib top clock
+    → In n (all_data (circuit_of s lib top clock)) → IsSeen (flat_of s lib top).scopes n ⊎ IsConst (gates_of (all_parts s lib top)) n
+unfolding circuit_of
+data_seen s lib top clock n r has =
+    elim (In-cases n (bit_nets (output_bits top)) (flat_map part_data (all_parts s lib top)) has) [
+      | inl out ↦ inl (ports_seen s lib top (flat_of s lib top) (bit_nets (output_bits top)) n r.known.whole r.ports.outputs out)
+      | inr pin ↦ reads_known s lib top (flat_of s lib top) n r.known (data_reads (all_parts s lib top) n pin)
+    ]
+
+const_driven : (s : Source) (lib : Library) (top : Module) (clock : Option (List ℕ)) (n : ℕ) → IsConst (gates_of (all_parts s lib top)) n
+    → Contains (all_drivers (circuit_of s lib top clock)) n
+unfolding circuit_of
+const_driven s lib top clock n (g, there, out, none) =
+    let gates = gates_of (all_parts s lib top) in
+    let before = bit_nets (clock_bits clock top) ++ bit_nets (data_bits clock top) ++ flat_map reg_nets (flat_map part_regs (all_parts s lib top)) in
+    Contains-from_In (before ++ gate_nets gates) n
+    (In-right n before (gate_nets gates) (subst (λ (m : ℕ). In m (gate_nets gates)) out (In-map (λ (g : Gate). g.out) g gates there)))
+
+tree_seen : (s : Source) (lib : Library) (top : Module) (clock : Option (List ℕ)) (n : ℕ) (odd : Bool) → IsRefusedBelow s lib top clock
+    → OnTree (circuit_of s lib top clock) n odd → IsSeen (flat_of s lib top).scopes n ⊎ IsReader (gates_of (all_parts s lib top)) n
+unfolding circuit_of
+tree_seen s lib top clock n odd r (net.Root m there) =
+    inl (ports_seen s lib top (flat_of s lib top) (bit_nets (clock_bits clock top)) m r.known.whole r.ports.clocks
+    (In-from_Contains (bit_nets (clock_bits clock top)) m there))
+tree_seen s lib top clock n odd r (net.Buffered from gates g even has g_there tree) =
+    let ps = all_parts s lib top in
+    let p : Part = part.Comb true (from ∷ []) gates in
+    let p_in = In-from_Contains ps p has in
+    let is = all_in (IsLawfulPart (flat_of s lib top).count) ps p r.lawful.parts p_in in
+    let gate = all_in (IsLawfulGate (flat_of s lib top).count (from ∷ [])) gates g is.drives (In-from_Contains gates g g_there) in
+    let reads : In from g.ins = subst (λ (ns : List ℕ). In from ns) (sym gate.reads) (inl refl) in
+    inr (g, from, In-flat part_gates g p ps p_in (In-from_Contains gates g g_there), refl, reads)
+
+either_seen : (s : Source) (lib : Library) (top : Module) (clock : Option (List ℕ)) (n : ℕ) → IsRefusedBelow s lib top clock
+    → IsSeen (flat_of s lib top).scopes n ⊎ IsConst (gates_of (all_parts s lib top)) n
+    → IsSeen (flat_of s lib top).scopes n ⊎ IsReader (gates_of (all_parts s lib top)) n → IsSeen (flat_of s lib top).scopes n
+either_seen s lib top clock n r read (inl seen) = seen
+either_seen s lib top clock n r read (inr reader) = seen_of s lib top clock n r.known r.ports read reader
+
+loop_seen : (s : Source) (lib : Library) (top : Module) (clock : Option (List ℕ)) (n : ℕ) → IsRefusedBelow s lib top clock
+    → IsOnCycle (all_gates (circuit_of s lib top clock)) n → IsSeen (flat_of s lib top).scopes n
+unfolding circuit_of
+loop_seen s lib top clock n r cycle =
+    let ps = all_parts s lib top in
+    let g = cycle.gate in
+    let there = In-from_Contains (gates_of ps) g cycle.there in
+    let reads = In-from_Contains g.ins n cycle.reads in
+    let known = reads_known s lib top (flat_of s lib top) n r.known (gate_reads (flat_of s lib top).count ps g n r.lawful.parts there reads) in
+    seen_of s lib top clock n r.known r.ports known (way_end (gates_of ps) g.out n g n there refl reads cycle.back)
+
+twice_seen : (s : Source) (lib : Library) (top : Module) (clock : Option (List ℕ)) (n : ℕ) → IsRefusedBelow s lib top clock
+    → 1 < count_by (λ m. m == n) (all_drivers (circuit_of s lib top clock)) → IsSeen (flat_of s lib top).scopes n
+twice_seen s lib top clock n r twice = elim (seen_or (flat_of s lib top).scopes n) [
+  | inl seen ↦ seen
+  | inr unseen ↦ let most = drivers_once s lib top clock n r.known.whole r.ports unseen in absurd (omega (arith, most, twice))
+]
+
+undriven_seen : (s : Source) (lib : Library) (top : Module) (clock : Option (List ℕ)) (n : ℕ)
+    → IsSeen (flat_of s lib top).scopes n ⊎ IsConst (gates_of (all_parts s lib top)) n
+    → (Contains (all_drivers (circuit_of s lib top clock)) n → ⊥) → IsSeen (flat_of s lib top).scopes n
+undriven_seen s lib top clock n (inl seen) undriven = seen
+undriven_seen s lib top clock n (inr const) undriven = absurd (undriven (const_driven s lib top clock n const))
+
+flop_named : (s : Source) (lib : Library) (top : Module) (clock : Option (List ℕ)) (place net : ℕ) (reg : Reg)
+    → slice_get (circuit_of s lib top clock).parts place ≡ Some (part.Flop net reg)
+    → (l : Leaf) × Contains (leaves s lib (flat_of s lib top)) l × (slice_get (circuit_of s lib top clock).parts place ≡ Some l.part)
+unfolding circuit_of
+flop_named s lib top clock place net reg at = reg_named s lib (flat_of s lib top) place net reg at
+
+named_by : (s : Source) (lib : Library) (top : Module) (clock : Option (List ℕ)) (f : CircuitFault) → IsRefusedBelow s lib top clock
+    → IsCause (circuit_of s lib top clock) f → HasName s lib (flat_of s lib top) (circuit_of s lib top clock) f
+named_by s lib top clock (fault.Undriven n) r cause =
+    let c = circuit_of s lib top clock in
+    net_of (flat_of s lib top).scopes n
+    (undriven_seen s lib top clock n (read_seen s lib top clock n r (In-from_Contains (all_reads c) n cause.0)) cause.1)
+named_by s lib top clock (fault.ManyDrivers n) r cause = net_of (flat_of s lib top).scopes n (twice_seen s lib top clock n r cause)
+named_by s lib top clock (fault.Loop n) r cause = net_of (flat_of s lib top).scopes n (loop_seen s lib top clock n r cause)
+named_by s lib top clock (fault.NotTheClock place) r cause = let (pin, reg, at, off) = cause in flop_named s lib top clock place pin reg at
+named_by s lib top clock (fault.ClockAsData n) r cause =
+    let (odd, reads, tree) = cause in
+    let c = circuit_of s lib top clock in
+    net_of (flat_of s lib top).scopes n
+    (either_seen s lib top clock n r (data_seen s lib top clock n r (In-from_Contains (all_data c) n reads)) (tree_seen s lib top clock n odd r tree))
+named_by s lib top clock (fault.Limit kind number) r cause = tt
+named_by s lib top clock fault.Memory r cause = tt
+
+-- the law
+pub all_named : (s : Source) (lib : Library) (top : Module) → IsLawful s → IsLawfulLibrary lib.cells → IsLawfulModule s top → Contains s.modules top
+    → AreFine s lib (flat_of s lib top) → (clock : Option (List ℕ)) (f : CircuitFault) → IsCause (circuit_of s lib top clock) f
+    → HasName s lib (flat_of s lib top) (circuit_of s lib top clock) f
+all_named s lib top lawful cells is there fine clock f cause =
+    let some : 1 ≤ length s.modules = omega (arith, there.1) in
+    named_by s lib top clock f (record {
+      known = record { whole = flat_whole s lib top some lawful is; fine = fine };
+      ports = ports_below s top clock is;
+      lawful = circuit_lawful s lib top lawful cells is fine clock;
+    }) cause

@@ -1,0 +1,68 @@
+-- What a refusal of a circuit speaks of, by its full name.
+use Rattle.std.specs.Prelude.{◌≡◌, ℕ, ◌==◌, Bool, true, false, List, map, Contains, Option, Some, None, slice_get, is_some}
+use Rattle.std.specs.List.{position}
+use Rattle.net_model.specs.declared.netlist.Reg.{Reg}
+use Rattle.verilog_net.specs.declared.sources.Source.{Source}
+use Rattle.verilog_net.specs.declared.sources.Module.{Module}
+use Rattle.cell_types.specs.declared.libraries.Library.{Library}
+use Rattle.link_defs.specs.declared.circuits.Circuit.{Circuit}
+use Rattle.link_defs.specs.declared.circuits.Part.{Part}
+use Rattle.link_defs.specs.declared.circuits.Part.TheVariants as part
+use Rattle.link_defs.specs.Circuits.{circuit_of}
+use Rattle.link_defs.specs.CellNames.{Leaf, leaves}
+use Rattle.link_defs.specs.Flatten.{Scope, Flat, flat_of}
+use Rattle.link_items.specs.declared.made.Instance.{Instance}
+use Rattle.link_items.specs.declared.made.LeafPlace.{LeafPlace}
+use Rattle.link_items.specs.Items.{scope_of, AreLeavesAt}
+use Rattle.link_flat.specs.Flats.{AreScopes}
+use Rattle.link_circuit.specs.declared.circuits.FlatCircuit.{FlatCircuit}
+use Rattle.circuit_link.specs.declared.faults.CircuitFault.{CircuitFault}
+use Rattle.circuit_link.specs.declared.faults.CircuitFault.TheVariants as fault
+
+-- one of the instances has the net, and so the net has a full name
+abbrev pub HasNet : List Scope → ℕ → Type 0
+HasNet scopes net = (scope : Scope) × Contains scopes scope × Contains scope.nets net
+
+-- what the refusal speaks of has a full name: its net, or the register at its place
+abbrev pub HasName : Source → Library → Flat → Circuit → CircuitFault → Type 0
+HasName s lib flat c (fault.Undriven net) = HasNet flat.scopes net
+HasName s lib flat c (fault.ManyDrivers net) = HasNet flat.scopes net
+HasName s lib flat c (fault.Loop net) = HasNet flat.scopes net
+HasName s lib flat c (fault.NotTheClock place) = (l : Leaf) × Contains (leaves s lib flat) l × (slice_get c.parts place ≡ Some l.part)
+HasName s lib flat c (fault.ClockAsData net) = HasNet flat.scopes net
+HasName s lib flat c (fault.Limit kind number) = Unit {0}
+HasName s lib flat c fault.Memory = Unit {0}
+
+-- the circuit below a module, with its instances and its leaves
+pub record IsCircuitBelow (s : Source) (lib : Library) (top : Module) (clock : Option (List ℕ)) (c : FlatCircuit) : Type 0 where
+  pub circuit : c.circuit ≡ circuit_of s lib top clock
+  pub scopes : map (scope_of s) c.scopes ≡ (flat_of s lib top).scopes
+  pub are_scopes : AreScopes s c.scopes
+  pub leaves : AreLeavesAt lib c.circuit.parts c.leaves (leaves s lib (flat_of s lib top))
+
+-- the net stands among these
+abbrev pub is_there : ℕ → List ℕ → Bool
+is_there net nets = is_some (position (λ n. n == net) nets)
+
+-- the instance has the net
+abbrev pub has_net : ℕ → Instance → Bool
+has_net net g = is_there net g.nets
+
+-- the part is a register on that clock
+abbrev pub is_clocked : ℕ → Part → Bool
+is_clocked net (part.Comb buffer ins gates) = false
+is_clocked net (part.Flop clock reg) = clock == net
+
+-- so is the part of the leaf
+abbrev pub is_leaf_on : ℕ → List Part → LeafPlace → Bool
+is_leaf_on net parts x = elim (slice_get parts x.part) [ None ↦ false | Some p ↦ is_clocked net p ]
+
+-- there is a register at the place, and a leaf that is on the same clock
+abbrev pub HasLeafOn : List Part → List LeafPlace → ℕ → Type 0
+HasLeafOn parts places place = (clock : ℕ) × (reg : Reg) × (slice_get parts place ≡ Some (part.Flop clock reg))
+    × ((x : LeafPlace) × Contains places x × (is_leaf_on clock parts x ≡ true))
+
+-- the name of such a leaf
+abbrev pub IsNameOn : List Part → List LeafPlace → ℕ → List ℕ → Type 0
+IsNameOn parts places place name = (x : LeafPlace) × (clock : ℕ) × (here there : Reg) × Contains places x × (x.name ≡ name)
+    × (slice_get parts place ≡ Some (part.Flop clock here)) × (slice_get parts x.part ≡ Some (part.Flop clock there))
