@@ -1,17 +1,13 @@
-//! Sound cases, and kept sets for them.
-ghost use Rattle.std.specs.Prelude.{◌<◌, All, IfOk};
+//! Sound designs, each with a claim.
+ghost use Rattle.std.specs.Prelude.{◌<◌, All, IfOk, length};
 ghost use Rattle.net_model.specs.Netlist.{IsSound};
 ghost use Rattle.net_model.specs.Fits.{Fits};
-ghost use Rattle.query_model.specs.Laws.{NamesRegs};
-ghost use Rattle.verdicts.specs.Inductive.{AreAlwaysMet};
 
-use induction::greatest_set;
-use net_model::Design;
+use net_model::{Claim, Design};
 use net_samples::{Ask, Case, Part, case_of};
 use sdcv_base::Seq;
 use std::alloc::{AllocError, Global};
 use std::process::Abort;
-use verdicts::InvSet;
 
 /// A design, which is sound, and a claim that fits it.
 pub fn sound_case(
@@ -29,13 +25,13 @@ pub fn sound_case(
     Ok(case)
 }
 
-/// No clause is tried, and none is kept.
-pub fn none_kept(alloc: Global, design: &Design) -> Result<InvSet, AllocError>
-    requires { IsSound design.now }
-    ensures met { IfOk result (λ set. AreAlwaysMet design.now set.kept) }
-    ensures names { IfOk result (λ set. All (NamesRegs design.now) set.kept) }
+/// A claim alone.
+pub fn one_claim(alloc: Global, design: &Design, claim: Claim) -> Result<Seq<Claim>, AllocError>
+    requires { Fits design.now claim }
+    ensures fit { IfOk result (All (Fits design.now)) }
+    ensures some { IfOk result (λ claims. 0 < length claims) }
 {
-    let none = Seq::new(alloc);
-    let set = greatest_set(alloc, design, &none, 1, 1)?;
-    Ok(set)
+    let mut claims = Seq::new(alloc);
+    claims.push(claim)?;
+    Ok(claims)
 }

@@ -97,6 +97,21 @@ pub const PARITY: &[Part] = &[
     Holds(Pin(0), FREE, &[14], &[Q(6)]),
 ];
 
+/// The same parity, which register 0 takes; register 1 takes register 0.
+pub const HELD_PARITY: &[Part] = &[
+    Nets(14, &[0, 1, 2, 3, 4]),
+    Reset(0, true),
+    Drives(Xor(0, 1), &[1, 2], 7),
+    Drives(Xor(0, 1), &[7, 3], 8),
+    Drives(Xor(0, 1), &[8, 4], 9),
+    Drives(Xor(0, 1), &[4, 3], 10),
+    Drives(Xor(0, 1), &[10, 2], 11),
+    Drives(Xor(0, 1), &[11, 1], 12),
+    Drives(Xor(0, 1), &[9, 12], 13),
+    Holds(Pin(0), CLEARED, &[13, 0], &[Q(5)]),
+    Holds(Pin(0), CLEARED, &[5, 0], &[Q(6)]),
+];
+
 /// Register 1 takes register 0 where register 3 is 1. Register 3 takes register 2, which is 1 from the second cycle after
 /// the reset on.
 pub const LATE: &[Part] = &[
@@ -106,6 +121,22 @@ pub const LATE: &[Part] = &[
     Holds(And(0, 1), FREE, &[2, 5], &[Q(3)]),
     Holds(One, CLEARED_0, &[1], &[Q(4)]),
     Holds(Pin(0), CLEARED, &[4, 1], &[Q(5)]),
+];
+
+/// Register 0 is 1 from the second cycle after the reset on, and register 1 from the third.
+pub const RISING: &[Part] = &[
+    Nets(3, &[0]),
+    Reset(0, true),
+    Holds(One, CLEARED_0, &[0], &[Q(1)]),
+    Holds(Pin(0), CLEARED, &[1, 0], &[Q(2)]),
+];
+
+/// Two registers that take each other, both 0.
+pub const COPIES: &[Part] = &[
+    Nets(3, &[0]),
+    Reset(0, true),
+    Holds(Pin(0), CLEARED, &[2, 0], &[Q(1)]),
+    Holds(Pin(0), CLEARED, &[1, 0], &[Q(2)]),
 ];
 
 /// A register that takes its complement.

@@ -1,4 +1,4 @@
-//! Verdicts on claims of small designs, beside those worked out by hand.
+//! Verdicts on claims of small designs and the clauses that are kept for them, beside those worked out by hand.
 //!
 //! This crate has tests alone.
 #![tactic(auto)]
@@ -9,3 +9,5 @@ mod cases;
 mod designs;
 #[cfg(test)]
 mod judged_claims;
+#[cfg(test)]
+mod kept_clauses;
