@@ -1,0 +1,299 @@
+-- The causes of refusals, and none of them where there is a design.
+use Rattle.std.proofs.Common.{◌≡◌, ◌≢◌, ℕ, List, [], ◌∷◌, ◌++◌, length, map, Some, None, refl, ap}
+use Rattle.std.proofs.Common.{subst, sym, ◌∙◌, arith, inl, inr}
+use Rattle.std.specs.Prelude.{Option, Contains, slice_get}
+use Rattle.sdcv_base.specs.declared.limits.LimitName.{LimitName}
+use Rattle.sdcv_base.specs.declared.limits.LimitName.TheVariants as what
+use Rattle.net_model.proofs.Members.{In-left, In-cases, in_or, In-from_Contains, Contains-from_In}
+use Rattle.verilog_net.specs.declared.sources.Source.{Source}
+use Rattle.verilog_net.specs.declared.sources.Module.{Module}
+use Rattle.verilog_net.specs.declared.sources.Conn.{Conn}
+use Rattle.verilog_net.specs.declared.sources.Item.{Item}
+use Rattle.verilog_net.specs.declared.sources.Item.TheVariants as item
+use Rattle.verilog_net.specs.Lawful.{module_of}
+use Rattle.cell_types.specs.declared.libraries.Library.{Library}
+use Rattle.cell_types.specs.declared.libraries.Cell.{Cell}
+use Rattle.circuit_link.specs.declared.faults.CircuitFault.TheVariants as circuit
+use Rattle.circuit_link.specs.Faults.{IsFaultless as IsFaultlessCircuit, IsAboveLimit as IsAboveCircuit}
+use Rattle.circuit_link.specs.Faults as above
+use Rattle.link_clashes.specs.Clashes.{leaf_names, IsApart, IsClash}
+use Rattle.link_defs.specs.declared.circuits.Circuit.{Circuit}
+use Rattle.link_defs.specs.declared.circuits.Part.{Part}
+use Rattle.link_defs.specs.declared.faults.LinkFault.{LinkFault}
+use Rattle.link_defs.specs.declared.faults.LinkFault.TheVariants as fault
+use Rattle.link_defs.specs.declared.options.LinkOptions.{LinkOptions}
+use Rattle.link_defs.specs.CellNames.{Leaf, leaves}
+use Rattle.link_defs.specs.Circuits.{circuit_of, input_bits, output_bits, all_drivers, all_reads}
+use Rattle.link_defs.specs.Faults.{IsInstance, IsOfModule, IsOfCell, IsOfModelled, IsUnknownPin, IsOpenInput, HasManyDrivers, StandsTwice, bit_names, Clashes}
+use Rattle.link_defs.specs.Faults.{HasManyPins, IsWidePrim, IsAboveLimit, IsBadSetting, IsFlatCause, IsCause, IsFaultless}
+use Rattle.link_defs.specs.Faults as link
+use Rattle.link_defs.specs.Flatten.{Located, Flat, flat_of, full_names}
+use Rattle.link_defs.specs.Hierarchy.{cell_of, tops}
+use Rattle.link_items.specs.declared.made.LeafPlace.{LeafPlace}
+use Rattle.link_items.specs.Faults.{IsInstFault, IsItemFault, IsFaultless as IsFaultlessItem}
+use Rattle.link_items.specs.Items.{AreLeavesAt}
+use Rattle.link_flat.specs.Flats.{AreFine, IsUnrecursive, IsCauseIn}
+use Rattle.link_settings.specs.Ports.{IsPortCause}
+use Rattle.link_tops.specs.Tops.{IsTopCause}
+use Rattle.circuit_link.proofs.Parted.{all_in}
+use Rattle.net_link.specs.Nets.{IsOfTwoNets, IsNetCause}
+
+-- a cause below the only top module is one of the source
+pub cause_of : (s : Source) (lib : Library) (o : LinkOptions) (top : Module) (e : LinkFault) → tops s ≡ top ∷ []
+    → IsFlatCause s lib o top (flat_of s lib top) (circuit_of s lib top o.clock) e → IsCause s lib o e
+cause_of s lib o top (fault.UnknownCell n) one cause = (top, one, cause)
+cause_of s lib o top (fault.UnsupportedCell n) one cause = (top, one, cause)
+cause_of s lib o top (fault.UnknownPin n) one cause = (top, one, cause)
+cause_of s lib o top (fault.OpenInput n) one cause = (top, one, cause)
+cause_of s lib o top (fault.Undriven n) one cause = (top, one, cause)
+cause_of s lib o top (fault.ManyDrivers n) one cause = (top, one, cause)
+cause_of s lib o top (fault.Loop n) one cause = (top, one, cause)
+cause_of s lib o top (fault.NotTheClock n) one cause = (top, one, cause)
+cause_of s lib o top (fault.ClockAsData n) one cause = (top, one, cause)
+cause_of s lib o top (fault.Recursive n) one cause = cause
+cause_of s lib o top (fault.NameClash n) one cause = (top, one, cause)
+cause_of s lib o top (fault.NoTop n) one cause = absurd cause
+cause_of s lib o top (fault.Limit k n) one cause = (top, one, cause)
+cause_of s lib o top (fault.BadSetting n) one cause = (top, one, cause)
+cause_of s lib o top fault.Memory one cause = tt
+
+-- why there is no top module
+pub top_cause : (s : Source) (lib : Library) (o : LinkOptions) (e : LinkFault) → IsTopCause s e → IsCause s lib o e
+top_cause s lib o (fault.UnknownCell n) cause = absurd cause
+top_cause s lib o (fault.UnsupportedCell n) cause = absurd cause
+top_cause s lib o (fault.UnknownPin n) cause = absurd cause
+top_cause s lib o (fault.OpenInput n) cause = absurd cause
+top_cause s lib o (fault.Undriven n) cause = absurd cause
+top_cause s lib o (fault.ManyDrivers n) cause = absurd cause
+top_cause s lib o (fault.Loop n) cause = absurd cause
+top_cause s lib o (fault.NotTheClock n) cause = absurd cause
+top_cause s lib o (fault.ClockAsData n) cause = absurd cause
+top_cause s lib o (fault.Recursive n) cause = absurd cause
+top_cause s lib o (fault.NameClash n) cause = absurd cause
+top_cause s lib o (fault.NoTop n) cause = cause
+top_cause s lib o (fault.Limit k n) cause = absurd cause
+top_cause s lib o (fault.BadSetting n) cause = absurd cause
+top_cause s lib o fault.Memory cause = tt
+
+-- why ports and settings are refused
+pub port_cause : (s : Source) (lib : Library) (o : LinkOptions) (top : Module) (flat : Flat) (c : Circuit) (e : LinkFault) → IsPortCause top o e
+    → IsFlatCause s lib o top flat c e
+port_cause s lib o top flat c (fault.UnknownCell n) cause = absurd cause
+port_cause s lib o top flat c (fault.UnsupportedCell n) cause = absurd cause
+port_cause s lib o top flat c (fault.UnknownPin n) cause = absurd cause
+port_cause s lib o top flat c (fault.OpenInput n) cause = absurd cause
+port_cause s lib o top flat c (fault.Undriven n) cause = absurd cause
+port_cause s lib o top flat c (fault.ManyDrivers n) cause = absurd cause
+port_cause s lib o top flat c (fault.Loop n) cause = absurd cause
+port_cause s lib o top flat c (fault.NotTheClock n) cause = absurd cause
+port_cause s lib o top flat c (fault.ClockAsData n) cause = absurd cause
+port_cause s lib o top flat c (fault.Recursive n) cause = absurd cause
+port_cause s lib o top flat c (fault.NameClash n) cause = link.Ports cause
+port_cause s lib o top flat c (fault.NoTop n) cause = absurd cause
+port_cause s lib o top flat c (fault.Limit k n) cause = absurd cause
+port_cause s lib o top flat c (fault.BadSetting n) cause = cause
+port_cause s lib o top flat c fault.Memory cause = tt
+
+-- why names of nets are refused
+pub net_cause : (s : Source) (lib : Library) (o : LinkOptions) (top : Module) (flat : Flat) (c : Circuit) (pairs : List (List ℕ × ℕ)) (e : LinkFault)
+    → full_names flat ≡ pairs → IsNetCause pairs c e → IsFlatCause s lib o top flat c e
+net_cause s lib o top flat c pairs (fault.UnknownCell n) is cause = absurd cause
+net_cause s lib o top flat c pairs (fault.UnsupportedCell n) is cause = absurd cause
+net_cause s lib o top flat c pairs (fault.UnknownPin n) is cause = absurd cause
+net_cause s lib o top flat c pairs (fault.OpenInput n) is cause = absurd cause
+net_cause s lib o top flat c pairs (fault.Undriven n) is cause = absurd cause
+net_cause s lib o top flat c pairs (fault.ManyDrivers n) is cause = absurd cause
+net_cause s lib o top flat c pairs (fault.Loop n) is cause = absurd cause
+net_cause s lib o top flat c pairs (fault.NotTheClock n) is cause = absurd cause
+net_cause s lib o top flat c pairs (fault.ClockAsData n) is cause = absurd cause
+net_cause s lib o top flat c pairs (fault.Recursive n) is cause = absurd cause
+net_cause s lib o top flat c pairs (fault.NameClash name) is (n, m, differ, has_n, has_m, n_driven, m_driven) =
+    let back = sym is in
+    let driven = λ (k : ℕ) (has : Contains (all_drivers c) k). Contains-from_In (all_drivers c ++ all_reads c) k
+    (In-left k (all_drivers c) (all_reads c) (In-from_Contains (all_drivers c) k has)) in
+    link.Nets n m differ (subst (λ (ps : List (List ℕ × ℕ)). Contains ps (name, n)) back has_n)
+    (subst (λ (ps : List (List ℕ × ℕ)). Contains ps (name, m)) back has_m) (driven n n_driven) (driven m m_driven)
+net_cause s lib o top flat c pairs (fault.NoTop n) is cause = absurd cause
+net_cause s lib o top flat c pairs (fault.Limit k n) is cause = absurd cause
+net_cause s lib o top flat c pairs (fault.BadSetting n) is cause = absurd cause
+net_cause s lib o top flat c pairs fault.Memory is cause = tt
+
+-- the names of leaves, by their places
+pub names_of_leaves : (lib : Library) (parts : List Part) (places : List LeafPlace) (ls : List Leaf) → AreLeavesAt lib parts places ls
+    → leaf_names places ≡ map (λ (l : Leaf). l.name) ls
+names_of_leaves lib parts [] [] all = refl
+names_of_leaves lib parts [] (y ∷ ys) all = absurd all
+names_of_leaves lib parts (x ∷ xs) [] all = absurd all
+names_of_leaves lib parts (x ∷ xs) (y ∷ ys) all =
+    ap (λ (n : List ℕ). n ∷ leaf_names xs) all.0.name ∙ ap (λ (ns : List (List ℕ)). y.name ∷ ns) (names_of_leaves lib parts xs ys all.1)
+
+-- why names of leaves are refused
+pub leaf_cause : (s : Source) (lib : Library) (flat : Flat) (names : List (List ℕ)) (e : LinkFault) → names ≡ map (λ (l : Leaf). l.name) (leaves s lib flat)
+    → IsClash names e → IsCauseIn s lib flat e
+leaf_cause s lib flat names (fault.UnknownCell n) is cause = absurd cause
+leaf_cause s lib flat names (fault.UnsupportedCell n) is cause = absurd cause
+leaf_cause s lib flat names (fault.UnknownPin n) is cause = absurd cause
+leaf_cause s lib flat names (fault.OpenInput n) is cause = absurd cause
+leaf_cause s lib flat names (fault.Undriven n) is cause = absurd cause
+leaf_cause s lib flat names (fault.ManyDrivers n) is cause = absurd cause
+leaf_cause s lib flat names (fault.Loop n) is cause = absurd cause
+leaf_cause s lib flat names (fault.NotTheClock n) is cause = absurd cause
+leaf_cause s lib flat names (fault.ClockAsData n) is cause = absurd cause
+leaf_cause s lib flat names (fault.Recursive n) is cause = absurd cause
+leaf_cause s lib flat names (fault.NameClash n) is cause = λ o top c. link.Cells (subst (λ (ns : List (List ℕ)). StandsTwice ns n) is cause)
+leaf_cause s lib flat names (fault.NoTop n) is cause = absurd cause
+leaf_cause s lib flat names (fault.Limit k n) is cause = absurd cause
+leaf_cause s lib flat names (fault.BadSetting n) is cause = absurd cause
+leaf_cause s lib flat names fault.Memory is cause = λ o top c. tt
+
+-- all that the stages found to be so
+pub record IsFree (s : Source) (lib : Library) (o : LinkOptions) (top : Module) (flat : Flat) (c : Circuit) : Type 0 where
+  pub fine : AreFine s lib flat
+  pub unrecursive : IsUnrecursive s
+  pub circuit : IsFaultlessCircuit c
+  pub places : (l : Leaf) → Contains (leaves s lib flat) l → (place : ℕ) × (slice_get c.parts place ≡ Some l.part)
+  pub cells : IsApart (map (λ (l : Leaf). l.name) (leaves s lib flat))
+  pub ports : IsApart (bit_names (input_bits top ++ output_bits top))
+  pub nets : (name : List ℕ) → IsOfTwoNets (full_names flat) c name → ⊥
+  pub settings : (name : List ℕ) → IsBadSetting top o name → ⊥
+
+-- an item of an instance has none of its faults
+item_free : (s : Source) (lib : Library) (flat : Flat) (cell full : List ℕ) (conns : List Conn) (e : LinkFault) → AreFine s lib flat → e ≢ fault.Memory
+    → IsInstance flat cell full conns → IsInstFault (module_of s cell) (cell_of lib cell) cell full conns e → ⊥
+item_free s lib flat cell full conns e fine some i bad =
+    let free = all_in (λ (a : Located). IsFaultlessItem s lib a.scope a.item) flat.items fine.items i.at (In-from_Contains flat.items i.at i.stands) in
+    free e some (subst (λ (x : Item). IsItemFault s lib i.at.scope x e) (sym i.item_is)
+    (subst (λ (f : List ℕ). IsInstFault (module_of s cell) (cell_of lib cell) cell f conns e) i.full_is bad))
+
+module_free : (s : Source) (lib : Library) (flat : Flat) (m : Module) (full : List ℕ) (conns : List Conn) (e : LinkFault) → AreFine s lib flat
+    → e ≢ fault.Memory → IsOfModule s flat m full conns → ((owned : Option Cell) (cell : List ℕ) → IsInstFault (Some m) owned cell full conns e) → ⊥
+module_free s lib flat m full conns e fine some (cell, i, is) bad =
+    item_free s lib flat cell full conns e fine some i
+    (subst (λ (found : Option Module). IsInstFault found (cell_of lib cell) cell full conns e) (sym is) (bad (cell_of lib cell) cell))
+
+cell_free : (s : Source) (lib : Library) (flat : Flat) (c : Cell) (full : List ℕ) (conns : List Conn) (e : LinkFault) → AreFine s lib flat
+    → e ≢ fault.Memory → IsOfCell s lib flat c full conns → ((cell : List ℕ) → IsInstFault None (Some c) cell full conns e) → ⊥
+cell_free s lib flat c full conns e fine some (cell, i, none, is) bad =
+    item_free s lib flat cell full conns e fine some i
+    (subst (λ (found : Option Module). IsInstFault found (cell_of lib cell) cell full conns e) (sym none)
+    (subst (λ (owned : Option Cell). IsInstFault None owned cell full conns e) (sym is) (bad cell)))
+
+unknown_pin : (s : Source) (lib : Library) (flat : Flat) (name : List ℕ) → AreFine s lib flat → IsUnknownPin s lib flat name → ⊥
+unknown_pin s lib flat name fine (link.Of_module m full conns c of has none) =
+    module_free s lib flat m full conns (fault.UnknownPin name) fine (λ e. cc) of (λ owned cell. (c, has, none, refl))
+unknown_pin s lib flat name fine (link.Of_cell k full conns c of has none) =
+    cell_free s lib flat k full conns (fault.UnknownPin name) fine (λ e. cc) of.0 (λ cell. (of.1, (c, has, none, refl)))
+
+open_input : (s : Source) (lib : Library) (flat : Flat) (name : List ℕ) → AreFine s lib flat → IsOpenInput s lib flat name → ⊥
+open_input s lib flat name fine (link.Port_open m full conns p bit net of has input bare first named) =
+    module_free s lib flat m full conns (fault.OpenInput name) fine (λ e. cc) of (λ owned cell. (p, bit, net, has, input, bare, first, named, refl))
+open_input s lib flat name fine (link.Pin_open k full pin conns of has bare) =
+    cell_free s lib flat k full conns (fault.OpenInput name) fine (λ e. cc) of.0 (λ cell. (of.1, (pin, has, bare, refl)))
+
+many_drivers : (s : Source) (lib : Library) (o : LinkOptions) (top : Module) (flat : Flat) (c : Circuit) (name : List ℕ) → IsFree s lib o top flat c
+    → HasManyDrivers s lib flat c name → ⊥
+many_drivers s lib o top flat c name free (link.Twice n net has twice) = free.circuit (circuit.ManyDrivers net) (λ e. cc) twice
+many_drivers s lib o top flat c name free (link.Port_tied m full conns p bit of has output tied) =
+    module_free s lib flat m full conns (fault.ManyDrivers name) free.fine (λ e. cc) of (λ owned cell. (p, bit, has, output, tied, refl))
+many_drivers s lib o top flat c name free (link.Pin_tied k full pin conns bit of has tied) =
+    cell_free s lib flat k full conns (fault.ManyDrivers name) free.fine (λ e. cc) of.0 (λ cell. (of.1, (pin, bit, has, tied, refl)))
+
+wide_item : (s : Source) (lib : Library) (flat : Flat) (at : Located) (x : Item) → AreFine s lib flat → Contains flat.items at → at.item ≡ x → IsWidePrim x → ⊥
+wide_item s lib flat at (item.Inst cell name conns) fine has is wide = wide
+wide_item s lib flat at (item.Prim k name outs ins) fine has is wide =
+    let free = all_in (λ (a : Located). IsFaultlessItem s lib a.scope a.item) flat.items fine.items at (In-from_Contains flat.items at has) in
+    let bad : IsItemFault s lib at.scope (item.Prim k name outs ins) (fault.Limit what.Pins 7) = (wide, refl) in
+    free (fault.Limit what.Pins 7) (λ e. cc) (subst (λ (y : Item). IsItemFault s lib at.scope y (fault.Limit what.Pins 7)) (sym is) bad)
+wide_item s lib flat at (item.Copy to from) fine has is wide = wide
+
+many_pins : (s : Source) (lib : Library) (flat : Flat) → AreFine s lib flat → HasManyPins s lib flat → ⊥
+many_pins s lib flat fine (link.Of_cell k full conns of wide) =
+    cell_free s lib flat k full conns (fault.Limit what.Pins 7) fine (λ e. cc) of.0 (λ cell. (of.1, (wide, refl)))
+many_pins s lib flat fine (link.Of_prim at has wide) = wide_item s lib flat at at.item fine has refl wide
+
+above_limit : (s : Source) (lib : Library) (o : LinkOptions) (top : Module) (flat : Flat) (c : Circuit) (k : LimitName) (n : ℕ) → IsFree s lib o top flat c
+    → IsAboveLimit s lib flat c k n → ⊥
+above_limit s lib o top flat c k n free (link.Nets tree is more) = free.circuit (circuit.Limit what.Nets 200001) (λ e. cc) (above.Nets tree is more)
+above_limit s lib o top flat c k n free (link.Regs more) = free.circuit (circuit.Limit what.Registers 20001) (λ e. cc) (above.Regs more)
+above_limit s lib o top flat c k n free (link.Inputs more) = free.circuit (circuit.Limit what.Inputs 2001) (λ e. cc) (above.Inputs more)
+above_limit s lib o top flat c k n free (link.Outputs more) = free.circuit (circuit.Limit what.Outputs 20001) (λ e. cc) (above.Outputs more)
+above_limit s lib o top flat c k n free (link.Instances more) = let few = free.fine.few in omega (arith, more, few)
+above_limit s lib o top flat c k n free (link.Pins many) = many_pins s lib flat free.fine many
+
+-- a net that is read is driven, where no refusal of the circuit has its cause
+read_driven : (c : Circuit) (n : ℕ) → IsFaultlessCircuit c → Contains (all_drivers c ++ all_reads c) n → Contains (all_drivers c) n
+read_driven c n free has = elim (In-cases n (all_drivers c) (all_reads c) (In-from_Contains (all_drivers c ++ all_reads c) n has)) [
+  | inl driven ↦ Contains-from_In (all_drivers c) n driven
+  | inr read ↦ elim (in_or n (all_drivers c)) [
+    | inl driven ↦ Contains-from_In (all_drivers c) n driven
+    | inr not ↦
+        absurd (free (circuit.Undriven n) (λ e. cc) (Contains-from_In (all_reads c) n read, λ there. not (In-from_Contains (all_drivers c) n there)))
+  ]
+]
+
+name_clash : (s : Source) (lib : Library) (o : LinkOptions) (top : Module) (flat : Flat) (c : Circuit) (name : List ℕ) → IsFree s lib o top flat c
+    → Clashes s lib flat top c name → ⊥
+name_clash s lib o top flat c name free (link.Cells twice) = free.cells name twice
+name_clash s lib o top flat c name free (link.Ports twice) = free.ports name twice
+name_clash s lib o top flat c name free (link.Nets n m differ has_n has_m n_used m_used) =
+    free.nets name (n, m, differ, has_n, has_m, read_driven c n free.circuit n_used, read_driven c m free.circuit m_used)
+
+-- no refusal of the flat netlist has its cause
+flat_free : (s : Source) (lib : Library) (o : LinkOptions) (top : Module) (flat : Flat) (c : Circuit) (f : LinkFault) → IsFree s lib o top flat c
+    → f ≢ fault.Memory → IsFlatCause s lib o top flat c f → ⊥
+flat_free s lib o top flat c (fault.UnknownCell cell) free some (full, conns, i, none, nowhere) =
+    item_free s lib flat cell full conns (fault.UnknownCell cell) free.fine (λ e. cc) i
+    (subst (λ (found : Option Module). IsInstFault found (cell_of lib cell) cell full conns (fault.UnknownCell cell)) (sym none)
+    (subst (λ (owned : Option Cell). IsInstFault None owned cell full conns (fault.UnknownCell cell)) (sym nowhere) refl))
+flat_free s lib o top flat c (fault.UnsupportedCell cell) free some (full, conns, k, of, named, other) =
+    cell_free s lib flat k full conns (fault.UnsupportedCell cell) free.fine (λ e. cc) of (λ name. (sym named, other))
+flat_free s lib o top flat c (fault.UnknownPin n) free some cause = unknown_pin s lib flat n free.fine cause
+flat_free s lib o top flat c (fault.OpenInput n) free some cause = open_input s lib flat n free.fine cause
+flat_free s lib o top flat c (fault.Undriven n) free some (net, has, read, undriven) = free.circuit (circuit.Undriven net) (λ e. cc) (read, undriven)
+flat_free s lib o top flat c (fault.ManyDrivers n) free some cause = many_drivers s lib o top flat c n free cause
+flat_free s lib o top flat c (fault.Loop n) free some (net, has, cycle) = free.circuit (circuit.Loop net) (λ e. cc) cycle
+flat_free s lib o top flat c (fault.NotTheClock n) free some (l, clock, reg, has, named, is, off) =
+    let (place, at) = free.places l has in
+    free.circuit (circuit.NotTheClock place) (λ e. cc) (clock, reg, at ∙ ap (λ (p : Part). Some p) is, off)
+flat_free s lib o top flat c (fault.ClockAsData n) free some (net, odd, has, read, on) = free.circuit (circuit.ClockAsData net) (λ e. cc) (odd, read, on)
+flat_free s lib o top flat c (fault.Recursive n) free some cause = free.unrecursive n cause
+flat_free s lib o top flat c (fault.NameClash n) free some cause = name_clash s lib o top flat c n free cause
+flat_free s lib o top flat c (fault.NoTop n) free some cause = cause
+flat_free s lib o top flat c (fault.Limit k n) free some cause = above_limit s lib o top flat c k n free cause
+flat_free s lib o top flat c (fault.BadSetting n) free some cause = free.settings n cause
+flat_free s lib o top flat c fault.Memory free some cause = some refl
+
+abbrev IsFreeBelow : Source → Library → LinkOptions → Module → Type 0
+IsFreeBelow s lib o top = IsFree s lib o top (flat_of s lib top) (circuit_of s lib top o.clock)
+
+-- two lists of one top module have the same
+same_top : (ts : List Module) (top other : Module) → ts ≡ top ∷ [] → ts ≡ other ∷ [] → other ≡ top
+same_top ts top other one two = cc
+
+below_free : (s : Source) (lib : Library) (o : LinkOptions) (top other : Module) (f : LinkFault) → tops s ≡ top ∷ [] → IsFreeBelow s lib o top
+    → f ≢ fault.Memory → tops s ≡ other ∷ [] → IsFlatCause s lib o other (flat_of s lib other) (circuit_of s lib other o.clock) f → ⊥
+below_free s lib o top other f one free some two cause =
+    flat_free s lib o top (flat_of s lib top) (circuit_of s lib top o.clock) f free some
+    (subst (λ (t : Module). IsFlatCause s lib o t (flat_of s lib t) (circuit_of s lib t o.clock) f) (same_top (tops s) top other one two) cause)
+
+-- no refusal of the source has its cause
+source_free : (s : Source) (lib : Library) (o : LinkOptions) (top : Module) (f : LinkFault) → tops s ≡ top ∷ [] → IsFreeBelow s lib o top
+    → f ≢ fault.Memory → IsCause s lib o f → ⊥
+source_free s lib o top (fault.UnknownCell n) one free some (other, two, cause) = below_free s lib o top other (fault.UnknownCell n) one free some two cause
+source_free s lib o top (fault.UnsupportedCell n) one free some (other, two, cause) = below_free s lib o top other (fault.UnsupportedCell n) one free some two cause
+source_free s lib o top (fault.UnknownPin n) one free some (other, two, cause) = below_free s lib o top other (fault.UnknownPin n) one free some two cause
+source_free s lib o top (fault.OpenInput n) one free some (other, two, cause) = below_free s lib o top other (fault.OpenInput n) one free some two cause
+source_free s lib o top (fault.Undriven n) one free some (other, two, cause) = below_free s lib o top other (fault.Undriven n) one free some two cause
+source_free s lib o top (fault.ManyDrivers n) one free some (other, two, cause) = below_free s lib o top other (fault.ManyDrivers n) one free some two cause
+source_free s lib o top (fault.Loop n) one free some (other, two, cause) = below_free s lib o top other (fault.Loop n) one free some two cause
+source_free s lib o top (fault.NotTheClock n) one free some (other, two, cause) = below_free s lib o top other (fault.NotTheClock n) one free some two cause
+source_free s lib o top (fault.ClockAsData n) one free some (other, two, cause) = below_free s lib o top other (fault.ClockAsData n) one free some two cause
+source_free s lib o top (fault.Recursive n) one free some cause = free.unrecursive n cause
+source_free s lib o top (fault.NameClash n) one free some (other, two, cause) = below_free s lib o top other (fault.NameClash n) one free some two cause
+source_free s lib o top (fault.NoTop n) one free some (count, differs) = differs (sym count ∙ ap (λ (ts : List Module). length ts) one)
+source_free s lib o top (fault.Limit k n) one free some (other, two, cause) = below_free s lib o top other (fault.Limit k n) one free some two cause
+source_free s lib o top (fault.BadSetting n) one free some (other, two, cause) = below_free s lib o top other (fault.BadSetting n) one free some two cause
+source_free s lib o top fault.Memory one free some cause = some refl
+
+pub faultless_is : (s : Source) (lib : Library) (o : LinkOptions) (top : Module) → tops s ≡ top ∷ [] → IsFreeBelow s lib o top → IsFaultless s lib o
+faultless_is s lib o top one free = λ f some cause. source_free s lib o top f one free some cause

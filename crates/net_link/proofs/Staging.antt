@@ -1,0 +1,111 @@
+-- What each stage of linking knows of the source.
+use Rattle.std.proofs.Common.{◌≡◌, ℕ, ◌<◌, List, [], ◌∷◌, ◌++◌, length, map, Some, ap, subst, sym, ◌∙◌, inl, inr}
+use Rattle.std.specs.Prelude.{Option, slice_get, flat_map}
+use Rattle.std.specs.List.{IsDistinct}
+use Rattle.std.specs.Str.{bytes_eq}
+use Rattle.net_model.proofs.Members.{In, In-from_Contains}
+use Rattle.verilog_net.specs.declared.sources.Source.{Source}
+use Rattle.verilog_net.specs.declared.sources.Module.{Module}
+use Rattle.verilog_net.specs.Lawful.{IsLawful, IsLawfulModule}
+use Rattle.cell_types.specs.declared.libraries.Library.{Library}
+use Rattle.cell_types.specs.Libraries.{IsLawful as IsLawfulLibrary}
+use Rattle.circuit_link.specs.Faults.{IsFaultless as IsFaultlessCircuit}
+use Rattle.circuit_link.specs.Lawful.{IsLawfulCircuit}
+use Rattle.link_circuit.proofs.Circuited.{circuit_lawful}
+use Rattle.link_circuit.specs.declared.circuits.FlatCircuit.{FlatCircuit}
+use Rattle.link_clashes.specs.Clashes.{leaf_names, IsApart}
+use Rattle.link_defs.specs.declared.circuits.Circuit.{Circuit}
+use Rattle.link_defs.specs.declared.circuits.Part.{Part}
+use Rattle.link_defs.specs.declared.options.LinkOptions.{LinkOptions}
+use Rattle.link_defs.specs.CellNames.{Leaf, leaves}
+use Rattle.link_defs.specs.Circuits.{circuit_of, input_bits, output_bits}
+use Rattle.link_defs.specs.Faults.{bit_names, IsBadSetting, IsFaultless}
+use Rattle.link_defs.specs.Flatten.{Scope, flat_of, full_names, scope_names}
+use Rattle.link_defs.specs.Hierarchy.{tops}
+use Rattle.link_flat.specs.declared.flats.Flattened.{Flattened}
+use Rattle.link_flat.specs.Flats.{AreFine, AreScopes, IsFlattened, IsUnrecursive}
+use Rattle.link_items.specs.declared.made.Instance.{Instance}
+use Rattle.link_items.specs.declared.made.LeafPlace.{LeafPlace}
+use Rattle.link_items.specs.Items.{module_at, scope_of, AreLeavesAt}
+use Rattle.link_items.proofs.Naming.{some_at}
+use Rattle.link_items.proofs.Pinned.{lawful_at}
+use Rattle.link_named.proofs.Finding.{module_is}
+use Rattle.link_named.specs.Names.{IsCircuitBelow}
+use Rattle.link_tops.specs.Tops.{IsTop}
+use Rattle.net_link.specs.Nets.{IsOfTwoNets, names_in}
+use Rattle.net_link.specs.Stages.{IsFlatCircuit}
+use Rattle.net_link.proofs.Causing.{names_of_leaves, faultless_is}
+use Rattle.net_link.proofs.Linking.{parts_below}
+use Rattle.net_link.proofs.Tabling.{names_same}
+
+-- the circuit of a flat netlist, with its instances and leaves
+pub flat_circuit_is : (s : Source) (lib : Library) (top : Module) (clock : Option (List ℕ)) (f : Flattened) (c : FlatCircuit)
+    → IsFlattened s lib (flat_of s lib top) f → AreFine s lib (flat_of s lib top) → c.circuit ≡ circuit_of s lib top clock → c.scopes ≡ f.scopes
+    → c.leaves ≡ f.made.leaves → IsDistinct bytes_eq (leaf_names f.made.leaves) → IsApart (leaf_names f.made.leaves) → IsFlatCircuit s lib top clock c
+flat_circuit_is s lib top clock f c is fine circuit scopes places differ apart =
+    let parts : f.made.parts ≡ c.circuit.parts = is.parts ∙ sym (parts_below s lib top clock c.circuit circuit) in
+    let names = names_of_leaves lib f.made.parts f.made.leaves (leaves s lib (flat_of s lib top)) is.leaves in
+    record {
+      below = record {
+        circuit = circuit;
+        scopes = ap (λ (gs : List Instance). map (scope_of s) gs) scopes ∙ is.scopes;
+        are_scopes = subst (λ (gs : List Instance). AreScopes s gs) (sym scopes) is.are_scopes;
+        leaves = subst (λ (ps : List Part). AreLeavesAt lib ps c.leaves (leaves s lib (flat_of s lib top))) parts
+            (subst (λ (xs : List LeafPlace). AreLeavesAt lib f.made.parts xs (leaves s lib (flat_of s lib top))) (sym places) is.leaves);
+      };
+      fine = fine;
+      differ = subst (λ (xs : List LeafPlace). IsDistinct bytes_eq (leaf_names xs)) (sym places) differ;
+      apart = subst (λ (ns : List (List ℕ)). IsApart ns) names apart;
+    }
+
+-- the top module of a lawful source is lawful
+pub top_lawful : (s : Source) (place : ℕ) → IsLawful s → place < length s.modules → IsLawfulModule s (module_at s place)
+top_lawful s place lawful lt =
+    let (m, at) = some_at s.modules place lt in subst (λ (t : Module). IsLawfulModule s t) (module_is s place m at) (lawful_at s lawful place m at)
+
+-- a design can be made of the circuit below it
+pub lawful_below : (s : Source) (lib : Library) (place : ℕ) (clock : Option (List ℕ)) (c : FlatCircuit) → IsLawful s → IsLawfulLibrary lib.cells
+    → place < length s.modules → IsFlatCircuit s lib (module_at s place) clock c → IsLawfulCircuit c.circuit
+lawful_below s lib place clock c lawful cells lt is =
+    subst (λ (k : Circuit). IsLawfulCircuit k) (sym is.below.circuit)
+    (circuit_lawful s lib (module_at s place) lawful cells (top_lawful s place lawful lt) is.fine clock)
+
+-- the only top module is the module at its place
+pub top_is : (s : Source) (place : ℕ) → IsTop s place → tops s ≡ module_at s place ∷ []
+top_is s place (top, at, one) = one ∙ ap (λ (m : Module). m ∷ []) (module_is s place top at)
+
+-- the full names below a module are those of the circuit's instances
+pub names_below : (s : Source) (lib : Library) (top : Module) (clock : Option (List ℕ)) (c : FlatCircuit) → IsCircuitBelow s lib top clock c
+    → full_names (flat_of s lib top) ≡ names_in s c.scopes
+names_below s lib top clock c below = ap (λ (xs : List Scope). flat_map scope_names xs) (sym below.scopes) ∙ names_same s c.scopes
+
+-- each leaf has its part among those of the circuit
+leaf_part : (lib : Library) (parts : List Part) (places : List LeafPlace) (ls : List Leaf) (l : Leaf) → AreLeavesAt lib parts places ls → In l ls
+    → (place : ℕ) × (slice_get parts place ≡ Some l.part)
+leaf_part lib parts [] [] l all has = absurd has
+leaf_part lib parts [] (y ∷ ys) l all has = absurd all
+leaf_part lib parts (x ∷ xs) [] l all has = absurd all
+leaf_part lib parts (x ∷ xs) (y ∷ ys) l all (inl same) = (x.part, subst (λ (z : Leaf). slice_get parts x.part ≡ Some z.part) same all.0.part)
+leaf_part lib parts (x ∷ xs) (y ∷ ys) l all (inr later) = leaf_part lib parts xs ys l all.1 later
+
+-- no refusal of the source has its cause, where no stage refused it
+pub free_below : (s : Source) (lib : Library) (o : LinkOptions) (top : Module) (c : FlatCircuit) → tops s ≡ top ∷ [] → IsFlatCircuit s lib top o.clock c
+    → IsUnrecursive s → IsFaultlessCircuit c.circuit → IsApart (bit_names (input_bits top ++ output_bits top))
+    → ((name : List ℕ) → IsOfTwoNets (names_in s c.scopes) c.circuit name → ⊥) → ((name : List ℕ) → IsBadSetting top o name → ⊥) → IsFaultless s lib o
+free_below s lib o top c one is ordered circuit ports nets settings =
+    let flat = flat_of s lib top in
+    let same = is.below.circuit in
+    let nets_apart = subst (λ (ps : List (List ℕ × ℕ)). (name : List ℕ) → IsOfTwoNets ps c.circuit name → ⊥)
+    (sym (names_below s lib top o.clock c is.below)) nets in
+    faultless_is s lib o top one (record {
+      fine = is.fine;
+      unrecursive = ordered;
+      circuit = subst (λ (k : Circuit). IsFaultlessCircuit k) same circuit;
+      places = λ l has.
+          let (place, at) = leaf_part lib c.circuit.parts c.leaves (leaves s lib flat) l is.below.leaves (In-from_Contains (leaves s lib flat) l has) in
+          (place, subst (λ (k : Circuit). slice_get k.parts place ≡ Some l.part) same at);
+      cells = is.apart;
+      ports = ports;
+      nets = subst (λ (k : Circuit). (name : List ℕ) → IsOfTwoNets (full_names flat) k name → ⊥) same nets_apart;
+      settings = settings;
+    })

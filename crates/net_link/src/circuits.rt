@@ -1,0 +1,70 @@
+//! From a source to the design of its circuit.
+ghost use Rattle.std.specs.Prelude.{◌≡◌, ◌<◌, length, IfOk, IfErr, OnOk};
+ghost use Rattle.verilog_net.specs.Lawful.{IsLawful};
+ghost use Rattle.cell_types.specs.Libraries.{IsLawful as IsLawfulLibrary};
+ghost use Rattle.circuit_link.specs.Faults.{IsFaultless};
+ghost use Rattle.circuit_link.specs.Made.{IsHeldBy, IsMade};
+ghost use Rattle.link_defs.specs.Faults.{IsFlatCause};
+ghost use Rattle.link_defs.specs.Flatten.{flat_of};
+ghost use Rattle.link_flat.specs.Flats.{AreFine, IsCauseBelow, IsUnrecursive};
+ghost use Rattle.link_items.specs.Items.{module_at};
+ghost use Rattle.link_items.specs.Tables.{module_names, cell_names};
+ghost use Rattle.link_named.specs.Names.{IsCircuitBelow};
+ghost use Rattle.net_link.specs.Stages.{IsFlatCircuit};
+
+use circuit_link::{CircuitDesign, Held, design_of};
+use link_circuit::{FlatCircuit, circuit_of};
+use link_clashes::check_cells;
+use link_defs::{LinkFault, LinkOptions};
+use link_flat::flatten;
+use link_items::Netlist;
+use link_named::named_fault;
+use sdcv_base::Name;
+use std::alloc::Global;
+
+/// The circuit below the module at a place, no two of whose cells have one name.
+pub fn flat_circuit(
+    alloc: Global,
+    netlist: &Netlist,
+    top: usize,
+    clock: &Option<Name>,
+) -> Result<FlatCircuit, LinkFault>
+    requires source { IsLawful netlist.now.source.now }
+    requires library { IsLawfulLibrary netlist.now.library.now.cells }
+    requires modules { netlist.now.modules ≡ module_names netlist.now.source.now }
+    requires cells { netlist.now.cells ≡ cell_names netlist.now.library.now }
+    requires top { top < length netlist.now.source.now.modules }
+    ensures ok { IfOk result (IsFlatCircuit netlist.now.source.now netlist.now.library.now (module_at netlist.now.source.now top) clock.now) }
+    ensures ordered { OnOk result (IsUnrecursive netlist.now.source.now) }
+    ensures err { IfErr result (IsCauseBelow netlist.now.source.now netlist.now.library.now (module_at netlist.now.source.now top)) }
+{
+    let flat = flatten(alloc, netlist, top)?;
+    check_cells(alloc, &flat.made.leaves)?;
+    let circuit = circuit_of(alloc, netlist, top, clock, flat)?;
+    Ok(circuit)
+}
+
+/// The design of the circuit below the module at a place.
+pub fn made_design(
+    alloc: Global,
+    netlist: &Netlist,
+    top: usize,
+    options: &LinkOptions,
+    c: &FlatCircuit,
+    held: Held,
+) -> Result<CircuitDesign, LinkFault>
+    requires source { IsLawful netlist.now.source.now }
+    requires library { IsLawfulLibrary netlist.now.library.now.cells }
+    requires top { top < length netlist.now.source.now.modules }
+    requires circuit { IsFlatCircuit netlist.now.source.now netlist.now.library.now (module_at netlist.now.source.now top) options.now.clock c.now }
+    requires held { IsHeldBy (length c.now.circuit.inputs) held }
+    ensures ok { IfOk result (IsMade c.now.circuit held) }
+    ensures err { IfErr result (IsFlatCause netlist.now.source.now netlist.now.library.now options.now (module_at netlist.now.source.now top)
+        (flat_of netlist.now.source.now netlist.now.library.now (module_at netlist.now.source.now top)) c.now.circuit) }
+    ensures none { OnOk result (IsFaultless c.now.circuit) }
+{
+    match design_of(alloc, &c.circuit, held) {
+        Ok(made) => Ok(made),
+        Err(fault) => Err(named_fault(alloc, netlist, top, options, c, fault)?),
+    }
+}
