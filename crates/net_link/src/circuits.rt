@@ -23,7 +23,7 @@ use sdcv_base::Name;
 use std::alloc::Global;
 
 /// The circuit below the module at a place, no two of whose cells have one name.
-pub fn flat_circuit(
+pub(crate) fn flat_circuit(
     alloc: Global,
     netlist: &Netlist,
     top: usize,
@@ -45,7 +45,7 @@ pub fn flat_circuit(
 }
 
 /// The design of the circuit below the module at a place.
-pub fn made_design(
+pub(crate) fn made_design(
     alloc: Global,
     netlist: &Netlist,
     top: usize,

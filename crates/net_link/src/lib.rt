@@ -1,12 +1,16 @@
-//! The stages of linking a hierarchy of modules over a library of cells: the circuit below a module, its design, and the full
-//! names of its nets.
+//! The design of a hierarchy of modules over a library of cells, with all its names.
 //!
-//! Read `circuits.rt` first. `link_flat` makes the flat netlist and `circuit_link` the design of its circuit; here their refusals
-//! are told by full names. The call that joins these stages with the ports and cells of the top module stands above them later.
+//! Read `links.rt` first: `link` is the call. What a design and its names are, and why there is none, `link_defs` says;
+//! `link_flat` makes the flat netlist, `circuit_link` the design of its circuit, `link_cells` and `link_names` the names. Here
+//! these stages are joined, and what they refuse is told by its full name.
 #![tactic(auto)]
 
 mod circuits;
+mod links;
 mod nets;
 
-pub use circuits::{flat_circuit, made_design};
-pub use nets::net_names;
+pub use link_defs::{
+    CellName, LinkFault, LinkOptions, Linked, Names, NetName, PinName, PinRole, PortName,
+};
+pub use link_tops::top_inputs;
+pub use links::link;

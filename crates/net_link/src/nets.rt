@@ -74,7 +74,7 @@ fn name_table(
 
 /// The full names of the nets of a design, each once, with their numbers. `NameClash` tells a name of two nets that something
 /// drives.
-pub fn net_names(
+pub(crate) fn net_names(
     alloc: Global,
     netlist: &Netlist,
     c: &FlatCircuit,

@@ -1,0 +1,57 @@
+use Rattle.std.proofs.Common.{subst}
+use Rattle.std.proofs.lemmas.Result.{err_from_is_err_and}
+use Rattle.verilog_net.specs.declared.sources.Module.{Module}
+use Rattle.link_defs.specs.Circuits.{circuit_of}
+use Rattle.link_defs.specs.Flatten.{flat_of}
+use Rattle.link_items.specs.Items.{module_at}
+use Rattle.link_items.proofs.Pinned.{port_bits, lawful_at}
+use Rattle.link_named.proofs.Finding.{module_is}
+use Rattle.link_settings.specs.Ports.{AreTopPorts, IsPortCause}
+use Rattle.net_link.specs.Stages.{IsFitting}
+use Rattle.net_link.proofs.Causing.{cause_of, port_cause}
+use Rattle.net_link.proofs.Joining.{top_within}
+use Rattle.net_link.proofs.Staging.{top_is}
+use Rattle.net_link.proofs.links.link_below.Goals as goal
+
+pub item-requires : goal.item-requires
+item-requires c = top_within c.args.netlist.now.source.now c.args.top c.requires.top
+
+pub top_ports-requires-clause-bits : goal.top_ports-requires-clause-bits
+top_ports-requires-clause-bits c =
+    let s = c.args.netlist.now.source.now in
+    port_bits s c.item.result.now (lawful_at s c.requires.source c.args.top c.item.result.now c.item.ensures)
+
+pub returns-in_err-ports-clause-err : goal.returns-in_err-ports-clause-err
+returns-in_err-ports-clause-err c =
+    let p = err_from_is_err_and c.from_residual.result c.from_residual.ensures.1 in
+    let s = c.args.netlist.now.source.now in
+    let lib = c.args.netlist.now.library.now in
+    let o = c.args.options.now in
+    let top = module_at s c.args.top in
+    let e = c.in_err-ports.field-0.0 in
+    rw (p.1, p.2) (cause_of s lib o top e (top_is s c.args.top c.requires.top)
+    (port_cause s lib o top (flat_of s lib top) (circuit_of s lib top o.clock) e
+    (subst (λ (m : Module). IsPortCause m o e) (module_is s c.args.top c.item.result.now c.item.ensures) c.in_err-ports.ensures.err)))
+
+pub flat_circuit-requires-clause-top : goal.flat_circuit-requires-clause-top
+flat_circuit-requires-clause-top c = top_within c.args.netlist.now.source.now c.args.top c.requires.top
+
+pub returns-in_err-c-clause-err : goal.returns-in_err-c-clause-err
+returns-in_err-c-clause-err c =
+    let p = err_from_is_err_and c.from_residual-in_err-c.result c.from_residual-in_err-c.ensures.1 in
+    let s = c.args.netlist.now.source.now in
+    let lib = c.args.netlist.now.library.now in
+    let o = c.args.options.now in
+    let top = module_at s c.args.top in
+    rw (p.1, p.2) (cause_of s lib o top c.in_err-c.field-0.0 (top_is s c.args.top c.requires.top)
+    (c.in_err-c.ensures.err o top (circuit_of s lib top o.clock)))
+
+pub link_circuit-requires-clause-ports : goal.link_circuit-requires-clause-ports
+link_circuit-requires-clause-ports c =
+    subst (λ (m : Module). AreTopPorts m c.args.options.now c.in_ok-ports.ports)
+    (module_is c.args.netlist.now.source.now c.args.top c.item.result.now c.item.ensures) c.in_ok-ports.ensures.ok
+
+pub link_circuit-requires-clause-fitting : goal.link_circuit-requires-clause-fitting
+link_circuit-requires-clause-fitting c =
+    let fitting : IsFitting c.item.result.now c.args.options.now = record { ports = c.in_ok-ports.ensures.names; settings = c.in_ok-ports.ensures.settings } in
+    subst (λ (m : Module). IsFitting m c.args.options.now) (module_is c.args.netlist.now.source.now c.args.top c.item.result.now c.item.ensures) fitting

@@ -1,0 +1,153 @@
+//! The design of a source and a library.
+ghost use Rattle.std.specs.Prelude.{◌≡◌, ◌≤◌, ℕ, List, IfOk, IfErr, OnOk};
+ghost use Rattle.verilog_net.specs.Lawful.{IsLawful};
+ghost use Rattle.cell_types.specs.Libraries.{IsLawful as IsLawfulLibrary};
+ghost use Rattle.link_defs.specs.Faults.{IsCause, IsFaultless};
+ghost use Rattle.link_defs.specs.Links.{IsLinked};
+ghost use Rattle.link_defs.specs.Usable.{IsUsable};
+ghost use Rattle.link_items.specs.Tables.{module_names, cell_names as library_names};
+ghost use Rattle.link_tops.specs.Tops.{IsTop};
+ghost use Rattle.circuit_link.specs.declared.designs.Held.{Held as HeldRecord};
+ghost use Rattle.circuit_link.specs.Lawful.{IsLawfulCircuit};
+ghost use Rattle.circuit_link.specs.Made.{IsMade};
+ghost use Rattle.link_defs.specs.CellNames.{Leaf as LeafRecord};
+ghost use Rattle.link_flat.specs.Flats.{AreScopes, IsUnrecursive};
+ghost use Rattle.link_items.specs.Items.{module_at, AreLeavesAt};
+ghost use Rattle.link_settings.specs.Ports.{AreTopPorts};
+ghost use Rattle.net_link.specs.Nets.{names_in, IsOfTwoNets, IsNetCause};
+ghost use Rattle.net_link.specs.Stages.{AreInner, IsFitting, IsFlatCircuit};
+
+use crate::circuits::{flat_circuit, made_design};
+use crate::nets::net_names;
+use cell_types::Library;
+use circuit_link::CircuitDesign;
+use link_cells::cell_names;
+use link_circuit::FlatCircuit;
+use link_defs::{CellName, LinkFault, LinkOptions, Linked, Names, NetName};
+use link_items::Netlist;
+use link_settings::{TopPorts, top_ports};
+use link_tops::one_top;
+use sdcv_base::{Name, Seq};
+use std::alloc::{AllocError, Global};
+use verilog_net::Source;
+
+/// The design of a source below its only top module, with all its names. A module may be instantiated many times; a net is
+/// named at each instance.
+pub fn link(
+    alloc: Global,
+    source: &Source,
+    library: &Library,
+    options: &LinkOptions,
+) -> Result<Linked, LinkFault>
+    requires source { IsLawful source.now }
+    requires library { IsLawfulLibrary library.now.cells }
+    requires resets { options.now.reset_len ≤ 64 }
+    ensures ok { IfOk result (IsLinked source.now library.now options.now) }
+    ensures usable { IfOk result IsUsable }
+    ensures err { IfErr result (IsCause source.now library.now options.now) }
+    ensures none { OnOk result (IsFaultless source.now library.now options.now) }
+{
+    let netlist = Netlist::of(alloc, source, library)?;
+    let top = one_top(alloc, source)?;
+    link_below(alloc, &netlist, top, options)
+}
+
+/// An equal name, if there is one.
+fn copy_name(alloc: Global, name: &Option<Name>) -> Result<Option<Name>, AllocError>
+    ensures { IfOk result (λ copied. copied ≡ name.now) }
+{
+    match name {
+        Some(name) => Ok(Some(name.copy(alloc)?)),
+        None => Ok(None),
+    }
+}
+
+/// The names of a design but those of its ports.
+#[derive(Drop)]
+struct InnerNames {
+    cells: Seq<CellName>,
+    nets: Seq<NetName>,
+    clock: Option<Name>,
+}
+
+/// The names of the design of a circuit but those of its ports.
+fn inner_names(
+    alloc: Global,
+    netlist: &Netlist,
+    options: &LinkOptions,
+    c: &FlatCircuit,
+    made: &CircuitDesign,
+) -> Result<InnerNames, LinkFault>
+    requires scopes { AreScopes netlist.now.source.now c.now.scopes }
+    requires lawful { IsLawfulCircuit c.now.circuit }
+    requires leaves { (found : List LeafRecord) × AreLeavesAt netlist.now.library.now c.now.circuit.parts c.now.leaves found }
+    requires made { (held : HeldRecord) × IsMade c.now.circuit held made.now }
+    ensures ok { IfOk result (λ n. AreInner netlist.now.source.now netlist.now.library.now c.now made.now n.cells n.nets) }
+    ensures clock { IfOk result (λ n. n.clock ≡ options.now.clock) }
+    ensures none { OnOk result ((name : List ℕ) → IsOfTwoNets (names_in netlist.now.source.now c.now.scopes) c.now.circuit name → ⊥) }
+    ensures err { IfErr result (IsNetCause (names_in netlist.now.source.now c.now.scopes) c.now.circuit) }
+{
+    let nets = net_names(alloc, netlist, c, made)?;
+    let cells = cell_names(alloc, netlist.library, c, made)?;
+    let clock = copy_name(alloc, &options.clock)?;
+    Ok(InnerNames { cells, nets, clock })
+}
+
+/// The design of the circuit below the top module, with all its names.
+fn link_circuit(
+    alloc: Global,
+    netlist: &Netlist,
+    top: usize,
+    options: &LinkOptions,
+    c: &FlatCircuit,
+    ports: TopPorts,
+) -> Result<Linked, LinkFault>
+    requires source { IsLawful netlist.now.source.now }
+    requires library { IsLawfulLibrary netlist.now.library.now.cells }
+    requires top { IsTop netlist.now.source.now top }
+    requires circuit { IsFlatCircuit netlist.now.source.now netlist.now.library.now (module_at netlist.now.source.now top) options.now.clock c.now }
+    requires ordered { IsUnrecursive netlist.now.source.now }
+    requires ports { AreTopPorts (module_at netlist.now.source.now top) options.now ports }
+    requires fitting { IsFitting (module_at netlist.now.source.now top) options.now }
+    ensures ok { IfOk result (IsLinked netlist.now.source.now netlist.now.library.now options.now) }
+    ensures usable { IfOk result IsUsable }
+    ensures err { IfErr result (IsCause netlist.now.source.now netlist.now.library.now options.now) }
+    ensures none { OnOk result (IsFaultless netlist.now.source.now netlist.now.library.now options.now) }
+{
+    let TopPorts { ins, outs, held } = ports;
+    let made = made_design(alloc, netlist, top, options, c, held)?;
+    let inner = inner_names(alloc, netlist, options, c, &made)?;
+    let InnerNames { cells, nets, clock } = inner;
+    let CircuitDesign { design, .. } = made;
+    let names = Names {
+        cells,
+        ins,
+        outs,
+        nets,
+        clock,
+    };
+    Ok(Linked { design, names })
+}
+
+/// The design below the top module.
+fn link_below(
+    alloc: Global,
+    netlist: &Netlist,
+    top: usize,
+    options: &LinkOptions,
+) -> Result<Linked, LinkFault>
+    requires source { IsLawful netlist.now.source.now }
+    requires library { IsLawfulLibrary netlist.now.library.now.cells }
+    requires modules { netlist.now.modules ≡ module_names netlist.now.source.now }
+    requires cells { netlist.now.cells ≡ library_names netlist.now.library.now }
+    requires top { IsTop netlist.now.source.now top }
+    requires resets { options.now.reset_len ≤ 64 }
+    ensures ok { IfOk result (IsLinked netlist.now.source.now netlist.now.library.now options.now) }
+    ensures usable { IfOk result IsUsable }
+    ensures err { IfErr result (IsCause netlist.now.source.now netlist.now.library.now options.now) }
+    ensures none { OnOk result (IsFaultless netlist.now.source.now netlist.now.library.now options.now) }
+{
+    let ports = top_ports(alloc, netlist.source.modules.item(top), options)?;
+    let c = flat_circuit(alloc, netlist, top, &options.clock)?;
+    link_circuit(alloc, netlist, top, options, &c, ports)
+}
