@@ -1,2 +1,4 @@
 mod Lining
 pub mod Rowing
+mod Passing
+pub mod ReadBack

@@ -1,6 +1,8 @@
 -- The lines of a report.
-use Rattle.std.specs.Prelude.{ℕ, ◌+◌, List, [], ◌∷◌, ◌++◌, map, Vec}
+use Rattle.std.specs.Prelude.{◌≡◌, ℕ, ◌+◌, ◌<◌, ◌^◌, List, [], ◌∷◌, ◌++◌, length, map, Some, slice_get, Result, IfOk, IfErr, Vec}
+use Rattle.std.specs.List.{concat}
 use Rattle.std.specs.declared.alloc.Global.{Global}
+use Rattle.net_model.specs.declared.cycles.Stimulus.{Stimulus}
 use Rattle.net_model.specs.declared.claims.Claim.{Claim}
 use Rattle.sdc_objects.specs.Places.{each_at}
 use Rattle.exception_expand.specs.declared.selections.CommandLine.{CommandLine}
@@ -9,6 +11,8 @@ use Rattle.exception_expand.specs.declared.selections.Selected.{Selected}
 use Rattle.verdicts.specs.declared.outcomes.Verdict.{Verdict}
 use Rattle.verdicts.specs.declared.outcomes.Verdict.TheVariants.{Justified, Refuted, Undecided}
 use Rattle.witness_replay.specs.StimulusTexts.{line_of, block_lines}
+use Rattle.witness_replay.specs.Blocks.{HasFirstBlock, IsStimCause, Recalls}
+use Rattle.witness_replay.specs.declared.faults.StimFault.{StimFault}
 use Rattle.report_text.specs.declared.options.RunOptions.{RunOptions}
 use Rattle.report_text.specs.Rows.{each_pair}
 use Rattle.report_text.specs.Words.{header_text, command_text, warning_line, pair_text, total_text}
@@ -46,3 +50,17 @@ abbrev pub report_lines : RunOptions → Selected → List Verdict → List (Lis
 report_lines o selected verdicts =
     line_of (header_text o) ∷ (each_at command_lines 0 selected.commands
     ++ (all_pairs o.depth selected verdicts ++ line_of (total_text verdicts) ∷ []))
+
+-- the bytes of a report, its lines joined
+abbrev pub report_bytes : RunOptions → Selected → List Verdict → List ℕ
+report_bytes o selected verdicts = concat (report_lines o selected verdicts)
+
+-- P holds of the number of each refuted pair and of the stimulus that refutes it; pairs are numbered from 1
+abbrev pub EachStimulus : (ℕ → Stimulus → Type 0) → List Verdict → Type 0
+EachStimulus P verdicts = (place offset : ℕ) (s : Stimulus) → slice_get verdicts place ≡ Some (Refuted offset s) → P (place + 1) s
+
+-- whatever is read under this number in a report that fits in memory is the stimulus, unless memory runs out
+abbrev pub ReadsBack : ℕ → List ℕ → Stimulus → Type 0
+ReadsBack number report s =
+    length report < 2 ^ 64 → (read : Result Stimulus StimFault) → IfOk read (HasFirstBlock number report) → IfErr read (IsStimCause number report)
+    → Recalls read s

@@ -2,11 +2,12 @@
 //! each pair that is refuted, and the totals.
 //!
 //! Read `specs/Reports.antt` first: which lines a report has, in which order. `specs/Words.antt` has the words of a line.
-//! `reports.rt` has the call that makes the lines.
+//! `reports.rt` has the call that makes the lines, and `laws.rt` says that the stimuli are found in them again.
 #![tactic(auto)]
 
 mod blocks;
 mod commands;
+mod laws;
 mod lines;
 mod options;
 mod outcomes;
@@ -17,6 +18,7 @@ mod tallies;
 mod words;
 
 pub use blocks::bits_text;
+pub use laws::report_reads_back;
 pub use options::RunOptions;
 pub use outcomes::{verdict_word, why_text};
 pub use reports::write_report;

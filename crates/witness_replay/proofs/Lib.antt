@@ -1,9 +1,10 @@
 pub mod Deciding
 pub mod Kept
 pub mod Violations
-mod LineLemmas
+pub mod LineLemmas
 mod DigitLemmas
-mod BlockLemmas
+pub mod BlockLemmas
 mod HeadLemmas
-mod WrittenLemmas
+pub mod WrittenLemmas
+pub mod PassedLemmas
 mod StimLemmas

@@ -84,7 +84,7 @@ lines-text (l ∷ ls) t plain =
     rw (append_assoc (line_of l) (flat_map line_of ls) t) (lines-line l (flat_map line_of ls ++ t) here ∙ ap (λ (x : List (List ℕ)). l ∷ x)
     (lines-text ls t more))
 
-lines-none : lines [] ≡ []
+pub lines-none : lines [] ≡ []
 unfolding lines
 lines-none = refl
 

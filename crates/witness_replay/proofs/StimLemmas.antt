@@ -42,6 +42,5 @@ module _ (number next : ℕ) (report : List ℕ) (ls : List (List ℕ)) (small :
   recalls (Err Memory) reads fault s has = refl
 
 -- a report without a block of the number has no stimulus
-pub none_written : (number : ℕ) (report : List ℕ) (s : Stimulus) → number < 2 ^ 64 → length report < 2 ^ 64 → block_in number report ≡ []
-    → ¬ IsWritten number report s
-none_written number report s fits small none written = let e = sym none ∙ (written_first number report s fits small written).is in cc
+pub none_written : (number : ℕ) (report : List ℕ) (s : Stimulus) → block_in number report ≡ [] → ¬ IsWritten number report s
+none_written number report s none written = let e = sym none ∙ (written_first number report s written).is in cc

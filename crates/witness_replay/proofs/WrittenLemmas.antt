@@ -1,13 +1,11 @@
 -- A block that was written is the first of its report.
-use Rattle.std.proofs.Common.{◌≡◌, ℕ, suc, ◌<◌, ◌≤◌, ◌^◌, ◌==◌, Bool, true, false, not, ◌||◌, cond, List, [], ◌∷◌, ◌++◌, length, map, refl, ap, ◌∙◌}
-use Rattle.std.proofs.Common.{append_assoc, arith, length-append}
-use Rattle.std.specs.Prelude.{codes, flat_map, All, nat_eq}
+use Rattle.std.proofs.Common.{◌≡◌, ℕ, zero, suc, ◌+◌, ◌/◌, ◌%◌, ◌≤◌, ◌==◌, Bool, true, false, not, ◌||◌, cond, List, [], ◌∷◌, ◌++◌, length, map, refl, ap, ◌∙◌}
+use Rattle.std.proofs.Common.{append_assoc, arith}
+use Rattle.std.specs.Prelude.{codes, flat_map, All, nat_eq, nat_lt}
 use Rattle.std.specs.List.{list_all, starts_with}
 use Rattle.std.specs.Str.{bytes_eq}
-use Rattle.std.specs.Str.Parse.{AllDigits}
-use Rattle.std.specs.Fmt.{decimal}
-use Rattle.std.proofs.lemmas.Fmt.{decimal_is_IsNumeral}
-use Rattle.std.proofs.lemmas.Str.Parse.{digit_from_value}
+use Rattle.std.specs.Fmt.{decimal, digits, digits_onto, digit_glyph}
+use Rattle.std.proofs.lemmas.Bool.{and_from, cond_both}
 use Rattle.std.proofs.lemmas.Bool.Decides.{nat_tests, Decides-eqb}
 use Rattle.std.proofs.lemmas.Slice.Eq.{starts_is}
 use Rattle.std.proofs.lemmas.List.Folds.{list_all-append}
@@ -19,16 +17,23 @@ use Rattle.witness_replay.proofs.LineLemmas.{is_inline, lines-text, lines-before
 digit_inline : (c : ℕ) → 48 ≤ c → not (c == 10) ≡ true
 digit_inline c at_least = grind (arith, nat_tests)
 
-inline_digits : (ds : List ℕ) → AllDigits 10 ds → is_inline ds ≡ true
-inline_digits [] all = refl
-inline_digits (c ∷ cs) (here, more) =
-    let within = digit_from_value c here in
-    rw (digit_inline c (omega (arith, within)), inline_digits cs more) refl
+glyph_least : (d : ℕ) → 48 ≤ digit_glyph false d
+glyph_least d = cond_both (nat_lt d 10) (48 + d) (87 + d) (λ (c : ℕ). 48 ≤ c) (λ low. omega arith) (λ high. omega arith)
 
-inline_decimal : (n : ℕ) → n < 2 ^ 64 → is_inline (decimal n) ≡ true
-inline_decimal n fits = inline_digits (decimal n) (decimal_is_IsNumeral n fits).0.1
+inline_onto : (k n : ℕ) (acc : List ℕ) → is_inline acc ≡ true → is_inline (digits_onto k 10 false n acc) ≡ true
+inline_onto zero n acc plain = plain
+inline_onto (suc k) n acc plain =
+    let digit : ℕ = digit_glyph false (n % 10) in
+    let more : is_inline (digit ∷ acc) ≡ true = and_from (not (digit == 10)) (is_inline acc) (digit_inline digit (glyph_least (n % 10))) plain in
+    cond_both (n / 10 == 0) (digit ∷ acc) (digits_onto k 10 false (n / 10) (digit ∷ acc)) (λ (text : List ℕ). is_inline text ≡ true) (λ last. more)
+    (λ front. inline_onto k (n / 10) (digit ∷ acc) more)
 
-inline_append : (a b : List ℕ) → is_inline a ≡ true → is_inline b ≡ true → is_inline (a ++ b) ≡ true
+-- a number is written in one line
+pub inline_decimal : (n : ℕ) → is_inline (decimal n) ≡ true
+unfolding digits
+inline_decimal n = inline_onto 64 n [] refl
+
+pub inline_append : (a b : List ℕ) → is_inline a ≡ true → is_inline b ≡ true → is_inline (a ++ b) ≡ true
 inline_append a b x y = list_all-append (λ b. not (b == 10)) a b ∙ rw (x, y) refl
 
 inline_map : (bits : List Bool) → is_inline (map digit_of bits) ≡ true
@@ -36,7 +41,8 @@ inline_map [] = refl
 inline_map (true ∷ bits) = inline_map bits
 inline_map (false ∷ bits) = inline_map bits
 
-inline_bits : (bits : List Bool) → is_inline (digits_of bits) ≡ true
+-- so are bits
+pub inline_bits : (bits : List Bool) → is_inline (digits_of bits) ≡ true
 inline_bits [] = refl
 inline_bits (b ∷ bits) = inline_map (b ∷ bits)
 
@@ -44,16 +50,18 @@ inline_rows : (rows : List (List Bool)) → list_all is_inline (map input_line r
 inline_rows [] = refl
 inline_rows (r ∷ rows) = rw (inline_append (codes "input ") (digits_of r) refl (inline_bits r), inline_rows rows) refl
 
-inline_head : (number count : ℕ) → number < 2 ^ 64 → count < 2 ^ 64 → is_inline (head_of number count) ≡ true
-inline_head number count small fits =
-    let title = inline_append (codes "stimulus ") (decimal number) refl (inline_decimal number small) in
+-- the first line of a block is one line
+pub inline_head : (number count : ℕ) → is_inline (head_of number count) ≡ true
+inline_head number count =
+    let title = inline_append (codes "stimulus ") (decimal number) refl (inline_decimal number) in
     inline_append (title_of number ++ codes " cycles ") (decimal count) (inline_append (title_of number) (codes " cycles ") title refl)
-    (inline_decimal count fits)
+    (inline_decimal count)
 
-inline_block : (number : ℕ) (s : Stimulus) → number < 2 ^ 64 → length s.inputs < 2 ^ 64 → list_all is_inline (block_lines number s) ≡ true
-inline_block number s small fits =
+-- so is each line of a block
+pub inline_block : (number : ℕ) (s : Stimulus) → list_all is_inline (block_lines number s) ≡ true
+inline_block number s =
     rw (
-      inline_head number (length s.inputs) small fits,
+      inline_head number (length s.inputs),
       inline_append (codes "state ") (digits_of s.state) refl (inline_bits s.state),
       inline_rows s.inputs,
     ) refl
@@ -110,42 +118,16 @@ pub no_block : (title : List ℕ) (ls : List (List ℕ)) → ls ≡ [] → from_
 unfolding from_block
 no_block title ls none = rw none refl
 
-rows_short : (rows : List (List Bool)) (rest : List ℕ) → length rows ≤ length (flat_map line_of (map input_line rows ++ codes "end" ∷ []) ++ rest)
-rows_short [] rest = omega arith
-rows_short (r ∷ rows) rest =
-    let more = rows_short rows rest in
-    let line = length-append (input_line r) (10 ∷ []) in
-    let all = length-append (line_of (input_line r)) (flat_map line_of (map input_line rows ++ codes "end" ∷ [])) in
-    let whole = length-append (line_of (input_line r) ++ flat_map line_of (map input_line rows ++ codes "end" ∷ [])) rest in
-    let inner = length-append (flat_map line_of (map input_line rows ++ codes "end" ∷ [])) rest in
-    omega arith
-
--- a written block has no more cycles than the report has bytes
-written_fits : (number : ℕ) (report : List ℕ) (s : Stimulus) → length report < 2 ^ 64 → IsWritten number report s → length s.inputs < 2 ^ 64
-written_fits number report s small written =
-    let e = ap length written.is in
-    let front = length-append (flat_map line_of written.before ++ block_text number s) written.after in
-    let parts = length-append (flat_map line_of written.before) (block_text number s) in
-    let rows : List ℕ = flat_map line_of (map input_line s.inputs ++ codes "end" ∷ []) in
-    let state : List ℕ = line_of (codes "state " ++ digits_of s.state) in
-    let head = length-append (line_of (head_of number (length s.inputs))) (state ++ rows) in
-    let second = length-append state rows in
-    let short = rows_short s.inputs [] in
-    let end_ = length-append rows [] in
-    omega arith
-
 -- what was written is the first block of its number
-pub written_first : (number : ℕ) (report : List ℕ) (s : Stimulus) → number < 2 ^ 64 → length report < 2 ^ 64 → IsWritten number report s
-    → HasFirstBlock number report s
-written_first number report s fits small written =
+pub written_first : (number : ℕ) (report : List ℕ) (s : Stimulus) → IsWritten number report s → HasFirstBlock number report s
+written_first number report s written =
     let title = title_of number in
     let block : List (List ℕ) = block_lines number s in
     let before : List (List ℕ) = lines (flat_map line_of written.before) in
-    let inline = inline_block number s fits (written_fits number report s small written) in
     let whole : report ≡ flat_map line_of written.before ++ (block_text number s ++ written.after) = written.is
     ∙ append_assoc (flat_map line_of written.before) (block_text number s) written.after in
     let cut : lines report ≡ before ++ (block ++ lines written.after) = ap lines whole ∙ lines-before written.before
-    (block_text number s ++ written.after) ∙ ap (λ (x : List (List ℕ)). before ++ x) (lines-text block written.after inline) in
+    (block_text number s ++ written.after) ∙ ap (λ (x : List (List ℕ)). before ++ x) (lines-text block written.after (inline_block number s)) in
     record {
       others = lines written.after;
       is = ap (from_block title) cut ∙ skips title before (block ++ lines written.after) written.none

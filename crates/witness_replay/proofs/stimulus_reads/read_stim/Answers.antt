@@ -8,9 +8,8 @@ use Rattle.witness_replay.proofs.stimulus_reads.read_stim.Goals as goal
 
 pub returns-in_err-block-clause-back : goal.returns-in_err-block-clause-back
 returns-in_err-block-clause-back c =
-    let small : length c.args.report.now < 2 ^ 64 = omega arith in
     let none = rw c.in_err-block.ensures.ok_part at c.in_ok-find_block.ensures.left in
-    λ s written. absurd (none_written c.args.number c.args.report.now s c.ranges.number.fits small none written)
+    λ s written. absurd (none_written c.args.number c.args.report.now s none written)
 
 pub returns-clause-err : goal.returns-clause-err
 returns-clause-err c =
@@ -36,4 +35,4 @@ returns-clause-back c =
     let found = rw c.in_ok-block.ensures.ok_part at c.in_ok-find_block.ensures.left in
     λ s written. recalls c.args.number (next_number c.in_ok-block.block) c.args.report.now (left c.in_ok-block.block) small found.0
     c.read_block.result c.read_block.ensures.ok c.read_block.ensures.err s
-    (written_first c.args.number c.args.report.now s c.ranges.number.fits small written)
+    (written_first c.args.number c.args.report.now s written)

@@ -1,0 +1,150 @@
+//! The reports, written by hand.
+use crate::builders::Does::{Aside, Claims, Holds};
+use crate::builders::Found::{Depth, Fixed, Refuted, Single, Spent, Stays};
+use crate::builders::Warns::{Dropped, Nothing};
+use crate::builders::{Bits, Case, Exception, Pair};
+use net_model::Phase::{Base, Step};
+use report_text::RunOptions;
+use sdcv_base::Kind::{False, Multi};
+
+// A reset cycle, and two live ones; the data input is 1 in the second.
+const TOGGLES: Bits = Bits(
+    &[false, false],
+    &[&[true, false], &[false, true], &[false, false]],
+);
+
+// A design without data inputs.
+const ALONE: Bits = Bits(&[true], &[&[], &[]]);
+
+const DEFAULTS: RunOptions = RunOptions {
+    hazard: false,
+    reset_len: 1,
+    depth: 8,
+    budget: 20_000,
+    inv_depth: 1,
+};
+
+const NO_RESET: RunOptions = RunOptions {
+    reset_len: 0,
+    ..DEFAULTS
+};
+
+const NOTHING: Case = Case {
+    options: NO_RESET,
+    exceptions: &[],
+    pairs: &[],
+    text: "sdcv 1 mode plain reset 0 depth 8 budget 20000 inv 1
+total 0 justified 0 refuted 0 undecided 0
+",
+    json: "{\"budget\":20000,\"commands\":[],\"depth\":8,\"inv\":1,\"mode\":\"plain\",\"pairs\":[],\"reset\":0,\
+\"total\":{\"justified\":0,\"pairs\":0,\"refuted\":0,\"undecided\":0}}\n",
+};
+
+const NO_CELL: Case = Case {
+    options: NO_RESET,
+    exceptions: &[Exception(1, Claims(False, 0), &[Nothing("zz*")])],
+    pairs: &[],
+    text: "sdcv 1 mode plain reset 0 depth 8 budget 20000 inv 1
+command 1 line 1 false pairs 0
+warning command 1 nothing zz*
+total 0 justified 0 refuted 0 undecided 0
+",
+    json: "{\"budget\":20000,\"commands\":[{\"line\":1,\"number\":1,\"pairs\":0,\"warnings\":[\"nothing zz*\"],\
+\"what\":\"false\"}],\"depth\":8,\"inv\":1,\"mode\":\"plain\",\"pairs\":[],\"reset\":0,\
+\"total\":{\"justified\":0,\"pairs\":0,\"refuted\":0,\"undecided\":0}}\n",
+};
+
+// Each kind of exception, and each verdict. One name has a byte that is no character of ASCII, and a quote.
+pub const EACH: Case = Case {
+    options: DEFAULTS,
+    exceptions: &[
+        Exception(2, Claims(False, 3), &[Nothing("zz*"), Dropped("u1/g?", 2)]),
+        Exception(3, Holds, &[]),
+        Exception(5, Aside("-rise"), &[]),
+        Exception(6, Claims(Multi(2), 3), &[]),
+        Exception(7, Claims(Multi(1), 1), &[]),
+    ],
+    pairs: &[
+        Pair(1, False, b"rst", b"a", Fixed),
+        Pair(1, False, b"a", b"b", Depth(0)),
+        Pair(1, False, b"\xffq\"", b"b", Refuted(0, TOGGLES)),
+        Pair(4, Multi(2), b"a", b"b", Stays),
+        Pair(4, Multi(2), b"a", b"c", Spent(Base, 0)),
+        Pair(4, Multi(2), b"b", b"c", Spent(Step, 3)),
+        Pair(5, Multi(1), b"a", b"b", Single),
+    ],
+    text: "sdcv 1 mode plain reset 1 depth 8 budget 20000 inv 1
+command 1 line 2 false pairs 3
+warning command 1 nothing zz*
+warning command 1 dropped u1/g? 2
+command 2 line 3 hold
+command 3 line 5 aside -rise
+command 4 line 6 multi 2 pairs 3
+command 5 line 7 multi 1 pairs 1
+pair 1 command 1 false rst -> a justified fixed
+pair 2 command 1 false a -> b justified depth 0
+pair 3 command 1 false ?q\" -> b refuted offset 0
+stimulus 3 cycles 3
+state 00
+input 10
+input 01
+input 00
+end
+pair 4 command 4 multi 2 a -> b undecided depth 8
+pair 5 command 4 multi 2 a -> c undecided budget base 0
+pair 6 command 4 multi 2 b -> c undecided budget step 3
+pair 7 command 5 multi 1 a -> b justified single
+total 7 justified 3 refuted 1 undecided 3
+",
+    json: "{\"budget\":20000,\"commands\":[\
+{\"line\":2,\"number\":1,\"pairs\":3,\"warnings\":[\"nothing zz*\",\"dropped u1/g? 2\"],\"what\":\"false\"},\
+{\"line\":3,\"number\":2,\"pairs\":0,\"warnings\":[],\"what\":\"hold\"},\
+{\"line\":5,\"number\":3,\"pairs\":0,\"warnings\":[],\"what\":\"aside -rise\"},\
+{\"line\":6,\"number\":4,\"pairs\":3,\"warnings\":[],\"what\":\"multi 2\"},\
+{\"line\":7,\"number\":5,\"pairs\":1,\"warnings\":[],\"what\":\"multi 1\"}],\
+\"depth\":8,\"inv\":1,\"mode\":\"plain\",\"pairs\":[\
+{\"command\":1,\"end\":\"a\",\"kind\":\"false\",\"number\":1,\"start\":\"rst\",\"stimulus\":null,\
+\"verdict\":\"justified\",\"why\":\"fixed\"},\
+{\"command\":1,\"end\":\"b\",\"kind\":\"false\",\"number\":2,\"start\":\"a\",\"stimulus\":null,\
+\"verdict\":\"justified\",\"why\":\"depth 0\"},\
+{\"command\":1,\"end\":\"b\",\"kind\":\"false\",\"number\":3,\"start\":\"?q\\\"\",\
+\"stimulus\":{\"inputs\":[\"10\",\"01\",\"00\"],\"state\":\"00\"},\"verdict\":\"refuted\",\"why\":\"offset 0\"},\
+{\"command\":4,\"end\":\"b\",\"kind\":\"multi 2\",\"number\":4,\"start\":\"a\",\"stimulus\":null,\
+\"verdict\":\"undecided\",\"why\":\"depth 8\"},\
+{\"command\":4,\"end\":\"c\",\"kind\":\"multi 2\",\"number\":5,\"start\":\"a\",\"stimulus\":null,\
+\"verdict\":\"undecided\",\"why\":\"budget base 0\"},\
+{\"command\":4,\"end\":\"c\",\"kind\":\"multi 2\",\"number\":6,\"start\":\"b\",\"stimulus\":null,\
+\"verdict\":\"undecided\",\"why\":\"budget step 3\"},\
+{\"command\":5,\"end\":\"b\",\"kind\":\"multi 1\",\"number\":7,\"start\":\"a\",\"stimulus\":null,\
+\"verdict\":\"justified\",\"why\":\"single\"}],\
+\"reset\":1,\"total\":{\"justified\":3,\"pairs\":7,\"refuted\":1,\"undecided\":3}}\n",
+};
+
+const HAZARDS: Case = Case {
+    options: RunOptions {
+        hazard: true,
+        reset_len: 0,
+        depth: 12,
+        budget: 1,
+        inv_depth: 0,
+    },
+    exceptions: &[Exception(2, Claims(Multi(2), 1), &[])],
+    pairs: &[Pair(1, Multi(2), b"r", b"r", Refuted(0, ALONE))],
+    text: "sdcv 1 mode hazard reset 0 depth 12 budget 1 inv 0
+command 1 line 2 multi 2 pairs 1
+pair 1 command 1 multi 2 r -> r refuted offset 0
+stimulus 1 cycles 2
+state 1
+input -
+input -
+end
+total 1 justified 0 refuted 1 undecided 0
+",
+    json: "{\"budget\":1,\"commands\":[{\"line\":2,\"number\":1,\"pairs\":1,\"warnings\":[],\"what\":\"multi 2\"}],\
+\"depth\":12,\"inv\":0,\"mode\":\"hazard\",\"pairs\":[\
+{\"command\":1,\"end\":\"r\",\"kind\":\"multi 2\",\"number\":1,\"start\":\"r\",\
+\"stimulus\":{\"inputs\":[\"-\",\"-\"],\"state\":\"1\"},\"verdict\":\"refuted\",\"why\":\"offset 0\"}],\
+\"reset\":0,\"total\":{\"justified\":0,\"pairs\":1,\"refuted\":1,\"undecided\":0}}\n",
+};
+
+pub const CASES: [Case; 4] = [NOTHING, NO_CELL, EACH, HAZARDS];

@@ -1,0 +1,143 @@
+-- The lines of a report that are of no stimulus: each is one line, and begins none.
+use Rattle.std.proofs.Common.{◌≡◌, ◌≢◌, ℕ, ◌+◌, ◌<◌, ◌^◌, ◌==◌, Bool, true, false, not, ◌&&◌, List, [], ◌∷◌, ◌++◌, map, refl, ◌∙◌, arith}
+use Rattle.std.specs.Prelude.{nat_le}
+use Rattle.std.specs.List.{list_all}
+use Rattle.std.proofs.lemmas.Bool.{and_parts, and_from, cond_both, leb-true}
+use Rattle.std.proofs.lemmas.Bool.Decides.{nat_tests}
+use Rattle.std.proofs.lemmas.List.Folds.{list_all-append}
+use Rattle.sdcv_base.specs.Shown.{shown, shown_byte}
+use Rattle.sdcv_base.specs.declared.kinds.Kind.{Kind}
+use Rattle.sdcv_base.specs.declared.kinds.Kind.TheVariants.{False, Multi}
+use Rattle.net_model.specs.declared.claims.Claim.{Claim}
+use Rattle.net_model.specs.declared.queries.Phase.{Phase}
+use Rattle.net_model.specs.declared.queries.Phase.TheVariants.{Base, Step}
+use Rattle.sdc_objects.specs.Places.{each_at}
+use Rattle.sdc_objects.specs.declared.warnings.Warning.{Warning}
+use Rattle.sdc_objects.specs.declared.warnings.Warning.TheVariants.{Nothing, Dropped}
+use Rattle.exception_expand.specs.declared.selections.Listing.{Listing}
+use Rattle.exception_expand.specs.declared.selections.Listing.TheVariants.{Claiming, Hold, Aside}
+use Rattle.exception_expand.specs.declared.selections.CommandLine.{CommandLine}
+use Rattle.exception_expand.specs.declared.selections.PairLine.{PairLine}
+use Rattle.verdicts.specs.declared.outcomes.Proof.{Proof}
+use Rattle.verdicts.specs.declared.outcomes.Proof.TheVariants.{Single, Fixed, Depth}
+use Rattle.verdicts.specs.declared.outcomes.Cause.{Cause}
+use Rattle.verdicts.specs.declared.outcomes.Cause.TheVariants.{Depth as Stays, Budget}
+use Rattle.verdicts.specs.declared.outcomes.Verdict.{Verdict}
+use Rattle.verdicts.specs.declared.outcomes.Verdict.TheVariants.{Justified, Refuted, Undecided}
+use Rattle.witness_replay.specs.StimulusTexts.{title_of}
+use Rattle.witness_replay.proofs.LineLemmas.{is_inline}
+use Rattle.witness_replay.proofs.WrittenLemmas.{inline_decimal}
+use Rattle.witness_replay.proofs.PassedLemmas.{passes, passes_block}
+use Rattle.report_text.specs.declared.options.RunOptions.{RunOptions}
+use Rattle.report_text.specs.Words.{mode_text, header_text, kind_text, what_text, count_text, command_text, warning_text, warning_line}
+use Rattle.report_text.specs.Words.{verdict_word, proof_text, phase_text, cause_text, why_text, pair_text}
+use Rattle.report_text.specs.Reports.{command_texts, pair_texts, stimulus_texts}
+
+-- whether no byte of a text is a newline; the texts of a line are joined of such
+inline-append : (a b : List ℕ) → is_inline (a ++ b) ≡ (is_inline a && is_inline b)
+inline-append = list_all-append (λ b. not (b == 10))
+
+shown_plain : (b : ℕ) → not (shown_byte b == 10) ≡ true
+shown_plain b =
+    cond_both (nat_le 32 b && nat_le b 126) b 63 (λ (c : ℕ). not (c == 10) ≡ true)
+    (λ shows. let low = leb-true 32 b (and_parts (nat_le 32 b) (nat_le b 126) shows).0 in grind (arith, nat_tests)) (λ hides. refl)
+
+inline_shown : (name : List ℕ) → is_inline (shown name) ≡ true
+inline_shown [] = refl
+inline_shown (b ∷ bs) = rw (shown_plain b, inline_shown bs) refl
+
+inline_mode : (hazard : Bool) → is_inline (mode_text hazard) ≡ true
+inline_mode true = refl
+inline_mode false = refl
+
+inline_kind : (kind : Kind) → is_inline (kind_text kind) ≡ true
+inline_kind False = refl
+inline_kind (Multi multiplier) = inline_decimal multiplier
+
+inline_what : (listing : Listing) → is_inline (what_text listing) ≡ true
+inline_what (Claiming kind pairs) = inline_kind kind
+inline_what Hold = refl
+inline_what (Aside option) = inline_shown option
+
+inline_count : (listing : Listing) → is_inline (count_text listing) ≡ true
+inline_count (Claiming kind pairs) = inline_decimal pairs
+inline_count Hold = refl
+inline_count (Aside option) = refl
+
+inline_warning : (warning : Warning) → is_inline (warning_text warning) ≡ true
+inline_warning (Nothing pattern) = inline_shown pattern
+inline_warning (Dropped pattern count) = simp (inline-append, inline_shown, inline_decimal)
+
+inline_word : (v : Verdict) → is_inline (verdict_word v) ≡ true
+inline_word (Justified proof) = refl
+inline_word (Refuted offset stimulus) = refl
+inline_word (Undecided cause) = refl
+
+inline_proof : (proof : Proof) → is_inline (proof_text proof) ≡ true
+inline_proof Single = refl
+inline_proof Fixed = refl
+inline_proof (Depth depth base step) = inline_decimal depth
+
+inline_phase : (phase : Phase) → is_inline (phase_text phase) ≡ true
+inline_phase Base = refl
+inline_phase Step = refl
+
+inline_cause : (limit : ℕ) (cause : Cause) → is_inline (cause_text limit cause) ≡ true
+inline_cause limit (Stays stretch) = inline_decimal limit
+inline_cause limit (Budget phase depth log) = simp (inline-append, inline_phase, inline_decimal)
+
+inline_why : (limit : ℕ) (v : Verdict) → is_inline (why_text limit v) ≡ true
+inline_why limit (Justified proof) = inline_proof proof
+inline_why limit (Refuted offset stimulus) = inline_decimal offset
+inline_why limit (Undecided cause) = inline_cause limit cause
+
+-- a line whose first letters are others than those of a stimulus
+pub passes_header : (number : ℕ) (o : RunOptions) → passes (title_of number) (header_text o) ≡ true
+passes_header number o = simp (inline-append, inline_mode, inline_decimal)
+
+passes_command : (number place : ℕ) (c : CommandLine) → passes (title_of number) (command_text place c) ≡ true
+passes_command number place c = simp (inline-append, inline_what, inline_count, inline_decimal)
+
+passes_warning : (number place : ℕ) (warning : Warning) → passes (title_of number) (warning_line place warning) ≡ true
+passes_warning number place warning = simp (inline-append, inline_warning, inline_decimal)
+
+passes_pair : (number limit other : ℕ) (p : PairLine) (claim : Claim) (v : Verdict) → passes (title_of number) (pair_text limit other p claim v) ≡ true
+passes_pair number limit other p claim v = simp (inline-append, inline_kind, inline_shown, inline_word, inline_why, inline_decimal)
+
+passes_warnings : (number place : ℕ) (warnings : List Warning) → list_all (passes (title_of number)) (map (warning_line place) warnings) ≡ true
+passes_warnings number place [] = refl
+passes_warnings number place (w ∷ ws) =
+    and_from (passes (title_of number) (warning_line place w)) (list_all (passes (title_of number)) (map (warning_line place) ws))
+    (passes_warning number place w) (passes_warnings number place ws)
+
+-- the lines of the exceptions
+pub passes_commands : (number place : ℕ) (commands : List CommandLine)
+    → list_all (passes (title_of number)) (each_at (λ at c. command_texts (at + 1) c) place commands) ≡ true
+passes_commands number place [] = refl
+passes_commands number place (c ∷ cs) =
+    let title = title_of number in
+    let others : List (List ℕ) = each_at (λ at c. command_texts (at + 1) c) (place + 1) cs in
+    and_from (passes title (command_text (place + 1) c)) (list_all (passes title) (map (warning_line (place + 1)) c.warnings ++ others))
+    (passes_command number (place + 1) c)
+    (list_all-append (passes title) (map (warning_line (place + 1)) c.warnings) others
+    ∙ and_from (list_all (passes title) (map (warning_line (place + 1)) c.warnings)) (list_all (passes title) others)
+    (passes_warnings number (place + 1) c.warnings) (passes_commands number (place + 1) cs))
+
+passes_stimulus : (number other : ℕ) (v : Verdict) → number < 2 ^ 64 → other < 2 ^ 64 → number ≢ other
+    → list_all (passes (title_of number)) (stimulus_texts other v) ≡ true
+passes_stimulus number other (Justified proof) small fits differs = refl
+passes_stimulus number other (Refuted offset s) small fits differs = passes_block number other s small fits differs
+passes_stimulus number other (Undecided cause) small fits differs = refl
+
+-- the line of a pair
+pub passes_line : (number limit other : ℕ) (p : PairLine) (claim : Claim) (v : Verdict)
+    → list_all (passes (title_of number)) (pair_text limit other p claim v ∷ []) ≡ true
+passes_line number limit other p claim v =
+    and_from (passes (title_of number) (pair_text limit other p claim v)) true (passes_pair number limit other p claim v) refl
+
+-- the lines of a pair of another number
+pub passes_texts : (number limit other : ℕ) (p : PairLine) (claim : Claim) (v : Verdict) → number < 2 ^ 64 → other < 2 ^ 64 → number ≢ other
+    → list_all (passes (title_of number)) (pair_texts limit other p claim v) ≡ true
+passes_texts number limit other p claim v small fits differs =
+    and_from (passes (title_of number) (pair_text limit other p claim v)) (list_all (passes (title_of number)) (stimulus_texts other v))
+    (passes_pair number limit other p claim v) (passes_stimulus number other v small fits differs)
