@@ -1,3 +1,4 @@
 pub mod Decimals
 pub mod Lists
+pub mod Ranges
 pub mod Steps

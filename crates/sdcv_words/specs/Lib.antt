@@ -4,5 +4,6 @@ pub mod Jobs
 pub mod Numbers
 pub mod Options
 pub mod Places
+pub mod Ranges
 pub mod Settings
 pub mod Words

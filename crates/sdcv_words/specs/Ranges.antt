@@ -1,0 +1,22 @@
+-- The ranges in which the numbers of a command lie.
+use Rattle.std.specs.Prelude.{◌≤◌}
+use Rattle.sdcv_words.specs.declared.commands.Proving.{Proving}
+use Rattle.sdcv_words.specs.Commands.{Command, Demo, Job, Check, Over, Replay, Verify}
+
+-- claims are proved up to a depth of 64, with at least one and at most ten million clauses for a query; kept clauses up to a depth of 8
+pub record IsProvingInRange (proving : Proving) : Type 0 where
+  pub depth : proving.depth ≤ 64
+  pub some : 1 ≤ proving.budget
+  pub budget : proving.budget ≤ 10000000
+  pub inv_depth : proving.inv_depth ≤ 8
+
+-- pairs are numbered from 1
+abbrev pub IsJobInRange : Job → Type 0
+IsJobInRange (Verify out json proving) = IsProvingInRange proving
+IsJobInRange (Check cert) = Unit {0}
+IsJobInRange (Replay report pair) = 1 ≤ pair
+
+-- reset is held for at most 64 cycles, and a generated design has 1 to 160 blocks
+abbrev pub IsInRange : Command → Type 0
+IsInRange (Over texts options job) = (options.reset_len ≤ 64) × IsJobInRange job
+IsInRange (Demo seed size) = (1 ≤ size) × (size ≤ 160)
