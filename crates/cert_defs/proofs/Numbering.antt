@@ -38,7 +38,8 @@ pub pair_numbered : (pairs : List PairProof) (number : ℕ) → Contains (listed
     → (place : ℕ) × (pair : PairProof) × (slice_get pairs place ≡ Some pair) × (pair.number ≡ number)
 pair_numbered pairs number has =
     let at = at_contained (listed_numbers pairs) number has in
-    let within : at.0 < length pairs = subst (λ (n : ℕ). at.0 < n) (length-map pairs (λ (p : PairProof). p.number)) (slice_get_within (listed_numbers pairs) at.0 number at.1) in
+    let within : at.0 < length pairs =
+    subst (λ (n : ℕ). at.0 < n) (length-map pairs (λ (p : PairProof). p.number)) (slice_get_within (listed_numbers pairs) at.0 number at.1) in
     let found = item_at pairs at.0 within in
     (at.0, found.0, found.1, some_same found.0.number number (sym (number_at pairs at.0 found.0 found.1) ∙ at.1))
 

@@ -65,7 +65,8 @@ pub record HasClauseFault (coding : Coding) (d : Design) (cert : Cert) (place : 
   pub proof : InvProof
   pub clause_at : item_numbered cert.kept place ≡ Some clause
   pub proof_at : item_numbered cert.proofs place ≡ Some proof
-  pub has : HasFaultIn coding (λ offset. clause_query d cert.kept clause Base offset) (clause_query d cert.kept clause Step cert.depth) proof.base proof.step fault
+  pub has : HasFaultIn coding (λ offset. clause_query d cert.kept clause Base offset)
+      (clause_query d cert.kept clause Step cert.depth) proof.base proof.step fault
 
 -- a derivation of what is told of a claim has the fault
 abbrev pub HasProofFault : Coding → Design → List InvClause → Claim → Proof → CheckFault → Type 0

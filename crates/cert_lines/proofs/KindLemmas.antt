@@ -77,7 +77,9 @@ literal_told r s false false e = (omega arith, refl)
 
 state_told : (l m : StateLit) → l.reg + 1 < 2 ^ 31 → m.reg + 1 < 2 ^ 31 → state_word l ≡ state_word m → l ≡ m
 state_told l m fl fm e =
-    let same = lits_tell.same 0 0 (literal (l.reg + 1) l.value) (literal (m.reg + 1) m.value) (state_fits 0 l.reg l.value (omega arith) fl) (state_fits 0 m.reg m.value (omega arith) fm) e in
+    let same =
+    lits_tell.same 0 0 (literal (l.reg + 1) l.value) (literal (m.reg + 1) m.value) (state_fits 0 l.reg l.value (omega arith) fl)
+    (state_fits 0 m.reg m.value (omega arith) fm) e in
     let (reg, value) = literal_told l.reg m.reg l.value m.value same in
     ap (λ (n : ℕ). record { reg = n; value = l.value }) reg ∙ ap (λ (b : Bool). record { reg = m.reg; value = b }) value
 
@@ -171,7 +173,8 @@ pub section_kind : IsKind IsSection section_words
 section_kind = record { plain = section_plain; some = section_some; told = section_told }
 
 -- the literals of a step, and what comes after them
-pub step_tail : (lits : List ℕ) (x : List (List ℕ)) (s : DerivStep) → Chain IsLitAbove lit_var 0 lits → IsStep s → codes "s" ∷ (map lit_word lits ++ zero_word ∷ x) ≡ step_words s → (lits ≡ s.clause) × (x ≡ map decimal s.hints ++ zero_word ∷ [])
+pub step_tail : (lits : List ℕ) (x : List (List ℕ)) (s : DerivStep) → Chain IsLitAbove lit_var 0 lits → IsStep s
+    → codes "s" ∷ (map lit_word lits ++ zero_word ∷ x) ≡ step_words s → (lits ≡ s.clause) × (x ≡ map decimal s.hints ++ zero_word ∷ [])
 step_tail lits x s fit fits e =
     let rest : map lit_word lits ++ zero_word ∷ x ≡ map lit_word s.clause ++ zero_word ∷ (map decimal s.hints ++ zero_word ∷ []) = cc in
     row_same lit_word IsLitAbove lit_var lits_tell 0 0 lits s.clause x (map decimal s.hints ++ zero_word ∷ []) fit fits.lits rest

@@ -26,7 +26,8 @@ pub one_is : decimal 1 ≡ codes "1"
 one_is = decimal_digit 1 (omega arith)
 
 -- the count of kept clauses
-pub count_in : (depth most : ℕ) → depth ≤ 8 → (depth ≡ 0 → most ≡ 0) → (0 < depth → most ≡ 9223372036854775807) → (x : List (List ℕ)) (v : InvHead) → IsInvHead v → codes "inv" ∷ (decimal depth ∷ x) ≡ inv_words v → HasOne (IsNumberWord most) x
+pub count_in : (depth most : ℕ) → depth ≤ 8 → (depth ≡ 0 → most ≡ 0) → (0 < depth → most ≡ 9223372036854775807)
+    → (x : List (List ℕ)) (v : InvHead) → IsInvHead v → codes "inv" ∷ (decimal depth ∷ x) ≡ inv_words v → HasOne (IsNumberWord most) x
 count_in depth most deep none some x v fv e =
     let word : decimal depth ≡ decimal v.depth = cc in
     let rest : x ≡ decimal v.count ∷ [] = cc in
@@ -37,7 +38,8 @@ count_in depth most deep none some x v fv e =
     within zero none some same = let is = none refl in let c = fv.none (sym same) in omega arith
     within (suc d) none some same = let is = some (omega arith) in omega (arith, fv.small)
 
-pub count_onto : (depth most : ℕ) → depth ≤ 8 → (depth ≡ 0 → most ≡ 0) → (0 < depth → most ≡ 9223372036854775807) → (n : ℕ) → n ≤ most → IsInvHead (record { depth = depth; count = n })
+pub count_onto : (depth most : ℕ) → depth ≤ 8 → (depth ≡ 0 → most ≡ 0) → (0 < depth → most ≡ 9223372036854775807) → (n : ℕ) → n ≤ most
+    → IsInvHead (record { depth = depth; count = n })
 count_onto zero most deep none some n within = let is = none refl in record { deep = deep; none = λ e. omega arith; small = omega arith }
 count_onto (suc d) most deep none some n within = let is = some (omega arith) in record { deep = deep; none = λ e. absurd (omega arith); small = omega arith }
 
@@ -64,11 +66,16 @@ lit_in x v fv e = by v.lits fv (ap (λ (z : List (List ℕ)). drop 1 z) e)
     by : (ls : List StateLit) → AreKept ls → x ≡ map state_word ls → HasOne (IsLitWord 0) x
     by [] fits is = absurd fits
     by (l ∷ []) fits is = (state_word l, [], (literal (l.reg + 1) l.value, state_fits 0 l.reg l.value (omega arith) fits, refl), is)
-    by (l ∷ (m ∷ [])) fits is = let (less, few) = fits in (state_word l, state_word m ∷ [], (literal (l.reg + 1) l.value, state_fits 0 l.reg l.value (omega arith) (omega arith), refl), is)
+    by (l ∷ (m ∷ [])) fits is =
+        let (less, few) = fits in
+        (state_word l, state_word m ∷ [], (literal (l.reg + 1) l.value, state_fits 0 l.reg l.value (omega arith) (omega arith), refl), is)
     by (l ∷ (m ∷ (n ∷ more))) fits is = absurd fits
 
 pub lit_onto : (l : ℕ) → IsLitAbove 0 l → HasWords IsKept kept_words (codes "k" ∷ (lit_word l ∷ []))
-lit_onto l fits = let some = fits.above_it in let few = fits.few in (record { lits = state_of l ∷ [] }, omega arith, ap (λ z. codes "k" ∷ (z ∷ [])) (sym (state_word_of 0 l fits)))
+lit_onto l fits =
+    let some = fits.above_it in
+    let few = fits.few in
+    (record { lits = state_of l ∷ [] }, omega arith, ap (λ z. codes "k" ∷ (z ∷ [])) (sym (state_word_of 0 l fits)))
 
 -- the first of two literals tells its register
 first_reg : (first : ℕ) (l : StateLit) → IsLitAbove 0 first → l.reg + 1 < 2 ^ 31 → lit_word first ≡ state_word l → lit_var first ≡ l.reg + 1
@@ -80,7 +87,8 @@ first_reg first l fits few e =
     var_of v true = omega arith
     var_of v false = omega arith
 
-pub second_in : (first : ℕ) → IsLitAbove 0 first → (x : List (List ℕ)) (v : InvClause) → 0 < length x → IsKept v → codes "k" ∷ (lit_word first ∷ x) ≡ kept_words v → HasOne (IsLitWord (lit_var first)) x
+pub second_in : (first : ℕ) → IsLitAbove 0 first → (x : List (List ℕ)) (v : InvClause) → 0 < length x → IsKept v
+    → codes "k" ∷ (lit_word first ∷ x) ≡ kept_words v → HasOne (IsLitWord (lit_var first)) x
 second_in first ff x v some fv e = by v.lits fv (ap (λ (z : List (List ℕ)). drop 1 z) e)
   where
     by : (ls : List StateLit) → AreKept ls → lit_word first ∷ x ≡ map state_word ls → HasOne (IsLitWord (lit_var first)) x
@@ -94,12 +102,17 @@ second_in first ff x v some fv e = by v.lits fv (ap (λ (z : List (List ℕ)). d
         (state_word m, [], (literal (m.reg + 1) m.value, state_fits (lit_var first) m.reg m.value (omega arith) few, refl), rest)
     by (l ∷ (m ∷ (n ∷ more))) fits is = absurd fits
 
-pub second_onto : (first second : ℕ) → IsLitAbove 0 first → IsLitAbove (lit_var first) second → HasWords IsKept kept_words (codes "k" ∷ (lit_word first ∷ (lit_word second ∷ [])))
+pub second_onto : (first second : ℕ) → IsLitAbove 0 first → IsLitAbove (lit_var first) second
+    → HasWords IsKept kept_words (codes "k" ∷ (lit_word first ∷ (lit_word second ∷ [])))
 second_onto first second ff fs =
     let some = ff.above_it in
     let more = fs.above_it in
-    let few = fs.few in
-    (record { lits = state_of first ∷ (state_of second ∷ []) }, (omega arith, omega arith), ap (λ z. codes "k" ∷ (z ∷ (lit_word second ∷ []))) (sym (state_word_of 0 first ff)) ∙ ap (λ z. codes "k" ∷ (state_word (state_of first) ∷ (z ∷ []))) (sym (state_word_of (lit_var first) second fs)))
+    let few = fs.few in (
+      record { lits = state_of first ∷ (state_of second ∷ []) },
+      (omega arith, omega arith),
+      ap (λ z. codes "k" ∷ (z ∷ (lit_word second ∷ []))) (sym (state_word_of 0 first ff))
+          ∙ ap (λ z. codes "k" ∷ (state_word (state_of first) ∷ (z ∷ []))) (sym (state_word_of (lit_var first) second fs)),
+    )
 
 pub kept_end : (a b : List ℕ) (x : List (List ℕ)) (v : InvClause) → IsKept v → codes "k" ∷ (a ∷ (b ∷ x)) ≡ kept_words v → x ≡ []
 kept_end a b x v fv e = by v.lits fv (ap (λ (z : List (List ℕ)). drop 1 z) e)
@@ -133,7 +146,8 @@ end_end x End fv e = ap (λ (z : List (List ℕ)). drop 1 z) e
 pub number_in : (x : List (List ℕ)) (v : Section) → IsSection v → codes "pair" ∷ x ≡ section_words v → HasOne (IsNumberWord 9223372036854775807) x
 number_in x (Single n) fv e = (decimal n, codes "single" ∷ [], (n, omega arith, refl), ap (λ (z : List (List ℕ)). drop 1 z) e)
 number_in x (Fixed n) fv e = (decimal n, codes "fixed" ∷ [], (n, omega arith, refl), ap (λ (z : List (List ℕ)). drop 1 z) e)
-number_in x (Depth n d) fv e = let (few, low) = fv in (decimal n, codes "depth" ∷ (decimal d ∷ []), (n, omega arith, refl), ap (λ (z : List (List ℕ)). drop 1 z) e)
+number_in x (Depth n d) fv e =
+    let (few, low) = fv in (decimal n, codes "depth" ∷ (decimal d ∷ []), (n, omega arith, refl), ap (λ (z : List (List ℕ)). drop 1 z) e)
 number_in x End fv e = cc
 
 pub proof_in : (a : List ℕ) (x : List (List ℕ)) (v : Section) → IsSection v → codes "pair" ∷ (a ∷ x) ≡ section_words v → HasOne IsProofWord x
@@ -162,7 +176,8 @@ fixed_end a x (Fixed n) fv e = ap (λ (z : List (List ℕ)). drop 3 z) e
 fixed_end a x (Depth n d) fv e = absurd (clash 100 102 (omega arith) (sym (ap (λ (z : List (List ℕ)). third_byte z) e)))
 fixed_end a x End fv e = cc
 
-pub depth_in : (a : List ℕ) (x : List (List ℕ)) (v : Section) → IsSection v → codes "pair" ∷ (a ∷ (codes "depth" ∷ x)) ≡ section_words v → HasOne (IsNumberWord 64) x
+pub depth_in : (a : List ℕ) (x : List (List ℕ)) (v : Section) → IsSection v → codes "pair" ∷ (a ∷ (codes "depth" ∷ x)) ≡ section_words v
+    → HasOne (IsNumberWord 64) x
 depth_in a x (Single n) fv e = absurd (clash 100 115 (omega arith) (ap (λ (z : List (List ℕ)). third_byte z) e))
 depth_in a x (Fixed n) fv e = absurd (clash 100 102 (omega arith) (ap (λ (z : List (List ℕ)). third_byte z) e))
 depth_in a x (Depth n d) fv e = (decimal d, [], (d, fv.1, refl), ap (λ (z : List (List ℕ)). drop 3 z) e)
@@ -187,21 +202,29 @@ lits_in x v fv e = (v.clause, map decimal v.hints ++ zero_word ∷ [], record { 
 pub lits_onto : (x : List (List ℕ)) → HasRowBefore lit_word IsLitAbove lit_var (zero_word ∷ []) x → HasWords IsStep step_words (codes "s" ∷ x)
 lits_onto x m = (record { clause = m.0; hints = [] }, record { lits = m.1.fit; hints = tt }, ap (λ (y : List (List ℕ)). codes "s" ∷ y) m.1.is)
 
-pub hints_in : (lits : List ℕ) → Chain IsLitAbove lit_var 0 lits → (x : List (List ℕ)) (v : DerivStep) → IsStep v → to_hints lits ++ x ≡ step_words v → HasRow decimal IsHint (λ h. h) x
+pub hints_in : (lits : List ℕ) → Chain IsLitAbove lit_var 0 lits → (x : List (List ℕ)) (v : DerivStep) → IsStep v
+    → to_hints lits ++ x ≡ step_words v → HasRow decimal IsHint (λ h. h) x
 hints_in lits fit x v fv e = (v.hints, [], record { is = (step_tail lits x v fit fv (sym (after_lits lits x) ∙ e)).1; fit = fv.hints })
 
-pub hints_onto : (lits : List ℕ) → Chain IsLitAbove lit_var 0 lits → (x : List (List ℕ)) → HasRowBefore decimal IsHint (λ h. h) [] x → HasWords IsStep step_words (to_hints lits ++ x)
-hints_onto lits fit x m = (record { clause = lits; hints = m.0 }, record { lits = fit; hints = m.1.fit }, after_lits lits x ∙ ap (λ (y : List (List ℕ)). codes "s" ∷ (map lit_word lits ++ zero_word ∷ y)) m.1.is)
+pub hints_onto : (lits : List ℕ) → Chain IsLitAbove lit_var 0 lits → (x : List (List ℕ)) → HasRowBefore decimal IsHint (λ h. h) [] x
+    → HasWords IsStep step_words (to_hints lits ++ x)
+hints_onto lits fit x m = (
+  record { clause = lits; hints = m.0 },
+  record { lits = fit; hints = m.1.fit },
+  after_lits lits x ∙ ap (λ (y : List (List ℕ)). codes "s" ∷ (map lit_word lits ++ zero_word ∷ y)) m.1.is,
+)
 
 abbrev pub to_end : List ℕ → List ℕ → List (List ℕ)
 to_end lits hints = to_hints lits ++ (map decimal hints ++ zero_word ∷ [])
 
-after_hints : (lits hints : List ℕ) (x : List (List ℕ)) → to_end lits hints ++ x ≡ codes "s" ∷ (map lit_word lits ++ zero_word ∷ (map decimal hints ++ zero_word ∷ x))
+after_hints : (lits hints : List ℕ) (x : List (List ℕ))
+    → to_end lits hints ++ x ≡ codes "s" ∷ (map lit_word lits ++ zero_word ∷ (map decimal hints ++ zero_word ∷ x))
 after_hints lits hints x =
     append_assoc (to_hints lits) (map decimal hints ++ zero_word ∷ []) x ∙ after_lits lits ((map decimal hints ++ zero_word ∷ []) ++ x)
     ∙ ap (λ (y : List (List ℕ)). codes "s" ∷ (map lit_word lits ++ zero_word ∷ y)) (append_assoc (map decimal hints) (zero_word ∷ []) x)
 
-pub step_end : (lits hints : List ℕ) → Chain IsLitAbove lit_var 0 lits → Chain IsHint (λ h. h) 0 hints → (x : List (List ℕ)) (v : DerivStep) → IsStep v → to_end lits hints ++ x ≡ step_words v → x ≡ []
+pub step_end : (lits hints : List ℕ) → Chain IsLitAbove lit_var 0 lits → Chain IsHint (λ h. h) 0 hints → (x : List (List ℕ)) (v : DerivStep)
+    → IsStep v → to_end lits hints ++ x ≡ step_words v → x ≡ []
 step_end lits hints lf hf x v fv e =
     let (same, rest) = step_tail lits (map decimal hints ++ zero_word ∷ x) v lf fv (sym (after_hints lits hints x) ∙ e) in
     (row_same decimal IsHint (λ h. h) hints_tell 0 0 hints v.hints x [] hf fv.hints rest).1
@@ -210,5 +233,6 @@ pub step_is : (lits hints : List ℕ) → to_end lits hints ++ [] ≡ step_words
 step_is lits hints = after_hints lits hints []
 
 -- rows, as parts of a line
-pub row_part : (word : ℕ → List ℕ) (items : List ℕ) (before rest : List (List ℕ)) → before ≡ map word items ++ zero_word ∷ rest → before ≡ (map word items ++ zero_word ∷ []) ++ rest
+pub row_part : (word : ℕ → List ℕ) (items : List ℕ) (before rest : List (List ℕ)) → before ≡ map word items ++ zero_word ∷ rest
+    → before ≡ (map word items ++ zero_word ∷ []) ++ rest
 row_part word items before rest is = is ∙ sym (append_assoc (map word items) (zero_word ∷ []) rest)

@@ -32,41 +32,52 @@ nonempty : (a y : List (List ℕ)) → 0 < length (a ++ zero_word ∷ y)
 nonempty [] y = omega arith
 nonempty (x ∷ a) y = omega arith
 
-step_written : (s : DerivStep) → spaced (step_words s) ≡ codes "s " ++ (tailed (map lit_word s.clause) ++ (codes "0 " ++ (tailed (map decimal s.hints) ++ codes "0")))
+step_written : (s : DerivStep)
+    → spaced (step_words s) ≡ codes "s " ++ (tailed (map lit_word s.clause) ++ (codes "0 " ++ (tailed (map decimal s.hints) ++ codes "0")))
 step_written s =
-    let hints : spaced (map decimal s.hints ++ zero_word ∷ []) ≡ tailed (map decimal s.hints) ++ codes "0" = spaced-tailed (map decimal s.hints) (zero_word ∷ []) (omega arith) ∙ ap (λ y. tailed (map decimal s.hints) ++ y) (one_spaced zero_word) in
+    let hints : spaced (map decimal s.hints ++ zero_word ∷ []) ≡ tailed (map decimal s.hints) ++ codes "0" =
+    spaced-tailed (map decimal s.hints) (zero_word ∷ []) (omega arith) ∙ ap (λ y. tailed (map decimal s.hints) ++ y) (one_spaced zero_word) in
     let tail : List (List ℕ) = map decimal s.hints ++ zero_word ∷ [] in
     let zero : spaced (zero_word ∷ tail) ≡ codes "0 " ++ spaced tail = first_spaced zero_word tail (nonempty (map decimal s.hints) []) in
-    let lits : spaced (map lit_word s.clause ++ zero_word ∷ tail) ≡ tailed (map lit_word s.clause) ++ spaced (zero_word ∷ tail) = spaced-tailed (map lit_word s.clause) (zero_word ∷ tail) (omega arith) in
-    first_spaced (codes "s") (map lit_word s.clause ++ zero_word ∷ tail) (nonempty (map lit_word s.clause) tail) ∙ ap (λ y. codes "s " ++ y) (lits ∙ ap (λ y. tailed (map lit_word s.clause) ++ y) (zero ∙ ap (λ y. codes "0 " ++ y) hints))
+    let lits : spaced (map lit_word s.clause ++ zero_word ∷ tail) ≡ tailed (map lit_word s.clause) ++ spaced (zero_word ∷ tail) =
+    spaced-tailed (map lit_word s.clause) (zero_word ∷ tail) (omega arith) in
+    first_spaced (codes "s") (map lit_word s.clause ++ zero_word ∷ tail) (nonempty (map lit_word s.clause) tail)
+    ∙ ap (λ y. codes "s " ++ y) (lits ∙ ap (λ y. tailed (map lit_word s.clause) ++ y) (zero ∙ ap (λ y. codes "0 " ++ y) hints))
 
 -- the pieces that are written, one after another
-pub written_line : (s : DerivStep) (out a b c d new : List ℕ) → a ≡ out ++ codes "s " → b ≡ a ++ tailed (map lit_word s.clause) → c ≡ b ++ codes "0 " → d ≡ c ++ tailed (map decimal s.hints) → new ≡ d ++ 48 ∷ 10 ∷ [] → new ≡ out ++ text_of step_words s
+pub written_line : (s : DerivStep) (out a b c d new : List ℕ) → a ≡ out ++ codes "s " → b ≡ a ++ tailed (map lit_word s.clause)
+    → c ≡ b ++ codes "0 " → d ≡ c ++ tailed (map decimal s.hints) → new ≡ d ++ 48 ∷ 10 ∷ [] → new ≡ out ++ text_of step_words s
 written_line s out a b c d new ea eb ec ed e =
     rw (e, ed, ec, eb, ea, step_written s) (simp append_assoc)
 
 pub first_line : (out new : List ℕ) → new ≡ out ++ codes "sdcv-cert 1\n" → new ≡ out ++ text_of first_words 1
 first_line out new e = rw (e, spaced_two (codes "sdcv-cert") (decimal 1), one_is) refl
 
-pub inv_line : (head : InvHead) (out a b new : List ℕ) → a ≡ out ++ codes "inv " → b ≡ a ++ decimal head.depth → new ≡ b ++ 32 ∷ (decimal head.count ++ 10 ∷ []) → new ≡ out ++ text_of inv_words head
+pub inv_line : (head : InvHead) (out a b new : List ℕ) → a ≡ out ++ codes "inv " → b ≡ a ++ decimal head.depth
+    → new ≡ b ++ 32 ∷ (decimal head.count ++ 10 ∷ []) → new ≡ out ++ text_of inv_words head
 inv_line head out a b new ea eb e = rw (e, eb, ea, spaced_three (codes "inv") (decimal head.depth) (decimal head.count)) (simp append_assoc)
 
-pub head_line : (phase : Phase) (count : ℕ) (out a new : List ℕ) → a ≡ out ++ phase_word phase → new ≡ a ++ 32 ∷ (decimal count ++ 10 ∷ []) → new ≡ out ++ text_of (head_words phase) count
+pub head_line : (phase : Phase) (count : ℕ) (out a new : List ℕ) → a ≡ out ++ phase_word phase → new ≡ a ++ 32 ∷ (decimal count ++ 10 ∷ [])
+    → new ≡ out ++ text_of (head_words phase) count
 head_line phase count out a new ea e = rw (e, ea, spaced_two (phase_word phase) (decimal count)) (simp append_assoc)
 
-pub single_line : (number : ℕ) (out a new : List ℕ) → a ≡ out ++ 112 ∷ (97 ∷ (105 ∷ (114 ∷ (32 ∷ decimal number)))) → new ≡ a ++ codes " single\n" → new ≡ out ++ text_of section_words (Single number)
+pub single_line : (number : ℕ) (out a new : List ℕ) → a ≡ out ++ 112 ∷ (97 ∷ (105 ∷ (114 ∷ (32 ∷ decimal number)))) → new ≡ a ++ codes " single\n"
+    → new ≡ out ++ text_of section_words (Single number)
 single_line number out a new ea e = rw (e, ea, spaced_three (codes "pair") (decimal number) (codes "single")) (simp append_assoc)
 
-pub fixed_line : (number : ℕ) (out a new : List ℕ) → a ≡ out ++ 112 ∷ (97 ∷ (105 ∷ (114 ∷ (32 ∷ decimal number)))) → new ≡ a ++ codes " fixed\n" → new ≡ out ++ text_of section_words (Fixed number)
+pub fixed_line : (number : ℕ) (out a new : List ℕ) → a ≡ out ++ 112 ∷ (97 ∷ (105 ∷ (114 ∷ (32 ∷ decimal number)))) → new ≡ a ++ codes " fixed\n"
+    → new ≡ out ++ text_of section_words (Fixed number)
 fixed_line number out a new ea e = rw (e, ea, spaced_three (codes "pair") (decimal number) (codes "fixed")) (simp append_assoc)
 
-pub depth_line : (number depth : ℕ) (out a b new : List ℕ) → a ≡ out ++ 112 ∷ (97 ∷ (105 ∷ (114 ∷ (32 ∷ decimal number)))) → b ≡ a ++ codes " depth" → new ≡ b ++ 32 ∷ (decimal depth ++ 10 ∷ []) → new ≡ out ++ text_of section_words (Depth number depth)
+pub depth_line : (number depth : ℕ) (out a b new : List ℕ) → a ≡ out ++ 112 ∷ (97 ∷ (105 ∷ (114 ∷ (32 ∷ decimal number))))
+    → b ≡ a ++ codes " depth" → new ≡ b ++ 32 ∷ (decimal depth ++ 10 ∷ []) → new ≡ out ++ text_of section_words (Depth number depth)
 depth_line number depth out a b new ea eb e = rw (e, eb, ea, spaced_four (codes "pair") (decimal number) (codes "depth") (decimal depth)) (simp append_assoc)
 
 pub end_line : (out new : List ℕ) → new ≡ out ++ codes "end\n" → new ≡ out ++ text_of section_words End
 end_line out new e = rw (e, one_spaced (codes "end")) refl
 
-pub kept_line : (clause : InvClause) (out a b new : List ℕ) → a ≡ out ++ 107 ∷ [] → b ≡ a ++ led (map state_word clause.lits) → new ≡ b ++ 10 ∷ [] → new ≡ out ++ text_of kept_words clause
+pub kept_line : (clause : InvClause) (out a b new : List ℕ) → a ≡ out ++ 107 ∷ [] → b ≡ a ++ led (map state_word clause.lits) → new ≡ b ++ 10 ∷ []
+    → new ≡ out ++ text_of kept_words clause
 kept_line clause out a b new ea eb e = rw (e, eb, ea, spaced-led (codes "k") (map state_word clause.lits)) (simp append_assoc)
 
 abbrev small : StateLit → Type 0

@@ -5,7 +5,8 @@ use Rattle.cert_parts.specs.declared.faults.Fault.{Fault}
 use Rattle.cert_parts.specs.declared.faults.Fault.TheVariants.{Form, Memory}
 use Rattle.cert_parts.specs.Texts.{IsText, BeginsIn, IsWhole, BreaksAt, StopsAt, Sticks, IsFault}
 
-onto : (h k : ℕ) (a b : List ℕ) → h ≡ k → ((r : List ℕ) × (a ≡ b ++ r)) ⊎ ((r : List ℕ) × (b ≡ a ++ r)) → ((r : List ℕ) × (h ∷ a ≡ k ∷ (b ++ r))) ⊎ ((r : List ℕ) × (k ∷ b ≡ h ∷ (a ++ r)))
+onto : (h k : ℕ) (a b : List ℕ) → h ≡ k → ((r : List ℕ) × (a ≡ b ++ r)) ⊎ ((r : List ℕ) × (b ≡ a ++ r))
+    → ((r : List ℕ) × (h ∷ a ≡ k ∷ (b ++ r))) ⊎ ((r : List ℕ) × (k ∷ b ≡ h ∷ (a ++ r)))
 onto h k a b same (inl f) = inl (f.0, let e = f.1 in cc)
 onto h k a b same (inr f) = inr (f.0, let e = f.1 in cc)
 
@@ -32,7 +33,8 @@ pub whole_later : (p front : List ℕ) → IsWhole p → IsWhole front → IsWho
 whole_later p front w (inl none) = subst IsWhole (sym (append-nil p) ∙ ap (λ y. p ++ y) (sym none)) w
 whole_later p front w (inr f) = inr (p ++ f.0, ap (λ y. p ++ y) f.1 ∙ sym (append_assoc p f.0 (10 ∷ [])))
 
-begins_later : {V : Type 0} {W : Type 0} (Fits : V → Type 0) (text : V → List ℕ) (FitsW : W → Type 0) (textW : W → List ℕ) (p : List ℕ) → Leads Fits text FitsW textW p
+begins_later : {V : Type 0} {W : Type 0} (Fits : V → Type 0) (text : V → List ℕ) (FitsW : W → Type 0) (textW : W → List ℕ) (p : List ℕ)
+    → Leads Fits text FitsW textW p
     → (x : List ℕ) → BeginsIn FitsW textW x → BeginsIn Fits text (p ++ x)
 begins_later Fits text FitsW textW p leads x b =
     let (more, w, fw, is) = b in
@@ -40,11 +42,13 @@ begins_later Fits text FitsW textW p leads x b =
     let cut : (p ++ x) ++ (more ++ s) ≡ p ++ ((x ++ more) ++ s) = append_assoc p x (more ++ s) ∙ ap (λ z. p ++ z) (sym (append_assoc x more s)) in
     (more ++ s, v, fv, cut ∙ ap (λ z. p ++ (z ++ s)) is ∙ sym made)
 
-none_later : {V : Type 0} {W : Type 0} (Fits : V → Type 0) (text : V → List ℕ) (FitsW : W → Type 0) (textW : W → List ℕ) (p : List ℕ) → Leads Fits text FitsW textW p
+none_later : {V : Type 0} {W : Type 0} (Fits : V → Type 0) (text : V → List ℕ) (FitsW : W → Type 0) (textW : W → List ℕ) (p : List ℕ)
+    → Leads Fits text FitsW textW p
     → (rest : List ℕ) → ((w : W) → FitsW w → (s : List ℕ) → rest ≢ textW w ++ s) → (v : V) → Fits v → (r : List ℕ) → p ++ rest ≢ text v ++ r
 none_later Fits text FitsW textW p leads rest none v fv r e = let (w, fw, s, is) = leads.into v fv rest r e in none w fw s is
 
-breaks_later : {V : Type 0} {W : Type 0} (Fits : V → Type 0) (text : V → List ℕ) (FitsW : W → Type 0) (textW : W → List ℕ) (p : List ℕ) → Leads Fits text FitsW textW p
+breaks_later : {V : Type 0} {W : Type 0} (Fits : V → Type 0) (text : V → List ℕ) (FitsW : W → Type 0) (textW : W → List ℕ) (p : List ℕ)
+    → Leads Fits text FitsW textW p
     → (x tail : List ℕ) → ((w : W) → FitsW w → (s : List ℕ) → x ++ tail ≢ textW w ++ s) → (BeginsIn FitsW textW x → ⊥) → BeginsIn Fits text (p ++ x) → ⊥
 breaks_later {W = W} Fits text FitsW textW p leads x tail none breaks b =
     let (more, v, fv, is) = b in
@@ -56,8 +60,10 @@ breaks_later {W = W} Fits text FitsW textW p leads x tail none breaks b =
     by w fw s (inl f) = none w fw (f.0 ++ tail) (ap (λ z. z ++ tail) f.1 ∙ append_assoc (textW w) f.0 tail)
     by w fw s (inr f) = breaks (f.0, w, fw, sym f.1)
 
-stops_later : {V : Type 0} {W : Type 0} (Fits : V → Type 0) (text : V → List ℕ) (FitsW : W → Type 0) (textW : W → List ℕ) (p : List ℕ) → Leads Fits text FitsW textW p
-    → (rest : List ℕ) (at : ℕ) → ((w : W) → FitsW w → (s : List ℕ) → rest ≢ textW w ++ s) → StopsAt FitsW textW rest at → StopsAt Fits text (p ++ rest) (length p + at)
+stops_later : {V : Type 0} {W : Type 0} (Fits : V → Type 0) (text : V → List ℕ) (FitsW : W → Type 0) (textW : W → List ℕ) (p : List ℕ)
+    → Leads Fits text FitsW textW p
+    → (rest : List ℕ) (at : ℕ) → ((w : W) → FitsW w → (s : List ℕ) → rest ≢ textW w ++ s) → StopsAt FitsW textW rest at
+    → StopsAt Fits text (p ++ rest) (length p + at)
 stops_later Fits text FitsW textW p leads rest at none (inl b) = inl (record {
   front = p ++ b.front;
   line = b.line;
@@ -67,21 +73,28 @@ stops_later Fits text FitsW textW p leads rest at none (inl b) = inl (record {
   whole = whole_later p b.front leads.whole b.whole;
   one = b.one;
   begins = begins_later Fits text FitsW textW p leads b.front b.begins;
-  breaks = λ g. breaks_later Fits text FitsW textW p leads (b.front ++ b.line) b.rest (λ w fw s e. none w fw s (b.cut ∙ sym (append_assoc b.front b.line b.rest) ∙ e)) b.breaks (subst (BeginsIn Fits text) (append_assoc p b.front b.line) g);
+  breaks =
+      λ g.
+      breaks_later Fits text FitsW textW p leads (b.front ++ b.line) b.rest
+      (λ w fw s e. none w fw s (b.cut ∙ sym (append_assoc b.front b.line b.rest) ∙ e)) b.breaks
+      (subst (BeginsIn Fits text) (append_assoc p b.front b.line) g);
 })
 stops_later Fits text FitsW textW p leads rest at none (inr e) =
     inr (ap (λ n. length p + n) e.0 ∙ sym (length-append p rest), begins_later Fits text FitsW textW p leads rest e.1)
 
 -- the part is missing, so the whole is
-pub sticks_later : {V : Type 0} {W : Type 0} (Fits : V → Type 0) (text : V → List ℕ) (FitsW : W → Type 0) (textW : W → List ℕ) (p : List ℕ) → Leads Fits text FitsW textW p
+pub sticks_later : {V : Type 0} {W : Type 0} (Fits : V → Type 0) (text : V → List ℕ) (FitsW : W → Type 0) (textW : W → List ℕ) (p : List ℕ)
+    → Leads Fits text FitsW textW p
     → (rest bytes : List ℕ) (at : ℕ) → bytes ≡ p ++ rest → Sticks FitsW textW rest at → Sticks Fits text bytes (length p + at)
 sticks_later Fits text FitsW textW p leads rest bytes at is s = subst (λ (b : List ℕ). Sticks Fits text b (length p + at)) (sym is) (record {
   none = none_later Fits text FitsW textW p leads rest s.none;
   stops = stops_later Fits text FitsW textW p leads rest at s.none s.stops;
 })
 
-pub fault_later : {V : Type 0} {W : Type 0} (Fits : V → Type 0) (text : V → List ℕ) (FitsW : W → Type 0) (textW : W → List ℕ) (p : List ℕ) → Leads Fits text FitsW textW p
-    → (rest bytes : List ℕ) (now place : ℕ) → bytes ≡ p ++ rest → now + length rest ≡ place + length bytes → (f : Fault) → IsFault FitsW textW rest now f → IsFault Fits text bytes place f
+pub fault_later : {V : Type 0} {W : Type 0} (Fits : V → Type 0) (text : V → List ℕ) (FitsW : W → Type 0) (textW : W → List ℕ) (p : List ℕ)
+    → Leads Fits text FitsW textW p
+    → (rest bytes : List ℕ) (now place : ℕ) → bytes ≡ p ++ rest → now + length rest ≡ place + length bytes → (f : Fault)
+    → IsFault FitsW textW rest now f → IsFault Fits text bytes place f
 fault_later Fits text FitsW textW p leads rest bytes now place is left (Form at) e =
     let long : length bytes ≡ length p + length rest = ap length is ∙ length-append p rest in
     let here : at ≡ now + e.0 = e.1 in

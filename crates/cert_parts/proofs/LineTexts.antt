@@ -62,7 +62,12 @@ record IsCut (s : List ℕ) : Type 0 where
   pub more : line_len s < length s → s ≡ take (line_len s) s ++ 10 ∷ drop (line_len s + 1) s
   pub all : line_len s ≡ length s → take (line_len s) s ≡ s
 
-cut_by : (v : Bool) (b : ℕ) (bs : List ℕ) → (b == 10) ≡ v → IsCut bs → (is_inline (take (cond (not v) (1 + line_len bs) 0) (b ∷ bs)) ≡ true) × (cond (not v) (1 + line_len bs) 0 < suc (length bs) → b ∷ bs ≡ take (cond (not v) (1 + line_len bs) 0) (b ∷ bs) ++ 10 ∷ drop (cond (not v) (1 + line_len bs) 0 + 1) (b ∷ bs)) × (cond (not v) (1 + line_len bs) 0 ≡ suc (length bs) → take (cond (not v) (1 + line_len bs) 0) (b ∷ bs) ≡ b ∷ bs)
+cut_by : (v : Bool) (b : ℕ) (bs : List ℕ) → (b == 10) ≡ v → IsCut bs
+    → (is_inline (take (cond (not v) (1 + line_len bs) 0) (b ∷ bs)) ≡ true)
+    ×
+    (cond (not v) (1 + line_len bs) 0 < suc (length bs)
+    → b ∷ bs ≡ take (cond (not v) (1 + line_len bs) 0) (b ∷ bs) ++ 10 ∷ drop (cond (not v) (1 + line_len bs) 0 + 1) (b ∷ bs))
+    × (cond (not v) (1 + line_len bs) 0 ≡ suc (length bs) → take (cond (not v) (1 + line_len bs) 0) (b ∷ bs) ≡ b ∷ bs)
 cut_by true b bs is c = (refl, λ less. let first : b ≡ 10 = grind (arith, nat_tests) in ap (λ x. x ∷ bs) first, λ e. absurd (omega arith))
 cut_by false b bs is c =
     let len : 1 + line_len bs ≡ suc (line_len bs) = omega arith in
@@ -91,7 +96,8 @@ cut_at false s len whole is within =
     let cut : s ≡ take len s ++ 10 ∷ drop (len + 1) s = rw is (c.more (subst (λ (n : ℕ). n < length s) is less)) in
     rw long cut
 
-pub next_line_is : (s : List ℕ) (len place at end : ℕ) → len ≡ line_len s → len ≤ length s → at ≡ place → end ≡ place + length s → IsNextLine s place (take len s) (eqb len (length s)) at end
+pub next_line_is : (s : List ℕ) (len place at end : ℕ) → len ≡ line_len s → len ≤ length s → at ≡ place → end ≡ place + length s
+    → IsNextLine s place (take len s) (eqb len (length s)) at end
 next_line_is s len place at end is within same last = record {
   plain = rw is (cut_line s).plain;
   is = cut_at (eqb len (length s)) s len refl is within;
@@ -111,7 +117,8 @@ spaced_inline : (ws : List (List ℕ)) → list_all is_token ws ≡ true → is_
 unfolding spaced
 spaced_inline [] all = refl
 spaced_inline (w ∷ []) all = token_inline w (and_parts _ _ all).0
-spaced_inline (w ∷ (v ∷ ws)) all = let (here, more) = and_parts _ _ all in inline_append w (32 ∷ spaced (v ∷ ws)) (token_inline w here) (spaced_inline (v ∷ ws) more)
+spaced_inline (w ∷ (v ∷ ws)) all =
+    let (here, more) = and_parts _ _ all in inline_append w (32 ∷ spaced (v ∷ ws)) (token_inline w here) (spaced_inline (v ∷ ws) more)
 
 line_inline : {V : Type 0} (Fits : V → Type 0) (ws : V → List (List ℕ)) → IsKind Fits ws → (v : V) → Fits v → is_inline (spaced (ws v)) ≡ true
 line_inline Fits ws kind v fits = spaced_inline (ws v) (kind.plain v fits)
@@ -119,7 +126,9 @@ line_inline Fits ws kind v fits = spaced_inline (ws v) (kind.plain v fits)
 -- a line that is that of two values
 one_value : {V : Type 0} (Fits : V → Type 0) (ws : V → List (List ℕ)) → IsKind Fits ws → (v u : V) → Fits v → Fits u → spaced (ws v) ≡ spaced (ws u) → v ≡ u
 one_value Fits ws kind v u fv fu e =
-    kind.told v u fv fu (sym (words_of Fits ws kind (spaced (ws v)) v (record { is = refl; fits = fv })) ∙ words_of Fits ws kind (spaced (ws v)) u (record { is = e; fits = fu }))
+    kind.told v u fv fu
+    (sym (words_of Fits ws kind (spaced (ws v)) v (record { is = refl; fits = fv }))
+    ∙ words_of Fits ws kind (spaced (ws v)) u (record { is = e; fits = fu }))
 
 newline_front : (a x : List ℕ) → (a ++ 10 ∷ []) ++ x ≡ a ++ 10 ∷ x
 newline_front a x = append_assoc a (10 ∷ []) x
@@ -154,7 +163,8 @@ whole_sticks Fits ws kind v0 f0 line rest bytes plain is fails = record {
   });
 }
 
-cut_begins : {V : Type 0} (Fits : V → Type 0) (ws : V → List (List ℕ)) (line more : List ℕ) (v : V) → Fits v → is_inline line ≡ true → line ++ more ≡ text_of ws v → Begins Fits ws line
+cut_begins : {V : Type 0} (Fits : V → Type 0) (ws : V → List (List ℕ)) (line more : List ℕ) (v : V) → Fits v → is_inline line ≡ true
+    → line ++ more ≡ text_of ws v → Begins Fits ws line
 cut_begins Fits ws line more v fits plain e = by (fronts line (spaced (ws v)) more (10 ∷ []) e)
   where
     ended : (r : List ℕ) → line ≡ spaced (ws v) ++ r → r ++ more ≡ 10 ∷ [] → Begins Fits ws line
@@ -164,7 +174,8 @@ cut_begins Fits ws line more v fits plain e = by (fronts line (spaced (ws v)) mo
     by : ((r : List ℕ) × (line ≡ spaced (ws v) ++ r)) ⊎ ((r : List ℕ) × (spaced (ws v) ≡ line ++ r)) → Begins Fits ws line
     by (inr f) = record { more = f.0; value = v; spells = record { is = sym f.1; fits = fits } }
     by (inl f) =
-        let both : spaced (ws v) ++ (f.0 ++ more) ≡ spaced (ws v) ++ 10 ∷ [] = sym (append_assoc (spaced (ws v)) f.0 more) ∙ ap (λ z. z ++ more) (sym f.1) ∙ e in
+        let both : spaced (ws v) ++ (f.0 ++ more) ≡ spaced (ws v) ++ 10 ∷ [] =
+        sym (append_assoc (spaced (ws v)) f.0 more) ∙ ap (λ z. z ++ more) (sym f.1) ∙ e in
         ended f.0 f.1 (append_cancel_left (spaced (ws v)) (f.0 ++ more) (10 ∷ []) both)
 
 cut_none : {V : Type 0} (ws : V → List (List ℕ)) (line : List ℕ) → is_inline line ≡ true → (v : V) (tail : List ℕ) → line ≢ text_of ws v ++ tail
@@ -175,7 +186,8 @@ some_bytes Fits ws v0 f0 [] fails = absurd (fails (record { more = spaced (ws v0
 some_bytes Fits ws v0 f0 (b ∷ line) fails = omega arith
 
 -- a line that is cut off and can't become one of the kind
-cut_sticks : {V : Type 0} (Fits : V → Type 0) (ws : V → List (List ℕ)) (v0 : V) → Fits v0 → (line : List ℕ) → is_inline line ≡ true → (Begins Fits ws line → ⊥) → Sticks Fits (text_of ws) line 0
+cut_sticks : {V : Type 0} (Fits : V → Type 0) (ws : V → List (List ℕ)) (v0 : V) → Fits v0 → (line : List ℕ) → is_inline line ≡ true
+    → (Begins Fits ws line → ⊥) → Sticks Fits (text_of ws) line 0
 cut_sticks Fits ws v0 f0 line plain fails = record {
   none = λ v fv tail e. cut_none ws line plain v tail e;
   stops = inl (record {
@@ -192,7 +204,8 @@ cut_sticks Fits ws v0 f0 line plain fails = record {
 }
 
 -- one that can
-early_sticks : {V : Type 0} (Fits : V → Type 0) (ws : V → List (List ℕ)) (line : List ℕ) → is_inline line ≡ true → Begins Fits ws line → Sticks Fits (text_of ws) line (length line)
+early_sticks : {V : Type 0} (Fits : V → Type 0) (ws : V → List (List ℕ)) (line : List ℕ) → is_inline line ≡ true → Begins Fits ws line
+    → Sticks Fits (text_of ws) line (length line)
 early_sticks Fits ws line plain b = record {
   none = λ v fv tail e. cut_none ws line plain v tail e;
   stops = inr (refl, (b.more ++ 10 ∷ [], b.value, b.spells.fits, sym (append_assoc line b.more (10 ∷ [])) ∙ ap (λ z. z ++ 10 ∷ []) b.spells.is));
@@ -208,28 +221,35 @@ cut_is : (bytes line : List ℕ) (cut : Bool) → cut ≡ false → IsCutAt byte
 cut_is bytes line false none is = is
 cut_is bytes line true none is = absurd cc
 
-pub line_read : {V : Type 0} (Fits : V → Type 0) (ws : V → List (List ℕ)) (bytes line : List ℕ) (place at end : ℕ) (cut : Bool) (v : V) → IsNextLine bytes place line cut at end → cut ≡ false → Spells Fits ws line v → IsRead Fits ws bytes (length line) v
+pub line_read : {V : Type 0} (Fits : V → Type 0) (ws : V → List (List ℕ)) (bytes line : List ℕ) (place at end : ℕ) (cut : Bool) (v : V)
+    → IsNextLine bytes place line cut at end → cut ≡ false → Spells Fits ws line v → IsRead Fits ws bytes (length line) v
 line_read Fits ws bytes line place at end cut v next whole spells =
     let is = cut_is bytes line cut whole next.is in
-    let long : length bytes ≡ length line + suc (length (drop (length line + 1) bytes)) = ap length is ∙ length-append line (10 ∷ drop (length line + 1) bytes) in
+    let long : length bytes ≡ length line + suc (length (drop (length line + 1) bytes)) =
+    ap length is ∙ length-append line (10 ∷ drop (length line + 1) bytes) in
     record {
       fits = spells.fits;
       some = omega arith;
       is = is ∙ ap (λ z. z ++ 10 ∷ drop (length line + 1) bytes) spells.is ∙ sym (newline_front (spaced (ws v)) (drop (length line + 1) bytes));
     }
 
-bad_by : {V : Type 0} (Fits : V → Type 0) (ws : V → List (List ℕ)) → IsKind Fits ws → (v0 : V) → Fits v0 → (bytes line : List ℕ) (cut : Bool) → is_inline line ≡ true → IsCutAt bytes line cut → IsLineStop Fits ws cut line Bad → Sticks Fits (text_of ws) bytes 0
-bad_by Fits ws kind v0 f0 bytes line true plain is fails = subst (λ (b : List ℕ). Sticks Fits (text_of ws) b 0) (sym is) (cut_sticks Fits ws v0 f0 line plain fails)
+bad_by : {V : Type 0} (Fits : V → Type 0) (ws : V → List (List ℕ)) → IsKind Fits ws → (v0 : V) → Fits v0 → (bytes line : List ℕ) (cut : Bool)
+    → is_inline line ≡ true → IsCutAt bytes line cut → IsLineStop Fits ws cut line Bad → Sticks Fits (text_of ws) bytes 0
+bad_by Fits ws kind v0 f0 bytes line true plain is fails =
+    subst (λ (b : List ℕ). Sticks Fits (text_of ws) b 0) (sym is) (cut_sticks Fits ws v0 f0 line plain fails)
 bad_by Fits ws kind v0 f0 bytes line false plain is fails = whole_sticks Fits ws kind v0 f0 line (drop (length line + 1) bytes) bytes plain is fails
 
-early_by : {V : Type 0} (Fits : V → Type 0) (ws : V → List (List ℕ)) (bytes line : List ℕ) (cut : Bool) → is_inline line ≡ true → IsCutAt bytes line cut → IsLineStop Fits ws cut line Early → Sticks Fits (text_of ws) bytes (length bytes)
+early_by : {V : Type 0} (Fits : V → Type 0) (ws : V → List (List ℕ)) (bytes line : List ℕ) (cut : Bool) → is_inline line ≡ true
+    → IsCutAt bytes line cut → IsLineStop Fits ws cut line Early → Sticks Fits (text_of ws) bytes (length bytes)
 early_by Fits ws bytes line true plain is e = subst (λ (b : List ℕ). Sticks Fits (text_of ws) b (length b)) (sym is) (early_sticks Fits ws line plain e.1)
 early_by Fits ws bytes line false plain is e = let never = e.0 in absurd cc
 
 -- what a reader of a line says, where the line stands
 pub line_fault : {V : Type 0} (Fits : V → Type 0) (ws : V → List (List ℕ)) → IsKind Fits ws → (v0 : V) → Fits v0
-    → (bytes line : List ℕ) (place at end : ℕ) (cut : Bool) → IsNextLine bytes place line cut at end → (stop : Stop) → IsLineStop Fits ws cut line stop → IsFault Fits (text_of ws) bytes place (fault_of at end stop)
-line_fault Fits ws kind v0 f0 bytes line place at end cut next Bad fails = let same = next.stands in (0, omega arith, bad_by Fits ws kind v0 f0 bytes line cut next.plain next.is fails)
+    → (bytes line : List ℕ) (place at end : ℕ) (cut : Bool) → IsNextLine bytes place line cut at end → (stop : Stop)
+    → IsLineStop Fits ws cut line stop → IsFault Fits (text_of ws) bytes place (fault_of at end stop)
+line_fault Fits ws kind v0 f0 bytes line place at end cut next Bad fails =
+    let same = next.stands in (0, omega arith, bad_by Fits ws kind v0 f0 bytes line cut next.plain next.is fails)
 line_fault Fits ws kind v0 f0 bytes line place at end cut next Early e = (length bytes, next.ends, early_by Fits ws bytes line cut next.plain next.is e)
 line_fault Fits ws kind v0 f0 bytes line place at end cut next Memory m = tt
 

@@ -43,10 +43,12 @@ after_head c = clauses_text c.kept ++ after_kept c
 abbrev cert_with : InvHead → List InvClause → List InvProof → List PairProof → Cert
 cert_with head kept proofs pairs = record { depth = head.depth; kept = kept; proofs = proofs; pairs = pairs }
 
-head_is : (head : InvHead) (kept : List InvClause) (proofs : List InvProof) (pairs : List PairProof) → length kept ≡ head.count → inv_head (cert_with head kept proofs pairs) ≡ head
+head_is : (head : InvHead) (kept : List InvClause) (proofs : List InvProof) (pairs : List PairProof) → length kept ≡ head.count
+    → inv_head (cert_with head kept proofs pairs) ≡ head
 head_is head kept proofs pairs count = ap (λ (n : ℕ). record { depth = head.depth; count = n }) count
 
-made_fits : (head : InvHead) (kept : List InvClause) (proofs : List InvProof) (pairs : List PairProof) → IsInvHead head → AreMany head.count IsKept kept → AreMany head.count (IsProof head.depth) proofs → AllByRecursion IsPair pairs
+made_fits : (head : InvHead) (kept : List InvClause) (proofs : List InvProof) (pairs : List PairProof) → IsInvHead head
+    → AreMany head.count IsKept kept → AreMany head.count (IsProof head.depth) proofs → AllByRecursion IsPair pairs
     → IsSpellable (cert_with head kept proofs pairs)
 made_fits head kept proofs pairs fh fk fp fq = record {
   head = subst IsInvHead (sym (head_is head kept proofs pairs fk.count)) fh;
@@ -57,7 +59,9 @@ made_fits head kept proofs pairs fh fk fp fq = record {
 
 made_text : (head : InvHead) (kept : List InvClause) (proofs : List InvProof) (pairs : List PairProof) → length kept ≡ head.count
     → cert_bytes (cert_with head kept proofs pairs) ≡ first_text ++ (text_of inv_words head ++ (clauses_text kept ++ (proofs_text proofs ++ pairs_text pairs)))
-made_text head kept proofs pairs count = ap (λ (h : InvHead). first_text ++ (text_of inv_words h ++ (clauses_text kept ++ (proofs_text proofs ++ pairs_text pairs)))) (head_is head kept proofs pairs count)
+made_text head kept proofs pairs count =
+    ap (λ (h : InvHead). first_text ++ (text_of inv_words h ++ (clauses_text kept ++ (proofs_text proofs ++ pairs_text pairs))))
+    (head_is head kept proofs pairs count)
 
 -- what the parts before a place agree on
 abbrev one : ℕ
@@ -75,7 +79,8 @@ Agree3 head kept c = Agree2 head c × (c.kept ≡ kept)
 abbrev Agree4 : InvHead → List InvClause → List InvProof → Cert → Type 0
 Agree4 head kept proofs c = Agree3 head kept c × (c.proofs ≡ proofs)
 
-kept_part : (head : InvHead) (c : Cert) → IsSpellable c → Agree2 head c → AreMany head.count IsKept c.kept × (after_head c ≡ clauses_text c.kept ++ after_kept c)
+kept_part : (head : InvHead) (c : Cert) → IsSpellable c → Agree2 head c
+    → AreMany head.count IsKept c.kept × (after_head c ≡ clauses_text c.kept ++ after_kept c)
 kept_part head c fc a = (record { count = ap (λ (h : InvHead). h.count) a.1; fit = fc.kept.fit }, refl)
 
 proofs_part : (head : InvHead) (c : Cert) → IsSpellable c → inv_head c ≡ head → AreMany head.count (IsProof head.depth) c.proofs
@@ -85,106 +90,173 @@ proofs_part head c fc same = record {
 }
 
 past1 : IsPast IsSpellable cert_bytes first_text Agree1 (λ c. text_of inv_words (inv_head c) ++ after_head c)
-past1 = past_next IsSpellable cert_bytes IsVersion (text_of first_words) (line_tells IsVersion first_words first_kind) [] (λ c. Unit {0}) cert_bytes (past_start IsSpellable cert_bytes) (λ c. 1) (λ c. text_of inv_words (inv_head c) ++ after_head c) (λ c fc a. (refl, refl)) 1 refl
+past1 =
+    past_next IsSpellable cert_bytes IsVersion (text_of first_words) (line_tells IsVersion first_words first_kind) [] (λ c. Unit {0}) cert_bytes
+    (past_start IsSpellable cert_bytes) (λ c. 1) (λ c. text_of inv_words (inv_head c) ++ after_head c) (λ c fc a. (refl, refl)) 1 refl
 
 past2 : (head : InvHead) → IsInvHead head → IsPast IsSpellable cert_bytes (first_text ++ text_of inv_words head) (Agree2 head) after_head
-past2 head fh = past_next IsSpellable cert_bytes IsInvHead (text_of inv_words) (line_tells IsInvHead inv_words inv_kind) first_text Agree1 (λ c. text_of inv_words (inv_head c) ++ after_head c) past1 inv_head after_head (λ c fc a. (fc.head, refl)) head fh
+past2 head fh =
+    past_next IsSpellable cert_bytes IsInvHead (text_of inv_words) (line_tells IsInvHead inv_words inv_kind) first_text Agree1
+    (λ c. text_of inv_words (inv_head c) ++ after_head c) past1 inv_head after_head (λ c fc a. (fc.head, refl)) head fh
 
-past3 : (head : InvHead) → IsInvHead head → (kept : List InvClause) → AreMany head.count IsKept kept → IsPast IsSpellable cert_bytes ((first_text ++ text_of inv_words head) ++ clauses_text kept) (Agree3 head kept) after_kept
-past3 head fh kept fk = past_next IsSpellable cert_bytes (AreMany head.count IsKept) (many_text (text_of kept_words)) (many_tells IsKept (text_of kept_words) (line_tells IsKept kept_words kept_kind) head.count) (first_text ++ text_of inv_words head) (Agree2 head) after_head (past2 head fh) (λ c. c.kept) after_kept (kept_part head) kept fk
+past3 : (head : InvHead) → IsInvHead head → (kept : List InvClause) → AreMany head.count IsKept kept
+    → IsPast IsSpellable cert_bytes ((first_text ++ text_of inv_words head) ++ clauses_text kept) (Agree3 head kept) after_kept
+past3 head fh kept fk =
+    past_next IsSpellable cert_bytes (AreMany head.count IsKept) (many_text (text_of kept_words))
+    (many_tells IsKept (text_of kept_words) (line_tells IsKept kept_words kept_kind) head.count) (first_text ++ text_of inv_words head)
+    (Agree2 head) after_head (past2 head fh) (λ c. c.kept) after_kept (kept_part head) kept fk
 
-past4 : (head : InvHead) → IsInvHead head → (kept : List InvClause) → AreMany head.count IsKept kept → (proofs : List InvProof) → AreMany head.count (IsProof head.depth) proofs
-    → IsPast IsSpellable cert_bytes (((first_text ++ text_of inv_words head) ++ clauses_text kept) ++ proofs_text proofs) (Agree4 head kept proofs) (λ c. pairs_text c.pairs)
-past4 head fh kept fk proofs fp = past_next IsSpellable cert_bytes (AreMany head.count (IsProof head.depth)) (many_text proof_text) (many_tells (IsProof head.depth) proof_text (proof_tells head.depth) head.count) ((first_text ++ text_of inv_words head) ++ clauses_text kept) (Agree3 head kept) after_kept (past3 head fh kept fk) (λ c. c.proofs) (λ c. pairs_text c.pairs) (λ c fc a. (proofs_part head c fc a.0.1, refl)) proofs fp
+past4 : (head : InvHead) → IsInvHead head → (kept : List InvClause) → AreMany head.count IsKept kept → (proofs : List InvProof)
+    → AreMany head.count (IsProof head.depth) proofs
+    → IsPast IsSpellable cert_bytes (((first_text ++ text_of inv_words head) ++ clauses_text kept) ++ proofs_text proofs)
+    (Agree4 head kept proofs) (λ c. pairs_text c.pairs)
+past4 head fh kept fk proofs fp =
+    past_next IsSpellable cert_bytes (AreMany head.count (IsProof head.depth)) (many_text proof_text)
+    (many_tells (IsProof head.depth) proof_text (proof_tells head.depth) head.count) ((first_text ++ text_of inv_words head) ++ clauses_text kept)
+    (Agree3 head kept) after_kept (past3 head fh kept fk) (λ c. c.proofs) (λ c. pairs_text c.pairs)
+    (λ c fc a. (proofs_part head c fc a.0.1, refl)) proofs fp
 
 head_whole : (head : InvHead) → IsWhole (first_text ++ text_of inv_words head)
 head_whole head = whole_later first_text (text_of inv_words head) (line_whole first_words 1) (line_whole inv_words head)
 
 kept_whole : (head : InvHead) (kept : List InvClause) → IsWhole ((first_text ++ text_of inv_words head) ++ clauses_text kept)
-kept_whole head kept = whole_later (first_text ++ text_of inv_words head) (clauses_text kept) (head_whole head) (many_whole (text_of kept_words) (line_whole kept_words) kept)
+kept_whole head kept =
+    whole_later (first_text ++ text_of inv_words head) (clauses_text kept) (head_whole head)
+    (many_whole (text_of kept_words) (line_whole kept_words) kept)
 
-proofs_whole : (head : InvHead) (kept : List InvClause) (proofs : List InvProof) → IsWhole (((first_text ++ text_of inv_words head) ++ clauses_text kept) ++ proofs_text proofs)
-proofs_whole head kept proofs = whole_later ((first_text ++ text_of inv_words head) ++ clauses_text kept) (proofs_text proofs) (kept_whole head kept) (many_whole proof_text proof_whole proofs)
+proofs_whole : (head : InvHead) (kept : List InvClause) (proofs : List InvProof)
+    → IsWhole (((first_text ++ text_of inv_words head) ++ clauses_text kept) ++ proofs_text proofs)
+proofs_whole head kept proofs =
+    whole_later ((first_text ++ text_of inv_words head) ++ clauses_text kept) (proofs_text proofs) (kept_whole head kept)
+    (many_whole proof_text proof_whole proofs)
 
 abbrev least : Cert
 least = cert_with no_inv [] [] []
 
 -- the first line is missing
-pub first_fault : (bytes : List ℕ) (place : ℕ) (f : Fault) → IsFault IsVersion (text_of first_words) bytes place f → IsFault IsSpellable cert_bytes bytes place f
+pub first_fault : (bytes : List ℕ) (place : ℕ) (f : Fault) → IsFault IsVersion (text_of first_words) bytes place f
+    → IsFault IsSpellable cert_bytes bytes place f
 first_fault bytes place f e = fault_later IsSpellable cert_bytes IsVersion (text_of first_words) [] leads bytes bytes place place refl refl f e
   where
     leads : Leads IsSpellable cert_bytes IsVersion (text_of first_words) []
     leads =
-        leads_past IsSpellable cert_bytes IsVersion (text_of first_words) [] (λ c. Unit {0}) cert_bytes (past_start IsSpellable cert_bytes) (λ c. 1) (λ c. text_of inv_words (inv_head c) ++ after_head c) (λ c fc a. (refl, refl)) (inl refl)
-        (λ v fv. (least, made_fits no_inv [] [] [] no_inv_fits (record { count = refl; fit = tt }) (record { count = refl; fit = tt }) tt, text_of inv_words (inv_head least) ++ after_head least, ap (λ (n : ℕ). text_of first_words n ++ (text_of inv_words (inv_head least) ++ after_head least)) (sym fv)))
+        leads_past IsSpellable cert_bytes IsVersion (text_of first_words) [] (λ c. Unit {0}) cert_bytes (past_start IsSpellable cert_bytes)
+        (λ c. 1) (λ c. text_of inv_words (inv_head c) ++ after_head c) (λ c fc a. (refl, refl)) (inl refl)
+        (λ v fv. (
+          least,
+          made_fits no_inv [] [] [] no_inv_fits (record { count = refl; fit = tt }) (record { count = refl; fit = tt }) tt,
+          text_of inv_words (inv_head least) ++ after_head least,
+          ap (λ (n : ℕ). text_of first_words n ++ (text_of inv_words (inv_head least) ++ after_head least)) (sym fv),
+        ))
 
 -- the line of kept clauses is missing
-pub head_fault : (rest bytes : List ℕ) (now place : ℕ) → bytes ≡ first_text ++ rest → now + length rest ≡ place + length bytes → (f : Fault) → IsFault IsInvHead (text_of inv_words) rest now f → IsFault IsSpellable cert_bytes bytes place f
+pub head_fault : (rest bytes : List ℕ) (now place : ℕ) → bytes ≡ first_text ++ rest → now + length rest ≡ place + length bytes → (f : Fault)
+    → IsFault IsInvHead (text_of inv_words) rest now f → IsFault IsSpellable cert_bytes bytes place f
 head_fault rest bytes now place is left f e = fault_later IsSpellable cert_bytes IsInvHead (text_of inv_words) first_text leads rest bytes now place is left f e
   where
     leads : Leads IsSpellable cert_bytes IsInvHead (text_of inv_words) first_text
     leads =
-        leads_past IsSpellable cert_bytes IsInvHead (text_of inv_words) first_text Agree1 (λ c. text_of inv_words (inv_head c) ++ after_head c) past1 inv_head after_head (λ c fc a. (fc.head, refl)) (line_whole first_words 1)
+        leads_past IsSpellable cert_bytes IsInvHead (text_of inv_words) first_text Agree1
+        (λ c. text_of inv_words (inv_head c) ++ after_head c) past1 inv_head after_head (λ c fc a. (fc.head, refl)) (line_whole first_words 1)
         (λ head fh.
         let kept = filled IsKept one_state one_state_fits head.count in
         let least = shortest head.depth in
-        let proofs = filled (IsProof head.depth) least.proof least.fits head.count in
-        (cert_with head kept.vs proofs.vs [], made_fits head kept.vs proofs.vs [] fh kept.many proofs.many tt, clauses_text kept.vs ++ (proofs_text proofs.vs ++ pairs_text []), made_text head kept.vs proofs.vs [] kept.many.count))
+        let proofs = filled (IsProof head.depth) least.proof least.fits head.count in (
+          cert_with head kept.vs proofs.vs [],
+          made_fits head kept.vs proofs.vs [] fh kept.many proofs.many tt,
+          clauses_text kept.vs ++ (proofs_text proofs.vs ++ pairs_text []),
+          made_text head kept.vs proofs.vs [] kept.many.count,
+        ))
 
 -- a kept clause is
-pub kept_fault : (head : InvHead) → IsInvHead head → (rest bytes : List ℕ) (now place : ℕ) → bytes ≡ (first_text ++ text_of inv_words head) ++ rest → now + length rest ≡ place + length bytes → (f : Fault)
+pub kept_fault : (head : InvHead) → IsInvHead head → (rest bytes : List ℕ) (now place : ℕ)
+    → bytes ≡ (first_text ++ text_of inv_words head) ++ rest → now + length rest ≡ place + length bytes → (f : Fault)
     → IsFault (AreMany head.count IsKept) (many_text (text_of kept_words)) rest now f → IsFault IsSpellable cert_bytes bytes place f
-kept_fault head fh rest bytes now place is left f e = fault_later IsSpellable cert_bytes (AreMany head.count IsKept) (many_text (text_of kept_words)) (first_text ++ text_of inv_words head) leads rest bytes now place is left f e
+kept_fault head fh rest bytes now place is left f e =
+    fault_later IsSpellable cert_bytes (AreMany head.count IsKept) (many_text (text_of kept_words))
+    (first_text ++ text_of inv_words head) leads rest bytes now place is left f e
   where
     leads : Leads IsSpellable cert_bytes (AreMany head.count IsKept) (many_text (text_of kept_words)) (first_text ++ text_of inv_words head)
     leads =
-        leads_past IsSpellable cert_bytes (AreMany head.count IsKept) (many_text (text_of kept_words)) (first_text ++ text_of inv_words head) (Agree2 head) after_head (past2 head fh) (λ c. c.kept) after_kept (kept_part head) (head_whole head)
+        leads_past IsSpellable cert_bytes (AreMany head.count IsKept) (many_text (text_of kept_words)) (first_text ++ text_of inv_words head)
+        (Agree2 head) after_head (past2 head fh) (λ c. c.kept) after_kept (kept_part head) (head_whole head)
         (λ kept fk.
         let least = shortest head.depth in
-        let proofs = filled (IsProof head.depth) least.proof least.fits head.count in
-        (cert_with head kept proofs.vs [], made_fits head kept proofs.vs [] fh fk proofs.many tt, proofs_text proofs.vs ++ pairs_text [], made_text head kept proofs.vs [] fk.count ∙ sym (append_assoc first_text (text_of inv_words head) (clauses_text kept ++ (proofs_text proofs.vs ++ pairs_text [])))))
+        let proofs = filled (IsProof head.depth) least.proof least.fits head.count in (
+          cert_with head kept proofs.vs [],
+          made_fits head kept proofs.vs [] fh fk proofs.many tt,
+          proofs_text proofs.vs ++ pairs_text [],
+          made_text head kept proofs.vs [] fk.count
+              ∙ sym (append_assoc first_text (text_of inv_words head) (clauses_text kept ++ (proofs_text proofs.vs ++ pairs_text []))),
+        ))
 
 -- the derivations of a kept clause are
-pub proofs_fault : (head : InvHead) → IsInvHead head → (kept : List InvClause) → AreMany head.count IsKept kept → (rest bytes : List ℕ) (now place : ℕ) → bytes ≡ ((first_text ++ text_of inv_words head) ++ clauses_text kept) ++ rest
-    → now + length rest ≡ place + length bytes → (f : Fault) → IsFault (AreMany head.count (IsProof head.depth)) (many_text proof_text) rest now f → IsFault IsSpellable cert_bytes bytes place f
+pub proofs_fault : (head : InvHead) → IsInvHead head → (kept : List InvClause) → AreMany head.count IsKept kept
+    → (rest bytes : List ℕ) (now place : ℕ) → bytes ≡ ((first_text ++ text_of inv_words head) ++ clauses_text kept) ++ rest
+    → now + length rest ≡ place + length bytes → (f : Fault) → IsFault (AreMany head.count (IsProof head.depth)) (many_text proof_text) rest now f
+    → IsFault IsSpellable cert_bytes bytes place f
 proofs_fault head fh kept fk rest bytes now place is left f e =
-    fault_later IsSpellable cert_bytes (AreMany head.count (IsProof head.depth)) (many_text proof_text) ((first_text ++ text_of inv_words head) ++ clauses_text kept) leads rest bytes now place is left f e
+    fault_later IsSpellable cert_bytes (AreMany head.count (IsProof head.depth)) (many_text proof_text)
+    ((first_text ++ text_of inv_words head) ++ clauses_text kept) leads rest bytes now place is left f e
   where
-    leads : Leads IsSpellable cert_bytes (AreMany head.count (IsProof head.depth)) (many_text proof_text) ((first_text ++ text_of inv_words head) ++ clauses_text kept)
+    leads : Leads IsSpellable cert_bytes (AreMany head.count (IsProof head.depth)) (many_text proof_text)
+        ((first_text ++ text_of inv_words head) ++ clauses_text kept)
     leads =
-        leads_past IsSpellable cert_bytes (AreMany head.count (IsProof head.depth)) (many_text proof_text) ((first_text ++ text_of inv_words head) ++ clauses_text kept) (Agree3 head kept) after_kept (past3 head fh kept fk) (λ c. c.proofs) (λ c. pairs_text c.pairs) (λ c fc a. (proofs_part head c fc a.0.1, refl)) (kept_whole head kept)
-        (λ proofs fp.
-        (cert_with head kept proofs [], made_fits head kept proofs [] fh fk fp tt, pairs_text [], made_text head kept proofs [] fk.count ∙ sym (append_assoc first_text (text_of inv_words head) (clauses_text kept ++ (proofs_text proofs ++ pairs_text []))) ∙ sym (append_assoc (first_text ++ text_of inv_words head) (clauses_text kept) (proofs_text proofs ++ pairs_text []))))
+        leads_past IsSpellable cert_bytes (AreMany head.count (IsProof head.depth)) (many_text proof_text)
+        ((first_text ++ text_of inv_words head) ++ clauses_text kept) (Agree3 head kept) after_kept (past3 head fh kept fk) (λ c. c.proofs)
+        (λ c. pairs_text c.pairs) (λ c fc a. (proofs_part head c fc a.0.1, refl)) (kept_whole head kept)
+        (λ proofs fp. (
+          cert_with head kept proofs [],
+          made_fits head kept proofs [] fh fk fp tt,
+          pairs_text [],
+          made_text head kept proofs [] fk.count
+              ∙ sym (append_assoc first_text (text_of inv_words head) (clauses_text kept ++ (proofs_text proofs ++ pairs_text [])))
+              ∙ sym (append_assoc (first_text ++ text_of inv_words head) (clauses_text kept) (proofs_text proofs ++ pairs_text [])),
+        ))
 
 -- a pair, or the end, is
-pub tail_fault : (head : InvHead) → IsInvHead head → (kept : List InvClause) → AreMany head.count IsKept kept → (proofs : List InvProof) → AreMany head.count (IsProof head.depth) proofs
+pub tail_fault : (head : InvHead) → IsInvHead head → (kept : List InvClause) → AreMany head.count IsKept kept → (proofs : List InvProof)
+    → AreMany head.count (IsProof head.depth) proofs
     → (rest bytes : List ℕ) (now place : ℕ) → bytes ≡ (((first_text ++ text_of inv_words head) ++ clauses_text kept) ++ proofs_text proofs) ++ rest
-    → now + length rest ≡ place + length bytes → (f : Fault) → IsFault (AllByRecursion IsPair) pairs_text rest now f → IsFault IsSpellable cert_bytes bytes place f
+    → now + length rest ≡ place + length bytes → (f : Fault) → IsFault (AllByRecursion IsPair) pairs_text rest now f
+    → IsFault IsSpellable cert_bytes bytes place f
 tail_fault head fh kept fk proofs fp rest bytes now place is left f e =
-    fault_later IsSpellable cert_bytes (AllByRecursion IsPair) pairs_text (((first_text ++ text_of inv_words head) ++ clauses_text kept) ++ proofs_text proofs) leads rest bytes now place is left f e
+    fault_later IsSpellable cert_bytes (AllByRecursion IsPair) pairs_text
+    (((first_text ++ text_of inv_words head) ++ clauses_text kept) ++ proofs_text proofs) leads rest bytes now place is left f e
   where
-    leads : Leads IsSpellable cert_bytes (AllByRecursion IsPair) pairs_text (((first_text ++ text_of inv_words head) ++ clauses_text kept) ++ proofs_text proofs)
+    leads : Leads IsSpellable cert_bytes (AllByRecursion IsPair) pairs_text
+        (((first_text ++ text_of inv_words head) ++ clauses_text kept) ++ proofs_text proofs)
     leads =
-        leads_past IsSpellable cert_bytes (AllByRecursion IsPair) pairs_text (((first_text ++ text_of inv_words head) ++ clauses_text kept) ++ proofs_text proofs) (Agree4 head kept proofs) (λ c. pairs_text c.pairs) (past4 head fh kept fk proofs fp) (λ c. c.pairs) (λ c. []) (λ c fc a. (fc.pairs, sym (append-nil (pairs_text c.pairs)))) (proofs_whole head kept proofs)
+        leads_past IsSpellable cert_bytes (AllByRecursion IsPair) pairs_text
+        (((first_text ++ text_of inv_words head) ++ clauses_text kept) ++ proofs_text proofs) (Agree4 head kept proofs) (λ c. pairs_text c.pairs)
+        (past4 head fh kept fk proofs fp) (λ c. c.pairs) (λ c. []) (λ c fc a. (fc.pairs, sym (append-nil (pairs_text c.pairs))))
+        (proofs_whole head kept proofs)
         (λ pairs fq. (
           cert_with head kept proofs pairs,
           made_fits head kept proofs pairs fh fk fp fq,
           [],
-          made_text head kept proofs pairs fk.count ∙ sym (append_assoc first_text (text_of inv_words head) (clauses_text kept ++ (proofs_text proofs ++ pairs_text pairs))) ∙ sym (append_assoc (first_text ++ text_of inv_words head) (clauses_text kept) (proofs_text proofs ++ pairs_text pairs))
-              ∙ sym (append_assoc ((first_text ++ text_of inv_words head) ++ clauses_text kept) (proofs_text proofs) (pairs_text pairs)) ∙ ap (λ z. (((first_text ++ text_of inv_words head) ++ clauses_text kept) ++ proofs_text proofs) ++ z) (sym (append-nil (pairs_text pairs))),
+          made_text head kept proofs pairs fk.count
+              ∙ sym (append_assoc first_text (text_of inv_words head) (clauses_text kept ++ (proofs_text proofs ++ pairs_text pairs)))
+              ∙ sym (append_assoc (first_text ++ text_of inv_words head) (clauses_text kept) (proofs_text proofs ++ pairs_text pairs))
+              ∙ sym (append_assoc ((first_text ++ text_of inv_words head) ++ clauses_text kept) (proofs_text proofs) (pairs_text pairs))
+              ∙ ap (λ z. (((first_text ++ text_of inv_words head) ++ clauses_text kept) ++ proofs_text proofs) ++ z)
+              (sym (append-nil (pairs_text pairs))),
         ))
 
 -- the parts of a certificate's text, from the left
 cert_cut : (head : InvHead) (kept : List InvClause) (proofs : List InvProof) (tail : List ℕ)
-    → first_text ++ (text_of inv_words head ++ (clauses_text kept ++ (proofs_text proofs ++ tail))) ≡ (((first_text ++ text_of inv_words head) ++ clauses_text kept) ++ proofs_text proofs) ++ tail
+    → first_text ++ (text_of inv_words head ++ (clauses_text kept ++ (proofs_text proofs ++ tail)))
+    ≡ (((first_text ++ text_of inv_words head) ++ clauses_text kept) ++ proofs_text proofs) ++ tail
 cert_cut head kept proofs tail =
-    sym (append_assoc first_text (text_of inv_words head) (clauses_text kept ++ (proofs_text proofs ++ tail))) ∙ sym (append_assoc (first_text ++ text_of inv_words head) (clauses_text kept) (proofs_text proofs ++ tail))
+    sym (append_assoc first_text (text_of inv_words head) (clauses_text kept ++ (proofs_text proofs ++ tail)))
+    ∙ sym (append_assoc (first_text ++ text_of inv_words head) (clauses_text kept) (proofs_text proofs ++ tail))
     ∙ sym (append_assoc ((first_text ++ text_of inv_words head) ++ clauses_text kept) (proofs_text proofs) tail)
 
 pub cert_tells : Tells IsSpellable cert_bytes
 cert_tells v u fv fu x y e =
     let front = ((first_text ++ text_of inv_words (inv_head v)) ++ clauses_text v.kept) ++ proofs_text v.proofs in
-    let start : front ++ (pairs_text v.pairs ++ x) ≡ cert_bytes u ++ y = sym (append_assoc front (pairs_text v.pairs) x) ∙ ap (λ z. z ++ x) (sym (cert_cut (inv_head v) v.kept v.proofs (pairs_text v.pairs))) ∙ e in
+    let start : front ++ (pairs_text v.pairs ++ x) ≡ cert_bytes u ++ y =
+    sym (append_assoc front (pairs_text v.pairs) x) ∙ ap (λ z. z ++ x) (sym (cert_cut (inv_head v) v.kept v.proofs (pairs_text v.pairs))) ∙ e in
     let (agrees, rest) = past4 (inv_head v) fv.head v.kept fv.kept v.proofs fv.proofs u fu (pairs_text v.pairs ++ x) y start in
     let pairs : v.pairs ≡ u.pairs = pairs_tell v.pairs u.pairs fv.pairs fu.pairs x y rest in
     let proofs : v.proofs ≡ u.proofs = sym agrees.1 in
@@ -198,13 +270,18 @@ pub record IsReadAs (bytes rest : List ℕ) (c : Cert) : Type 0 where
   pub fits : IsSpellable c
   pub is : bytes ≡ cert_bytes c ++ rest
 
-pub cert_read : (head : InvHead) (kept : List InvClause) (proofs : List InvProof) (pairs : List PairProof) (bytes b1 b2 b3 b4 rest : List ℕ) → IsInvHead head → AreMany head.count IsKept kept → AreMany head.count (IsProof head.depth) proofs → AllByRecursion IsPair pairs
-    → bytes ≡ first_text ++ b1 → b1 ≡ text_of inv_words head ++ b2 → b2 ≡ clauses_text kept ++ b3 → b3 ≡ proofs_text proofs ++ b4 → b4 ≡ pairs_text pairs ++ rest → IsReadAs bytes rest (cert_with head kept proofs pairs)
+pub cert_read : (head : InvHead) (kept : List InvClause) (proofs : List InvProof) (pairs : List PairProof) (bytes b1 b2 b3 b4 rest : List ℕ)
+    → IsInvHead head → AreMany head.count IsKept kept → AreMany head.count (IsProof head.depth) proofs → AllByRecursion IsPair pairs
+    → bytes ≡ first_text ++ b1 → b1 ≡ text_of inv_words head ++ b2 → b2 ≡ clauses_text kept ++ b3 → b3 ≡ proofs_text proofs ++ b4
+    → b4 ≡ pairs_text pairs ++ rest → IsReadAs bytes rest (cert_with head kept proofs pairs)
 cert_read head kept proofs pairs bytes b1 b2 b3 b4 rest fh fk fp fq e1 e2 e3 e4 e5 = record {
   fits = made_fits head kept proofs pairs fh fk fp fq;
   is =
-      e1 ∙ ap (λ z. first_text ++ z) (e2 ∙ ap (λ z. text_of inv_words head ++ z) (e3 ∙ ap (λ z. clauses_text kept ++ z) (e4 ∙ ap (λ z. proofs_text proofs ++ z) e5)))
-      ∙ cert_cut head kept proofs (pairs_text pairs ++ rest) ∙ sym (append_assoc (((first_text ++ text_of inv_words head) ++ clauses_text kept) ++ proofs_text proofs) (pairs_text pairs) rest)
+      e1
+      ∙ ap (λ z. first_text ++ z)
+      (e2 ∙ ap (λ z. text_of inv_words head ++ z) (e3 ∙ ap (λ z. clauses_text kept ++ z) (e4 ∙ ap (λ z. proofs_text proofs ++ z) e5)))
+      ∙ cert_cut head kept proofs (pairs_text pairs ++ rest)
+      ∙ sym (append_assoc (((first_text ++ text_of inv_words head) ++ clauses_text kept) ++ proofs_text proofs) (pairs_text pairs) rest)
       ∙ ap (λ z. z ++ rest) (sym (cert_cut head kept proofs (pairs_text pairs)) ∙ sym (made_text head kept proofs pairs fk.count));
 }
 
@@ -212,14 +289,21 @@ cert_read head kept proofs pairs bytes b1 b2 b3 b4 rest fh fk fp fq e1 e2 e3 e4 
 pub first_front : (version : ℕ) (bytes rest : List ℕ) → IsVersion version → bytes ≡ text_of first_words version ++ rest → bytes ≡ text_of first_words 1 ++ rest
 first_front version bytes rest fits is = is ∙ ap (λ (n : ℕ). text_of first_words n ++ rest) fits
 
-pub head_front : (head : InvHead) (bytes before rest : List ℕ) → bytes ≡ text_of first_words 1 ++ before → before ≡ text_of inv_words head ++ rest → bytes ≡ (text_of first_words 1 ++ text_of inv_words head) ++ rest
-head_front head bytes before rest front is = front ∙ ap (λ z. text_of first_words 1 ++ z) is ∙ sym (append_assoc (text_of first_words 1) (text_of inv_words head) rest)
+pub head_front : (head : InvHead) (bytes before rest : List ℕ) → bytes ≡ text_of first_words 1 ++ before → before ≡ text_of inv_words head ++ rest
+    → bytes ≡ (text_of first_words 1 ++ text_of inv_words head) ++ rest
+head_front head bytes before rest front is =
+    front ∙ ap (λ z. text_of first_words 1 ++ z) is ∙ sym (append_assoc (text_of first_words 1) (text_of inv_words head) rest)
 
-pub kept_front : (head : InvHead) (kept : List InvClause) (bytes before rest : List ℕ) → bytes ≡ (text_of first_words 1 ++ text_of inv_words head) ++ before → before ≡ many_text (text_of kept_words) kept ++ rest
+pub kept_front : (head : InvHead) (kept : List InvClause) (bytes before rest : List ℕ)
+    → bytes ≡ (text_of first_words 1 ++ text_of inv_words head) ++ before → before ≡ many_text (text_of kept_words) kept ++ rest
     → bytes ≡ ((text_of first_words 1 ++ text_of inv_words head) ++ many_text (text_of kept_words) kept) ++ rest
-kept_front head kept bytes before rest front is = front ∙ ap (λ z. (text_of first_words 1 ++ text_of inv_words head) ++ z) is ∙ sym (append_assoc (text_of first_words 1 ++ text_of inv_words head) (many_text (text_of kept_words) kept) rest)
+kept_front head kept bytes before rest front is =
+    front ∙ ap (λ z. (text_of first_words 1 ++ text_of inv_words head) ++ z) is
+    ∙ sym (append_assoc (text_of first_words 1 ++ text_of inv_words head) (many_text (text_of kept_words) kept) rest)
 
-pub proofs_front : (head : InvHead) (kept : List InvClause) (proofs : List InvProof) (bytes before rest : List ℕ) → bytes ≡ ((text_of first_words 1 ++ text_of inv_words head) ++ many_text (text_of kept_words) kept) ++ before → before ≡ many_text proof_text proofs ++ rest
+pub proofs_front : (head : InvHead) (kept : List InvClause) (proofs : List InvProof) (bytes before rest : List ℕ)
+    → bytes ≡ ((text_of first_words 1 ++ text_of inv_words head) ++ many_text (text_of kept_words) kept) ++ before
+    → before ≡ many_text proof_text proofs ++ rest
     → bytes ≡ (((text_of first_words 1 ++ text_of inv_words head) ++ many_text (text_of kept_words) kept) ++ many_text proof_text proofs) ++ rest
 proofs_front head kept proofs bytes before rest front is =
     front ∙ ap (λ z. ((text_of first_words 1 ++ text_of inv_words head) ++ many_text (text_of kept_words) kept) ++ z) is
@@ -227,7 +311,8 @@ proofs_front head kept proofs bytes before rest front is =
 
 pub cert_whole : (c : Cert) → IsWhole (cert_bytes c)
 cert_whole c = subst IsWhole (sym (cert_cut (inv_head c) c.kept c.proofs (pairs_text c.pairs)))
-    (whole_later (((first_text ++ text_of inv_words (inv_head c)) ++ clauses_text c.kept) ++ proofs_text c.proofs) (pairs_text c.pairs) (proofs_whole (inv_head c) c.kept c.proofs)
+    (whole_later (((first_text ++ text_of inv_words (inv_head c)) ++ clauses_text c.kept) ++ proofs_text c.proofs) (pairs_text c.pairs)
+    (proofs_whole (inv_head c) c.kept c.proofs)
     (whole_later (many_text pair_text c.pairs) (text_of section_words End) (many_whole pair_text pair_whole c.pairs) (line_whole section_words End)))
 
 -- first lines of any version
@@ -239,4 +324,5 @@ any_kind = record { plain = λ v fits. rw (number_token v (omega arith)) refl; s
 
 -- the first line of a certificate, and another version's
 pub one_version : (c : Cert) (number : ℕ) (rest : List ℕ) → number < 2 ^ 63 → cert_bytes c ≡ text_of first_words number ++ rest → IsVersion number
-one_version c number rest small e = sym (line_tells (λ (n : ℕ). n < 2 ^ 63) first_words any_kind 1 number (omega arith) small (text_of inv_words (inv_head c) ++ after_head c) rest e)
+one_version c number rest small e =
+    sym (line_tells (λ (n : ℕ). n < 2 ^ 63) first_words any_kind 1 number (omega arith) small (text_of inv_words (inv_head c) ++ after_head c) rest e)

@@ -2,7 +2,7 @@
 use Rattle.std.proofs.Common.{◌≡◌, ℕ, ◌+◌, ◌-◌, ◌<◌, ◌≤◌, ◌^◌, List, [], ◌∷◌, ◌++◌, length, take, get_or, refl, sym, ap, ◌∙◌, subst, append_assoc, arith}
 use Rattle.std.specs.Prelude.{All}
 use Rattle.std.specs.List.{AllByRecursion}
-use Rattle.std.proofs.lemmas.List.{nil_from_length, take_more, flat_map_more, length-take-le}
+use Rattle.std.proofs.lemmas.List.{take_more, flat_map_more, length-take-le}
 use Rattle.std.proofs.lemmas.List.Concat.{flat_map-append}
 use Rattle.std.proofs.lemmas.List.Elements.{All-head, All-tail, All-weaker, All-append, All-from_recursion, recursion_from_All}
 use Rattle.net_model.specs.declared.invariants.StateLit.{StateLit}
@@ -13,21 +13,18 @@ use Rattle.proof_log.specs.declared.derivations.DerivStep.{DerivStep}
 use Rattle.proof_log.specs.declared.derivations.Derivation.{Derivation}
 use Rattle.verdicts.specs.declared.kept.InvProof.{InvProof}
 use Rattle.verdicts.specs.declared.kept.InvSet.{InvSet}
-use Rattle.verdicts.specs.declared.outcomes.Proof.{Proof}
-use Rattle.verdicts.specs.declared.outcomes.Proof.TheVariants.{Single, Fixed, Depth}
 use Rattle.verdicts.specs.declared.outcomes.Verdict.{Verdict}
 use Rattle.verdicts.specs.declared.outcomes.Verdict.TheVariants.{Justified, Refuted, Undecided}
 use Rattle.verdicts.specs.Forms.{IsStepInForm, IsInForm, AreInForm, AreOneOrTwo, IsKeptClause, IsSetInForm}
 use Rattle.cert_words.specs.Numbers.{IsLitAbove, IsHint}
 use Rattle.cert_words.specs.Growth.{Chain}
 use Rattle.cert_values.specs.declared.certs.PairProof.{PairProof}
-use Rattle.cert_values.specs.declared.certs.Cert.{Cert}
-use Rattle.cert_values.specs.Certs.{justified_from, cert_of, HasBases, IsComplete}
+use Rattle.cert_values.specs.Certs.{justified_from, cert_of}
 use Rattle.cert_lines.specs.Kinds.{text_of, first_words, inv_words, kept_words, section_words, AreKept, IsKept, IsStep}
 use Rattle.cert_lines.specs.declared.sections.Section.TheVariants.{End}
 use Rattle.cert_parts.specs.Texts.{many_text}
 use Rattle.cert_parts.specs.Derivations.{IsWritable}
-use Rattle.cert_text.specs.Certs.{proof_text, IsProof, pair_text, HasProof, IsPair, inv_head, IsSpellable, Spells}
+use Rattle.cert_text.specs.Certs.{proof_text, IsProof, pair_text, IsPair, inv_head, IsSpellable, Spells}
 use Rattle.cert_text.specs.Found.{HasSmallHints, IsProofFound, IsProofWritable}
 
 abbrev above_zero : ℕ → Type 0
@@ -54,7 +51,8 @@ small h = h < 2 ^ 63
 
 hints_chain : (before : ℕ) (hs : List ℕ) → All some hs → All small hs → Chain IsHint (λ h. h) before hs
 hints_chain before [] a b = tt
-hints_chain before (h ∷ hs) a b = (record { some = All-head some h hs a; small = All-head small h hs b }, hints_chain h hs (All-tail some h hs a) (All-tail small h hs b))
+hints_chain before (h ∷ hs) a b =
+    (record { some = All-head some h hs a; small = All-head small h hs b }, hints_chain h hs (All-tail some h hs a) (All-tail small h hs b))
 
 step_fits : (s : DerivStep) → IsStepInForm s → HasSmallHints s → IsStep s
 step_fits s form hints = record {
@@ -64,7 +62,10 @@ step_fits s form hints = record {
 
 steps_fit : (ss : List DerivStep) → All IsStepInForm ss → All HasSmallHints ss → AllByRecursion IsStep ss
 steps_fit [] a b = tt
-steps_fit (s ∷ ss) a b = (step_fits s (All-head IsStepInForm s ss a) (All-head HasSmallHints s ss b), steps_fit ss (All-tail IsStepInForm s ss a) (All-tail HasSmallHints s ss b))
+steps_fit (s ∷ ss) a b = (
+  step_fits s (All-head IsStepInForm s ss a) (All-head HasSmallHints s ss b),
+  steps_fit ss (All-tail IsStepInForm s ss a) (All-tail HasSmallHints s ss b),
+)
 
 -- a derivation in form whose hints are small
 pub found_writable : (d : Derivation) → IsInForm d → All HasSmallHints d.steps → IsWritable d
@@ -73,7 +74,8 @@ found_writable d form hints = record { few = form.few; steps = record { count = 
 lits_kept : (ls : List StateLit) → AreOneOrTwo ls → All (λ (l : StateLit). l.reg + 1 < 2 ^ 31) ls → AreKept ls
 lits_kept [] short few = absurd short
 lits_kept (l ∷ []) short few = All-head (λ (k : StateLit). k.reg + 1 < 2 ^ 31) l [] few
-lits_kept (l ∷ (m ∷ [])) short few = (short, All-head (λ (k : StateLit). k.reg + 1 < 2 ^ 31) m [] (All-tail (λ (k : StateLit). k.reg + 1 < 2 ^ 31) l (m ∷ []) few))
+lits_kept (l ∷ (m ∷ [])) short few =
+    (short, All-head (λ (k : StateLit). k.reg + 1 < 2 ^ 31) m [] (All-tail (λ (k : StateLit). k.reg + 1 < 2 ^ 31) l (m ∷ []) few))
 lits_kept (l ∷ (m ∷ (n ∷ more))) short few = absurd short
 
 pub clause_kept : (clause : InvClause) → IsKeptClause clause → IsKept clause
@@ -83,77 +85,85 @@ pub proofs_found : (depth : ℕ) (proofs : List InvProof) → All (λ (p : InvPr
 proofs_found depth proofs forms = All-weaker (λ (p : InvProof). AreInForm depth p.base p.step) IsProofFound (λ p f. (f.bases, f.step)) proofs forms
 
 -- derivations that can be written, as many as the depth says
-pub proof_fits : (depth : ℕ) (base : List Derivation) (step : Derivation) → length base ≡ depth → All IsWritable base → IsWritable step → IsProof depth (record { base = base; step = step })
+pub proof_fits : (depth : ℕ) (base : List Derivation) (step : Derivation) → length base ≡ depth → All IsWritable base → IsWritable step
+    → IsProof depth (record { base = base; step = step })
 proof_fits depth base step many b s = record { base = record { count = many; fit = recursion_from_All IsWritable base b }; step = s }
 
-proofs_fit : (depth : ℕ) (ps : List InvProof) → All (λ (p : InvProof). AreInForm depth p.base p.step) ps → All IsProofWritable ps → AllByRecursion (IsProof depth) ps
+proofs_fit : (depth : ℕ) (ps : List InvProof) → All (λ (p : InvProof). AreInForm depth p.base p.step) ps → All IsProofWritable ps
+    → AllByRecursion (IsProof depth) ps
 proofs_fit depth [] a b = tt
 proofs_fit depth (p ∷ ps) a b =
     let form = All-head (λ (q : InvProof). AreInForm depth q.base q.step) p ps a in
-    let write = All-head IsProofWritable p ps b in
-    (proof_fits depth p.base p.step form.as_many write.0 write.1, proofs_fit depth ps (All-tail (λ (q : InvProof). AreInForm depth q.base q.step) p ps a) (All-tail IsProofWritable p ps b))
+    let write = All-head IsProofWritable p ps b in (
+      proof_fits depth p.base p.step form.as_many write.0 write.1,
+      proofs_fit depth ps (All-tail (λ (q : InvProof). AreInForm depth q.base q.step) p ps a) (All-tail IsProofWritable p ps b),
+    )
 
 -- one more text
-pub texts_more : {V : Type 0} (text : V → List ℕ) (vs : List V) (i : ℕ) (v : V) (old now new : List ℕ) → i < length vs → v ≡ get_or vs i v → now ≡ old ++ many_text text (take i vs) → new ≡ now ++ text v
+pub texts_more : {V : Type 0} (text : V → List ℕ) (vs : List V) (i : ℕ) (v : V) (old now new : List ℕ) → i < length vs → v ≡ get_or vs i v
+    → now ≡ old ++ many_text text (take i vs) → new ≡ now ++ text v
     → new ≡ old ++ many_text text (take (i + 1) vs)
 texts_more {V} text vs i v old now new less is before after =
-    after ∙ ap (λ z. z ++ text v) before ∙ flat_map_more text old (take i vs) v ∙ ap (λ (z : List V). old ++ many_text text z) (ap (λ (w : V). take i vs ++ w ∷ []) is ∙ sym (take_more vs i v less))
+    after ∙ ap (λ z. z ++ text v) before ∙ flat_map_more text old (take i vs) v
+    ∙ ap (λ (z : List V). old ++ many_text text z) (ap (λ (w : V). take i vs ++ w ∷ []) is ∙ sym (take_more vs i v less))
 
 justified_later : (n : ℕ) (xs ys : List Verdict) → justified_from n (xs ++ ys) ≡ justified_from n xs ++ justified_from (n + length xs) ys
 justified_later n [] ys = ap (λ (k : ℕ). justified_from k ys) (omega arith)
 justified_later n (Justified proof ∷ xs) ys =
     let pair : PairProof = record { number = n; proof = proof } in
     ap (λ (z : List PairProof). pair ∷ z) (justified_later (n + 1) xs ys ∙ ap (λ (k : ℕ). justified_from (n + 1) xs ++ justified_from k ys) (omega arith))
-justified_later n (Refuted offset stimulus ∷ xs) ys = justified_later (n + 1) xs ys ∙ ap (λ (k : ℕ). justified_from (n + 1) xs ++ justified_from k ys) (omega arith)
+justified_later n (Refuted offset stimulus ∷ xs) ys =
+    justified_later (n + 1) xs ys ∙ ap (λ (k : ℕ). justified_from (n + 1) xs ++ justified_from k ys) (omega arith)
 justified_later n (Undecided cause ∷ xs) ys = justified_later (n + 1) xs ys ∙ ap (λ (k : ℕ). justified_from (n + 1) xs ++ justified_from k ys) (omega arith)
 
-justified_more : (vs : List Verdict) (i : ℕ) (v : Verdict) → i < length vs → v ≡ get_or vs i v → justified_from 1 (take (i + 1) vs) ≡ justified_from 1 (take i vs) ++ justified_from (i + 1) (v ∷ [])
+justified_more : (vs : List Verdict) (i : ℕ) (v : Verdict) → i < length vs → v ≡ get_or vs i v
+    → justified_from 1 (take (i + 1) vs) ≡ justified_from 1 (take i vs) ++ justified_from (i + 1) (v ∷ [])
 justified_more vs i v less is =
     let long : length (take i vs) ≡ i = length-take-le i vs (omega arith) in
     let number : 1 + length (take i vs) ≡ i + 1 = omega arith in
     let more : take (i + 1) vs ≡ take i vs ++ v ∷ [] = take_more vs i v less ∙ ap (λ (w : Verdict). take i vs ++ w ∷ []) (sym is) in
-    ap (λ (z : List Verdict). justified_from 1 z) more ∙ justified_later 1 (take i vs) (v ∷ []) ∙ ap (λ (k : ℕ). justified_from 1 (take i vs) ++ justified_from k (v ∷ [])) number
+    ap (λ (z : List Verdict). justified_from 1 z) more ∙ justified_later 1 (take i vs) (v ∷ [])
+    ∙ ap (λ (k : ℕ). justified_from 1 (take i vs) ++ justified_from k (v ∷ [])) number
 
 -- the pairs of one more verdict
-pub pairs_more : (vs : List Verdict) (i : ℕ) (v : Verdict) (old now new : List ℕ) → i < length vs → v ≡ get_or vs i v → now ≡ old ++ many_text pair_text (justified_from 1 (take i vs)) → AllByRecursion IsPair (justified_from 1 (take i vs))
+pub pairs_more : (vs : List Verdict) (i : ℕ) (v : Verdict) (old now new : List ℕ) → i < length vs → v ≡ get_or vs i v
+    → now ≡ old ++ many_text pair_text (justified_from 1 (take i vs)) → AllByRecursion IsPair (justified_from 1 (take i vs))
     → new ≡ now ++ many_text pair_text (justified_from (i + 1) (v ∷ [])) → AllByRecursion IsPair (justified_from (i + 1) (v ∷ []))
     → (new ≡ old ++ many_text pair_text (justified_from 1 (take (i + 1) vs))) × AllByRecursion IsPair (justified_from 1 (take (i + 1) vs))
 pairs_more vs i v old now new less is before fits after more =
     let xs : List PairProof = justified_from 1 (take i vs) in
     let ys : List PairProof = justified_from (i + 1) (v ∷ []) in
     let both : justified_from 1 (take (i + 1) vs) ≡ xs ++ ys = justified_more vs i v less is in
-    let text : new ≡ old ++ many_text pair_text (xs ++ ys) = after ∙ ap (λ z. z ++ many_text pair_text ys) before ∙ append_assoc old (many_text pair_text xs) (many_text pair_text ys) ∙ ap (λ z. old ++ z) (sym (flat_map-append pair_text xs ys)) in
-    let all : AllByRecursion IsPair (xs ++ ys) = recursion_from_All IsPair (xs ++ ys) (All-append IsPair xs ys (All-from_recursion IsPair xs fits) (All-from_recursion IsPair ys more)) in
+    let text : new ≡ old ++ many_text pair_text (xs ++ ys) =
+    after ∙ ap (λ z. z ++ many_text pair_text ys) before ∙ append_assoc old (many_text pair_text xs) (many_text pair_text ys)
+    ∙ ap (λ z. old ++ z) (sym (flat_map-append pair_text xs ys)) in
+    let all : AllByRecursion IsPair (xs ++ ys) =
+    recursion_from_All IsPair (xs ++ ys) (All-append IsPair xs ys (All-from_recursion IsPair xs fits) (All-from_recursion IsPair ys more)) in
     (text ∙ ap (λ (z : List PairProof). old ++ many_text pair_text z) (sym both), subst (λ (z : List PairProof). AllByRecursion IsPair z) (sym both) all)
 
+-- the certificate of what was found can be spelled, where its derivations can be written and its pairs spelled
+pub found_fits : (inv : InvSet) (verdicts : List Verdict) → IsSetInForm inv → All IsProofWritable inv.proofs
+    → AllByRecursion IsPair (justified_from 1 verdicts) → IsSpellable (cert_of inv verdicts)
+found_fits inv verdicts form proofs pairs = record {
+  head = record { deep = form.low; none = λ none. ap length (form.none none); small = form.few };
+  kept = record { count = refl; fit = recursion_from_All IsKept inv.kept (All-weaker IsKeptClause IsKept clause_kept inv.kept form.clauses) };
+  proofs = record { count = form.as_many; fit = proofs_fit inv.depth inv.proofs form.each proofs };
+  pairs = pairs;
+}
+
 -- the certificate of what was found is what was written
-pub written_spells : (inv : InvSet) (verdicts : List Verdict) (a b c d e f : List ℕ) → IsSetInForm inv → All IsProofWritable inv.proofs → AllByRecursion IsPair (justified_from 1 verdicts)
-    → a ≡ text_of first_words 1 → b ≡ a ++ text_of inv_words (inv_head (cert_of inv verdicts)) → c ≡ b ++ many_text (text_of kept_words) inv.kept → d ≡ c ++ many_text proof_text inv.proofs
+pub written_spells : (inv : InvSet) (verdicts : List Verdict) (a b c d e f : List ℕ) → IsSetInForm inv → All IsProofWritable inv.proofs
+    → AllByRecursion IsPair (justified_from 1 verdicts)
+    → a ≡ text_of first_words 1 → b ≡ a ++ text_of inv_words (inv_head (cert_of inv verdicts)) → c ≡ b ++ many_text (text_of kept_words) inv.kept
+    → d ≡ c ++ many_text proof_text inv.proofs
     → e ≡ d ++ many_text pair_text (justified_from 1 verdicts) → f ≡ e ++ text_of section_words End → Spells f (cert_of inv verdicts)
 written_spells inv verdicts a b c d e f form proofs pairs ea eb ec ed ee ef = record {
-  is = rw (ef, ee, ed, ec, eb, ea) (joined (text_of first_words 1) (text_of inv_words (inv_head (cert_of inv verdicts))) (many_text (text_of kept_words) inv.kept) (many_text proof_text inv.proofs) (many_text pair_text (justified_from 1 verdicts)) (text_of section_words End));
-  fits = record {
-    head = record { deep = form.low; none = λ none. ap length (form.none none); small = form.few };
-    kept = record { count = refl; fit = recursion_from_All IsKept inv.kept (All-weaker IsKeptClause IsKept clause_kept inv.kept form.clauses) };
-    proofs = record { count = form.as_many; fit = proofs_fit inv.depth inv.proofs form.each proofs };
-    pairs = pairs;
-  };
+  is =
+      rw (ef, ee, ed, ec, eb, ea)
+      (joined (text_of first_words 1) (text_of inv_words (inv_head (cert_of inv verdicts))) (many_text (text_of kept_words) inv.kept)
+      (many_text proof_text inv.proofs) (many_text pair_text (justified_from 1 verdicts)) (text_of section_words End));
+  fits = found_fits inv verdicts form proofs pairs;
 }
   where
     joined : (x y z u v w : List ℕ) → ((((x ++ y) ++ z) ++ u) ++ v) ++ w ≡ x ++ (y ++ (z ++ (u ++ (v ++ w))))
     joined x y z u v w = simp append_assoc
-
-bases_of : (p : Proof) → HasProof p → HasBases p
-bases_of Single h = tt
-bases_of Fixed h = tt
-bases_of (Depth depth base step) h = (h.0, h.1.base.count)
-
--- what can be spelled has all its derivations
-pub spellable_complete : (c : Cert) → IsSpellable c → IsComplete c
-spellable_complete c fits = record {
-  few = fits.head.deep;
-  none = λ none. nil_from_length c.kept (fits.head.none none);
-  as_many = fits.proofs.count;
-  bases = All-weaker (IsProof c.depth) (λ (p : InvProof). length p.base ≡ c.depth) (λ p f. f.base.count) c.proofs (All-from_recursion (IsProof c.depth) c.proofs fits.proofs.fit);
-  pairs = All-weaker IsPair (λ (p : PairProof). HasBases p.proof) (λ p f. bases_of p.proof f.proof) c.pairs (All-from_recursion IsPair c.pairs fits.pairs);
-}

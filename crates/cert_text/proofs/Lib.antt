@@ -4,3 +4,5 @@ pub mod CertTexts
 pub mod ReadLemmas
 pub mod VersionLemmas
 pub mod FoundLemmas
+pub mod Spelling
+pub mod Complete

@@ -32,13 +32,15 @@ none_spelled c bytes rest fits is some d spells =
 
 after_breaks : (c : Cert) (line : List ℕ) → IsSpellable c → 0 < length line → BeginsIn IsSpellable cert_bytes (cert_bytes c ++ line) → ⊥
 after_breaks c line fits some (more, d, fd, is) =
-    none_spelled c (cert_bytes d) (line ++ more) fits (sym is ∙ append_assoc (cert_bytes c) line more) (longer line more some) d (record { is = refl; fits = fd })
+    none_spelled c (cert_bytes d) (line ++ more) fits (sym is ∙ append_assoc (cert_bytes c) line more) (longer line more some) d
+    (record { is = refl; fits = fd })
   where
     longer : (a b : List ℕ) → 0 < length a → 0 < length (a ++ b)
     longer [] b s = absurd (omega arith)
     longer (x ∷ a) b s = omega arith
 
-pub trailing : (c : Cert) (bytes rest : List ℕ) (place : ℕ) → IsSpellable c → bytes ≡ cert_bytes c ++ rest → 0 < length rest → place + length rest ≡ length bytes → ((number : ℕ) → ¬ IsOtherVersion bytes number) → IsFormFault bytes place
+pub trailing : (c : Cert) (bytes rest : List ℕ) (place : ℕ) → IsSpellable c → bytes ≡ cert_bytes c ++ rest → 0 < length rest
+    → place + length rest ≡ length bytes → ((number : ℕ) → ¬ IsOtherVersion bytes number) → IsFormFault bytes place
 trailing c bytes rest place fits is some left version =
     let l = line_of rest some in
     let long : length bytes ≡ length (cert_bytes c) + length rest = ap length is ∙ length-append (cert_bytes c) rest in
@@ -59,7 +61,8 @@ trailing c bytes rest place fits is some left version =
     }
 
 -- no certificate begins the bytes
-pub form_fault : (bytes : List ℕ) (offset : ℕ) → IsFault IsSpellable cert_bytes bytes 0 (Form offset) → ((number : ℕ) → ¬ IsOtherVersion bytes number) → IsFormFault bytes offset
+pub form_fault : (bytes : List ℕ) (offset : ℕ) → IsFault IsSpellable cert_bytes bytes 0 (Form offset)
+    → ((number : ℕ) → ¬ IsOtherVersion bytes number) → IsFormFault bytes offset
 form_fault bytes offset e version = record {
   none = λ c spells. e.2.none c spells.fits [] (spells.is ∙ sym (append-nil (cert_bytes c)));
   version = version;

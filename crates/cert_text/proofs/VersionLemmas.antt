@@ -20,27 +20,36 @@ after_prefix bytes rest n is o = append_cancel_left (codes "sdcv-cert ") rest (d
 pub no_prefix : (bytes : List ℕ) → ((rest : List ℕ) → bytes ≢ codes "sdcv-cert " ++ rest) → (n : ℕ) → ¬ IsOtherVersion bytes n
 no_prefix bytes none n o = none (decimal n ++ 10 ∷ o.rest) (o.is ∙ first_cut n o.rest)
 
-pub cut_off : (bytes rest line : List ℕ) (place at end : ℕ) (cut : Bool) → bytes ≡ codes "sdcv-cert " ++ rest → IsNextLine rest place line cut at end → cut ≡ true → (n : ℕ) → ¬ IsOtherVersion bytes n
+pub cut_off : (bytes rest line : List ℕ) (place at end : ℕ) (cut : Bool) → bytes ≡ codes "sdcv-cert " ++ rest
+    → IsNextLine rest place line cut at end → cut ≡ true → (n : ℕ) → ¬ IsOtherVersion bytes n
 cut_off bytes rest line place at end cut is next whole n o =
     let all : rest ≡ line = subst (λ (c : Bool). IsCutAt rest line c) whole next.is in
     no_newline line (decimal n) o.rest next.plain (sym all ∙ after_prefix bytes rest n is o)
 
-line_is : (bytes rest line : List ℕ) (place at end : ℕ) (cut : Bool) → bytes ≡ codes "sdcv-cert " ++ rest → IsNextLine rest place line cut at end → cut ≡ false → (n : ℕ) → IsOtherVersion bytes n → line ≡ decimal n
+line_is : (bytes rest line : List ℕ) (place at end : ℕ) (cut : Bool) → bytes ≡ codes "sdcv-cert " ++ rest → IsNextLine rest place line cut at end
+    → cut ≡ false → (n : ℕ) → IsOtherVersion bytes n → line ≡ decimal n
 line_is bytes rest line place at end cut is next whole n o =
     let parts : rest ≡ line ++ 10 ∷ drop (length line + 1) rest = subst (λ (c : Bool). IsCutAt rest line c) whole next.is in
     let small = o.small in
-    (newline_same line (decimal n) (drop (length line + 1) rest) o.rest next.plain (token_inline (decimal n) (number_token n (omega arith))) (sym parts ∙ after_prefix bytes rest n is o)).0
+    (newline_same line (decimal n) (drop (length line + 1) rest) o.rest next.plain (token_inline (decimal n) (number_token n (omega arith)))
+    (sym parts ∙ after_prefix bytes rest n is o)).0
 
-pub no_number : (bytes rest line : List ℕ) (place at end : ℕ) (cut : Bool) → bytes ≡ codes "sdcv-cert " ++ rest → IsNextLine rest place line cut at end → cut ≡ false → ((n : ℕ) → n ≤ 9223372036854775807 → line ≢ decimal n) → (n : ℕ) → ¬ IsOtherVersion bytes n
-no_number bytes rest line place at end cut is next whole none n o = let small = o.small in none n (omega arith) (line_is bytes rest line place at end cut is next whole n o)
+pub no_number : (bytes rest line : List ℕ) (place at end : ℕ) (cut : Bool) → bytes ≡ codes "sdcv-cert " ++ rest
+    → IsNextLine rest place line cut at end → cut ≡ false → ((n : ℕ) → n ≤ 9223372036854775807 → line ≢ decimal n) → (n : ℕ)
+    → ¬ IsOtherVersion bytes n
+no_number bytes rest line place at end cut is next whole none n o =
+    let small = o.small in none n (omega arith) (line_is bytes rest line place at end cut is next whole n o)
 
-pub version_one : (bytes rest line : List ℕ) (place at end : ℕ) (cut : Bool) (version : ℕ) → bytes ≡ codes "sdcv-cert " ++ rest → IsNextLine rest place line cut at end → cut ≡ false → line ≡ decimal version → version ≡ 1 → (n : ℕ) → ¬ IsOtherVersion bytes n
+pub version_one : (bytes rest line : List ℕ) (place at end : ℕ) (cut : Bool) (version : ℕ) → bytes ≡ codes "sdcv-cert " ++ rest
+    → IsNextLine rest place line cut at end → cut ≡ false → line ≡ decimal version → version ≡ 1 → (n : ℕ) → ¬ IsOtherVersion bytes n
 version_one bytes rest line place at end cut version is next whole word one n o =
     let small = o.small in
     let same : decimal n ≡ decimal version = sym (line_is bytes rest line place at end cut is next whole n o) ∙ word in
     o.other (decimal_injective n version (omega arith) (omega arith) same ∙ one)
 
-pub version_other : (bytes rest line : List ℕ) (place at end : ℕ) (cut : Bool) (version : ℕ) → bytes ≡ codes "sdcv-cert " ++ rest → IsNextLine rest place line cut at end → cut ≡ false → line ≡ decimal version → version ≤ 9223372036854775807 → version ≢ 1 → IsOtherVersion bytes version
+pub version_other : (bytes rest line : List ℕ) (place at end : ℕ) (cut : Bool) (version : ℕ) → bytes ≡ codes "sdcv-cert " ++ rest
+    → IsNextLine rest place line cut at end → cut ≡ false → line ≡ decimal version → version ≤ 9223372036854775807 → version ≢ 1
+    → IsOtherVersion bytes version
 version_other bytes rest line place at end cut version is next whole word within other =
     let parts : rest ≡ line ++ 10 ∷ drop (length line + 1) rest = subst (λ (c : Bool). IsCutAt rest line c) whole next.is in
     let tail = drop (length line + 1) rest in

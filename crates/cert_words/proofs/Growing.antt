@@ -138,7 +138,8 @@ most_by : (j k v n : ℕ) → IsGrown j v n → n < 2 ^ 31 → 2147483647 < 10 *
 most_by j k v n g few stop = most_at j k v n g few stop (le_or_more j k)
 
 -- no more digits fit after the last ones, so the greatest number of the last reach is the greatest
-pub greatest_is : (k v low high g : ℕ) → 0 < v → low ≡ low_of k v → high ≡ high_of k v → low < 2 ^ 31 → 2147483647 < low * 10 → g ≡ min high 2147483647 → IsGreatestWith v g
+pub greatest_is : (k v low high g : ℕ) → 0 < v → low ≡ low_of k v → high ≡ high_of k v → low < 2 ^ 31 → 2147483647 < low * 10
+    → g ≡ min high 2147483647 → IsGreatestWith v g
 greatest_is k v low high g some low_is high_is few stop is =
     let a = at_least k v in
     let b = at_most k v in

@@ -18,7 +18,8 @@ pub zero_is : decimal 0 ≡ zero_word
 zero_is = decimal_digit 0 (omega arith)
 
 -- digits without a leading zero are those of their value
-pub digits_are : (ds : List ℕ) → AllDigits 10 ds → 0 < length ds → (get_or ds 0 0 ≡ 48 → length ds ≡ 1) → digits_value 10 ds < 2 ^ 64 → decimal (digits_value 10 ds) ≡ ds
+pub digits_are : (ds : List ℕ) → AllDigits 10 ds → 0 < length ds → (get_or ds 0 0 ≡ 48 → length ds ≡ 1) → digits_value 10 ds < 2 ^ 64
+    → decimal (digits_value 10 ds) ≡ ds
 digits_are ds all some lead small = decimal-digits_value (numerals_by_value (AllDigits 10) tells_digits) ds all some lead small
 
 -- a number with a leading zero is 0
@@ -67,7 +68,8 @@ pub negative_word : (v : ℕ) → lit_word (literal v false) ≡ 45 ∷ decimal 
 negative_word v = let e : lit_positive (2 * v + 1) ≡ false = grind (arith, nat_tests) in let d : lit_var (2 * v + 1) ≡ v = omega arith in rw (e, d) refl
 
 -- the words of literals tell them
-same_by : (v w : Bool) (m n : ℕ) → m < 2 ^ 31 → n < 2 ^ 31 → (if v then decimal m else 45 ∷ decimal m) ≡ (if w then decimal n else 45 ∷ decimal n) → (v ≡ w) × (m ≡ n)
+same_by : (v w : Bool) (m n : ℕ) → m < 2 ^ 31 → n < 2 ^ 31 → (if v then decimal m else 45 ∷ decimal m) ≡ (if w then decimal n else 45 ∷ decimal n)
+    → (v ≡ w) × (m ≡ n)
 same_by true true m n ms ns e = (refl, decimal_injective m n (omega arith) (omega arith) e)
 same_by true false m n ms ns e = absurd (no_dash m (decimal n) (omega arith) e)
 same_by false true m n ms ns e = absurd (no_dash n (decimal m) (omega arith) (sym e))
@@ -144,8 +146,11 @@ no_lead : (word : List ℕ) → (nat_lt 1 (length word) && get_or word 0 0 == 48
 no_lead word lead some first = grind (arith, nat_tests)
 
 -- any other digits are read as the number that they are
-pub number_is : (word : List ℕ) (most : ℕ) (o : Option ℕ) → most < 2 ^ 64 → (nat_lt 1 (length word) && get_or word 0 0 == 48) ≡ false → IsSome o ↔ IsDecimal word most → IfSome o (λ v. v ≡ digits_value 10 word) → MatchOption o ((n : ℕ) → n ≤ most → word ≢ decimal n) (λ n. (word ≡ decimal n) × (n ≤ most))
-number_is word most None small lead some value = λ n within e. let is : IsSome {T = ℕ} None = some.1 (written word n most (omega arith) within e) in absurd (none is)
+pub number_is : (word : List ℕ) (most : ℕ) (o : Option ℕ) → most < 2 ^ 64 → (nat_lt 1 (length word) && get_or word 0 0 == 48) ≡ false
+    → IsSome o ↔ IsDecimal word most → IfSome o (λ v. v ≡ digits_value 10 word)
+    → MatchOption o ((n : ℕ) → n ≤ most → word ≢ decimal n) (λ n. (word ≡ decimal n) × (n ≤ most))
+number_is word most None small lead some value =
+    λ n within e. let is : IsSome {T = ℕ} None = some.1 (written word n most (omega arith) within e) in absurd (none is)
   where
     none : ¬ IsSome {T = ℕ} None
     none is = cc
@@ -164,7 +169,8 @@ pub record IsVarAbove (above : ℕ) (digits : List ℕ) (v : ℕ) : Type 0 where
   pub few : v < 2 ^ 31
 
 -- no variable's digits, so after a `-` no literal
-pub dash_none : (word digits : List ℕ) (above : ℕ) → word ≡ 45 ∷ digits → ((v : ℕ) → above < v → v < 2 ^ 31 → digits ≢ decimal v) → (l : ℕ) → IsLitAbove above l → word ≢ lit_word l
+pub dash_none : (word digits : List ℕ) (above : ℕ) → word ≡ 45 ∷ digits → ((v : ℕ) → above < v → v < 2 ^ 31 → digits ≢ decimal v) → (l : ℕ)
+    → IsLitAbove above l → word ≢ lit_word l
 dash_none word digits above is none l fits e = by (lit_words l)
   where
     few : lit_var l < 2 ^ 64
@@ -172,9 +178,13 @@ dash_none word digits above is none l fits e = by (lit_words l)
 
     by : (lit_word l ≡ decimal (lit_var l)) ⊎ (lit_word l ≡ 45 ∷ decimal (lit_var l)) → ⊥
     by (inl plain) = no_dash (lit_var l) digits few (sym plain ∙ sym e ∙ is)
-    by (inr dash) = let both : 45 ∷ digits ≡ 45 ∷ decimal (lit_var l) = sym is ∙ e ∙ dash in let same : digits ≡ decimal (lit_var l) = cc in none (lit_var l) fits.above_it fits.few same
+    by (inr dash) =
+        let both : 45 ∷ digits ≡ 45 ∷ decimal (lit_var l) = sym is ∙ e ∙ dash in
+        let same : digits ≡ decimal (lit_var l) = cc in
+        none (lit_var l) fits.above_it fits.few same
 
-pub plain_none : (word : List ℕ) (above : ℕ) → ((rest : List ℕ) → word ≢ 45 ∷ rest) → ((v : ℕ) → above < v → v < 2 ^ 31 → word ≢ decimal v) → (l : ℕ) → IsLitAbove above l → word ≢ lit_word l
+pub plain_none : (word : List ℕ) (above : ℕ) → ((rest : List ℕ) → word ≢ 45 ∷ rest) → ((v : ℕ) → above < v → v < 2 ^ 31 → word ≢ decimal v)
+    → (l : ℕ) → IsLitAbove above l → word ≢ lit_word l
 plain_none word above plain none l fits e = by (lit_words l)
   where
     by : (lit_word l ≡ decimal (lit_var l)) ⊎ (lit_word l ≡ 45 ∷ decimal (lit_var l)) → ⊥
@@ -189,10 +199,17 @@ fits_negative above v a f = let d : lit_var (2 * v + 1) ≡ v = omega arith in r
 
 -- a variable's digits, and so a literal's
 pub lit_begins : (above : ℕ) (word : List ℕ) → BeginsVar above word → BeginsLit above word
-lit_begins above word b = record { more = b.more; lit = literal b.var true; fits = fits_positive above b.var b.above_it b.few; is = b.is ∙ sym (positive_word b.var) }
+lit_begins above word b =
+    record { more = b.more; lit = literal b.var true; fits = fits_positive above b.var b.above_it b.few; is = b.is ∙ sym (positive_word b.var) }
 
 pub dash_begins : (above : ℕ) (word digits : List ℕ) → word ≡ 45 ∷ digits → BeginsVar above digits → BeginsLit above word
-dash_begins above word digits is b = record { more = b.more; lit = literal b.var false; fits = fits_negative above b.var b.above_it b.few; is = ap (λ x. x ++ b.more) is ∙ ap (λ x. 45 ∷ x) b.is ∙ sym (negative_word b.var) }
+dash_begins above word digits is b =
+    record {
+      more = b.more;
+      lit = literal b.var false;
+      fits = fits_negative above b.var b.above_it b.few;
+      is = ap (λ x. x ++ b.more) is ∙ ap (λ x. 45 ∷ x) b.is ∙ sym (negative_word b.var);
+    }
 
 pub dash_begun : (above : ℕ) (word digits : List ℕ) → word ≡ 45 ∷ digits → BeginsLit above word → BeginsVar above digits
 dash_begun above word digits is b = by (lit_words b.lit)
@@ -207,7 +224,8 @@ dash_begun above word digits is b = by (lit_words b.lit)
         let same : digits ++ b.more ≡ decimal (lit_var b.lit) = cc in
         record { more = b.more; var = lit_var b.lit; above_it = b.fits.above_it; few = b.fits.few; is = same }
 
-begun_by : (above : ℕ) (word more : List ℕ) (l : ℕ) → IsLitAbove above l → word ++ more ≡ 45 ∷ decimal (lit_var l) → ((rest : List ℕ) → word ≢ 45 ∷ rest) → BeginsVar above word
+begun_by : (above : ℕ) (word more : List ℕ) (l : ℕ) → IsLitAbove above l → word ++ more ≡ 45 ∷ decimal (lit_var l)
+    → ((rest : List ℕ) → word ≢ 45 ∷ rest) → BeginsVar above word
 begun_by above [] more l fits e plain = record { more = decimal (lit_var l); var = lit_var l; above_it = fits.above_it; few = fits.few; is = refl }
 begun_by above (x ∷ word) more l fits e plain = let first : x ≡ 45 = cc in absurd (plain word (ap (λ y. y ∷ word) first))
 
@@ -262,7 +280,9 @@ hint_front word some none (inr b) =
     let front = number_front b.hint word b.more b.some (omega arith) some b.is in
     none front.0 (omega (arith, front.1)) front.2
 
-pub option_hint : (word : List ℕ) (o : Option ℕ) → 0 < length word → MatchOption o ((n : ℕ) → n ≤ 9223372036854775807 → word ≢ decimal n) (λ n. (word ≡ decimal n) × (n ≤ 9223372036854775807)) → IsTrue (is_some o) ↔ (MayBeZero word ⊎ BeginsHint word)
+pub option_hint : (word : List ℕ) (o : Option ℕ) → 0 < length word
+    → MatchOption o ((n : ℕ) → n ≤ 9223372036854775807 → word ≢ decimal n) (λ n. (word ≡ decimal n) × (n ≤ 9223372036854775807))
+    → IsTrue (is_some o) ↔ (MayBeZero word ⊎ BeginsHint word)
 option_hint word None some none = (λ t. cc, λ m. absurd (hint_front word some none m))
 option_hint word (Some h) some is = (λ t. hint_on word h is.0 (omega (arith, is.1)), λ m. refl)
 
@@ -291,7 +311,8 @@ number_begun : (word more : List ℕ) (n : ℕ) → n < 2 ^ 64 → 0 < length wo
 number_begun word more zero small some is = (0, omega arith, zero_front word more (is ∙ zero_is) some ∙ sym zero_is)
 number_begun word more (suc n) small some is = number_front (suc n) word more (omega arith) small some is
 
-pub option_number : (word : List ℕ) (most : ℕ) (o : Option ℕ) → most < 2 ^ 64 → 0 < length word → MatchOption o ((n : ℕ) → n ≤ most → word ≢ decimal n) (λ n. (word ≡ decimal n) × (n ≤ most)) → IsTrue (is_some o) ↔ BeginsNumber most word
+pub option_number : (word : List ℕ) (most : ℕ) (o : Option ℕ) → most < 2 ^ 64 → 0 < length word
+    → MatchOption o ((n : ℕ) → n ≤ most → word ≢ decimal n) (λ n. (word ≡ decimal n) × (n ≤ most)) → IsTrue (is_some o) ↔ BeginsNumber most word
 option_number word most None few some none = (λ t. cc, λ b. absurd (no b))
   where
     no : BeginsNumber most word → ⊥

@@ -35,7 +35,8 @@ Fails-map false L M f ws fails = λ m. fails (f ws m)
 Fails-map true L M f ws fails = λ g. fails (Grows-map M L f ws g)
 
 -- what fails after some words
-pub Fails-after : (cut : Bool) (L : List (List ℕ) → Type 0) → (pre ws : List (List ℕ)) → (cut ≡ true → 0 < length ws) → Fails cut (λ x. L (pre ++ x)) ws → Fails cut L (pre ++ ws)
+pub Fails-after : (cut : Bool) (L : List (List ℕ) → Type 0) → (pre ws : List (List ℕ)) → (cut ≡ true → 0 < length ws)
+    → Fails cut (λ x. L (pre ++ x)) ws → Fails cut L (pre ++ ws)
 Fails-after false L pre ws some fails = fails
 Fails-after true L pre ws some fails = λ g. fails (Grows-before L pre ws (some refl) g)
 
@@ -50,7 +51,8 @@ last_key key above [] = above
 last_key key above (x ∷ xs) = last_key key (key x) xs
 
 -- the words of two rows are the same, so the rows are
-pub row_same : (word : ℕ → List ℕ) (Fits : ℕ → ℕ → Type 0) (key : ℕ → ℕ) → Tells word Fits → (a b : ℕ) (xs ys : List ℕ) (t u : List (List ℕ)) → Chain Fits key a xs → Chain Fits key b ys → map word xs ++ zero_word ∷ t ≡ map word ys ++ zero_word ∷ u → (xs ≡ ys) × (t ≡ u)
+pub row_same : (word : ℕ → List ℕ) (Fits : ℕ → ℕ → Type 0) (key : ℕ → ℕ) → Tells word Fits → (a b : ℕ) (xs ys : List ℕ) (t u : List (List ℕ))
+    → Chain Fits key a xs → Chain Fits key b ys → map word xs ++ zero_word ∷ t ≡ map word ys ++ zero_word ∷ u → (xs ≡ ys) × (t ≡ u)
 row_same word Fits key tells a b [] [] t u cx cy e = (refl, cc)
 row_same word Fits key tells a b [] (y ∷ ys) t u cx cy e = let first : word y ≡ zero_word = cc in absurd (tells.no_zero b y cy.0 first)
 row_same word Fits key tells a b (x ∷ xs) [] t u cx cy e = let first : word x ≡ zero_word = cc in absurd (tells.no_zero a x cx.0 first)
@@ -62,7 +64,10 @@ row_same word Fits key tells a b (x ∷ xs) (y ∷ ys) t u cx cy e =
     (cc, rest)
 
 -- a word after some items that is neither the word 0 nor that of a fitting item
-pub row_breaks : (word : ℕ → List ℕ) (Fits : ℕ → ℕ → Type 0) (key : ℕ → ℕ) → Tells word Fits → (a : ℕ) (done : List ℕ) (w : List ℕ) (rest : List (List ℕ)) → Chain Fits key a done → w ≢ zero_word → ((x : ℕ) → Fits (last_key key a done) x → w ≢ word x) → (items : List ℕ) (tail : List (List ℕ)) → Chain Fits key a items → map word done ++ w ∷ rest ≡ map word items ++ zero_word ∷ tail → ⊥
+pub row_breaks : (word : ℕ → List ℕ) (Fits : ℕ → ℕ → Type 0) (key : ℕ → ℕ) → Tells word Fits
+    → (a : ℕ) (done : List ℕ) (w : List ℕ) (rest : List (List ℕ)) → Chain Fits key a done → w ≢ zero_word
+    → ((x : ℕ) → Fits (last_key key a done) x → w ≢ word x) → (items : List ℕ) (tail : List (List ℕ)) → Chain Fits key a items
+    → map word done ++ w ∷ rest ≡ map word items ++ zero_word ∷ tail → ⊥
 row_breaks word Fits key tells a [] w rest cd nz ni [] tail ci e = let first : w ≡ zero_word = cc in nz first
 row_breaks word Fits key tells a [] w rest cd nz ni (x ∷ items) tail ci e = let first : w ≡ word x = cc in ni x ci.0 first
 row_breaks word Fits key tells a (d ∷ done) w rest cd nz ni [] tail ci e = let first : word d ≡ zero_word = cc in tells.no_zero a d cd.0 first
@@ -73,7 +78,8 @@ row_breaks word Fits key tells a (d ∷ done) w rest cd nz ni (x ∷ items) tail
     row_breaks word Fits key tells (key d) done w rest cd.1 nz ni items tail (subst (λ (z : ℕ). Chain Fits key (key z) items) (sym same) ci.1) others
 
 -- no word is left after some items
-pub row_ends : (word : ℕ → List ℕ) (Fits : ℕ → ℕ → Type 0) (key : ℕ → ℕ) → Tells word Fits → (a : ℕ) (done : List ℕ) → Chain Fits key a done → (items : List ℕ) (tail : List (List ℕ)) → Chain Fits key a items → map word done ≡ map word items ++ zero_word ∷ tail → ⊥
+pub row_ends : (word : ℕ → List ℕ) (Fits : ℕ → ℕ → Type 0) (key : ℕ → ℕ) → Tells word Fits → (a : ℕ) (done : List ℕ) → Chain Fits key a done
+    → (items : List ℕ) (tail : List (List ℕ)) → Chain Fits key a items → map word done ≡ map word items ++ zero_word ∷ tail → ⊥
 row_ends word Fits key tells a [] cd [] tail ci e = cc
 row_ends word Fits key tells a [] cd (x ∷ items) tail ci e = cc
 row_ends word Fits key tells a (d ∷ done) cd [] tail ci e = let first : word d ≡ zero_word = cc in tells.no_zero a d cd.0 first
@@ -84,7 +90,8 @@ row_ends word Fits key tells a (d ∷ done) cd (x ∷ items) tail ci e =
     row_ends word Fits key tells (key d) done cd.1 items tail (subst (λ (z : ℕ). Chain Fits key (key z) items) (sym same) ci.1) others
 
 -- one more item at the end
-pub Chain-push : (Fits : ℕ → ℕ → Type 0) (key : ℕ → ℕ) (a : ℕ) (done : List ℕ) (x : ℕ) → Chain Fits key a done → Fits (last_key key a done) x → Chain Fits key a (done ++ x ∷ [])
+pub Chain-push : (Fits : ℕ → ℕ → Type 0) (key : ℕ → ℕ) (a : ℕ) (done : List ℕ) (x : ℕ) → Chain Fits key a done → Fits (last_key key a done) x
+    → Chain Fits key a (done ++ x ∷ [])
 Chain-push Fits key a [] x cd fx = (fx, tt)
 Chain-push Fits key a (d ∷ done) x cd fx = (cd.0, Chain-push Fits key (key d) done x cd.1 fx)
 
@@ -93,7 +100,8 @@ last_key-push key a [] x = refl
 last_key-push key a (d ∷ done) x = last_key-push key (key d) done x
 
 -- the next item was read
-pub row_more : (word : ℕ → List ℕ) (done : List ℕ) (x : ℕ) (w : List ℕ) (rest : List (List ℕ)) → w ≡ word x → map word done ++ w ∷ rest ≡ map word (done ++ x ∷ []) ++ rest
+pub row_more : (word : ℕ → List ℕ) (done : List ℕ) (x : ℕ) (w : List ℕ) (rest : List (List ℕ)) → w ≡ word x
+    → map word done ++ w ∷ rest ≡ map word (done ++ x ∷ []) ++ rest
 row_more word [] x w rest is = rw is refl
 row_more word (d ∷ done) x w rest is = ap (λ (y : List (List ℕ)). word d ∷ y) (row_more word done x w rest is)
 
@@ -102,32 +110,55 @@ abbrev pub MayGoOn : (ℕ → List ℕ) → (ℕ → ℕ → Type 0) → (ℕ �
 MayGoOn word Fits key done p =
     ((more : List ℕ) × (p ++ more ≡ zero_word)) ⊎ ((more : List ℕ) × (x : ℕ) × Fits (last_key key 0 done) x × (p ++ more ≡ word x))
 
-goes_on : (word : ℕ → List ℕ) (Fits : ℕ → ℕ → Type 0) (key : ℕ → ℕ) (done : List ℕ) (p : List ℕ) (tail : List (List ℕ)) → Chain Fits key 0 done → MayGoOn word Fits key done p → Grows (λ x. HasRowBefore word Fits key tail (map word done ++ x)) (p ∷ [])
+goes_on : (word : ℕ → List ℕ) (Fits : ℕ → ℕ → Type 0) (key : ℕ → ℕ) (done : List ℕ) (p : List ℕ) (tail : List (List ℕ)) → Chain Fits key 0 done
+    → MayGoOn word Fits key done p → Grows (λ x. HasRowBefore word Fits key tail (map word done ++ x)) (p ∷ [])
 goes_on word Fits key done p tail cd (inl g) = (g.0, tail, (done, record { is = ap (λ y. map word done ++ y ∷ tail) g.1; fit = cd }))
-goes_on word Fits key done p tail cd (inr g) = (g.0, zero_word ∷ tail, (done ++ g.1 ∷ [], record { is = row_more word done g.1 (p ++ g.0) (zero_word ∷ tail) g.3; fit = Chain-push Fits key 0 done g.1 cd g.2 }))
+goes_on word Fits key done p tail cd (inr g) = (
+  g.0,
+  zero_word ∷ tail,
+  (done ++ g.1 ∷ [], record { is = row_more word done g.1 (p ++ g.0) (zero_word ∷ tail) g.3; fit = Chain-push Fits key 0 done g.1 cd g.2 }),
+)
 
 pub never : false ≡ true → ⊥
 never e = cc
 
 -- the last word is cut off
-pub row_cut : (word : ℕ → List ℕ) (Fits : ℕ → ℕ → Type 0) (key : ℕ → ℕ) → Tells word Fits → (ws : List (List ℕ)) (done : List ℕ) (p : List ℕ) (b : Bool) → ws ≡ map word done ++ p ∷ [] → Chain Fits key 0 done → (b ≡ true → MayGoOn word Fits key done p) → (MayGoOn word Fits key done p → b ≡ true) → IsRowStop word Fits key true ws (if b then Early else Bad)
-row_cut word Fits key tells ws done p true is cd to from =
-    (refl, λ tail. subst (λ (y : List (List ℕ)). Grows (HasRowBefore word Fits key tail) y) (sym is) (Grows-after (HasRowBefore word Fits key tail) (map word done) (p ∷ []) (omega arith) (goes_on word Fits key done p tail cd (to refl))))
+pub row_cut : (word : ℕ → List ℕ) (Fits : ℕ → ℕ → Type 0) (key : ℕ → ℕ) → Tells word Fits
+    → (ws : List (List ℕ)) (done : List ℕ) (p : List ℕ) (b : Bool) → ws ≡ map word done ++ p ∷ [] → Chain Fits key 0 done
+    → (b ≡ true → MayGoOn word Fits key done p) → (MayGoOn word Fits key done p → b ≡ true)
+    → IsRowStop word Fits key true ws (if b then Early else Bad)
+row_cut word Fits key tells ws done p true is cd to from = (
+  refl,
+  λ tail.
+      subst (λ (y : List (List ℕ)). Grows (HasRowBefore word Fits key tail) y) (sym is)
+      (Grows-after (HasRowBefore word Fits key tail) (map word done) (p ∷ []) (omega arith) (goes_on word Fits key done p tail cd (to refl))),
+)
 row_cut word Fits key tells ws done p false is cd to from = λ g.
-    let (w, others, found) = Grows-before (HasRow word Fits key) (map word done) (p ∷ []) (omega arith) (subst (λ (y : List (List ℕ)). Grows (HasRow word Fits key) y) is g) in
-    row_breaks word Fits key tells 0 done (p ++ w) others cd (λ e. never (from (inl (w, e)))) (λ x f e. never (from (inr (w, x, f, e)))) found.0 found.1 found.2.fit found.2.is
+    let (w, others, found) =
+    Grows-before (HasRow word Fits key) (map word done) (p ∷ []) (omega arith)
+    (subst (λ (y : List (List ℕ)). Grows (HasRow word Fits key) y) is g) in
+    row_breaks word Fits key tells 0 done (p ++ w) others cd (λ e. never (from (inl (w, e))))
+    (λ x f e. never (from (inr (w, x, f, e)))) found.0 found.1 found.2.fit found.2.is
 
 -- a whole word is none that may come next
-pub row_bad : (cut : Bool) (word : ℕ → List ℕ) (Fits : ℕ → ℕ → Type 0) (key : ℕ → ℕ) → Tells word Fits → (ws : List (List ℕ)) (done : List ℕ) (w : List ℕ) (rest : List (List ℕ)) → ws ≡ map word done ++ w ∷ rest → (cut ≡ true → 0 < length rest) → Chain Fits key 0 done → w ≢ zero_word → ((x : ℕ) → Fits (last_key key 0 done) x → w ≢ word x) → Fails cut (HasRow word Fits key) ws
+pub row_bad : (cut : Bool) (word : ℕ → List ℕ) (Fits : ℕ → ℕ → Type 0) (key : ℕ → ℕ) → Tells word Fits
+    → (ws : List (List ℕ)) (done : List ℕ) (w : List ℕ) (rest : List (List ℕ)) → ws ≡ map word done ++ w ∷ rest → (cut ≡ true → 0 < length rest)
+    → Chain Fits key 0 done → w ≢ zero_word → ((x : ℕ) → Fits (last_key key 0 done) x → w ≢ word x) → Fails cut (HasRow word Fits key) ws
 row_bad false word Fits key tells ws done w rest is more cd nz ni = λ l.
     row_breaks word Fits key tells 0 done w rest cd nz ni l.0 l.1 l.2.fit (sym is ∙ l.2.is)
 row_bad true word Fits key tells ws done w rest is more cd nz ni = λ g.
     let cut_at : ws ≡ (map word done ++ w ∷ []) ++ rest = is ∙ sym (append_assoc (map word done) (w ∷ []) rest) in
-    let (x, found) = Grows-words (λ y. HasRow word Fits key ((map word done ++ w ∷ []) ++ y)) rest (Grows-before (HasRow word Fits key) (map word done ++ w ∷ []) rest (more refl) (subst (λ (y : List (List ℕ)). Grows (HasRow word Fits key) y) cut_at g)) in
+    let (x, found) =
+    Grows-words (λ y. HasRow word Fits key ((map word done ++ w ∷ []) ++ y)) rest
+    (Grows-before (HasRow word Fits key) (map word done ++ w ∷ []) rest (more refl)
+    (subst (λ (y : List (List ℕ)). Grows (HasRow word Fits key) y) cut_at g))
+    in
     row_breaks word Fits key tells 0 done w x cd nz ni found.0 found.1 found.2.fit (sym (append_assoc (map word done) (w ∷ []) x) ∙ found.2.is)
 
 -- a line ends after some items
-pub row_short : (cut : Bool) (word : ℕ → List ℕ) (Fits : ℕ → ℕ → Type 0) (key : ℕ → ℕ) → Tells word Fits → (ws : List (List ℕ)) (done : List ℕ) (rest : List (List ℕ)) → ws ≡ map word done ++ rest → rest ≡ [] → (cut ≡ true → 0 < length rest) → Chain Fits key 0 done → Fails cut (HasRow word Fits key) ws
+pub row_short : (cut : Bool) (word : ℕ → List ℕ) (Fits : ℕ → ℕ → Type 0) (key : ℕ → ℕ) → Tells word Fits
+    → (ws : List (List ℕ)) (done : List ℕ) (rest : List (List ℕ)) → ws ≡ map word done ++ rest → rest ≡ [] → (cut ≡ true → 0 < length rest)
+    → Chain Fits key 0 done → Fails cut (HasRow word Fits key) ws
 row_short true word Fits key tells ws done rest is none more cd = let some = more refl in let e = ap length none in absurd (omega arith)
 row_short false word Fits key tells ws done rest is none more cd = λ l.
     row_ends word Fits key tells 0 done cd l.0 l.1 l.2.fit (sym (append-nil (map word done)) ∙ ap (λ y. map word done ++ y) (sym none) ∙ sym is ∙ l.2.is)

@@ -49,6 +49,8 @@ lit_token above l fits = lit_token_by (lit_positive l) (lit_var l) (omega (arith
 pub hint_token : (before h : ℕ) → IsHint before h → is_token (decimal h) ≡ true
 hint_token before h fits = number_token h (omega (arith, fits.small))
 
-pub row_tokens : (word : ℕ → List ℕ) (Fits : ℕ → ℕ → Type 0) (key : ℕ → ℕ) → ((a x : ℕ) → Fits a x → is_token (word x) ≡ true) → (a : ℕ) (xs : List ℕ) (tail : List (List ℕ)) → Chain Fits key a xs → list_all is_token tail ≡ true → list_all is_token (map word xs ++ tail) ≡ true
+pub row_tokens : (word : ℕ → List ℕ) (Fits : ℕ → ℕ → Type 0) (key : ℕ → ℕ) → ((a x : ℕ) → Fits a x → is_token (word x) ≡ true)
+    → (a : ℕ) (xs : List ℕ) (tail : List (List ℕ)) → Chain Fits key a xs → list_all is_token tail ≡ true
+    → list_all is_token (map word xs ++ tail) ≡ true
 row_tokens word Fits key plain a [] tail c t = t
 row_tokens word Fits key plain a (x ∷ xs) tail c t = rw (plain a x c.0, row_tokens word Fits key plain (key x) xs tail c.1 t) refl

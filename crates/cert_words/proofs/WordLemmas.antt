@@ -26,8 +26,10 @@ unfolding words
 words_last [] all = refl
 words_last (b ∷ bs) all = last_by (b == 32) b bs (words_last bs (len_of (b == 32) (word_len bs) (length bs) all)) all
 
-more_by : (v : Bool) (b : ℕ) (bs : List ℕ) → (word_len bs < length bs → words bs ≡ take (word_len bs) bs ∷ words (drop 1 (drop (word_len bs) bs))) → cond (not v) (1 + word_len bs) 0 < suc (length bs)
-    → cond v ([] ∷ words bs) (onto_first b (words bs)) ≡ take (cond (not v) (1 + word_len bs) 0) (b ∷ bs) ∷ words (drop 1 (drop (cond (not v) (1 + word_len bs) 0) (b ∷ bs)))
+more_by : (v : Bool) (b : ℕ) (bs : List ℕ) → (word_len bs < length bs → words bs ≡ take (word_len bs) bs ∷ words (drop 1 (drop (word_len bs) bs)))
+    → cond (not v) (1 + word_len bs) 0 < suc (length bs)
+    → cond v ([] ∷ words bs) (onto_first b (words bs))
+    ≡ take (cond (not v) (1 + word_len bs) 0) (b ∷ bs) ∷ words (drop 1 (drop (cond (not v) (1 + word_len bs) 0) (b ∷ bs)))
 more_by true b bs more some = refl
 more_by false b bs more some = let len : 1 + word_len bs ≡ suc (word_len bs) = omega arith in rw (more (omega arith), len) refl
 
@@ -90,8 +92,10 @@ words-nil = refl
 pub words-spaced : (ws : List (List ℕ)) → 0 < length ws → list_all is_word ws ≡ true → words (spaced ws) ≡ ws
 unfolding spaced
 words-spaced [] some plain = absurd (omega arith)
-words-spaced (w ∷ []) some plain = ap words (sym (append-nil w)) ∙ words-onto w [] (and_parts _ _ plain).0 ∙ ap (glued w) words-nil ∙ ap (λ x. x ∷ []) (append-nil w)
-words-spaced (w ∷ (v ∷ ws)) some plain = words-word w (spaced (v ∷ ws)) (and_parts _ _ plain).0 ∙ ap (λ x. w ∷ x) (words-spaced (v ∷ ws) (omega arith) (and_parts _ _ plain).1)
+words-spaced (w ∷ []) some plain =
+    ap words (sym (append-nil w)) ∙ words-onto w [] (and_parts _ _ plain).0 ∙ ap (glued w) words-nil ∙ ap (λ x. x ∷ []) (append-nil w)
+words-spaced (w ∷ (v ∷ ws)) some plain =
+    words-word w (spaced (v ∷ ws)) (and_parts _ _ plain).0 ∙ ap (λ x. w ∷ x) (words-spaced (v ∷ ws) (omega arith) (and_parts _ _ plain).1)
 
 spaced-onto : (b : ℕ) (ls : List (List ℕ)) → 0 < length ls → spaced (onto_first b ls) ≡ b ∷ spaced ls
 unfolding spaced
@@ -104,7 +108,8 @@ unfolding spaced
 space_first b bs [] is some e = absurd (omega arith)
 space_first b bs (l ∷ ls) is some e = cc
 
-spaced_by : (v : Bool) (b : ℕ) (bs : List ℕ) → (v ≡ true → b ≡ 32) → spaced (words bs) ≡ bs → 0 < length (words bs) → spaced (cond v ([] ∷ words bs) (onto_first b (words bs))) ≡ b ∷ bs
+spaced_by : (v : Bool) (b : ℕ) (bs : List ℕ) → (v ≡ true → b ≡ 32) → spaced (words bs) ≡ bs → 0 < length (words bs)
+    → spaced (cond v ([] ∷ words bs) (onto_first b (words bs))) ≡ b ∷ bs
 spaced_by true b bs is more some = space_first b bs (words bs) (is refl) some more
 spaced_by false b bs is more some = spaced-onto b (words bs) some ∙ ap (λ x. b ∷ x) more
 

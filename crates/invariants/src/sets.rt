@@ -3,6 +3,9 @@ ghost use Rattle.std.specs.Prelude.{◌<◌, ◌≤◌, All, IfOk};
 ghost use Rattle.net_model.specs.Netlist.{IsSound};
 ghost use Rattle.net_model.specs.Fits.{Fits};
 ghost use Rattle.query_model.specs.Laws.{NamesRegs};
+ghost use Rattle.verdicts.specs.Inductive.{AreAlwaysMet};
+ghost use Rattle.verdicts.specs.Logs.{own_coding};
+ghost use Rattle.verdicts.specs.Certified.{ProveKept};
 ghost use Rattle.verdicts.specs.Forms.{IsSetInForm};
 ghost use Rattle.invariants.specs.Invariants.{AreInvariants};
 
@@ -32,6 +35,8 @@ pub fn invariants(
     requires some { 0 < budget }
     ensures kept { IfOk result (AreInvariants design.now claims.now depth budget) }
     ensures names { IfOk result (λ set. All (NamesRegs design.now) set.kept) }
+    ensures met { IfOk result (λ set. AreAlwaysMet design.now set.kept) }
+    ensures proved { IfOk result (λ set. ProveKept own_coding design.now set.kept set.depth set.proofs) }
     ensures in_form { IfOk result IsSetInForm }
 {
     let clauses = candidates(alloc, design, claims)?;

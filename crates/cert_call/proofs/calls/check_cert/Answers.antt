@@ -4,8 +4,8 @@ use Rattle.verdicts.specs.Logs.{own_coding}
 use Rattle.cert_values.specs.declared.certs.Cert.{Cert}
 use Rattle.cert_defs.specs.Accepted.{Accepts}
 use Rattle.cert_defs.specs.Refused.{IsCause}
+use Rattle.cert_text.proofs.Complete.{spellable_complete}
 use Rattle.cert_call.specs.Texts.{IsAcceptedText, IsTextCause}
-use Rattle.cert_call.proofs.Complete.{complete_of}
 use Rattle.cert_call.proofs.Telling.{read_cause, check_cause}
 use Rattle.cert_call.proofs.calls.check_cert.Goals as goal
 
@@ -20,7 +20,7 @@ returns-in_err-cert-clause-only c numbers accepted =
     rw (p.1, p.2) (c.in_err-cert.ensures.only accepted.cert accepted.spells)
 
 pub check-requires-clause-complete : goal.check-requires-clause-complete
-check-requires-clause-complete c = let spells = c.in_ok-cert.ensures.ok in complete_of c.in_ok-cert.cert spells.fits
+check-requires-clause-complete c = let spells = c.in_ok-cert.ensures.ok in spellable_complete c.in_ok-cert.cert spells.fits
 
 pub returns-clause-accepted : goal.returns-clause-accepted
 returns-clause-accepted c =

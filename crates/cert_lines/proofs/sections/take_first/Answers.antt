@@ -19,8 +19,11 @@ returns-then-is_at_cut-clause-err c =
 pub returns-clause-err : goal.returns-clause-err
 returns-clause-err c =
     let more = not_at_cut c.next.new.self.cut (left c.next.new.self) (sym c.is_at_cut.ensures ∙ c.if-is_at_cut.false) in
-    one_bad c.args.words.now.cut IsFirstWord c.in-Some.word.now (left c.args.words.now) (left c.next.new.self) c.in-Some.ensures.word (λ e. more (c.next.ensures.cut ∙ e)) no
+    one_bad c.args.words.now.cut IsFirstWord c.in-Some.word.now (left c.args.words.now) (left c.next.new.self) c.in-Some.ensures.word
+    (λ e. more (c.next.ensures.cut ∙ e)) no
   where
     no : ¬ IsFirstWord c.in-Some.word.now
     no (true, e) = let t = bytes_same c.in-Some.word.now c.as_slice.result.now (e ∙ sym c.as_slice.ensures) in never (sym c.if-eq.false ∙ c.eq.ensures ∙ t)
-    no (false, e) = let t = bytes_same c.in-Some.word.now c.as_slice-2.result.now (e ∙ sym c.as_slice-2.ensures) in never (sym c.if-eq-2.false ∙ c.eq-2.ensures ∙ t)
+    no (false, e) =
+        let t = bytes_same c.in-Some.word.now c.as_slice-2.result.now (e ∙ sym c.as_slice-2.ensures) in
+        never (sym c.if-eq-2.false ∙ c.eq-2.ensures ∙ t)

@@ -19,4 +19,5 @@ pub returns-in-None-clause-err : goal.returns-in-None-clause-err
 returns-in-None-clause-err c =
     let more = not_at_cut c.next.new.self.cut (left c.next.new.self) (sym c.is_at_cut.ensures ∙ c.if-is_at_cut.false) in
     let none = rw c.in-None.is at c.proof_word_of.ensures in
-    one_bad c.args.words.now.cut IsProofWord c.in-Some.word.now (left c.args.words.now) (left c.next.new.self) c.in-Some.ensures.word (λ e. more (c.next.ensures.cut ∙ e)) none
+    one_bad c.args.words.now.cut IsProofWord c.in-Some.word.now (left c.args.words.now) (left c.next.new.self) c.in-Some.ensures.word
+    (λ e. more (c.next.ensures.cut ∙ e)) none

@@ -12,9 +12,14 @@ returns-in_err-count-clause-err c =
 pub returns-in_err-steps-clause-err : goal.returns-in_err-steps-clause-err
 returns-in_err-steps-clause-err c =
     let p = err_from_is_err_and c.from_residual-in_err-steps.result c.from_residual-in_err-steps.ensures.1 in
-    rw (p.1, p.2) (body_fault c.args.phase c.in_ok-count.count c.in_ok-count.ensures.ok.0 (rest c.take_head.new.cursor) (rest c.args.cursor.now) (place_of c.take_head.new.cursor) (place_of c.args.cursor.now) c.in_ok-count.ensures.ok.1 c.in_ok-count.ensures.place c.in_err-steps.field-0.0 c.in_err-steps.ensures.err)
+    rw (p.1, p.2)
+    (body_fault c.args.phase c.in_ok-count.count c.in_ok-count.ensures.ok.0 (rest c.take_head.new.cursor) (rest c.args.cursor.now)
+    (place_of c.take_head.new.cursor)
+    (place_of c.args.cursor.now) c.in_ok-count.ensures.ok.1 c.in_ok-count.ensures.place c.in_err-steps.field-0.0 c.in_err-steps.ensures.err)
 
 pub returns-clause-ok : goal.returns-clause-ok
 returns-clause-ok c =
-    let r = derivation_read c.args.phase c.in_ok-count.count c.in_ok-steps.steps (rest c.args.cursor.now) (rest c.take_head.new.cursor) (rest c.take_steps.new.cursor) c.in_ok-count.ensures.ok.0 c.in_ok-steps.ensures.ok.0 c.in_ok-count.ensures.ok.1 c.in_ok-steps.ensures.ok.1 in
+    let r =
+    derivation_read c.args.phase c.in_ok-count.count c.in_ok-steps.steps (rest c.args.cursor.now) (rest c.take_head.new.cursor)
+    (rest c.take_steps.new.cursor) c.in_ok-count.ensures.ok.0 c.in_ok-steps.ensures.ok.0 c.in_ok-count.ensures.ok.1 c.in_ok-steps.ensures.ok.1 in
     (r.fits, r.is)

@@ -16,4 +16,8 @@ returns-in_err-base-in-Depth-clause-err c =
     let p = err_from_is_err_and c.from_residual-in_err-base-in-Depth.result c.from_residual-in_err-base-in-Depth.ensures.1 in
     let ok = c.in_ok-take_section.ensures.ok in
     let mid = rest c.take_section.new.cursor in
-    rw (p.1, p.2) (body_fault c.in-Depth.number c.in-Depth.depth (subst IsSection c.in-Depth.is ok.0) mid (rest c.args.cursor.now) (place_of c.take_section.new.cursor) (place_of c.args.cursor.now) (ok.1 ∙ ap (λ (s : Section). text_of section_words s ++ mid) c.in-Depth.is) c.in_ok-take_section.ensures.place c.in_err-base-in-Depth.field-0.0 c.in_err-base-in-Depth.ensures.err)
+    rw (p.1, p.2)
+    (body_fault c.in-Depth.number c.in-Depth.depth (subst IsSection c.in-Depth.is ok.0) mid (rest c.args.cursor.now)
+    (place_of c.take_section.new.cursor) (place_of c.args.cursor.now)
+    (ok.1 ∙ ap (λ (s : Section). text_of section_words s ++ mid) c.in-Depth.is) c.in_ok-take_section.ensures.place
+    c.in_err-base-in-Depth.field-0.0 c.in_err-base-in-Depth.ensures.err)

@@ -11,4 +11,6 @@ returns-in_err-take_proof-clause-err c =
     let count = i.count in
     let test = c.loop-test.true in
     let less : length c.loop.proofs < c.args.count = omega arith in
-    rw (p.1, p.2) (proof_fault c.args.count c.args.depth c.loop.proofs i.fits less (rest c.loop.cursor) (rest c.args.cursor.now) (place_of c.loop.cursor) (place_of c.args.cursor.now) i.is i.left c.in_err-take_proof.field-0.0 c.in_err-take_proof.ensures.err)
+    rw (p.1, p.2)
+    (proof_fault c.args.count c.args.depth c.loop.proofs i.fits less (rest c.loop.cursor) (rest c.args.cursor.now) (place_of c.loop.cursor)
+    (place_of c.args.cursor.now) i.is i.left c.in_err-take_proof.field-0.0 c.in_err-take_proof.ensures.err)

@@ -16,14 +16,17 @@ returns-then-line c =
     let is = strip_prefix_is Decides-eqb c.args.bytes.now (codes "sdcv-cert ") c.strip_prefix.result c.strip_prefix.ensures.cases in
     let cut : c.args.bytes.now ≡ codes "sdcv-cert " ++ c.in-Some.rest.now = rw c.in-Some.is at is in
     let next = rw c.new.ensures.rest at c.next_line-line.ensures in
-    cut_off c.args.bytes.now c.in-Some.rest.now c.next_line-line.result.text.now (place_of c.new.result) c.next_line-line.result.at c.next_line-line.result.end c.next_line-line.result.cut cut next c.if-line.true
+    cut_off c.args.bytes.now c.in-Some.rest.now c.next_line-line.result.text.now
+    (place_of c.new.result) c.next_line-line.result.at c.next_line-line.result.end c.next_line-line.result.cut cut next c.if-line.true
 
 pub returns-in_default-number_of : goal.returns-in_default-number_of
 returns-in_default-number_of c =
     let is = strip_prefix_is Decides-eqb c.args.bytes.now (codes "sdcv-cert ") c.strip_prefix.result c.strip_prefix.ensures.cases in
     let cut : c.args.bytes.now ≡ codes "sdcv-cert " ++ c.in-Some.rest.now = rw c.in-Some.is at is in
     let next = rw c.new.ensures.rest at c.next_line-line.ensures in
-    no_number c.args.bytes.now c.in-Some.rest.now c.next_line-line.result.text.now (place_of c.new.result) c.next_line-line.result.at c.next_line-line.result.end c.next_line-line.result.cut cut next c.if-line.false (rw c.in_default-number_of.is at c.number_of.ensures)
+    no_number c.args.bytes.now c.in-Some.rest.now c.next_line-line.result.text.now
+    (place_of c.new.result) c.next_line-line.result.at c.next_line-line.result.end c.next_line-line.result.cut cut next c.if-line.false
+    (rw c.in_default-number_of.is at c.number_of.ensures)
 
 pub returns-then-version-eq1 : goal.returns-then-version-eq1
 returns-then-version-eq1 c =
@@ -31,7 +34,9 @@ returns-then-version-eq1 c =
     let cut : c.args.bytes.now ≡ codes "sdcv-cert " ++ c.in-Some.rest.now = rw c.in-Some.is at is in
     let next = rw c.new.ensures.rest at c.next_line-line.ensures in
     let word = rw c.in-Some-number_of.is at c.number_of.ensures in
-    version_one c.args.bytes.now c.in-Some.rest.now c.next_line-line.result.text.now (place_of c.new.result) c.next_line-line.result.at c.next_line-line.result.end c.next_line-line.result.cut c.in-Some-number_of.version cut next c.if-line.false word.0 c.if-version-eq1.true
+    version_one c.args.bytes.now c.in-Some.rest.now c.next_line-line.result.text.now
+    (place_of c.new.result) c.next_line-line.result.at c.next_line-line.result.end c.next_line-line.result.cut c.in-Some-number_of.version cut
+    next c.if-line.false word.0 c.if-version-eq1.true
 
 pub returns : goal.returns
 returns c =
@@ -39,4 +44,6 @@ returns c =
     let cut : c.args.bytes.now ≡ codes "sdcv-cert " ++ c.in-Some.rest.now = rw c.in-Some.is at is in
     let next = rw c.new.ensures.rest at c.next_line-line.ensures in
     let word = rw c.in-Some-number_of.is at c.number_of.ensures in
-    version_other c.args.bytes.now c.in-Some.rest.now c.next_line-line.result.text.now (place_of c.new.result) c.next_line-line.result.at c.next_line-line.result.end c.next_line-line.result.cut c.in-Some-number_of.version cut next c.if-line.false word.0 word.1 c.if-version-eq1.false
+    version_other c.args.bytes.now c.in-Some.rest.now c.next_line-line.result.text.now
+    (place_of c.new.result) c.next_line-line.result.at c.next_line-line.result.end c.next_line-line.result.cut c.in-Some-number_of.version cut
+    next c.if-line.false word.0 word.1 c.if-version-eq1.false

@@ -15,35 +15,69 @@ returns-in_err-take_first-clause-err c =
 pub returns-in_err-head-clause-err : goal.returns-in_err-head-clause-err
 returns-in_err-head-clause-err c =
     let p = err_from_is_err_and c.from_residual-in_err-head.result c.from_residual-in_err-head.ensures.1 in
-    let b1 = first_front c.in_ok-take_first.field-0 (rest c.args.cursor.now) (rest c.take_first.new.cursor) c.in_ok-take_first.ensures.ok.0 c.in_ok-take_first.ensures.ok.1 in
-    rw (p.1, p.2) (head_fault (rest c.take_first.new.cursor) (rest c.args.cursor.now) (place_of c.take_first.new.cursor) (place_of c.args.cursor.now) b1 c.in_ok-take_first.ensures.place c.in_err-head.field-0.0 c.in_err-head.ensures.err)
+    let b1 =
+    first_front c.in_ok-take_first.field-0 (rest c.args.cursor.now)
+    (rest c.take_first.new.cursor) c.in_ok-take_first.ensures.ok.0 c.in_ok-take_first.ensures.ok.1 in
+    rw (p.1, p.2)
+    (head_fault (rest c.take_first.new.cursor) (rest c.args.cursor.now) (place_of c.take_first.new.cursor)
+    (place_of c.args.cursor.now) b1 c.in_ok-take_first.ensures.place c.in_err-head.field-0.0 c.in_err-head.ensures.err)
 
 pub returns-in_err-kept-clause-err : goal.returns-in_err-kept-clause-err
 returns-in_err-kept-clause-err c =
     let p = err_from_is_err_and c.from_residual-in_err-kept.result c.from_residual-in_err-kept.ensures.1 in
-    let b1 = first_front c.in_ok-take_first.field-0 (rest c.args.cursor.now) (rest c.take_first.new.cursor) c.in_ok-take_first.ensures.ok.0 c.in_ok-take_first.ensures.ok.1 in
+    let b1 =
+    first_front c.in_ok-take_first.field-0 (rest c.args.cursor.now)
+    (rest c.take_first.new.cursor) c.in_ok-take_first.ensures.ok.0 c.in_ok-take_first.ensures.ok.1 in
     let b2 = head_front c.in_ok-head.head (rest c.args.cursor.now) (rest c.take_first.new.cursor) (rest c.take_inv.new.cursor) b1 c.in_ok-head.ensures.ok.1 in
-    rw (p.1, p.2) (kept_fault c.in_ok-head.head c.in_ok-head.ensures.ok.0 (rest c.take_inv.new.cursor) (rest c.args.cursor.now) (place_of c.take_inv.new.cursor) (place_of c.args.cursor.now) b2 (c.in_ok-head.ensures.place ∙ c.in_ok-take_first.ensures.place) c.in_err-kept.field-0.0 c.in_err-kept.ensures.err)
+    rw (p.1, p.2)
+    (kept_fault c.in_ok-head.head c.in_ok-head.ensures.ok.0 (rest c.take_inv.new.cursor) (rest c.args.cursor.now) (place_of c.take_inv.new.cursor)
+    (place_of c.args.cursor.now) b2
+    (c.in_ok-head.ensures.place ∙ c.in_ok-take_first.ensures.place) c.in_err-kept.field-0.0 c.in_err-kept.ensures.err)
 
 pub returns-in_err-proofs-clause-err : goal.returns-in_err-proofs-clause-err
 returns-in_err-proofs-clause-err c =
     let p = err_from_is_err_and c.from_residual-in_err-proofs.result c.from_residual-in_err-proofs.ensures.1 in
-    let b1 = first_front c.in_ok-take_first.field-0 (rest c.args.cursor.now) (rest c.take_first.new.cursor) c.in_ok-take_first.ensures.ok.0 c.in_ok-take_first.ensures.ok.1 in
+    let b1 =
+    first_front c.in_ok-take_first.field-0 (rest c.args.cursor.now)
+    (rest c.take_first.new.cursor) c.in_ok-take_first.ensures.ok.0 c.in_ok-take_first.ensures.ok.1 in
     let b2 = head_front c.in_ok-head.head (rest c.args.cursor.now) (rest c.take_first.new.cursor) (rest c.take_inv.new.cursor) b1 c.in_ok-head.ensures.ok.1 in
-    let b3 = kept_front c.in_ok-head.head c.in_ok-kept.kept (rest c.args.cursor.now) (rest c.take_inv.new.cursor) (rest c.take_clauses.new.cursor) b2 c.in_ok-kept.ensures.ok.1 in
-    rw (p.1, p.2) (proofs_fault c.in_ok-head.head c.in_ok-head.ensures.ok.0 c.in_ok-kept.kept c.in_ok-kept.ensures.ok.0 (rest c.take_clauses.new.cursor) (rest c.args.cursor.now) (place_of c.take_clauses.new.cursor) (place_of c.args.cursor.now) b3 (c.in_ok-kept.ensures.place ∙ c.in_ok-head.ensures.place ∙ c.in_ok-take_first.ensures.place) c.in_err-proofs.field-0.0 c.in_err-proofs.ensures.err)
+    let b3 =
+    kept_front c.in_ok-head.head c.in_ok-kept.kept (rest c.args.cursor.now) (rest c.take_inv.new.cursor)
+    (rest c.take_clauses.new.cursor) b2 c.in_ok-kept.ensures.ok.1 in
+    rw (p.1, p.2)
+    (proofs_fault c.in_ok-head.head c.in_ok-head.ensures.ok.0 c.in_ok-kept.kept c.in_ok-kept.ensures.ok.0 (rest c.take_clauses.new.cursor)
+    (rest c.args.cursor.now) (place_of c.take_clauses.new.cursor) (place_of c.args.cursor.now) b3
+    (c.in_ok-kept.ensures.place ∙ c.in_ok-head.ensures.place ∙ c.in_ok-take_first.ensures.place) c.in_err-proofs.field-0.0
+    c.in_err-proofs.ensures.err)
 
 pub returns-in_err-pairs-clause-err : goal.returns-in_err-pairs-clause-err
 returns-in_err-pairs-clause-err c =
     let p = err_from_is_err_and c.from_residual-in_err-pairs.result c.from_residual-in_err-pairs.ensures.1 in
-    let b1 = first_front c.in_ok-take_first.field-0 (rest c.args.cursor.now) (rest c.take_first.new.cursor) c.in_ok-take_first.ensures.ok.0 c.in_ok-take_first.ensures.ok.1 in
+    let b1 =
+    first_front c.in_ok-take_first.field-0 (rest c.args.cursor.now)
+    (rest c.take_first.new.cursor) c.in_ok-take_first.ensures.ok.0 c.in_ok-take_first.ensures.ok.1 in
     let b2 = head_front c.in_ok-head.head (rest c.args.cursor.now) (rest c.take_first.new.cursor) (rest c.take_inv.new.cursor) b1 c.in_ok-head.ensures.ok.1 in
-    let b3 = kept_front c.in_ok-head.head c.in_ok-kept.kept (rest c.args.cursor.now) (rest c.take_inv.new.cursor) (rest c.take_clauses.new.cursor) b2 c.in_ok-kept.ensures.ok.1 in
-    let b4 = proofs_front c.in_ok-head.head c.in_ok-kept.kept c.in_ok-proofs.proofs (rest c.args.cursor.now) (rest c.take_clauses.new.cursor) (rest c.take_proofs.new.cursor) b3 c.in_ok-proofs.ensures.ok.1 in
-    rw (p.1, p.2) (tail_fault c.in_ok-head.head c.in_ok-head.ensures.ok.0 c.in_ok-kept.kept c.in_ok-kept.ensures.ok.0 c.in_ok-proofs.proofs c.in_ok-proofs.ensures.ok.0 (rest c.take_proofs.new.cursor) (rest c.args.cursor.now) (place_of c.take_proofs.new.cursor) (place_of c.args.cursor.now) b4 (c.in_ok-proofs.ensures.place ∙ c.in_ok-kept.ensures.place ∙ c.in_ok-head.ensures.place ∙ c.in_ok-take_first.ensures.place) c.in_err-pairs.field-0.0 c.in_err-pairs.ensures.err)
+    let b3 =
+    kept_front c.in_ok-head.head c.in_ok-kept.kept (rest c.args.cursor.now) (rest c.take_inv.new.cursor)
+    (rest c.take_clauses.new.cursor) b2 c.in_ok-kept.ensures.ok.1 in
+    let b4 =
+    proofs_front c.in_ok-head.head c.in_ok-kept.kept c.in_ok-proofs.proofs (rest c.args.cursor.now) (rest c.take_clauses.new.cursor)
+    (rest c.take_proofs.new.cursor) b3 c.in_ok-proofs.ensures.ok.1 in
+    rw (p.1, p.2)
+    (tail_fault c.in_ok-head.head c.in_ok-head.ensures.ok.0 c.in_ok-kept.kept c.in_ok-kept.ensures.ok.0 c.in_ok-proofs.proofs
+    c.in_ok-proofs.ensures.ok.0
+    (rest c.take_proofs.new.cursor) (rest c.args.cursor.now) (place_of c.take_proofs.new.cursor) (place_of c.args.cursor.now) b4
+    (c.in_ok-proofs.ensures.place ∙ c.in_ok-kept.ensures.place ∙ c.in_ok-head.ensures.place ∙ c.in_ok-take_first.ensures.place)
+    c.in_err-pairs.field-0.0 c.in_err-pairs.ensures.err)
 
 pub returns-clause-ok : goal.returns-clause-ok
 returns-clause-ok c =
-    let b1 = first_front c.in_ok-take_first.field-0 (rest c.args.cursor.now) (rest c.take_first.new.cursor) c.in_ok-take_first.ensures.ok.0 c.in_ok-take_first.ensures.ok.1 in
-    let r = cert_read c.in_ok-head.head c.in_ok-kept.kept c.in_ok-proofs.proofs c.in_ok-pairs.pairs (rest c.args.cursor.now) (rest c.take_first.new.cursor) (rest c.take_inv.new.cursor) (rest c.take_clauses.new.cursor) (rest c.take_proofs.new.cursor) (rest c.take_pairs.new.cursor) c.in_ok-head.ensures.ok.0 c.in_ok-kept.ensures.ok.0 c.in_ok-proofs.ensures.ok.0 c.in_ok-pairs.ensures.ok.0 b1 c.in_ok-head.ensures.ok.1 c.in_ok-kept.ensures.ok.1 c.in_ok-proofs.ensures.ok.1 c.in_ok-pairs.ensures.ok.1 in
+    let b1 =
+    first_front c.in_ok-take_first.field-0 (rest c.args.cursor.now)
+    (rest c.take_first.new.cursor) c.in_ok-take_first.ensures.ok.0 c.in_ok-take_first.ensures.ok.1 in
+    let r =
+    cert_read c.in_ok-head.head c.in_ok-kept.kept c.in_ok-proofs.proofs c.in_ok-pairs.pairs (rest c.args.cursor.now)
+    (rest c.take_first.new.cursor) (rest c.take_inv.new.cursor) (rest c.take_clauses.new.cursor) (rest c.take_proofs.new.cursor)
+    (rest c.take_pairs.new.cursor) c.in_ok-head.ensures.ok.0 c.in_ok-kept.ensures.ok.0 c.in_ok-proofs.ensures.ok.0 c.in_ok-pairs.ensures.ok.0 b1
+    c.in_ok-head.ensures.ok.1 c.in_ok-kept.ensures.ok.1 c.in_ok-proofs.ensures.ok.1 c.in_ok-pairs.ensures.ok.1 in
     (r.fits, r.is)

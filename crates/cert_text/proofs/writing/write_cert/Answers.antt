@@ -16,7 +16,8 @@ head_of depth count = record { depth = depth; count = count }
 pub returns : goal.returns
 returns c =
     let A : List InvProof → Type 0 = All IsProofWritable in
-    written_spells c.args.inv.now c.args.verdicts.now c.push_first.new.out.items c.push_inv.new.out.items c.push_clauses.new.out.items c.push_proofs.new.out.items c.push_pairs.new.out.items c.push_section.new.out.items
+    written_spells c.args.inv.now c.args.verdicts.now c.push_first.new.out.items c.push_inv.new.out.items c.push_clauses.new.out.items
+    c.push_proofs.new.out.items c.push_pairs.new.out.items c.push_section.new.out.items
     c.requires.set (subst A c.as_slice-2.ensures c.in_ok-push_proofs.ensures.fits) c.in_ok-push_pairs.ensures.fits
     (c.in_ok-push_first.ensures ∙ ap (λ z. z ++ text_of first_words 1) c.new-out.ensures.items)
     (c.in_ok-push_inv.ensures ∙ ap (λ (n : ℕ). c.push_first.new.out.items ++ text_of inv_words (head_of c.args.inv.now.depth n)) c.len.ensures)

@@ -12,10 +12,13 @@ returns-then-is_at_cut-clause-err c =
     let was : c.args.words.now.cut ≡ true = sym c.next.ensures.cut ∙ cut in
     let is = c.in-Some.ensures.word ∙ ap (λ y. p ∷ y) none in
     let may = c.may_be_lit.ensures in
-    rw (was, c.cut_off.ensures) (one_cut (IsLitWord c.args.above) p (left c.args.words.now) c.may_be_lit.result is (λ t. let b = may.0 t in (b.more, (b.lit, b.fits, b.is))) (λ more k. may.1 (record { more = more; lit = k.0; fits = k.1; is = k.2 })))
+    rw (was, c.cut_off.ensures)
+    (one_cut (IsLitWord c.args.above) p (left c.args.words.now) c.may_be_lit.result is (λ t. let b = may.0 t in (b.more, (b.lit, b.fits, b.is)))
+    (λ more k. may.1 (record { more = more; lit = k.0; fits = k.1; is = k.2 })))
 
 pub returns-in-None-clause-err : goal.returns-in-None-clause-err
 returns-in-None-clause-err c =
     let more = not_at_cut c.next.new.self.cut (left c.next.new.self) (sym c.is_at_cut.ensures ∙ c.if-is_at_cut.false) in
     let none = rw c.in-None.is at c.lit_of.ensures in
-    one_bad c.args.words.now.cut (IsLitWord c.args.above) c.in-Some.word.now (left c.args.words.now) (left c.next.new.self) c.in-Some.ensures.word (λ e. more (c.next.ensures.cut ∙ e)) (λ k. none k.0 k.1 k.2)
+    one_bad c.args.words.now.cut (IsLitWord c.args.above) c.in-Some.word.now (left c.args.words.now) (left c.next.new.self) c.in-Some.ensures.word
+    (λ e. more (c.next.ensures.cut ∙ e)) (λ k. none k.0 k.1 k.2)

@@ -10,5 +10,7 @@ returns-then-is_empty c =
 
 pub returns-else-is_empty : goal.returns-else-is_empty
 returns-else-is_empty c =
-    let some : 0 < length c.args.word.now = grind (arith, nat_tests) in
-    (λ t. zero_itself c.args.word.now (same_bytes c.args.word.now c.as_slice.result.now (sym c.eq.ensures ∙ t) ∙ c.as_slice.ensures), λ z. c.eq.ensures ∙ bytes_same c.args.word.now c.as_slice.result.now (zero_front c.args.word.now z.0 z.1 some ∙ sym c.as_slice.ensures))
+    let some : 0 < length c.args.word.now = grind (arith, nat_tests) in (
+      λ t. zero_itself c.args.word.now (same_bytes c.args.word.now c.as_slice.result.now (sym c.eq.ensures ∙ t) ∙ c.as_slice.ensures),
+      λ z. c.eq.ensures ∙ bytes_same c.args.word.now c.as_slice.result.now (zero_front c.args.word.now z.0 z.1 some ∙ sym c.as_slice.ensures),
+    )

@@ -35,7 +35,8 @@ returns-in_default-number_of-clause-err c =
     let more = not_at_cut c.next.new.self.cut (left c.next.new.self) (sym c.is_at_cut.ensures ∙ c.if-is_at_cut.false) in
     let is = i.is ∙ ap (λ y. map decimal c.loop-word.hints ++ y) c.in-Some.ensures.word in
     let none = rw c.in_default-number_of.is at c.number_of.ensures in
-    row_bad c.args.words.now.cut decimal IsHint own hints_tell (left c.args.words.now) c.loop-word.hints c.in-Some.word.now (left c.next.new.self) is (λ e. more (c.next.ensures.cut ∙ i.cut ∙ e)) i.fit
+    row_bad c.args.words.now.cut decimal IsHint own hints_tell (left c.args.words.now) c.loop-word.hints c.in-Some.word.now
+    (left c.next.new.self) is (λ e. more (c.next.ensures.cut ∙ i.cut ∙ e)) i.fit
     (λ e. none 0 (omega arith) (e ∙ sym zero_is))
     (λ x f e. none x (omega (arith, f.small)) e)
 
@@ -57,7 +58,10 @@ loop-word-preserved c =
     let fit : IsHint (last_key own 0 c.loop-word.hints) hint = record { some = omega arith; small = omega arith } in
     let pushed = c.in_ok-push.ensures.ok in
     record {
-      is = i.is ∙ ap (λ y. map decimal c.loop-word.hints ++ y) c.in-Some.ensures.word ∙ row_more decimal c.loop-word.hints hint c.in-Some.word.now (left c.next.new.self) word ∙ ap (λ (y : List ℕ). map decimal y ++ left c.next.new.self) (sym pushed);
+      is =
+          i.is ∙ ap (λ y. map decimal c.loop-word.hints ++ y) c.in-Some.ensures.word
+          ∙ row_more decimal c.loop-word.hints hint c.in-Some.word.now (left c.next.new.self) word
+          ∙ ap (λ (y : List ℕ). map decimal y ++ left c.next.new.self) (sym pushed);
       fit = rw pushed (Chain-push IsHint own 0 c.loop-word.hints hint i.fit fit);
       cut = c.next.ensures.cut ∙ i.cut;
       more = λ e. more (c.next.ensures.cut ∙ i.cut ∙ e);
@@ -66,4 +70,5 @@ loop-word-preserved c =
 pub returns-clause-err : goal.returns-clause-err
 returns-clause-err c =
     let i = c.loop-word.invariant in
-    row_short c.args.words.now.cut decimal IsHint own hints_tell (left c.args.words.now) c.loop-word.hints (left c.loop-word.words) i.is (c.in_default.ensures.word).0 i.more i.fit
+    row_short c.args.words.now.cut decimal IsHint own hints_tell (left c.args.words.now) c.loop-word.hints (left c.loop-word.words) i.is
+    (c.in_default.ensures.word).0 i.more i.fit

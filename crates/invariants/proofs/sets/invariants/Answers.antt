@@ -1,5 +1,8 @@
+use Rattle.std.proofs.Common.{ℕ, sym, subst}
 use Rattle.query_model.specs.Laws.{NamesRegs}
 use Rattle.drawn_runs.specs.Drawn.{HoldsDrawn, FailsDrawn}
+use Rattle.verdicts.specs.Logs.{own_coding}
+use Rattle.verdicts.specs.Certified.{ProveKept}
 use Rattle.verdicts.specs.Forms.{IsKeptClause}
 use Rattle.invariants.proofs.Surviving.{All-sifted, StandOnce-sifted, kept_all, entries_hold}
 use Rattle.invariants.proofs.sets.invariants.Goals as goal
@@ -25,6 +28,15 @@ returns-clause-kept c =
       kept = kept_all d c.args.depth c.args.budget clauses left c.in_ok-set.set c.in_ok-left.ensures c.in_ok-set.ensures.kept;
       drawn = entries_hold d c.args.depth c.args.budget clauses left c.in_ok-set.set c.in_ok-left.ensures c.in_ok-set.ensures.kept;
     }
+
+pub returns-clause-met : goal.returns-clause-met
+returns-clause-met c = let kept = c.in_ok-set.ensures.kept in kept.met
+
+pub returns-clause-proved : goal.returns-clause-proved
+returns-clause-proved c =
+    let set = c.in_ok-set.set in
+    let kept = c.in_ok-set.ensures.kept in
+    subst (λ (n : ℕ). ProveKept own_coding c.args.design.now set.kept n set.proofs) (sym kept.at_depth) kept.proofs
 
 pub returns-clause-in_form : goal.returns-clause-in_form
 returns-clause-in_form c =
