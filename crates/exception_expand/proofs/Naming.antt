@@ -3,7 +3,7 @@ use Rattle.std.proofs.Common.{arith, ◌≡◌, ◌∙◌, ◌≢◌, ℕ, suc, 
 use Rattle.std.specs.Prelude.{Option, None, Some, slice_get, slice_index_or, slice_set, ◌==◌}
 use Rattle.std.proofs.lemmas.Bool.Decides.{nat_tests}
 use Rattle.std.proofs.lemmas.Option.{slice_get_within, get_or_from_slice_get}
-use Rattle.std.proofs.lemmas.List.{get_or-set_same, get_or-set_other, length-set, drop_all}
+use Rattle.std.proofs.lemmas.List.{get_or-set_same, get_or-set_other, length-set}
 use Rattle.link_defs.specs.declared.names.CellName.{CellName}
 use Rattle.link_defs.specs.Usable.{is_reg}
 use Rattle.exception_expand.specs.Naming.{reg_name, cell_name, name_of, AreCellsFrom}
@@ -29,14 +29,6 @@ test_of r reg = elim reg as (λ o. Bool) [ None ↦ false | Some q ↦ q == r ]
 
 reg_is : (r : ℕ) (c : CellName) (reg : Option ℕ) → c.reg ≡ reg → is_reg r c ≡ test_of r reg
 reg_is r c reg is = ap (test_of r) is
-
--- no cells are left
-pub cells_end : (cells : List CellName) (from regs : ℕ) (row : List (Option ℕ)) → length cells ≤ from → length row ≡ regs
-    → ((r : ℕ) → slice_index_or row r None ≡ None) → AreCellsFrom cells from regs row
-cells_end cells from regs row past len none = record {
-  len = len;
-  cell = λ r low. ap (name_of cells) (none r) ∙ sym (ap (λ (cs : List CellName). reg_name cs r) (drop_all from cells past));
-}
 
 -- a cell before them that has none of the registers
 pub cell_left : (cells : List CellName) (k regs : ℕ) (c : CellName) (row : List (Option ℕ)) → slice_get cells k ≡ Some c

@@ -4,12 +4,6 @@ use Rattle.net_model.proofs.Members.{In}
 use Rattle.net_paths.specs.Those.{AreThose, All_seen, Taken, Left_out}
 use Rattle.net_paths.proofs.Sifting.{those_append, those_map}
 
--- of what holds exactly where it holds
-pub those_alike : {A : Type 0} (P Q : A → Type 0) (xs ys : List A) → ((x : A) → P x → Q x) → ((x : A) → Q x → P x) → AreThose P xs ys → AreThose Q xs ys
-those_alike P Q _ _ there back All_seen = All_seen
-those_alike P Q _ _ there back (Taken x xs ys holds rest) = Taken x xs ys (there x holds) (those_alike P Q xs ys there back rest)
-those_alike P Q _ _ there back (Left_out x xs ys not rest) = Left_out x xs ys (λ q. not (back x q)) (those_alike P Q xs ys there back rest)
-
 -- they stand in the list
 pub those_in : {A : Type 0} (P : A → Type 0) (xs ys : List A) (y : A) → AreThose P xs ys → In y ys → In y xs
 those_in P _ _ y All_seen has = absurd has

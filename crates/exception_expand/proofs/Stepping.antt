@@ -22,7 +22,7 @@ use Rattle.exception_expand.specs.declared.selections.CommandLine.{CommandLine}
 use Rattle.exception_expand.specs.declared.selections.PairLine.{PairLine}
 use Rattle.exception_expand.specs.Selections as spec
 use Rattle.exception_expand.specs.Selections.{Chosen}
-use Rattle.exception_expand.specs.Causes.{HasMore, HasMoreJudged}
+use Rattle.exception_expand.specs.Causes.{HasMore}
 use Rattle.exception_expand.specs.Pairs.{is_judged}
 use Rattle.exception_expand.specs.Progress.{IsUpTo, Adds}
 use Rattle.link_defs.specs.Usable.{IsUsable}
@@ -200,17 +200,4 @@ selection_of l script hazard s usable kinds upto few =
       few = omega (arith, upto.few, count);
       judged = few;
       fit = claims_fit l script hazard upto.chosen s.claims usable kinds sets those upto.claims;
-    }
-
--- of whose claims too many need one
-pub many_judged : (l : Linked) (script : Script) (hazard : Bool) (s : Selected) → IsUpTo l script hazard (length script.commands) s
-    → 10000 < count_by (is_judged l.design) s.claims → HasMoreJudged l script hazard 10000
-many_judged l script hazard s upto many =
-    let whole : take (length script.commands) script.commands ≡ script.commands = take_all (length script.commands) script.commands (omega arith) in
-    record {
-      chosen = upto.chosen;
-      those = subst (λ (cs : List Command). AreThose (spec.IsSelected l script) (each_at (spec.pairs_at l.design) 0 cs) upto.chosen) whole upto.those;
-      claims = s.claims;
-      claimed = upto.claims;
-      more = many;
     }

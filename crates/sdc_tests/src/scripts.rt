@@ -1,4 +1,4 @@
-use sdc_text::{Class, Exception, Object, Script, SdcFault, What, first_form, read_sdc};
+use sdc_text::{Class, Exception, Object, Script, SdcFault, What, read_sdc};
 use sdcv_base::{Kind, Name, Seq};
 use std::alloc::Global;
 use std::test::Fail;
@@ -326,17 +326,5 @@ fn other_texts_are_refused(rt: HostRuntime) -> Result<(), Fail> {
         let got = read_text(rt.alloc(), text)?;
         assert_eq!(rt; got.as_str(), *want, "{text}");
     }
-    Ok(())
-}
-
-#[test]
-fn a_clock_and_a_false_path_ask_for_three_names(rt: HostRuntime) -> Result<(), Fail> {
-    let text =
-        "create_clock -name 1_Ck -period .5 [get_ports _c]\nset_false_path -from [get_cells r_0] -to [get_cells {R0}]\n";
-    let script = read_sdc(rt.alloc(), text.as_bytes())?;
-    let asked = first_form(&script).ok_or("a script of the first form")?;
-    assert_eq!(rt; asked.clock.as_bytes(), b"_c".as_slice());
-    assert_eq!(rt; asked.start.as_bytes(), b"r_0".as_slice());
-    assert_eq!(rt; asked.end.as_bytes(), b"R0".as_slice());
     Ok(())
 }

@@ -1,4 +1,3 @@
-pub mod Asks
 pub mod Cases
 pub mod Clocks
 pub mod Exceptions

@@ -2,11 +2,10 @@
 //!
 //! `read_sdc` is the call to read first. It goes through the commands of the text (`sdc_words`), takes the values of their
 //! words (`sdc_values`), and says of each command what it is: a clock, a case analysis, an exception that claims, is set
-//! aside or is about the hold check alone, or one that changes no exception. `first_form` takes the three names out of a
-//! script of one clock and one false path. Which ports and cells the patterns match is left to the crates above.
+//! aside or is about the hold check alone, or one that changes no exception. Which ports and cells the patterns match is left
+//! to the crates above.
 #![tactic(auto)]
 
-mod asks;
 mod cases;
 mod clocks;
 mod exceptions;
@@ -19,7 +18,6 @@ mod progresses;
 mod readers;
 mod scripts;
 
-pub use asks::{Asked, first_form};
 pub use readers::read_sdc;
 pub use scripts::{Command, Exception, Script, What};
 pub use sdc_values::{Class, Object, Query, SdcFault};

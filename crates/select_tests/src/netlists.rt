@@ -1,0 +1,114 @@
+//! Netlists over which scripts select.
+
+/// Two registers, and a gate between them whose other input is always 0.
+pub(crate) const MASKED: &str = "module top (input clk, input rst, input d, output y);
+  wire qa, z, n1;
+  TIE0 t0 (.Y(z));
+  DFFC a (.D(d), .C(rst), .CK(clk), .Q(qa));
+  AND2 g1 (.A(qa), .B(z), .Y(n1));
+  DFFC b (.D(n1), .C(rst), .CK(clk), .Q(y));
+endmodule
+";
+
+/// The same with a second way around the gate.
+pub(crate) const TWO_WAYS: &str = "module top (input clk, input rst, input d, output y);
+  wire qa, z, n1, n2, n3;
+  TIE0 t0 (.Y(z));
+  DFFC a (.D(d), .C(rst), .CK(clk), .Q(qa));
+  AND2 g1 (.A(qa), .B(z), .Y(n1));
+  BUF h1 (.A(qa), .Y(n2));
+  OR2 g2 (.A(n1), .B(n2), .Y(n3));
+  DFFC b (.D(n3), .C(rst), .CK(clk), .Q(y));
+endmodule
+";
+
+/// A register that chooses between equal values, by gates and by a multiplexer.
+pub(crate) const CHOOSING: &str =
+    "module top (input clk, input rst, input d, input u, output y, output w);
+  wire qs, qe, ns, n1, n2, n3, n4;
+  DFFC s (.D(u), .C(rst), .CK(clk), .Q(qs));
+  DFFC e (.D(d), .C(rst), .CK(clk), .Q(qe));
+  INV i1 (.A(qs), .Y(ns));
+  AND2 g1 (.A(qe), .B(qs), .Y(n1));
+  AND2 g2 (.A(qe), .B(ns), .Y(n2));
+  OR2 g3 (.A(n1), .B(n2), .Y(n3));
+  MUX2 m (.A(qe), .B(qe), .S(qs), .Y(n4));
+  DFFC b (.D(n3), .C(rst), .CK(clk), .Q(y));
+  DFFC c (.D(n4), .C(rst), .CK(clk), .Q(w));
+endmodule
+";
+
+/// A register that toggles in each cycle.
+pub(crate) const TOGGLING: &str =
+    "module top (input clk, input rst, output q); wire n; INV i (.A(q), .Y(n)); \
+     DFFC r (.D(n), .C(rst), .CK(clk), .Q(q)); endmodule";
+
+/// A register two instances deep and one that has the name of a port, behind a buffer of the clock.
+pub(crate) const NESTED: &str = "module leaf (input c, d, output q);
+  DFF r (.D(d), .CK(c), .Q(q));
+endmodule
+module mid (input c, d, output q);
+  leaf u2 (.c(c), .d(d), .q(q));
+endmodule
+module top (input clk, input [1:0] x, input s, output [1:0] z, output q);
+  BUF cb (.A(clk), .Y(ck));
+  mid u1 (.c(ck), .d(x[1]), .q(z[1]));
+  DFF s (.D(x[0]), .CK(ck), .Q(z[0]));
+  AND2 g (.A(z[1]), .B(s), .Y(q));
+endmodule
+";
+
+/// Each of ten inputs has a path to each of ten outputs.
+pub(crate) const ALL_TO_ALL: &str = "module top (input [9:0] i, output [9:0] o);
+  and (m, i[0], i[1], i[2], i[3], i[4], i[5]);
+  and (n, m, i[6], i[7], i[8], i[9]);
+  buf (o[0], o[1], o[2], o[3], o[4], o[5], o[6], o[7], o[8], o[9], n);
+endmodule
+";
+
+/// A block of two phases with a scan chain, as a synthesis tool writes it.
+pub(crate) const SCANNED: &str = r#"// as a synthesis tool writes it
+`timescale 1ns/1ps
+(* top = 1 *)
+module blk (clk, rst_n, se, si, din, so);
+  input clk, rst_n, se, si;
+  input [1:0] din;
+  output so;
+  wire n1, n2, la, lb, m0, m1, m2, m3;
+  wire [1:0] a, b;
+  wire \ph[0] , \ph[1] ;
+  INVX1 U1 (.A(\ph[0] ), .Y(n1));
+  XOR2X1 U2 (.A(\ph[1] ), .B(\ph[0] ), .Y(n2));
+  NOR2X1 U3 (.A(\ph[0] ), .B(\ph[1] ), .Y(la));
+  AND2X1 U4 (.A(\ph[1] ), .B(n1), .Y(lb));
+  MUX2X1 U5 (.A(a[0]), .B(din[0]), .S0(la), .Y(m0));
+  MUX2X1 U6 (.A(a[1]), .B(din[1]), .S0(la), .Y(m1));
+  MUX2X1 U7 (.A(b[0]), .B(a[0]), .S0(lb), .Y(m2));
+  MUX2X1 U8 (.A(b[1]), .B(a[1]), .S0(lb), .Y(m3));
+  SDFFRX1 \ph_reg[0] (.D(n1), .SI(si), .SE(se), .RN(rst_n), .CK(clk), .Q(\ph[0] ), .QN());
+  SDFFRX1 \ph_reg[1] (.D(n2), .SI(\ph[0] ), .SE(se), .RN(rst_n), .CK(clk), .Q(\ph[1] ));
+  SDFFRX1 \a_reg[0] (.D(m0), .SI(\ph[1] ), .SE(se), .RN(rst_n), .CK(clk), .Q(a[0]));
+  SDFFRX1 \a_reg[1] (.D(m1), .SI(a[0]), .SE(se), .RN(rst_n), .CK(clk), .Q(a[1]));
+  SDFFRX1 \b_reg[0] (.D(m2), .SI(a[1]), .SE(se), .RN(rst_n), .CK(clk), .Q(b[0]));
+  SDFFRX1 \b_reg[1] (.D(m3), .SI(b[0]), .SE(se), .RN(rst_n), .CK(clk), .Q(b[1]));
+  assign so = b[1];
+endmodule
+"#;
+
+/// The cells of that block.
+pub(crate) const SCAN_CELLS: &str = r#"library (demo45) {
+  time_unit : "1ns";
+  cell (INVX1) { area : 1.5; pin (A) { direction : input; }
+    pin (Y) { direction : output; function : "A'"; timing () { related_pin : "A"; } } }
+  cell (XOR2X1) { pin (A, B) { direction : input; } pin (Y) { direction : output; function : "A^B"; } }
+  cell (NOR2X1) { pin (A, B) { direction : input; } pin (Y) { direction : output; function : "(A+B)'"; } }
+  cell (AND2X1) { pin (A, B) { direction : input; } pin (Y) { direction : output; function : "A B"; } }
+  cell (MUX2X1) { pin (A, B, S0) { direction : input; }
+    pin (Y) { direction : output; function : "(S0' A) + (S0 B)"; } }
+  cell (SDFFRX1) {
+    ff (IQ, IQN) { clocked_on : "CK"; next_state : "(SE SI) + (SE' D)"; clear : "RN'"; }
+    pin (D, SI, SE, RN, CK) { direction : input; }
+    pin (Q) { direction : output; function : "IQ"; }
+    pin (QN) { direction : output; function : "IQN"; } }
+}
+"#;

@@ -1,0 +1,69 @@
+//! Selections as lines: first each exception, then each pair.
+use crate::stages::{Texts, Told, told_of_texts};
+use exception_expand::{CommandLine, Listing, PairLine, Selected};
+use net_model::{Claim, Kind};
+use sdc_objects::Warning;
+use std::alloc::Global;
+use std::test::Fail;
+
+fn push_listing(text: &mut String, listing: &Listing) -> Result<(), Fail> {
+    match listing {
+        Listing::Claiming(Kind::False, pairs) => write!(text, "false {pairs}")?,
+        Listing::Claiming(Kind::Multi(k), pairs) => write!(text, "multi {k} {pairs}")?,
+        Listing::Hold => write!(text, "hold")?,
+        Listing::Aside(option) => write!(text, "aside {option}")?,
+    }
+    Ok(())
+}
+
+// Its line in the script, what it is, and its warnings.
+fn push_command(text: &mut String, command: &CommandLine) -> Result<(), Fail> {
+    write!(text, "{} ", command.line)?;
+    push_listing(text, &command.listing)?;
+    for warning in command.warnings.as_slice() {
+        match warning {
+            Warning::Nothing(pattern) => write!(text, " nothing {pattern}")?,
+            Warning::Dropped(pattern, count) => write!(text, " dropped {pattern} {count}")?,
+        }
+    }
+    Ok(text.push_str("\n")?)
+}
+
+// The place of its exception, its start and its end, and how many pins stand in each through set of its claim.
+fn push_pair(text: &mut String, pair: &PairLine, claim: &Claim) -> Result<(), Fail> {
+    write!(text, "{} {} -> {}", pair.command, pair.start, pair.end)?;
+    if claim.through.len() > 0 {
+        text.push_str(" through")?;
+    }
+    for set in claim.through.as_slice() {
+        write!(text, " {}", set.pins().len())?;
+    }
+    if claim.hazard {
+        text.push_str(" hazard")?;
+    }
+    Ok(text.push_str("\n")?)
+}
+
+fn listing(alloc: Global, selected: &Selected) -> Result<String, Fail> {
+    let mut text = String::new(alloc);
+    for command in selected.commands.as_slice() {
+        push_command(&mut text, command)?;
+    }
+    for (pair, claim) in selected
+        .pairs
+        .as_slice()
+        .iter()
+        .zip(selected.claims.as_slice())
+    {
+        push_pair(&mut text, pair, claim)?;
+    }
+    Ok(text)
+}
+
+/// The lines of what the texts give.
+pub(crate) fn shown(alloc: Global, texts: &Texts) -> Result<String, Fail> {
+    match told_of_texts(alloc, texts)? {
+        Told::Selected(selected) => listing(alloc, &selected),
+        Told::Refused(line) => Ok(line),
+    }
+}

@@ -1,0 +1,152 @@
+//! From texts to what a script selects.
+ghost use Rattle.std.specs.Prelude.{◌≡◌, IfOk, IsTrue};
+ghost use Rattle.cell_types.specs.Libraries.{IsLawful as IsLawfulLibrary};
+ghost use Rattle.verilog_net.specs.Lawful.{IsLawful};
+ghost use Rattle.link_defs.specs.Usable.{IsUsable};
+ghost use Rattle.exception_expand.specs.Selections.{HasMultiplier, HasMultipliers};
+
+use cell_lib::read_lib;
+use cell_types::{Library, builtin};
+use exception_expand::{Selected, expand};
+use fault_lines::{expand_line, link_line, sdc_line};
+use net_link::{LinkOptions, Linked, link, top_inputs};
+use sdc_settings::{Settings, settings};
+use sdc_text::{Script, What, read_sdc};
+use sdcv_base::{Kind, Name, Seq, Setting};
+use std::alloc::{AllocError, Global};
+use std::test::Fail;
+use verilog_net::{Source, read_verilog};
+
+/// A netlist, its cells (none: those that are known without a file), a script, the reset (none: there is none), which is
+/// active at 0 where its name ends with `_n`, and whether glitches are forbidden.
+#[derive(Clone, Copy)]
+pub(crate) struct Texts<'a> {
+    pub netlist: &'a str,
+    pub cells: &'a str,
+    pub script: &'a str,
+    pub reset: &'a str,
+    pub hazard: bool,
+}
+
+/// What a script selects, or the line of its refusal.
+#[derive(Drop)]
+pub(crate) enum Told {
+    Selected(Selected),
+    Refused(String),
+}
+
+fn refused(alloc: Global, line: &[u8]) -> Result<Told, Fail> {
+    Ok(Told::Refused(String::from_utf8_lossy(alloc, line)?))
+}
+
+fn resets(alloc: Global, reset: &str) -> Result<Seq<Setting>, AllocError> {
+    if reset.is_empty() {
+        return Ok(Seq::new(alloc));
+    }
+    let name = Name::new(alloc, reset.as_bytes())?;
+    let value = !reset.ends_with("_n");
+    Seq::one(alloc, Setting { name, value })
+}
+
+fn library(alloc: Global, cells: &str) -> Result<Library, Fail>
+    ensures { IfOk result (λ library. IsLawfulLibrary library.cells) }
+{
+    if cells.is_empty() {
+        return Ok(builtin(alloc)?);
+    }
+    Ok(read_lib(alloc, cells.as_bytes())?)
+}
+
+fn options(alloc: Global, texts: &Texts, settings: Settings) -> Result<LinkOptions, AllocError>
+    ensures { IfOk result (λ options. options.reset_len ≡ 1) }
+{
+    let Settings { clock, fixed } = settings;
+    let resets = resets(alloc, texts.reset)?;
+    Ok(LinkOptions {
+        clock,
+        fixed,
+        resets,
+        reset_len: 1,
+    })
+}
+
+fn has_multiplier(what: &What) -> bool
+    ensures { IsTrue result → HasMultiplier what.now }
+{
+    match what {
+        What::Claiming(exception) => match exception.kind {
+            Kind::False => true,
+            Kind::Multi(k) => 1 <= k && k <= 16,
+        },
+        What::Clock { .. } | What::Case { .. } | What::Hold | What::Aside(_) | What::Passed => true,
+    }
+}
+
+fn has_multipliers(script: &Script) -> bool
+    ensures { IsTrue result → HasMultipliers script.now }
+{
+    script
+        .commands
+        .as_slice()
+        .iter()
+        .all(|command| has_multiplier(&command.what))
+}
+
+fn told_of_design(
+    alloc: Global,
+    texts: &Texts,
+    script: &Script,
+    linked: &Linked,
+) -> Result<Told, Fail>
+    requires { IsUsable linked.now }
+{
+    if !has_multipliers(script) {
+        return Err("multipliers from 1 to 16")?;
+    }
+    match expand(alloc, linked, script, texts.hazard) {
+        Ok(selected) => Ok(Told::Selected(selected)),
+        Err(fault) => refused(alloc, expand_line(alloc, &fault)?.as_slice()),
+    }
+}
+
+fn told_of_settings(
+    alloc: Global,
+    texts: &Texts,
+    source: &Source,
+    script: &Script,
+    settings: Settings,
+) -> Result<Told, Fail>
+    requires { IsLawful source.now }
+{
+    let library = library(alloc, texts.cells)?;
+    let options = options(alloc, texts, settings)?;
+    match link(alloc, source, &library, &options) {
+        Ok(linked) => told_of_design(alloc, texts, script, &linked),
+        Err(fault) => refused(alloc, link_line(alloc, &fault)?.as_slice()),
+    }
+}
+
+fn told_of_script(
+    alloc: Global,
+    texts: &Texts,
+    source: &Source,
+    script: &Script,
+) -> Result<Told, Fail>
+    requires { IsLawful source.now }
+{
+    let inputs = top_inputs(alloc, source)?;
+    let resets = resets(alloc, texts.reset)?;
+    match settings(alloc, script, &inputs, &resets) {
+        Ok(settings) => told_of_settings(alloc, texts, source, script, settings),
+        Err(fault) => refused(alloc, expand_line(alloc, &fault)?.as_slice()),
+    }
+}
+
+/// What the texts give, by all calls in their order.
+pub(crate) fn told_of_texts(alloc: Global, texts: &Texts) -> Result<Told, Fail> {
+    let source = read_verilog(alloc, texts.netlist.as_bytes())?;
+    match read_sdc(alloc, texts.script.as_bytes()) {
+        Ok(script) => told_of_script(alloc, texts, &source, &script),
+        Err(fault) => refused(alloc, sdc_line(alloc, &fault)?.as_slice()),
+    }
+}
