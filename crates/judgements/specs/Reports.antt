@@ -1,0 +1,18 @@
+-- The bytes of a report.
+use Rattle.std.specs.Prelude.{ℕ, Bool, true, false, List, Vec}
+use Rattle.std.specs.List.{flat_map}
+use Rattle.std.specs.declared.alloc.Global.{Global}
+use Rattle.exception_expand.specs.declared.selections.Selected.{Selected}
+use Rattle.verdicts.specs.declared.outcomes.Verdict.{Verdict}
+use Rattle.report_text.specs.declared.options.RunOptions.{RunOptions}
+use Rattle.report_text.specs.Reports as text
+use Rattle.report_json.specs.Reports.{json_text}
+
+-- the bytes of lines, one line after the other
+abbrev pub joined : List (Vec ℕ Global) → List ℕ
+joined lines = flat_map (λ (line : Vec ℕ Global). line.items) lines
+
+-- the report as JSON, where that is asked for, and else as printed lines
+abbrev pub report_bytes : Bool → RunOptions → Selected → List Verdict → List ℕ
+report_bytes true options selected verdicts = json_text options selected verdicts
+report_bytes false options selected verdicts = text.report_bytes options selected verdicts

@@ -1,0 +1,61 @@
+//! The verdicts on all claims.
+ghost use Rattle.std.specs.Prelude.{◌<◌, ◌≤◌, All, IfOk};
+ghost use Rattle.net_model.specs.Netlist.{IsSound};
+ghost use Rattle.net_model.specs.Fits.{Fits};
+ghost use Rattle.query_model.specs.Laws.{NamesRegs};
+ghost use Rattle.verdicts.specs.Inductive.{AreAlwaysMet};
+ghost use Rattle.judgements.specs.Judgements.{AreAllInForm, AreFound, AreJudged};
+
+use crate::judged::Judged;
+use invariants::invariants;
+use net_model::{Claim, Design};
+use pair_prove::prove;
+use sdcv_base::Seq;
+use std::alloc::{AllocError, Global};
+use verdicts::{InvSet, Limits, Verdict};
+
+/// The verdicts on some claims about a design, each proved with the clauses over register bits that are kept for all of them,
+/// by an induction of depth `inv_depth`.
+pub fn judge(
+    alloc: Global,
+    design: &Design,
+    claims: &Seq<Claim>,
+    inv_depth: usize,
+    limits: &Limits,
+) -> Result<Judged, AllocError>
+    requires sound { IsSound design.now }
+    requires fit { All (Fits design.now) claims.now }
+    requires shallow { inv_depth ≤ 8 }
+    requires few { limits.now.depth ≤ 64 }
+    requires some { 0 < limits.now.budget }
+    ensures judged { IfOk result (AreJudged design.now claims.now inv_depth limits.now) }
+    ensures in_form { IfOk result AreAllInForm }
+{
+    let inv = invariants(alloc, design, claims, inv_depth, limits.budget)?;
+    let verdicts = verdicts_on(alloc, design, claims, &inv, limits)?;
+    Ok(Judged { inv, verdicts })
+}
+
+// The verdict on each claim.
+fn verdicts_on(
+    alloc: Global,
+    design: &Design,
+    claims: &Seq<Claim>,
+    inv: &InvSet,
+    limits: &Limits,
+) -> Result<Seq<Verdict>, AllocError>
+    requires sound { IsSound design.now }
+    requires fit { All (Fits design.now) claims.now }
+    requires names { All (NamesRegs design.now) inv.now.kept }
+    requires met { AreAlwaysMet design.now inv.now.kept }
+    requires few { limits.now.depth ≤ 64 }
+    requires some { 0 < limits.now.budget }
+    ensures { IfOk result (AreFound design.now claims.now inv.now.kept limits.now) }
+{
+    let mut verdicts = Seq::new(alloc);
+    for place in 0..claims.len() {
+        let claim = claims.item(place);
+        verdicts.push(prove(alloc, design, claim, inv, limits)?)?;
+    }
+    Ok(verdicts)
+}
