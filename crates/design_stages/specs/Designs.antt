@@ -1,0 +1,78 @@
+-- What is found of texts that were read: their design, and the pairs that are selected in it.
+use Rattle.std.specs.Prelude.{◌≡◌, Bool, List, [], ◌∷◌, length, All, Result, Ok, Err}
+use Rattle.net_model.specs.Netlist.{IsSound}
+use Rattle.net_model.specs.Fits.{Fits}
+use Rattle.sdcv_base.specs.declared.settings.Setting.{Setting}
+use Rattle.verilog_net.specs.declared.sources.Source.{Source}
+use Rattle.verilog_net.specs.declared.sources.Module.{Module}
+use Rattle.verilog_net.specs.Lawful.{IsLawful}
+use Rattle.cell_types.specs.declared.libraries.Library.{Library}
+use Rattle.cell_types.specs.Libraries.{IsLawful as IsLawfulLibrary}
+use Rattle.link_defs.specs.declared.names.Linked.{Linked}
+use Rattle.link_defs.specs.declared.names.PortName.{PortName}
+use Rattle.link_defs.specs.declared.options.LinkOptions.{LinkOptions}
+use Rattle.link_defs.specs.declared.faults.LinkFault.{LinkFault}
+use Rattle.link_defs.specs.Circuits.{input_bits}
+use Rattle.link_defs.specs.Faults.{IsCause, IsFaultless}
+use Rattle.link_defs.specs.Hierarchy.{tops}
+use Rattle.link_defs.specs.Links.{IsLinked, ports_of}
+use Rattle.link_defs.specs.Usable.{IsUsable}
+use Rattle.link_tops.specs.Tops.{IsTopCause}
+use Rattle.sdc_text.specs.declared.scripts.Script.{Script}
+use Rattle.sdc_settings.specs.declared.values.Settings.{Settings}
+use Rattle.sdc_settings.specs.declared.faults.ExpandFault.{ExpandFault}
+use Rattle.sdc_settings.specs.Settings.{AreSettings}
+use Rattle.sdc_settings.specs.Causes.{IsSettingsCause}
+use Rattle.exception_expand.specs.declared.selections.Selected.{Selected}
+use Rattle.exception_expand.specs.Selections.{IsSelectionOf, HasMultipliers}
+use Rattle.exception_expand.specs.Causes.{IsExpandCause}
+use Rattle.fault_lines.specs.Designs.{link_line, expand_line}
+use Rattle.design_stages.specs.declared.designs.ReadTexts.{ReadTexts}
+use Rattle.design_stages.specs.declared.designs.Reset.{Reset}
+use Rattle.design_stages.specs.declared.designs.Designed.{Designed}
+use Rattle.design_stages.specs.Stages.{Found, Staged, ◌>>=◌}
+
+-- what its readers promise of texts
+pub record AreLawful (t : ReadTexts) : Type 0 where
+  pub source : IsLawful t.source
+  pub library : IsLawfulLibrary t.library.cells
+  pub script : HasMultipliers t.script
+
+-- the input bits of the only module that none instantiates, or there is no such module
+abbrev pub HasInputs : Source → Result (List PortName) LinkFault → Type 0
+HasInputs s (Ok ports) = (top : Module) × (tops s ≡ top ∷ []) × (ports ≡ ports_of (input_bits top))
+HasInputs s (Err fault) = IsTopCause s fault
+
+-- the settings of a script among these inputs, or why it has none
+abbrev pub HasSettings : Script → List PortName → List Setting → Result Settings ExpandFault → Type 0
+HasSettings script inputs resets (Ok s) = AreSettings script inputs resets s
+HasSettings script inputs resets (Err fault) = IsSettingsCause script inputs resets fault
+
+-- the design of a netlist and its cells, which then have no fault; or a fault of theirs
+abbrev pub Links : Source → Library → LinkOptions → Result Linked LinkFault → Type 0
+Links s lib o (Ok l) = IsLinked s lib o l × IsUsable l × IsFaultless s lib o
+Links s lib o (Err fault) = IsCause s lib o fault
+
+-- the pairs that a script selects, or why it selects none
+abbrev pub Selects : Linked → Script → Bool → Result Selected ExpandFault → Type 0
+Selects l script hazard (Ok s) = IsSelectionOf l script hazard s
+Selects l script hazard (Err fault) = IsExpandCause l script hazard fault
+
+-- what is set from outside
+abbrev pub options_of : Settings → Reset → LinkOptions
+options_of s reset = record { clock = s.clock; fixed = s.fixed; resets = reset.ports; reset_len = reset.len }
+
+-- the design with its names, and the selected pairs, or the line of the first fault
+unfoldable pub Designs : ReadTexts → Reset → Bool → Found Designed → Type 0
+Designs t reset hazard = do
+  inputs ← Staged (HasInputs t.source) link_line
+  settings ← Staged (HasSettings t.script inputs reset.ports) expand_line
+  linked ← Staged (Links t.source t.library (options_of settings reset)) link_line
+  selected ← Staged (Selects linked t.script hazard) expand_line
+  λ found. found ≡ Ok (record { linked = linked; selected = selected })
+
+-- what those rely on who judge the pairs of a design: it is sound, each pair has a claim, and each claim fits
+pub record CanBeJudged (d : Designed) : Type 0 where
+  pub sound : IsSound d.linked.design
+  pub each : length d.selected.claims ≡ length d.selected.pairs
+  pub fit : All (Fits d.linked.design) d.selected.claims

@@ -1,0 +1,3 @@
+pub mod Designs
+pub mod Stages
+pub mod Texts

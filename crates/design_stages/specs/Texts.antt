@@ -1,0 +1,22 @@
+-- What texts stand for, and how they are refused.
+use Rattle.std.specs.Prelude.{◌≡◌, ℕ, List}
+use Rattle.verilog_net.specs.declared.sources.Source.{Source}
+use Rattle.verilog_net.specs.Sources.{source_of}
+use Rattle.cell_types.specs.declared.libraries.Library.{Library}
+use Rattle.cell_lib.specs.Texts.{Reads as ReadsLibrary}
+use Rattle.sdc_text.specs.declared.scripts.Script.{Script}
+use Rattle.sdc_text.specs.Scripts.{script_of}
+use Rattle.fault_lines.specs.Sources.{verilog_line, liberty_line, sdc_line}
+use Rattle.design_stages.specs.Stages.{Found, Staged}
+
+-- a netlist is read, or is refused with the fault that it has
+abbrev pub Netlist : List ℕ → Found Source → Type 0
+Netlist text = Staged (λ read. source_of text ≡ read) verilog_line
+
+-- so are its cells
+abbrev pub Cells : List ℕ → Found Library → Type 0
+Cells text = Staged (ReadsLibrary text) liberty_line
+
+-- and its constraints
+abbrev pub Constraints : List ℕ → Found Script → Type 0
+Constraints text = Staged (λ read. script_of text ≡ read) sdc_line

@@ -1,0 +1,118 @@
+//! The stages from texts that were read to the pairs of their design.
+ghost use Rattle.std.specs.Prelude.{◌≡◌, ◌≤◌, IfOk};
+ghost use Rattle.verilog_net.specs.Lawful.{IsLawful};
+ghost use Rattle.cell_types.specs.Libraries.{IsLawful as IsLawfulLibrary};
+ghost use Rattle.exception_expand.specs.Selections.{HasMultipliers};
+ghost use Rattle.link_defs.specs.Usable.{IsUsable};
+ghost use Rattle.fault_lines.specs.Designs.{link_line, expand_line};
+ghost use Rattle.design_stages.specs.Stages.{Finds, Staged};
+ghost use Rattle.design_stages.specs.Designs.{HasInputs, HasSettings, Links, Selects, Designs, AreLawful, CanBeJudged, options_of};
+
+use crate::designs::{Designed, ReadTexts, Reset};
+use crate::refusals::Refusal;
+use cell_types::Library;
+use exception_expand::{Selected, expand};
+use fault_lines::{expand_line, link_line};
+use net_link::{LinkOptions, Linked, PortName, link, top_inputs};
+use sdc_settings::{Settings, settings};
+use sdc_text::Script;
+use sdcv_base::{Seq, Setting};
+use std::alloc::Global;
+use verilog_net::Source;
+
+/// Links the netlist with its cells, as the constraints and the reset set its inputs, and selects the pairs that the constraints
+/// make exceptions of. With `hazard` their claims allow no glitch either.
+pub fn designed(
+    alloc: Global,
+    texts: &ReadTexts,
+    reset: Reset,
+    hazard: bool,
+) -> Result<Designed, Refusal>
+    requires lawful { AreLawful texts.now }
+    requires reset { reset.len ≤ 64 }
+    ensures found { Finds (Designs texts.now reset hazard) result }
+    ensures judged { IfOk result CanBeJudged }
+{
+    let inputs = inputs(alloc, &texts.source)?;
+    let settings = settings_of(alloc, &texts.script, &inputs, &reset.ports)?;
+    let options = options_of(settings, reset);
+    let linked = linked(alloc, &texts.source, &texts.library, &options)?;
+    let selected = selected(alloc, &linked, &texts.script, hazard)?;
+    Ok(Designed { linked, selected })
+}
+
+/// What is set from outside.
+fn options_of(settings: Settings, reset: Reset) -> LinkOptions
+    ensures { result ≡ options_of settings reset }
+{
+    let Settings { clock, fixed } = settings;
+    let Reset { ports, len } = reset;
+    LinkOptions {
+        clock,
+        fixed,
+        resets: ports,
+        reset_len: len,
+    }
+}
+
+/// The input bits of the top module.
+fn inputs(alloc: Global, source: &Source) -> Result<Seq<PortName>, Refusal>
+    requires { IsLawful source.now }
+    ensures { Finds (Staged (HasInputs source.now) link_line) result }
+{
+    match top_inputs(alloc, source) {
+        Ok(inputs) => Ok(inputs),
+        Err(fault) => Err(Refusal::Line(link_line(alloc, &fault)?)),
+    }
+}
+
+/// The clock and the fixed inputs.
+fn settings_of(
+    alloc: Global,
+    script: &Script,
+    inputs: &Seq<PortName>,
+    resets: &Seq<Setting>,
+) -> Result<Settings, Refusal>
+    ensures { Finds (Staged (HasSettings script.now inputs.now resets.now) expand_line) result }
+{
+    match settings(alloc, script, inputs, resets) {
+        Ok(settings) => Ok(settings),
+        Err(fault) => Err(Refusal::Line(expand_line(alloc, &fault)?)),
+    }
+}
+
+/// The design with its names.
+fn linked(
+    alloc: Global,
+    source: &Source,
+    library: &Library,
+    options: &LinkOptions,
+) -> Result<Linked, Refusal>
+    requires source { IsLawful source.now }
+    requires library { IsLawfulLibrary library.now.cells }
+    requires resets { options.now.reset_len ≤ 64 }
+    ensures found { Finds (Staged (Links source.now library.now options.now) link_line) result }
+    ensures usable { IfOk result IsUsable }
+{
+    match link(alloc, source, library, options) {
+        Ok(linked) => Ok(linked),
+        Err(fault) => Err(Refusal::Line(link_line(alloc, &fault)?)),
+    }
+}
+
+/// The selected pairs.
+fn selected(
+    alloc: Global,
+    linked: &Linked,
+    script: &Script,
+    hazard: bool,
+) -> Result<Selected, Refusal>
+    requires linked { IsUsable linked.now }
+    requires script { HasMultipliers script.now }
+    ensures { Finds (Staged (Selects linked.now script.now hazard) expand_line) result }
+{
+    match expand(alloc, linked, script, hazard) {
+        Ok(selected) => Ok(selected),
+        Err(fault) => Err(Refusal::Line(expand_line(alloc, &fault)?)),
+    }
+}

@@ -1,0 +1,16 @@
+//! The stages from texts to the selected pairs of a design: each finds its value, or refuses the run with the line of its fault.
+//!
+//! Read `designing.rt` first: what is found of texts that were read. What a stage stands for is told in `specs/Stages`; what each
+//! one finds, in `specs/Texts` and `specs/Designs`. How the texts come, and what is done with the pairs, is left to the crates
+//! above.
+#![tactic(auto)]
+
+mod designing;
+mod designs;
+mod readers;
+mod refusals;
+
+pub use designing::designed;
+pub use designs::{Designed, ReadTexts, Reset};
+pub use readers::{cells, constraints, netlist};
+pub use refusals::Refusal;

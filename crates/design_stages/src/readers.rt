@@ -1,0 +1,48 @@
+//! The stages that read a text.
+ghost use Rattle.std.specs.Prelude.{IfOk};
+ghost use Rattle.verilog_net.specs.Lawful.{IsLawful};
+ghost use Rattle.cell_types.specs.Libraries.{IsLawful as IsLawfulLibrary};
+ghost use Rattle.exception_expand.specs.Selections.{HasMultipliers};
+ghost use Rattle.design_stages.specs.Stages.{Finds};
+ghost use Rattle.design_stages.specs.Texts.{Netlist, Cells, Constraints};
+
+use crate::refusals::Refusal;
+use cell_lib::read_lib;
+use cell_types::Library;
+use fault_lines::{liberty_line, sdc_line, verilog_line};
+use sdc_text::{Script, read_sdc};
+use std::alloc::Global;
+use verilog_net::{Source, read_verilog};
+
+/// What a netlist's text stands for.
+pub fn netlist(alloc: Global, text: &[u8]) -> Result<Source, Refusal>
+    ensures found { Finds (Netlist text.now) result }
+    ensures lawful { IfOk result IsLawful }
+{
+    match read_verilog(alloc, text) {
+        Ok(source) => Ok(source),
+        Err(fault) => Err(Refusal::Line(verilog_line(alloc, &fault)?)),
+    }
+}
+
+/// The cells of a Liberty text.
+pub fn cells(alloc: Global, text: &[u8]) -> Result<Library, Refusal>
+    ensures found { Finds (Cells text.now) result }
+    ensures lawful { IfOk result (λ library. IsLawfulLibrary library.cells) }
+{
+    match read_lib(alloc, text) {
+        Ok(library) => Ok(library),
+        Err(fault) => Err(Refusal::Line(liberty_line(alloc, &fault)?)),
+    }
+}
+
+/// The script that the constraints' text is.
+pub fn constraints(alloc: Global, text: &[u8]) -> Result<Script, Refusal>
+    ensures found { Finds (Constraints text.now) result }
+    ensures multipliers { IfOk result HasMultipliers }
+{
+    match read_sdc(alloc, text) {
+        Ok(script) => Ok(script),
+        Err(fault) => Err(Refusal::Line(sdc_line(alloc, &fault)?)),
+    }
+}
