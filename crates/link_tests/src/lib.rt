@@ -6,8 +6,6 @@
 #[cfg(test)]
 mod circuits;
 #[cfg(test)]
-mod flats;
-#[cfg(test)]
 mod names;
 #[cfg(test)]
 mod orders;

@@ -19,8 +19,6 @@ mod paths;
 #[cfg(test)]
 mod replays;
 #[cfg(test)]
-mod scans;
-#[cfg(test)]
 mod slow_layers;
 #[cfg(test)]
 mod sound_cases;
