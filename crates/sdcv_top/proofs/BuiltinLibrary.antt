@@ -3,7 +3,7 @@ use Rattle.std.proofs.Common.{◌≡◌, List, ap}
 use Rattle.cell_types.specs.declared.libraries.Cell.{Cell}
 use Rattle.cell_types.specs.declared.libraries.Library.{Library}
 use Rattle.cell_types.specs.Builtin.{builtin_cells}
-use Rattle.sdcv_top.specs.Due.{builtin_library}
+use Rattle.sdcv_top.specs.Texts.{builtin_library}
 
 -- a library with the built-in cells is the built-in library
 pub builtin_is : (library : Library) → library.cells ≡ builtin_cells → library ≡ builtin_library

@@ -1,4 +1,6 @@
 pub mod BuiltinLibrary
 pub mod Delivered
+pub mod Repeats
+pub mod Replays
 pub mod Staging
 pub mod Steps

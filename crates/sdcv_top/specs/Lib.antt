@@ -1,11 +1,11 @@
 pub mod Due
-pub mod Lines
+pub mod Headline
+pub mod Jobs
+pub mod Laws
 pub mod Outcomes
 pub mod Plans
 pub mod Reads
-pub mod Reports
 pub mod Runs
 pub mod Stages
 pub mod Statuses
-pub mod Verdicts
-pub mod Words
+pub mod Texts

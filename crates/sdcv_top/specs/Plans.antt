@@ -1,8 +1,8 @@
 -- What the parts of a run stand for before it prints.
-use Rattle.std.specs.Prelude.{◌≡◌, ◌⊎◌, ℕ, List, [], ◌∷◌, take, Option, Result, Ok, Err, Vec}
-use Rattle.std.specs.List.{flat_map}
+use Rattle.std.specs.Prelude.{◌≡◌, ◌⊎◌, ℕ, Bool, true, false, List, [], ◌∷◌, take, Option, None, Some, Result, Ok, Err, Vec}
 use Rattle.std.specs.declared.alloc.Global.{Global}
 use Rattle.sdcv_base.specs.Hosts.{Files, grown, CountsOne}
+use Rattle.sdcv_top.specs.declared.plans.Certificate.{Certificate}
 use Rattle.sdcv_top.specs.declared.plans.Plan.{Plan}
 use Rattle.sdcv_top.specs.declared.plans.Stop.{Stop}
 use Rattle.sdcv_top.specs.declared.plans.Stop.TheVariants as stop
@@ -13,22 +13,38 @@ use Rattle.sdcv_top.specs.declared.statuses.Status.{Status}
 use Rattle.sdcv_top.specs.declared.statuses.Status.TheVariants as ended
 use Rattle.sdcv_top.specs.Statuses.{status_of}
 use Rattle.sdcv_top.specs.Outcomes.{Outcome, refused}
-use Rattle.sdcv_top.specs.Reads.{ReadOf, Got, Text, Longer, Asked, IsTold}
-use Rattle.sdcv_top.specs.Stages.{Found, Due}
+use Rattle.sdcv_top.specs.Reads.{ReadOf, Got, Text, Longer, Asked, IsTold, is_builtin, text_of}
+use Rattle.cell_types.specs.declared.libraries.Library.{Library}
+use Rattle.judgements.specs.Reports.{joined}
+use Rattle.design_stages.specs.declared.refusals.Refusal.{Refusal}
+use Rattle.design_stages.specs.declared.refusals.Refusal.TheVariants as refusal
+use Rattle.design_stages.specs.Stages.{Found}
+use Rattle.sdcv_top.specs.Stages.{Due}
+use Rattle.sdcv_top.specs.Texts.{Cells, builtin_library}
 use Rattle.sdcv_top.specs.Runs.{DueByReads, AskedSome}
 
--- the bytes of lines
-abbrev pub bytes_of : List (Vec ℕ Global) → List ℕ
-bytes_of lines = flat_map (λ (line : Vec ℕ Global). line.items) lines
+-- the name and the bytes of a certificate, if there is one
+abbrev pub saved_of : Option Certificate → List (List ℕ × List ℕ)
+saved_of None = []
+saved_of (Some c) = (c.name.now, c.bytes.items) ∷ []
 
--- what is due by a plan: it saves nothing
+-- what is due by a plan
 abbrev pub outcome_of : Plan → Outcome
-outcome_of plan = record { ending = plan.ending; saved = []; printed = bytes_of plan.lines.items; judged = plan.judged }
+outcome_of plan = record { ending = plan.ending; saved = saved_of plan.saved; printed = joined plan.lines.items; judged = plan.judged }
+
+-- what was saved, where the host tells it
+abbrev pub Saved : Type 0
+Saved = Option (List (List ℕ × List ℕ))
 
 -- what a read answered
 abbrev pub got : Answer → Got
 got (answer.Text bytes) = Text bytes.items
 got answer.Longer = Longer
+
+-- a refusal stops the run
+abbrev pub stop_of : Refusal → Stop
+stop_of (refusal.Line line) = stop.Refused line
+stop_of refusal.Memory = stop.Memory
 
 -- the count of faults rose in what stopped for the host, and in nothing else
 abbrev pub StopCounts : {T : Type 0} → ℕ → ℕ → Result T Stop → Type 0
@@ -36,13 +52,6 @@ StopCounts before now (Ok _) = now ≡ before
 StopCounts before now (Err (stop.Refused line)) = now ≡ before
 StopCounts before now (Err stop.HostFault) = CountsOne before now
 StopCounts before now (Err stop.Memory) = now ≡ before
-
--- a stage that calls no host found this, or memory was wanting
-abbrev pub Finds : {A : Type 0} → (Found A → Type 0) → Result A Stop → Type 0
-Finds R (Ok value) = R (Ok value)
-Finds R (Err (stop.Refused line)) = R (Err line.items)
-Finds R (Err stop.HostFault) = ⊥
-Finds R (Err stop.Memory) = Unit {0}
 
 -- one file was read, and its read answered so
 pub record IsRead (R : Got → Type 0) (file : ReadOf) (files : Option Files) (before now : Asked) : Type 0 where
@@ -65,6 +74,31 @@ ReadFinds R file files before now (Err (stop.Refused line)) = IsRead (λ answer.
 ReadFinds R file files before now (Err stop.HostFault) = AskedSome (file ∷ []) before now
 ReadFinds R file files before now (Err stop.Memory) = AskedSome (file ∷ []) before now
 
+-- the bytes of what was read
+abbrev pub items_of : Result (Vec ℕ Global) Stop → Result (List ℕ) Stop
+items_of (Ok text) = Ok text.items
+items_of (Err why) = Err why
+
+-- the cells that are known without a file, or want of memory
+abbrev pub IsBuiltin : Asked → Asked → Result Library Stop → Type 0
+IsBuiltin before now (Ok library) = (library ≡ builtin_library) × (now ≡ before)
+IsBuiltin before now (Err stop.Memory) = now ≡ before
+IsBuiltin before now (Err why) = ⊥
+
+-- the cells are those that are known without a file, and nothing is read; or those of the file
+abbrev pub CellsFindIf : Bool → List ℕ → Option Files → Asked → Asked → Result Library Stop → Type 0
+CellsFindIf true name files before now result = IsBuiltin before now result
+CellsFindIf false name files before now result = ReadFinds Cells (text_of name) files before now result
+
+abbrev pub CellsFind : List ℕ → Option Files → Asked → Asked → Result Library Stop → Type 0
+CellsFind name = CellsFindIf (is_builtin name) name
+
+-- without a read, the stages made a plan of what is due, or refused the run with the line that is due, or memory was wanting
+unfoldable pub IsPlanned : Due → Result Plan Refusal → Type 0
+IsPlanned R (Ok plan) = R [] (outcome_of plan)
+IsPlanned R (Err (refusal.Line line)) = R [] (refused line.items)
+IsPlanned R (Err refusal.Memory) = Unit {0}
+
 -- the stages made a plan of what is due, or refused the run with the line that is due, or the run stops
 unfoldable pub Plans : Due → List ReadOf → Option Files → Asked → Asked → Result Plan Stop → Type 0
 Plans R files_of files before now (Ok plan) = DueByReads R files_of files before now (outcome_of plan)
@@ -72,13 +106,30 @@ Plans R files_of files before now (Err (stop.Refused line)) = DueByReads R files
 Plans R files_of files before now (Err stop.HostFault) = AskedSome files_of before now
 Plans R files_of files before now (Err stop.Memory) = AskedSome files_of before now
 
--- what is due was printed, or a front of it and the host failed
-abbrev pub IsPrinted : Option (List ℕ) → Option (List ℕ) → Outcome → Status → Type 0
-IsPrinted before now due how =
-    ((how ≡ status_of due.ending) × (now ≡ grown before due.printed))
-    ⊎ ((how ≡ ended.HostFault) × ((n : ℕ) × (now ≡ grown before (take n due.printed))))
+-- the save failed, and nothing was saved and printed; or all was saved, and a front was printed
+abbrev pub IsFront : Saved → Saved → Option (List ℕ) → Option (List ℕ) → List (List ℕ × List ℕ) → List ℕ → Type 0
+IsFront saved saved_now printed printed_now due_saved due_printed =
+    ((saved_now ≡ saved) × (printed_now ≡ printed))
+    ⊎ ((saved_now ≡ grown saved due_saved) × ((n : ℕ) × (printed_now ≡ grown printed (take n due_printed))))
 
--- what is due was printed so, and its verdicts are handed out
-pub record Delivers (before now : Option (List ℕ)) (due : Outcome) (result : Ran) : Type 0 where
+-- what is due was saved and then printed, or the host failed meanwhile
+abbrev pub Outputs : {T E : Type 0} → Saved → Saved → Option (List ℕ) → Option (List ℕ) → List (List ℕ × List ℕ) → List ℕ → Result T E → Type 0
+Outputs saved saved_now printed printed_now due_saved due_printed (Ok done) =
+    (saved_now ≡ grown saved due_saved) × (printed_now ≡ grown printed due_printed)
+Outputs saved saved_now printed printed_now due_saved due_printed (Err fault) = IsFront saved saved_now printed printed_now due_saved due_printed
+
+-- all that is due was saved and printed
+pub record DeliversAll (saved saved_now : Saved) (printed printed_now : Option (List ℕ)) (due : Outcome) (how : Status) : Type 0 where
+  pub status : how ≡ status_of due.ending
+  pub saved_is : saved_now ≡ grown saved due.saved
+  pub printed_is : printed_now ≡ grown printed due.printed
+
+-- the host failed: nothing was saved and printed, or all was saved and a front printed
+pub record DeliversFront (saved saved_now : Saved) (printed printed_now : Option (List ℕ)) (due : Outcome) (how : Status) : Type 0 where
+  pub status : how ≡ ended.HostFault
+  pub front : IsFront saved saved_now printed printed_now due.saved due.printed
+
+-- what is due was delivered so, and its verdicts are handed out
+pub record Delivers (saved saved_now : Saved) (printed printed_now : Option (List ℕ)) (due : Outcome) (result : Ran) : Type 0 where
   pub judged : result.judged ≡ due.judged
-  pub printed : IsPrinted before now due result.status
+  pub told : DeliversAll saved saved_now printed printed_now due result.status ⊎ DeliversFront saved saved_now printed printed_now due result.status

@@ -1,6 +1,8 @@
 -- The texts that a run reads.
-use Rattle.std.specs.Prelude.{◌≡◌, ◌≤◌, ℕ, List, [], ◌∷◌, length, take, map, Option, Some, IfSome}
+use Rattle.std.specs.Prelude.{◌≡◌, ◌≤◌, ℕ, ◌-◌, ◌^◌, Bool, true, false, List, [], ◌∷◌, ◌++◌, length, take, map, codes, Option, None, Some, IfSome}
+use Rattle.std.specs.Str.{bytes_eq}
 use Rattle.sdcv_base.specs.Hosts.{Files, IsLonger}
+use Rattle.sdcv_words.specs.Commands.{Job, Verify, Check, Replay, Command, Over, Demo}
 
 -- a file that may be read, and the most bytes that it may have
 pub record ReadOf : Type 0 where
@@ -12,13 +14,42 @@ pub data Got : Type 0 where
   Text : List ℕ → Got
   Longer : Got
 
--- the limit of a netlist and of constraints, in bytes
+-- the limit of a netlist, of cells and of constraints, in bytes
 abbrev pub longest : ℕ
 longest = 67108864
 
 -- a text of that name
 abbrev pub text_of : List ℕ → ReadOf
 text_of name = record { name = name; limit = longest }
+
+-- a certificate or a report of that name, of any length
+abbrev pub whole_of : List ℕ → ReadOf
+whole_of name = record { name = name; limit = 2 ^ 64 - 1 }
+
+-- the cells that are known without a file
+abbrev pub is_builtin : List ℕ → Bool
+is_builtin name = bytes_eq name (codes "builtin")
+
+-- the file of the cells, where one is read
+abbrev pub cell_reads_if : Bool → List ℕ → List ReadOf
+cell_reads_if true name = []
+cell_reads_if false name = text_of name ∷ []
+
+unfoldable pub cell_reads : List ℕ → List ReadOf
+cell_reads name = cell_reads_if (is_builtin name) name
+
+-- what is read for a job, once pairs are selected
+abbrev pub job_reads : Job → List ReadOf
+job_reads (Verify out json proving) = []
+job_reads (Check cert) = whole_of cert ∷ []
+job_reads (Replay report pair) = whole_of report ∷ []
+
+-- the files that a command reads, in order
+abbrev pub reads_of : Option Command → List ReadOf
+reads_of None = []
+reads_of (Some (Over texts options job)) =
+    text_of texts.netlist ∷ (cell_reads texts.cells ++ (text_of texts.constraints ∷ job_reads job))
+reads_of (Some (Demo seed size)) = []
 
 -- a read answered with no more than the limit, and where the host tells its files, with what the name holds
 abbrev pub IsTold : Option Files → ReadOf → Got → Type 0

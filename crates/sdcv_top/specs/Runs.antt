@@ -5,11 +5,12 @@ use Rattle.sdcv_top.specs.declared.statuses.Status.{Status}
 use Rattle.sdcv_top.specs.declared.statuses.Status.TheVariants as ended
 use Rattle.sdcv_top.specs.declared.rans.Ran.{Ran}
 use Rattle.sdcv_top.specs.Statuses.{status_of}
-use Rattle.sdcv_top.specs.Words.{command, reads_of}
+use Rattle.sdcv_words.specs.Commands.{Command}
+use Rattle.sdcv_words.specs.Words.{command}
 use Rattle.sdcv_top.specs.Outcomes.{Outcome}
-use Rattle.sdcv_top.specs.Reads.{ReadOf, Got, Asked, AreTold, first_names}
+use Rattle.sdcv_top.specs.Reads.{ReadOf, Got, Asked, AreTold, first_names, reads_of}
 use Rattle.sdcv_top.specs.Stages.{Due}
-use Rattle.sdcv_top.specs.Due.{IsDue}
+use Rattle.sdcv_top.specs.Due.{IsDueFor}
 
 -- some first files were read, and by what these reads answered this outcome is due
 pub record DueByReads (R : Due) (files_of : List ReadOf) (files : Option Files) (before now : Asked) (due : Outcome) : Type 0 where
@@ -36,34 +37,38 @@ IsCut before now due =
     ⊎ ((now.saved ≡ grown before.saved due.saved) × ((n : ℕ) × (now.printed ≡ grown before.printed (take n due.printed))))
 
 -- the run did all that was due
-pub record DidAll (words : List (List ℕ)) (files : Option Files) (before now : Calls) (result : Ran) : Type 0 where
+pub record DidAll (named : Option Command) (files : Option Files) (before now : Calls) (result : Ran) : Type 0 where
   pub due : Outcome
-  pub by_reads : DueByReads (IsDue words) (reads_of (command words)) files before.asked now.asked due
+  pub by_reads : DueByReads (IsDueFor named) (reads_of named) files before.asked now.asked due
   pub status : result.status ≡ status_of due.ending
   pub saved : now.saved ≡ grown before.saved due.saved
   pub printed : now.printed ≡ grown before.printed due.printed
   pub judged : result.judged ≡ due.judged
 
 -- a host fault stopped the run while it saved or printed what was due
-pub record WasCutOff (words : List (List ℕ)) (files : Option Files) (before now : Calls) (result : Ran) : Type 0 where
+pub record WasCutOff (named : Option Command) (files : Option Files) (before now : Calls) (result : Ran) : Type 0 where
   pub due : Outcome
-  pub by_reads : DueByReads (IsDue words) (reads_of (command words)) files before.asked now.asked due
+  pub by_reads : DueByReads (IsDueFor named) (reads_of named) files before.asked now.asked due
   pub status : result.status ≡ ended.HostFault
   pub cut : IsCut before now due
   pub judged : result.judged ≡ due.judged
 
 -- the run stopped for a host fault or for want of memory before it saved or printed anything
-pub record DidNothing (words : List (List ℕ)) (before now : Calls) (result : Ran) : Type 0 where
-  pub asked : AskedSome (reads_of (command words)) before.asked now.asked
+pub record DidNothing (named : Option Command) (before now : Calls) (result : Ran) : Type 0 where
+  pub asked : AskedSome (reads_of named) before.asked now.asked
   pub status : (result.status ≡ ended.HostFault) ⊎ (result.status ≡ ended.Memory)
   pub saved : now.saved ≡ before.saved
   pub printed : now.printed ≡ before.printed
   pub judged : result.judged ≡ None
 
+-- what a run for a command, or for no command, did, and what it answered
+abbrev pub HasRunFor : Option Command → Option Files → Calls → Calls → Ran → Type 0
+HasRunFor named files before now result =
+    DidAll named files before now result ⊎ WasCutOff named files before now result ⊎ DidNothing named before now result
+
 -- what a run for these words did, and what it answered
 abbrev pub HasRun : List (List ℕ) → Option Files → Calls → Calls → Ran → Type 0
-HasRun words files before now result =
-    DidAll words files before now result ⊎ WasCutOff words files before now result ⊎ DidNothing words before now result
+HasRun words files before now result = HasRunFor (command words) files before now result
 
 -- the count of faults rose in a run that ends in HostFault, and in no other it changed
 abbrev pub RunCounts : ℕ → ℕ → Status → Type 0

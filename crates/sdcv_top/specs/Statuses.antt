@@ -20,9 +20,12 @@ code_of status.Holds = 8
 -- the status of a run that does all that is due
 abbrev pub status_of : Ending → Status
 status_of ending.Done = status.Done
+status_of ending.Refuted = status.Refuted
 status_of ending.Undecided = status.Undecided
 status_of ending.Refused = status.Refused
 status_of ending.Words = status.Words
+status_of ending.Rejected = status.Rejected
+status_of ending.Holds = status.Holds
 
 -- the status of a run whose last print answered so
 abbrev pub status_after : {T E : Type 0} → Result T E → Ending → Status

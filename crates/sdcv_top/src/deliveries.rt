@@ -1,36 +1,37 @@
-//! Prints what is due. Nothing here takes memory.
+//! Saves and prints what is due. Nothing here takes memory.
 ghost use Rattle.std.specs.Prelude.{◌≡◌};
-ghost use Rattle.sdcv_base.specs.Hosts.{Prints, Counts};
-ghost use Rattle.sdcv_top.specs.Outcomes.{one_line};
-ghost use Rattle.sdcv_top.specs.Plans.{bytes_of, outcome_of, Delivers};
+ghost use Rattle.sdcv_base.specs.Hosts.{Prints, Counts, grown};
+ghost use Rattle.judgements.specs.Reports.{joined};
+ghost use Rattle.sdcv_top.specs.Outcomes.{prints};
+ghost use Rattle.sdcv_top.specs.Plans.{saved_of, outcome_of, Delivers, Outputs};
 ghost use Rattle.sdcv_top.specs.Runs.{RunCounts};
 ghost use Rattle.sdcv_top.specs.Statuses.{status_after};
 
-use crate::plans::Plan;
+use crate::plans::{Certificate, Plan};
 use crate::rans::Ran;
 use crate::statuses::{Ending, Status};
 use sdcv_base::{Host, HostFault};
 
-/// Prints the lines of a plan, and hands its verdicts out.
-pub fn deliver<H: Host>(host: &mut H, plan: Plan) -> Ran
-    ensures delivered { Delivers (H.printed host.old) (H.printed host.new) (outcome_of plan) result }
+/// Saves the certificate of a plan, prints its lines, and hands its verdicts out.
+pub fn deliver<H: Host>(host: &mut H, plan: Plan<'_>) -> Ran
+    ensures delivered { Delivers (H.saved host.old) (H.saved host.new) (H.printed host.old) (H.printed host.new) (outcome_of plan.entry) result }
     ensures count { RunCounts (H.faults host.old) (H.faults host.new) result.status }
     ensures files { H.files host.new ≡ H.files host.old }
     ensures asked { H.asked host.new ≡ H.asked host.old }
-    ensures saved { H.saved host.new ≡ H.saved host.old }
 {
     let Plan {
         ending,
+        saved,
         lines,
         judged,
     } = plan;
-    let status = status_after(print_lines(host, &lines), ending);
+    let status = status_after(save_and_print(host, &saved, &lines), ending);
     Ran { status, judged }
 }
 
 /// Prints the one line of a run that is refused, or whose words name no command.
 pub fn deliver_line<H: Host>(host: &mut H, ending: Ending, line: &[u8]) -> Ran
-    ensures delivered { Delivers (H.printed host.old) (H.printed host.new) (one_line ending line.now) result }
+    ensures delivered { Delivers (H.saved host.old) (H.saved host.new) (H.printed host.old) (H.printed host.new) (prints ending line.now) result }
     ensures count { RunCounts (H.faults host.old) (H.faults host.new) result.status }
     ensures files { H.files host.new ≡ H.files host.old }
     ensures asked { H.asked host.new ≡ H.asked host.old }
@@ -43,9 +44,26 @@ pub fn deliver_line<H: Host>(host: &mut H, ending: Ending, line: &[u8]) -> Ran
     }
 }
 
+// Nothing is printed before the certificate is saved.
+fn save_and_print<H: Host>(
+    host: &mut H,
+    saved: &Option<Certificate<'_>>,
+    lines: &[Vec<u8>],
+) -> Result<(), HostFault>
+    ensures out { Outputs (H.saved host.old) (H.saved host.new) (H.printed host.old) (H.printed host.new) (saved_of saved.entry.now) (joined lines.now) result }
+    ensures count { Counts (H.faults host.old) (H.faults host.new) result }
+    ensures files { H.files host.new ≡ H.files host.old }
+    ensures asked { H.asked host.new ≡ H.asked host.old }
+{
+    if let Some(certificate) = saved {
+        host.save(certificate.name, &certificate.bytes)?;
+    }
+    print_lines(host, lines)
+}
+
 // Prints the lines in order, one call a line.
 fn print_lines<H: Host>(host: &mut H, lines: &[Vec<u8>]) -> Result<(), HostFault>
-    ensures printed { Prints (H.printed host.old) (H.printed host.new) (bytes_of lines.now) result }
+    ensures printed { Prints (H.printed host.old) (H.printed host.new) (joined lines.now) result }
     ensures count { Counts (H.faults host.old) (H.faults host.new) result }
     ensures files { H.files host.new ≡ H.files host.old }
     ensures asked { H.asked host.new ≡ H.asked host.old }
@@ -60,11 +78,11 @@ fn print_lines<H: Host>(host: &mut H, lines: &[Vec<u8>]) -> Result<(), HostFault
     Ok(())
 }
 
-// The status of a run whose last print answered so.
-fn status_after(printed: Result<(), HostFault>, ending: Ending) -> Status
-    ensures { result ≡ status_after printed ending }
+// The status of a run whose last call of the host answered so.
+fn status_after(answered: Result<(), HostFault>, ending: Ending) -> Status
+    ensures { result ≡ status_after answered ending }
 {
-    match printed {
+    match answered {
         Ok(()) => ending.status(),
         Err(_) => Status::HostFault,
     }

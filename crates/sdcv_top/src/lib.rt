@@ -1,28 +1,26 @@
-//! The top call: command words and a host in, a status out. It alone knows the words and the order of the stages.
+//! The top call: command words and a host in, a status and verdicts out. It alone knows the order of the stages.
 //!
 //! Read `run` first, and then `plan` in stages.rt: its stages follow one another, and each ends with its own value or refuses
-//! the run. What a run owes is the relation `IsDue` of specs/Due, one definition a stage; what it did is `HasRun` of specs/Runs.
+//! the run. What a run owes is the relation `IsDueFor` of specs/Due, one definition a stage, and what its report is worth
+//! `IsReported` of specs/Headline; what it did is `HasRun` of specs/Runs.
 #![tactic(auto)]
 
+mod checking;
 mod deliveries;
-mod designs;
-mod pairs;
+mod demos;
+mod laws;
 mod plans;
 mod rans;
+mod readers;
 mod reads;
-mod refusals;
-mod reports;
-mod sources;
+mod replaying;
 mod stages;
 mod statuses;
-#[cfg(test)]
-mod tests;
 mod top;
-mod verdicts;
-mod words;
+mod verifying;
 
-pub use rans::{Judged, Ran};
-pub use refusals::Early;
+pub use judgements::Judged;
+pub use laws::check_repeats;
+pub use rans::Ran;
 pub use statuses::Status;
 pub use top::run;
-pub use verdicts::Verdict;

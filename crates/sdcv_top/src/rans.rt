@@ -2,16 +2,10 @@
 ghost use Rattle.std.specs.Prelude.{◌≡◌, None};
 
 use crate::statuses::Status;
-use crate::verdicts::Verdict;
-use sdcv_base::Seq;
+use judgements::Judged;
 
-/// The verdicts that a report is made of, in the order of its pairs. Nothing makes one yet.
-#[derive(Drop)]
-pub struct Judged {
-    pub verdicts: Seq<Verdict>,
-}
-
-/// How a run ended. `judged` is `None` today: no run hands its verdicts out yet.
+/// How a run ended, and the verdicts that it reported, in the order of the pairs. A run that refuses a text, checks a certificate
+/// or replays a stimulus reports none.
 #[derive(Drop)]
 pub struct Ran {
     pub status: Status,

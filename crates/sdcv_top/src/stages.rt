@@ -1,30 +1,125 @@
 //! The run on one screen: its stages in their order, each of which ends with its own value.
-ghost use Rattle.std.specs.Prelude.{◌≡◌, Some};
-ghost use Rattle.sdcv_top.specs.Words.{seen, reads_of};
-ghost use Rattle.sdcv_top.specs.Due.{Verified};
+ghost use Rattle.std.specs.Prelude.{◌≡◌, ◌≤◌, Some};
+ghost use Rattle.sdcv_words.specs.Commands.{seen_command, seen_texts, seen_job, Over};
+ghost use Rattle.sdcv_words.specs.Ranges.{IsInRange, IsJobInRange};
+ghost use Rattle.design_stages.specs.Designs.{CanBeJudged};
+ghost use Rattle.sdcv_top.specs.Due.{IsDueFor, Worked};
+ghost use Rattle.sdcv_top.specs.Jobs.{IsDone};
+ghost use Rattle.sdcv_top.specs.Reads.{reads_of, job_reads};
 ghost use Rattle.sdcv_top.specs.Plans.{StopCounts, Plans};
 
-use crate::designs::{linked, selected};
+use crate::checking::checked;
+use crate::demos::demonstrated;
 use crate::plans::{Plan, Stop};
-use crate::reports::report;
-use crate::sources::{constraints, netlist};
-use crate::verdicts::judged;
-use crate::words::Command;
+use crate::readers::{cells, constraints, netlist};
+use crate::replaying::replayed;
+use crate::verifying::verified;
+use design_stages::{Designed, ReadTexts, Reset, designed};
+use report_text::RunOptions;
 use sdcv_base::Host;
+use sdcv_words::{Command, Job, Options, Texts};
 use std::alloc::Global;
 
-/// What the command is due to print, or why it stops before it prints anything of its own.
-pub fn plan<H: Host>(alloc: Global, host: &mut H, command: Command<'_>) -> Result<Plan, Stop>
-    ensures planned { Plans Verified (reads_of (Some (seen command.entry))) (H.files host.old) (H.asked host.old) (H.asked host.new) result }
+/// What the command is due to save and print, or why it stops before it does anything of its own.
+pub fn plan<'a, H: Host>(
+    alloc: Global,
+    host: &mut H,
+    command: Command<'a>,
+) -> Result<Plan<'a>, Stop>
+    requires { IsInRange (seen_command command) }
+    ensures planned { Plans (IsDueFor (Some (seen_command command.entry))) (reads_of (Some (seen_command command.entry))) (H.files host.old)
+        (H.asked host.old) (H.asked host.new) result }
     ensures count { StopCounts (H.faults host.old) (H.faults host.new) result }
     ensures files { H.files host.new ≡ H.files host.old }
     ensures printed { H.printed host.new ≡ H.printed host.old }
     ensures saved { H.saved host.new ≡ H.saved host.old }
 {
-    let source = netlist(alloc, host, command.netlist)?;
-    let script = constraints(alloc, host, command.constraints)?;
-    let flat = linked(alloc, &source, &script)?;
-    let pair = selected(alloc, &flat, &script)?;
-    let verdict = judged(alloc, &flat.design, &pair)?;
-    Ok(report(alloc, &pair, verdict)?)
+    match command {
+        Command::Over {
+            texts,
+            options,
+            job,
+        } => worked(alloc, host, texts, options, job),
+        Command::Demo { seed, size } => Ok(demonstrated(alloc, seed, size)?),
+    }
+}
+
+// A job over three texts: they are read, the netlist is linked, pairs are selected, and the job is done on them.
+fn worked<'a, H: Host>(
+    alloc: Global,
+    host: &mut H,
+    files: Texts<'a>,
+    options: Options,
+    job: Job<'a>,
+) -> Result<Plan<'a>, Stop>
+    requires reset { options.reset_len ≤ 64 }
+    requires job { IsJobInRange (seen_job job) }
+    ensures planned { Plans (Worked (seen_texts files.entry) options (seen_job job.entry))
+        (reads_of (Some (Over (seen_texts files.entry) options (seen_job job.entry))))
+        (H.files host.old) (H.asked host.old) (H.asked host.new) result }
+    ensures count { StopCounts (H.faults host.old) (H.faults host.new) result }
+    ensures files { H.files host.new ≡ H.files host.old }
+    ensures printed { H.printed host.new ≡ H.printed host.old }
+    ensures saved { H.saved host.new ≡ H.saved host.old }
+{
+    let source = netlist(alloc, host, files.netlist)?;
+    let library = cells(alloc, host, files.cells)?;
+    let script = constraints(alloc, host, files.constraints)?;
+    let texts = ReadTexts {
+        source,
+        library,
+        script,
+    };
+    let Options {
+        hazard,
+        resets,
+        reset_len,
+    } = options;
+    let reset = Reset {
+        ports: resets,
+        len: reset_len,
+    };
+    let designed = designed(alloc, &texts, reset, hazard)?;
+    let done = done(alloc, host, &designed, Manner { hazard, reset_len }, job)?;
+    Ok(done)
+}
+
+/// How runs are judged, and how long they are held in reset.
+#[derive(Clone, Copy)]
+pub struct Manner {
+    pub hazard: bool,
+    pub reset_len: usize,
+}
+
+// The job is done on the selected pairs.
+fn done<'a, H: Host>(
+    alloc: Global,
+    host: &mut H,
+    designed: &Designed,
+    manner: Manner,
+    job: Job<'a>,
+) -> Result<Plan<'a>, Stop>
+    requires judged { CanBeJudged designed.now }
+    requires job { IsJobInRange (seen_job job) }
+    ensures planned { Plans (IsDone manner.hazard manner.reset_len (seen_job job.entry) designed.now) (job_reads (seen_job job.entry)) (H.files host.old)
+        (H.asked host.old) (H.asked host.new) result }
+    ensures count { StopCounts (H.faults host.old) (H.faults host.new) result }
+    ensures files { H.files host.new ≡ H.files host.old }
+    ensures printed { H.printed host.new ≡ H.printed host.old }
+    ensures saved { H.saved host.new ≡ H.saved host.old }
+{
+    match job {
+        Job::Verify { out, json, proving } => {
+            let options = RunOptions {
+                hazard: manner.hazard,
+                reset_len: manner.reset_len,
+                depth: proving.depth,
+                budget: proving.budget,
+                inv_depth: proving.inv_depth,
+            };
+            Ok(verified(alloc, designed, &options, Some(out), json)?)
+        }
+        Job::Check { cert } => checked(alloc, host, designed, cert),
+        Job::Replay { report, pair } => replayed(alloc, host, designed, report, pair),
+    }
 }

@@ -38,9 +38,12 @@ impl Status {
 #[derive(Clone, Copy, Debug, PartialEq, Eq)]
 pub enum Ending {
     Done,
+    Refuted,
     Undecided,
     Refused,
     Words,
+    Rejected,
+    Holds,
 }
 
 impl Ending {
@@ -49,9 +52,12 @@ impl Ending {
     {
         match self {
             Ending::Done => Status::Done,
+            Ending::Refuted => Status::Refuted,
             Ending::Undecided => Status::Undecided,
             Ending::Refused => Status::Refused,
             Ending::Words => Status::Words,
+            Ending::Rejected => Status::Rejected,
+            Ending::Holds => Status::Holds,
         }
     }
 }

@@ -1,25 +1,26 @@
 //! The top call.
-ghost use Rattle.std.specs.Prelude.{◌≡◌, map, string_bytes};
-ghost use Rattle.sdcv_top.specs.Runs.{HasRun, RunCounts};
+ghost use Rattle.std.specs.Prelude.{◌≡◌, map, string_bytes, Some};
+ghost use Rattle.sdcv_words.specs.Commands.{seen_command};
+ghost use Rattle.sdcv_words.specs.Ranges.{IsInRange};
+ghost use Rattle.sdcv_top.specs.Runs.{HasRun, HasRunFor, RunCounts};
 
 use crate::deliveries::{deliver, deliver_line};
 use crate::plans::Stop;
 use crate::rans::Ran;
 use crate::stages::plan;
 use crate::statuses::{Ending, Status};
-use crate::words::command_of;
 use sdcv_base::Host;
-use std::alloc::Global;
+use sdcv_words::{Command, command_of};
+use std::alloc::{AllocError, Global};
 
 const USAGE: &[u8] =
     b"usage: sdcv verify V L S --out CERT | check V L S CERT | replay V L S REPORT PAIR | demo SEED SIZE\n";
 
 /// Runs the command that the words name. The words leave out the program's own name.
 ///
-/// It reads the files that the words name, in their order, and then prints, one call a line. A text that is refused gives
-/// one line, and so do words that name no command. Nothing is printed before all lines are made, so want of memory leaves
-/// nothing behind.
-#[tactic(auto, unfolding(crate::specs::Plans::Plans))]
+/// It reads the files that the words name, in their order, saves a certificate where the command has one, and then prints, one
+/// call a line. A text that is refused gives one line, and so do words that name no command. Nothing is saved or printed
+/// before all lines are made, so want of memory leaves nothing behind.
 pub fn run<H: Host>(alloc: Global, words: &[String], host: &mut H) -> Ran
     ensures ran { HasRun (map string_bytes words.now) (H.files host.old)
         (record { asked = H.asked host.old; printed = H.printed host.old; saved = H.saved host.old })
@@ -28,9 +29,24 @@ pub fn run<H: Host>(alloc: Global, words: &[String], host: &mut H) -> Ran
     ensures count { RunCounts (H.faults host.old) (H.faults host.new) result.status }
     ensures files { H.files host.new ≡ H.files host.old }
 {
-    let Some(command) = command_of(words) else {
-        return deliver_line(host, Ending::Words, USAGE);
-    };
+    match command_of(alloc, words) {
+        Ok(Some(command)) => carried_out(alloc, host, command),
+        Ok(None) => deliver_line(host, Ending::Words, USAGE),
+        Err(AllocError) => Ran::stopped(Status::Memory),
+    }
+}
+
+// Saves and prints what is due for a command.
+#[tactic(auto, unfolding(crate::specs::Plans::Plans))]
+fn carried_out<H: Host>(alloc: Global, host: &mut H, command: Command<'_>) -> Ran
+    requires { IsInRange (seen_command command) }
+    ensures ran { HasRunFor (Some (seen_command command.entry)) (H.files host.old)
+        (record { asked = H.asked host.old; printed = H.printed host.old; saved = H.saved host.old })
+        (record { asked = H.asked host.new; printed = H.printed host.new; saved = H.saved host.new }) result }
+    ensures memory { result.status ≡ Status.Memory → (H.printed host.new ≡ H.printed host.old) × (H.saved host.new ≡ H.saved host.old) }
+    ensures count { RunCounts (H.faults host.old) (H.faults host.new) result.status }
+    ensures files { H.files host.new ≡ H.files host.old }
+{
     match plan(alloc, host, command) {
         Ok(plan) => deliver(host, plan),
         Err(Stop::Refused(line)) => deliver_line(host, Ending::Refused, &line),

@@ -5,5 +5,5 @@ use Rattle.sdcv_top.proofs.deliveries.deliver.Goals as goal
 
 pub returns-clause-delivered : goal.returns-clause-delivered
 returns-clause-delivered g c =
-    let printed = rw c.deref.ensures.value at c.print_lines.ensures.printed in
-    delivers _ _ (outcome_of c.args.plan) c.print_lines.result _ printed c.status_after-status.ensures refl
+    let outputs = rw c.deref.ensures.value at c.save_and_print.ensures.out in
+    delivers _ _ _ _ (outcome_of c.args.plan) c.save_and_print.result _ outputs c.status_after-status.ensures refl

@@ -1,7 +1,7 @@
 use Rattle.std.proofs.Common.{◌≡◌, ℕ, take, get_or, ◌++◌, ap, sym, ◌∙◌, Vec, List}
 use Rattle.std.specs.declared.alloc.Global.{Global}
 use Rattle.sdcv_base.specs.Hosts.{grown}
-use Rattle.sdcv_top.specs.Plans.{bytes_of}
+use Rattle.judgements.specs.Reports.{joined}
 use Rattle.sdcv_top.proofs.Steps.{grown-grown, front_of_pieces}
 use Rattle.sdcv_top.proofs.deliveries.print_lines.Goals as goal
 
@@ -17,7 +17,7 @@ returns-in-Err-clause-printed g c =
       front.0,
       told.1
           ∙ ap (λ o. grown o (take told.0 c.as_slice.result.now)) c.loop-line.invariant.printed
-          ∙ grown-grown before (bytes_of (take i lines)) (take told.0 c.as_slice.result.now)
-          ∙ ap (λ xs. grown before (bytes_of (take i lines) ++ take told.0 xs)) piece
+          ∙ grown-grown before (joined (take i lines)) (take told.0 c.as_slice.result.now)
+          ∙ ap (λ xs. grown before (joined (take i lines) ++ take told.0 xs)) piece
           ∙ ap (λ xs. grown before xs) (sym front.1),
     )

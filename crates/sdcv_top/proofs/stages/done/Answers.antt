@@ -1,0 +1,13 @@
+use Rattle.std.proofs.Common.{Err, refl, ap, ◌∙◌}
+use Rattle.std.proofs.lemmas.Result.{err_from_is_err_and}
+use Rattle.sdcv_top.proofs.Staging.{plan_memory, last_due, stops}
+use Rattle.sdcv_top.proofs.stages.done.Goals as goal
+
+pub returns-in_err-verified-in-Verify-clause-planned : goal.returns-in_err-verified-in-Verify-clause-planned
+returns-in_err-verified-in-Verify-clause-planned g c =
+    let p = err_from_is_err_and c.from_residual.result c.from_residual.ensures.1 in
+    stops _ _ _ _ _ _ _ (p.1 ∙ ap Err p.2) (plan_memory _ _ _ _ _ refl)
+
+pub returns-in_ok-verified-in-Verify-clause-planned : goal.returns-in_ok-verified-in-Verify-clause-planned
+returns-in_ok-verified-in-Verify-clause-planned g c =
+    rw c.in-Verify.is (last_due _ _ _ _ _ _ c.in_ok-verified-in-Verify.ensures refl)

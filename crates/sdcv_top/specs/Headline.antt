@@ -1,0 +1,45 @@
+-- What is told of the pairs of a selection, and what that is worth.
+use Rattle.std.specs.Prelude.{◌≡◌, ℕ, ◌≤◌, ◌<◌, nat_lt, Bool, List, [], ◌∷◌, Option, None, Some, if◌then◌else◌}
+use Rattle.net_model.specs.declared.netlist.Design.{Design}
+use Rattle.net_model.specs.declared.claims.Claim.{Claim}
+use Rattle.verdicts.specs.declared.outcomes.Limits.{Limits}
+use Rattle.report_text.specs.declared.options.RunOptions.{RunOptions}
+use Rattle.report_text.specs.declared.tallies.Tally.{Tally}
+use Rattle.report_text.specs.Words.{tally_of}
+use Rattle.judgements.specs.declared.judged.Judged.{Judged}
+use Rattle.judgements.specs.Judgements.{AreJudged}
+use Rattle.judgements.specs.Certificates.{IsCertificateOf}
+use Rattle.judgements.specs.Reports.{report_bytes}
+use Rattle.design_stages.specs.declared.designs.Designed.{Designed}
+use Rattle.sdcv_top.specs.declared.statuses.Ending.{Ending}
+use Rattle.sdcv_top.specs.declared.statuses.Ending.TheVariants as ending
+use Rattle.sdcv_top.specs.Outcomes.{Outcome}
+
+-- how far a proof is sought
+abbrev pub limits_of : RunOptions → Limits
+limits_of o = record { depth = o.depth; budget = o.budget }
+
+-- some pair is refuted; or none is, and some is undecided; or each is justified
+abbrev pub ending_by : Tally → Ending
+ending_by t = if nat_lt 0 t.refuted then ending.Refuted else (if nat_lt 0 t.undecided then ending.Undecided else ending.Done)
+
+-- the ranges of the options
+pub record AreInRange (o : RunOptions) : Type 0 where
+  pub depth : o.depth ≤ 64
+  pub budget : 0 < o.budget
+  pub inv_depth : o.inv_depth ≤ 8
+
+-- a certificate of what is found is saved under the name, if there is one: it is accepted with exactly the justified pairs
+abbrev pub IsSaved : Option (List ℕ) → Design → List Claim → Judged → List (List ℕ × List ℕ) → Type 0
+IsSaved None d claims judged saved = saved ≡ []
+IsSaved (Some name) d claims judged saved = (bytes : List ℕ) × IsCertificateOf d claims judged bytes × (saved ≡ (name, bytes) ∷ [])
+
+-- each selected pair has its verdict: those that are justified hold in all runs, those that are refuted have a run that
+-- violates them; a certificate of it is saved, and the report says exactly that
+pub record IsReported (out : Option (List ℕ)) (json : Bool) (o : RunOptions) (d : Designed) (due : Outcome) : Type 0 where
+  pub judged : Judged
+  pub right : AreJudged d.linked.design d.selected.claims o.inv_depth (limits_of o) judged
+  pub certificate : IsSaved out d.linked.design d.selected.claims judged due.saved
+  pub ending : due.ending ≡ ending_by (tally_of judged.verdicts)
+  pub printed : due.printed ≡ report_bytes json o d.selected judged.verdicts
+  pub told : due.judged ≡ Some judged

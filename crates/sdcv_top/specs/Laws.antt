@@ -1,0 +1,19 @@
+-- What follows for those who use what a verification left behind.
+use Rattle.std.specs.Prelude.{◌≡◌, ℕ, Bool, List, [], ◌∷◌, length, Some}
+use Rattle.std.specs.List.{concat}
+use Rattle.cert_defs.specs.Accepted.{justified_numbers}
+use Rattle.answer_lines.specs.Certs.{accepted_lines}
+use Rattle.report_text.specs.declared.options.RunOptions.{RunOptions}
+use Rattle.design_stages.specs.declared.designs.Designed.{Designed}
+use Rattle.sdcv_top.specs.declared.statuses.Ending.TheVariants as ending
+use Rattle.sdcv_top.specs.Outcomes.{Outcome, prints}
+use Rattle.sdcv_top.specs.Headline.{IsReported}
+use Rattle.sdcv_top.specs.Jobs.{Checked}
+use Rattle.sdcv_top.specs.Reads.{Text}
+
+-- a check of the certificate that was saved, over the same texts and options, accepts exactly the pairs that are justified
+abbrev pub CheckRepeats : Designed → RunOptions → Type 0
+CheckRepeats d o =
+    (name bytes : List ℕ) (json : Bool) (due again : Outcome) (report : IsReported (Some name) json o d due) → due.saved ≡ (name, bytes) ∷ []
+    → Checked d (Text bytes ∷ []) again
+    → again ≡ prints ending.Done (concat (accepted_lines (justified_numbers report.judged.verdicts) (length d.selected.claims)))

@@ -1,0 +1,50 @@
+-- The stages that read a text.
+use Rattle.std.specs.Prelude.{◌≡◌, ℕ, Bool, true, false, List, Ok, Err}
+use Rattle.verilog_net.specs.declared.sources.Source.{Source}
+use Rattle.cell_types.specs.declared.libraries.Library.{Library}
+use Rattle.cell_types.specs.Builtin.{builtin_cells}
+use Rattle.sdc_text.specs.declared.scripts.Script.{Script}
+use Rattle.fault_lines.specs.declared.sources.Origin.{Origin}
+use Rattle.fault_lines.specs.declared.sources.Origin.TheVariants as origin
+use Rattle.fault_lines.specs.Sources.{too_long_line}
+use Rattle.design_stages.specs.Stages.{Found}
+use Rattle.design_stages.specs.Texts as texts
+use Rattle.sdcv_top.specs.Reads.{Got, Text, Longer, is_builtin}
+use Rattle.sdcv_top.specs.Stages.{Due, AfterText}
+
+-- a text stands for what its reader finds, and is refused where it is too long
+abbrev pub Unless : {A : Type 0} → Origin → (List ℕ → Found A → Type 0) → Got → Found A → Type 0
+Unless from Reads (Text text) found = Reads text found
+Unless from Reads Longer found = found ≡ Err (too_long_line from)
+
+abbrev pub Netlist : Got → Found Source → Type 0
+Netlist = Unless origin.Verilog texts.Netlist
+
+abbrev pub Cells : Got → Found Library → Type 0
+Cells = Unless origin.Liberty texts.Cells
+
+abbrev pub Constraints : Got → Found Script → Type 0
+Constraints = Unless origin.Sdc texts.Constraints
+
+-- the text itself
+abbrev pub Itself : List ℕ → Found (List ℕ) → Type 0
+Itself text found = found ≡ Ok text
+
+abbrev pub CertText : Got → Found (List ℕ) → Type 0
+CertText = Unless origin.Cert Itself
+
+abbrev pub ReportText : Got → Found (List ℕ) → Type 0
+ReportText = Unless origin.Stimulus Itself
+
+-- the cells that are known without a file
+unfoldable pub builtin_library : Library
+builtin_library = record { cells = builtin_cells }
+
+-- the cells that are known without a file, and else those of a file
+unfoldable pub AfterCellsIf : Bool → (Library → Due) → Due
+AfterCellsIf true next = next builtin_library
+AfterCellsIf false next = AfterText Cells next
+
+-- the word `builtin` stands for the cells that are known without a file
+unfoldable pub AfterCells : List ℕ → (Library → Due) → Due
+AfterCells name = AfterCellsIf (is_builtin name)

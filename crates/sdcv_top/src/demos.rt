@@ -1,0 +1,50 @@
+//! A verification of generated texts.
+ghost use Rattle.std.specs.Prelude.{◌≡◌, ◌≤◌, IfOk, [], Ok};
+ghost use Rattle.sdcv_top.specs.Due.{Demonstrated, demo_reset};
+ghost use Rattle.sdcv_top.specs.Plans.{IsPlanned};
+
+use crate::plans::Plan;
+use crate::verifying::verified;
+use cell_types::builtin;
+use design_stages::{ReadTexts, Refusal, Reset, constraints, designed, netlist};
+use report_text::RunOptions;
+use sdcv_base::{Name, Seq, Setting};
+use sdcv_gen::generate;
+use std::alloc::{AllocError, Global};
+
+/// The options of the runs of generated designs.
+const OPTIONS: RunOptions = RunOptions {
+    hazard: false,
+    reset_len: 1,
+    depth: 8,
+    budget: 20_000,
+    inv_depth: 1,
+};
+
+/// Judges the pairs of the design of a seed, of so many blocks.
+pub fn demonstrated<'a>(alloc: Global, seed: u64, size: usize) -> Result<Plan<'a>, Refusal>
+    ensures { IsPlanned (Demonstrated seed size) result }
+{
+    let texts = generate(alloc, seed, size)?;
+    let source = netlist(alloc, &texts.verilog)?;
+    let script = constraints(alloc, &texts.sdc)?;
+    let library = builtin(alloc)?;
+    let texts = ReadTexts {
+        source,
+        library,
+        script,
+    };
+    let reset = demo_reset(alloc)?;
+    let designed = designed(alloc, &texts, reset, false)?;
+    let plan = verified(alloc, &designed, &OPTIONS, None, false)?;
+    Ok(plan)
+}
+
+// The reset port is 1 in the first cycle.
+fn demo_reset(alloc: Global) -> Result<Reset, AllocError>
+    ensures { IfOk result (λ reset. reset ≡ demo_reset) }
+{
+    let name = Name::new(alloc, b"rst")?;
+    let ports = Seq::one(alloc, Setting { name, value: true })?;
+    Ok(Reset { ports, len: 1 })
+}

@@ -1,0 +1,10 @@
+//! What follows for those who use what a verification left behind. Each law is the contract of a call that does nothing.
+ghost use Rattle.sdcv_top.specs.Laws.{CheckRepeats};
+
+use design_stages::Designed;
+use report_text::RunOptions;
+
+/// A check of the certificate that was saved, over the same texts and options, accepts exactly the pairs that are justified.
+pub fn check_repeats(designed: &Designed, options: &RunOptions)
+    ensures { CheckRepeats designed.now options.now }
+{}

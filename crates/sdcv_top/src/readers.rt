@@ -1,0 +1,97 @@
+//! The stages that read a text.
+ghost use Rattle.std.specs.Prelude.{◌≡◌, IfOk};
+ghost use Rattle.verilog_net.specs.Lawful.{IsLawful};
+ghost use Rattle.cell_types.specs.Libraries.{IsLawful as IsLawfulLibrary};
+ghost use Rattle.exception_expand.specs.Selections.{HasMultipliers};
+ghost use Rattle.sdcv_top.specs.Reads.{text_of};
+ghost use Rattle.sdcv_top.specs.Texts.{Netlist, Cells, Constraints, Itself, Unless};
+ghost use Rattle.sdcv_top.specs.Plans.{StopCounts, ReadFinds, CellsFind, items_of};
+
+use crate::plans::Stop;
+use crate::reads::{Answer, LONGEST, read};
+use cell_types::{Library, builtin};
+use design_stages::{cells as cells_of, constraints as constraints_of, netlist as netlist_of};
+use fault_lines::{Origin, too_long_line};
+use sdc_text::Script;
+use sdcv_base::Host;
+use std::alloc::Global;
+use verilog_net::Source;
+
+/// Reads a file of at most `limit` bytes, and refuses a longer one.
+pub fn text<H: Host>(
+    alloc: Global,
+    host: &mut H,
+    name: &str,
+    limit: usize,
+    from: Origin,
+) -> Result<Vec<u8>, Stop>
+    ensures found { ReadFinds (Unless from Itself) (record { name = name.now; limit = limit }) (H.files host.old) (H.asked host.old)
+        (H.asked host.new) (items_of result) }
+    ensures count { StopCounts (H.faults host.old) (H.faults host.new) result }
+    ensures files { H.files host.new ≡ H.files host.old }
+    ensures printed { H.printed host.new ≡ H.printed host.old }
+    ensures saved { H.saved host.new ≡ H.saved host.old }
+{
+    match read(alloc, host, name, limit)? {
+        Answer::Text(text) => Ok(text),
+        Answer::Longer => Err(Stop::Refused(too_long_line(alloc, from)?)),
+    }
+}
+
+/// Reads the netlist.
+pub fn netlist<H: Host>(alloc: Global, host: &mut H, name: &str) -> Result<Source, Stop>
+    ensures found { ReadFinds Netlist (text_of name.now) (H.files host.old) (H.asked host.old) (H.asked host.new) result }
+    ensures lawful { IfOk result IsLawful }
+    ensures count { StopCounts (H.faults host.old) (H.faults host.new) result }
+    ensures files { H.files host.new ≡ H.files host.old }
+    ensures printed { H.printed host.new ≡ H.printed host.old }
+    ensures saved { H.saved host.new ≡ H.saved host.old }
+{
+    let text = text(alloc, host, name, LONGEST, Origin::Verilog)?;
+    let source = netlist_of(alloc, &text)?;
+    Ok(source)
+}
+
+/// The cells that are known without a file, where the word is `builtin`, and else those of the file of that name.
+pub fn cells<H: Host>(alloc: Global, host: &mut H, name: &str) -> Result<Library, Stop>
+    ensures found { CellsFind name.now (H.files host.old) (H.asked host.old) (H.asked host.new) result }
+    ensures lawful { IfOk result (λ library. IsLawfulLibrary library.cells) }
+    ensures count { StopCounts (H.faults host.old) (H.faults host.new) result }
+    ensures files { H.files host.new ≡ H.files host.old }
+    ensures printed { H.printed host.new ≡ H.printed host.old }
+    ensures saved { H.saved host.new ≡ H.saved host.old }
+{
+    if name == "builtin" {
+        let library = builtin(alloc)?;
+        return Ok(library);
+    }
+    library(alloc, host, name)
+}
+
+// Reads the cells.
+fn library<H: Host>(alloc: Global, host: &mut H, name: &str) -> Result<Library, Stop>
+    ensures found { ReadFinds Cells (text_of name.now) (H.files host.old) (H.asked host.old) (H.asked host.new) result }
+    ensures lawful { IfOk result (λ library. IsLawfulLibrary library.cells) }
+    ensures count { StopCounts (H.faults host.old) (H.faults host.new) result }
+    ensures files { H.files host.new ≡ H.files host.old }
+    ensures printed { H.printed host.new ≡ H.printed host.old }
+    ensures saved { H.saved host.new ≡ H.saved host.old }
+{
+    let text = text(alloc, host, name, LONGEST, Origin::Liberty)?;
+    let library = cells_of(alloc, &text)?;
+    Ok(library)
+}
+
+/// Reads the constraints.
+pub fn constraints<H: Host>(alloc: Global, host: &mut H, name: &str) -> Result<Script, Stop>
+    ensures found { ReadFinds Constraints (text_of name.now) (H.files host.old) (H.asked host.old) (H.asked host.new) result }
+    ensures multipliers { IfOk result HasMultipliers }
+    ensures count { StopCounts (H.faults host.old) (H.faults host.new) result }
+    ensures files { H.files host.new ≡ H.files host.old }
+    ensures printed { H.printed host.new ≡ H.printed host.old }
+    ensures saved { H.saved host.new ≡ H.saved host.old }
+{
+    let text = text(alloc, host, name, LONGEST, Origin::Sdc)?;
+    let script = constraints_of(alloc, &text)?;
+    Ok(script)
+}

@@ -1,0 +1,89 @@
+//! The verdicts on the selected pairs, with their certificate and their report.
+ghost use Rattle.std.specs.Prelude.{◌≡◌, ℕ, IfOk};
+ghost use Rattle.std.specs.Option.{option_map};
+ghost use Rattle.design_stages.specs.Designs.{CanBeJudged};
+ghost use Rattle.judgements.specs.Judgements.{AreJudged, AreAllInForm};
+ghost use Rattle.sdcv_top.specs.Headline.{IsReported, IsSaved, ending_by, AreInRange};
+ghost use Rattle.sdcv_top.specs.Plans.{outcome_of, saved_of};
+
+use crate::plans::{Certificate, Plan};
+use crate::statuses::Ending;
+use design_stages::Designed;
+use judgements::{Judged, certificate, judge, report};
+use report_text::{RunOptions, Tally, tally_of};
+use std::alloc::{AllocError, Global};
+use verdicts::Limits;
+
+/// Judges all selected pairs. A certificate of the verdicts is saved where it has a name.
+pub fn verified<'a>(
+    alloc: Global,
+    designed: &Designed,
+    options: &RunOptions,
+    out: Option<&'a str>,
+    json: bool,
+) -> Result<Plan<'a>, AllocError>
+    requires judged { CanBeJudged designed.now }
+    requires options { AreInRange options.now }
+    ensures { IfOk result (λ plan. IsReported (option_map (λ t. t.now) out.entry) json options.now designed.now (outcome_of plan)) }
+{
+    let limits = Limits {
+        depth: options.depth,
+        budget: options.budget,
+    };
+    let design = &designed.linked.design;
+    let claims = &designed.selected.claims;
+    let judged = judge(alloc, design, claims, options.inv_depth, &limits)?;
+    let saved = certified(alloc, designed, &limits, &judged, out)?;
+    let lines = report(
+        alloc,
+        options,
+        &designed.selected,
+        judged.verdicts.as_slice(),
+        json,
+    )?;
+    Ok(Plan {
+        ending: ending_by(tally_of(judged.verdicts.as_slice())),
+        saved,
+        lines,
+        judged: Some(judged),
+    })
+}
+
+// The certificate of the verdicts, where it has a name.
+fn certified<'a>(
+    alloc: Global,
+    designed: &Designed,
+    limits: &Limits,
+    judged: &Judged,
+    out: Option<&'a str>,
+) -> Result<Option<Certificate<'a>>, AllocError>
+    requires judged { (inv_depth : ℕ) × AreJudged designed.now.linked.design designed.now.selected.claims inv_depth limits.now judged.now }
+    requires in_form { AreAllInForm judged.now }
+    ensures { IfOk result (λ saved. IsSaved (option_map (λ t. t.now) out.entry) designed.now.linked.design
+        designed.now.selected.claims judged.now (saved_of saved)) }
+{
+    let Some(name) = out else {
+        return Ok(None);
+    };
+    let bytes = certificate(
+        alloc,
+        &designed.linked.design,
+        &designed.selected.claims,
+        limits,
+        judged,
+    )?;
+    Ok(Some(Certificate { name, bytes }))
+}
+
+// How a run ends that reports so many verdicts of each kind.
+fn ending_by(tally: Tally) -> Ending
+    ensures { result ≡ ending_by tally }
+{
+    if tally.refuted > 0 {
+        Ending::Refuted
+    } else if tally.undecided > 0 {
+        Ending::Undecided
+    } else {
+        Ending::Done
+    }
+}
