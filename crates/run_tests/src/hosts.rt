@@ -6,23 +6,28 @@ use std::alloc::{AllocError, Global};
 // The room of a host for what it prints.
 const ROOM: usize = 65_536;
 
-fn file(alloc: Global, name: &str, text: &str) -> Result<FileRec, AllocError> {
+/// A file of that name.
+pub fn file(alloc: Global, name: &str, bytes: &[u8]) -> Result<FileRec, AllocError> {
     Ok(FileRec {
         name: Name::new(alloc, name.as_bytes())?,
-        bytes: Vec::from_slice(alloc, text.as_bytes())?,
+        bytes: Vec::from_slice(alloc, bytes)?,
     })
+}
+
+/// The files of a netlist and its constraints.
+pub fn texts(alloc: Global, netlist: &str, constraints: &str) -> Result<Vec<FileRec>, AllocError> {
+    let mut files = Vec::new(alloc);
+    files.push(file(alloc, "v", netlist.as_bytes())?)?;
+    files.push(file(alloc, "s", constraints.as_bytes())?)?;
+    Ok(files)
 }
 
 /// A host with these files, one of whose calls may fail.
 pub fn host_of(
     alloc: Global,
-    texts: &[(&str, &str)],
+    files: Vec<FileRec>,
     fail: Option<Fail>,
 ) -> Result<MemHost, AllocError> {
-    let mut files = Vec::new(alloc);
-    for (name, text) in texts {
-        files.push(file(alloc, name, text)?)?;
-    }
     let mut fails = Vec::new(alloc);
     if let Some(fail) = fail {
         fails.push(fail)?;

@@ -1,10 +1,10 @@
 //! Reports of `verify`, worked by hand. The constraints of a row stand below the line of the clock.
-use crate::hosts::{host_of, words_of};
+use crate::hosts::{file, host_of, texts, words_of};
 use crate::netlists::{
     CONSTRAINTS, COUNTER, DIRECT, GLITCH, LIBRARY, PARITY, PHASES, RING, SYNTHESISED, TIED, TOGGLE,
     TWO_WAYS,
 };
-use sdcv_base::{Fail, MemHost};
+use sdcv_base::{Fail, FileRec, MemHost};
 use sdcv_top::{Ran, Status, run};
 use std::alloc::{AllocError, Global};
 use std::test::Fail as TestFail;
@@ -213,7 +213,7 @@ fn row_constraints(alloc: Global, row: &Row) -> Result<String, AllocError> {
 // A host with the files of a row.
 fn row_host(alloc: Global, row: &Row, fail: Option<Fail>) -> Result<MemHost, AllocError> {
     let constraints = row_constraints(alloc, row)?;
-    host_of(alloc, &[("v", row.netlist), ("s", &constraints)], fail)
+    host_of(alloc, texts(alloc, row.netlist, &constraints)?, fail)
 }
 
 fn told(alloc: Global, row: &Row, host: &mut MemHost) -> Result<Ran, AllocError> {
@@ -310,14 +310,10 @@ fn a_printed_report_is_replayed(rt: HostRuntime) -> Result<(), TestFail> {
         let row = &REFUTED[*place];
         let mut host = row_host(alloc, row, None)?;
         told(alloc, row, &mut host)?;
-        let report = str::from_utf8(host.printed()).unwrap_or("");
         let constraints = row_constraints(alloc, row)?;
-        let files = [
-            ("v", row.netlist),
-            ("s", constraints.as_str()),
-            ("r", report),
-        ];
-        let mut again = host_of(alloc, &files, None)?;
+        let mut files = texts(alloc, row.netlist, &constraints)?;
+        files.push(file(alloc, "r", host.printed())?)?;
+        let mut again = host_of(alloc, files, None)?;
         let words = words_of(alloc, line)?;
         assert_eq!(rt; run(alloc, &words, &mut again).status, *status);
         assert_eq!(rt; again.printed(), printed.as_bytes());
@@ -344,26 +340,24 @@ total 9 justified 9 refuted 0 undecided 0
 const ACCEPTED: &str =
     "accepted 9 of 9\npair 1\npair 2\npair 3\npair 4\npair 5\npair 6\npair 7\npair 8\npair 9\n";
 
+fn synthesised_files(alloc: Global) -> Result<Vec<FileRec>, AllocError> {
+    let mut files = texts(alloc, SYNTHESISED, CONSTRAINTS)?;
+    files.push(file(alloc, "l", LIBRARY.as_bytes())?)?;
+    Ok(files)
+}
+
 // The whole way with a Liberty file, and the check of what it saved.
 #[test]
 fn a_synthesised_netlist_is_verified_and_checked(rt: HostRuntime) -> Result<(), TestFail> {
     let alloc = rt.alloc();
-    let mut host = host_of(
-        alloc,
-        &[("v", SYNTHESISED), ("l", LIBRARY), ("s", CONSTRAINTS)],
-        None,
-    )?;
+    let mut host = host_of(alloc, synthesised_files(alloc)?, None)?;
     let words = words_of(alloc, "verify v l s --out c --reset rst_n=0")?;
     assert_eq!(rt; run(alloc, &words, &mut host).status, Status::Done);
     assert_eq!(rt; host.printed(), SYNTHESISED_REPORT.as_bytes());
-    let cert = str::from_utf8(host.saved()[0].bytes.as_slice()).unwrap_or("");
-    let files = [
-        ("v", SYNTHESISED),
-        ("l", LIBRARY),
-        ("s", CONSTRAINTS),
-        ("c", cert),
-    ];
-    let mut again = host_of(alloc, &files, None)?;
+    let saved = host.saved().first().ok_or("a certificate")?;
+    let mut files = synthesised_files(alloc)?;
+    files.push(file(alloc, "c", &saved.bytes)?)?;
+    let mut again = host_of(alloc, files, None)?;
     let words = words_of(alloc, "check v l s c --reset rst_n=0")?;
     assert_eq!(rt; run(alloc, &words, &mut again).status, Status::Done);
     assert_eq!(rt; again.printed(), ACCEPTED.as_bytes());

@@ -1,5 +1,5 @@
 //! Refusals, checks, replays and demonstrations, worked by hand.
-use crate::hosts::{host_of, words_of};
+use crate::hosts::{file, host_of, texts, words_of};
 use crate::netlists::{DIRECT, TIED};
 use sdcv_base::MemHost;
 use sdcv_top::{Status, run};
@@ -130,13 +130,11 @@ const FILES: &[(&str, &str)] = &[
 ];
 
 fn row_host(alloc: Global, netlist: &str, constraints: &str) -> Result<MemHost, AllocError> {
-    let mut files = Vec::new(alloc);
-    files.push(("v", netlist))?;
-    files.push(("s", constraints))?;
-    for file in FILES {
-        files.push(*file)?;
+    let mut files = texts(alloc, netlist, constraints)?;
+    for (name, text) in FILES {
+        files.push(file(alloc, name, text.as_bytes())?)?;
     }
-    host_of(alloc, &files, None)
+    host_of(alloc, files, None)
 }
 
 #[test]
@@ -259,7 +257,7 @@ fn an_empty_design_has_an_empty_report(rt: HostRuntime) -> Result<(), Fail> {
     for (line, constraints, printed) in EMPTY {
         let mut host = host_of(
             alloc,
-            &[("v", "module top; endmodule"), ("s", constraints)],
+            texts(alloc, "module top; endmodule", constraints)?,
             None,
         )?;
         let words = words_of(alloc, line)?;
@@ -306,7 +304,7 @@ const TOTALS: &[(&str, &str)] = &[
 fn a_demonstration_counts_its_pairs(rt: HostRuntime) -> Result<(), Fail> {
     let alloc = rt.alloc();
     for (line, total) in TOTALS {
-        let mut host = host_of(alloc, &[], None)?;
+        let mut host = host_of(alloc, Vec::new(alloc), None)?;
         let words = words_of(alloc, line)?;
         assert_eq!(rt;
             run(alloc, &words, &mut host).status,
