@@ -16,6 +16,7 @@ ghost use Rattle.cert_check.specs.Checking.{clause_fault, pair_fault, IsAnswerFo
 use crate::inducting::{prove_claim, prove_clause};
 use crate::listing::{claim_of, well_listed};
 use cert_values::{Cert, CertFault};
+use cnf_encode::Prepared;
 use net_model::{Claim, Design};
 use rup_check::CheckFault;
 use sdcv_base::Seq;
@@ -26,7 +27,7 @@ use std::alloc::Global;
 /// the formulas of their queries. Each listed claim then holds in every run from reset, where hazards count and where they don't.
 ///
 /// The causes to refuse are looked for in this order, so a later one is told only where there is none of an earlier kind. Memory
-/// is taken for a mark a claim, for the numbers, and for one formula at a time.
+/// is taken for a mark a claim, for the numbers, for what depends on the design alone, and for one formula at a time.
 pub fn check(
     alloc: Global,
     design: &Design,
@@ -44,13 +45,14 @@ pub fn check(
     ensures only { (numbers : List ℕ) → Accepts own_coding design.now claims.now cert.now numbers → IsAnswerFor numbers result }
 {
     let numbers = well_listed(alloc, design, claims, cert)?;
-    prove_kept(alloc, design, cert)?;
-    prove_pairs(alloc, design, claims, cert)?;
+    let prepared = Prepared::of(alloc, design)?;
+    prove_kept(alloc, &prepared, cert)?;
+    prove_pairs(alloc, &prepared, claims, cert)?;
     Ok(numbers)
 }
 
 /// Whether the derivations of each kept clause refute its queries.
-fn prove_kept(alloc: Global, design: &Design, cert: &Cert) -> Result<(), CertFault>
+fn prove_kept(alloc: Global, design: &Prepared, cert: &Cert) -> Result<(), CertFault>
     requires sound { IsSound design.now }
     requires names { All (NamesRegs design.now) cert.now.kept }
     requires complete { IsComplete cert.now }
@@ -70,7 +72,7 @@ fn prove_kept(alloc: Global, design: &Design, cert: &Cert) -> Result<(), CertFau
 /// Whether each listed claim is proved, with the kept clauses.
 fn prove_pairs(
     alloc: Global,
-    design: &Design,
+    design: &Prepared,
     claims: &[Claim],
     cert: &Cert,
 ) -> Result<(), CertFault>

@@ -15,7 +15,8 @@ ghost use Rattle.cert_defs.specs.Refused.{HasFaultIn, HasProofFault};
 ghost use Rattle.cert_check.specs.Inducting.{AreBasesRefuted, HasBaseFault};
 
 use crate::refuting::{Asked, refute_claim, refute_clause};
-use net_model::{Claim, Design, InvClause, Phase};
+use cnf_encode::Prepared;
+use net_model::{Claim, InvClause, Phase};
 use proof_log::Derivation;
 use rup_check::CheckFault;
 use sdcv_base::Seq;
@@ -25,7 +26,7 @@ use verdicts::{InvProof, Proof};
 /// Whether the derivations refute the base queries of the clause at a place, at the offsets from 0 on.
 fn refute_clause_bases(
     alloc: Global,
-    design: &Design,
+    design: &Prepared,
     kept: &[InvClause],
     place: usize,
     base: &Seq<Derivation>,
@@ -52,7 +53,7 @@ fn refute_clause_bases(
 /// Whether the derivations of the kept clause at a place refute its queries, the step query against all kept clauses.
 pub(crate) fn prove_clause(
     alloc: Global,
-    design: &Design,
+    design: &Prepared,
     kept: &[InvClause],
     place: usize,
     proof: &InvProof,
@@ -78,7 +79,7 @@ pub(crate) fn prove_clause(
 /// Whether the derivations refute the base queries of a claim, at the offsets from 0 on.
 fn refute_claim_bases(
     alloc: Global,
-    design: &Design,
+    design: &Prepared,
     kept: &[InvClause],
     claim: &Claim,
     base: &Seq<Derivation>,
@@ -103,7 +104,7 @@ fn refute_claim_bases(
 /// Whether the derivations refute the queries of a claim up to the step query of the depth.
 fn prove_at_depth(
     alloc: Global,
-    design: &Design,
+    design: &Prepared,
     kept: &[InvClause],
     claim: &Claim,
     base: &Seq<Derivation>,
@@ -129,7 +130,7 @@ fn prove_at_depth(
 /// Whether what is told of a claim, which is of its kind, proves it.
 pub(crate) fn prove_claim(
     alloc: Global,
-    design: &Design,
+    design: &Prepared,
     kept: &[InvClause],
     claim: &Claim,
     proof: &Proof,

@@ -9,8 +9,8 @@ ghost use Rattle.verdicts.specs.Logs.{own_coding, RefutesQuery};
 ghost use Rattle.rup_check.specs.declared.faults.CheckFault.TheVariants.{Memory};
 ghost use Rattle.cert_defs.specs.Refused.{HasFault};
 
-use cnf_encode::{formula, inv_formula};
-use net_model::{Claim, Design, InvClause, Phase};
+use cnf_encode::{Prepared, formula, inv_formula};
+use net_model::{Claim, InvClause, Phase};
 use proof_log::Derivation;
 use rup_check::CheckFault;
 use std::alloc::Global;
@@ -25,7 +25,7 @@ pub(crate) struct Asked {
 /// Whether the derivation refutes the query of a claim.
 pub(crate) fn refute_claim(
     alloc: Global,
-    design: &Design,
+    design: &Prepared,
     kept: &[InvClause],
     claim: &Claim,
     asked: Asked,
@@ -46,7 +46,7 @@ pub(crate) fn refute_claim(
 /// Whether the derivation refutes the query of the clause at a place.
 pub(crate) fn refute_clause(
     alloc: Global,
-    design: &Design,
+    design: &Prepared,
     kept: &[InvClause],
     place: usize,
     asked: Asked,

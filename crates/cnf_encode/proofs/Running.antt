@@ -1,7 +1,7 @@
 -- The cycles that are read back: those that the stimulus of a model stands for.
 use Rattle.std.proofs.Common.{◌≡◌, ℕ, zero, suc, ◌+◌, ◌<◌, Bool, List, [], ◌∷◌, ◌++◌, length, length-append, get_or, option_map, Some, refl, ap, sym}
 use Rattle.std.proofs.Common.{◌∙◌, arith, ◌⊎◌, inl, inr, subst}
-use Rattle.std.specs.Prelude.{All, map, slice_get, nat_lt}
+use Rattle.std.specs.Prelude.{slice_get, nat_lt}
 use Rattle.std.proofs.lemmas.List.{length-map}
 use Rattle.std.proofs.lemmas.Option.{slice_get_within, slice_get-get_or, slice_get-map, same_Some}
 use Rattle.net_model.specs.Cycles.{IsLinked, HasResets}
@@ -9,7 +9,7 @@ use Rattle.net_model.specs.Stimuli.{StandsFor}
 use Rattle.net_model.specs.declared.netlist.Design.{Design}
 use Rattle.net_model.specs.declared.cycles.Cycle.{Cycle}
 use Rattle.net_model.specs.declared.cycles.Stimulus.{Stimulus}
-use Rattle.net_sim.specs.Runs.{KeepFixed, IsLinkable}
+use Rattle.net_sim.specs.Runs.{IsLinkable}
 use Rattle.query_model.specs.Reads.{bit_key, input_key}
 use Rattle.query_model.specs.Laws.{HasFreeBits}
 use Rattle.query_model.specs.Variables.{by_number}

@@ -40,8 +40,8 @@ pub record AreValuesOf (settings : List Fixed) (inputs : ℕ) (values : List (Op
 
 -- inputs with their settings, and what the keys are about in the cycles up to this one
 pub record IsConeOf (d : Design) (keys : List Key) (cycles : ℕ) (cone : Cone) : Type 0 where
-  pub fixed : AreValuesOf d.fixed (length d.inputs) cone.fixed
-  pub resets : AreValuesOf d.resets (length d.inputs) cone.resets
+  pub fixed : AreValuesOf d.fixed (length d.inputs) cone.fixed.now
+  pub resets : AreValuesOf d.resets (length d.inputs) cone.resets.now
   pub inputs : AreRows keys d.inputs (cycles + 1) cone.inputs
   pub gates : AreRows keys (gate_points d) (cycles + 1) cone.gates
   pub bits : AreRows keys (bit_points d) (cycles + 1) cone.bits

@@ -1,11 +1,9 @@
 -- Free bits: register bits of the first cycle, and bits of inputs that are neither fixed nor reset.
-use Rattle.std.specs.Prelude.{◌≡◌, ◌≢◌, ℕ, ◌<◌, Bool, false, List, length, None, Some, slice_get, nat_lt, if◌then◌else◌}
+use Rattle.std.specs.Prelude.{◌≡◌, ℕ, ◌<◌, Bool, false, List, length, None, Some, slice_get, nat_lt, if◌then◌else◌}
 use Rattle.net_model.specs.Cycles.{bit_at}
 use Rattle.net_model.specs.Stimuli.{AreInputs}
 use Rattle.net_model.specs.declared.netlist.Design.{Design}
 use Rattle.net_model.specs.declared.cycles.Stimulus.{Stimulus}
-use Rattle.net_model.specs.declared.netlist.Fixed.{Fixed}
-use Rattle.query_model.specs.Keys.{key}
 use Rattle.query_model.specs.Reads.{bit_key, input_key}
 use Rattle.query_model.specs.Defined.{set_in}
 use Rattle.query_model.specs.Formula.{has_key}

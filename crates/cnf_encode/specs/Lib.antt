@@ -6,3 +6,4 @@ pub mod Chosen
 pub mod Listed
 pub mod Coned
 pub mod Placed
+pub mod Prepared

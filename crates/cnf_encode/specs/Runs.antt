@@ -3,7 +3,6 @@ use Rattle.std.specs.Prelude.{◌≡◌, ℕ, ◌<◌, false, List, length, Cont
 use Rattle.net_model.specs.Cycles.{bit_at}
 use Rattle.net_model.specs.declared.netlist.Design.{Design}
 use Rattle.net_model.specs.declared.cycles.Cycle.{Cycle}
-use Rattle.query_model.specs.Keys.{key}
 use Rattle.query_model.specs.Reads.{bit_key, input_key}
 use Rattle.query_model.specs.Defined.{set_in}
 use Rattle.query_model.specs.declared.keys.Key.{Key}

@@ -74,7 +74,7 @@ fn list_claim_cycle(
     requires closed { IsClosed frames.now (claim_cycle design.now claim.now tables.now.moved live cycle) }
     ensures { OnOk result (Lists frames.now (claim_cycle design.now claim.now tables.now.moved live cycle) clauses.old clauses.new) }
 {
-    let drivers = &tables.drivers;
+    let drivers = tables.drivers;
     list_cycle(alloc, frames, design, drivers, cone, live, cycle, clauses)?;
     list_late(
         alloc, frames, design, claim, tables, starts, cone, cycle, clauses,

@@ -13,11 +13,10 @@ use crate::claims::{list_claim_cycles, list_clause_cycles};
 use crate::clauses::push_clause;
 use crate::cones::Cone;
 use crate::layers::start_nets;
+use crate::prepared_designs::Prepared;
 use crate::problems::Problem;
-use frame_unroll::{
-    Frames, Span, Tables, claim_asked, claim_span, clause_asked, clause_span, net_drivers,
-};
-use net_model::{Claim, Design, InvClause, Phase};
+use frame_unroll::{Frames, Span, Tables, claim_asked, claim_span, clause_asked, clause_span};
+use net_model::{Claim, InvClause, Phase};
 use proof_log::{Clause, Formula};
 use query_model::KeyLit;
 use sdcv_base::Seq;
@@ -64,7 +63,7 @@ fn problem_of(frames: Frames, span: Span, clauses: Seq<Clause>) -> Problem
 /// violated at no toggle before. Each model is such a run, and each such run gives a model.
 pub fn formula(
     alloc: Global,
-    design: &Design,
+    design: &Prepared,
     claim: &Claim,
     phase: Phase,
     depth: usize,
@@ -78,17 +77,18 @@ pub fn formula(
     ensures normal { IfOk result (λ p. IsFormula p.formula) }
     ensures complete { IfOk result (IsCompleteFor (claim_query design.now claim.now phase depth inv.now)) }
 {
-    let span = claim_span(design, claim, phase, depth);
-    let tables = Tables::of(alloc, design, claim)?;
-    let asked = claim_asked(alloc, design, claim, phase, depth, inv)?;
-    let frames = Frames::by_claim(alloc, design, claim, &tables, span.cycles, &asked)?;
-    let cone = Cone::of(alloc, design, &frames, span.cycles)?;
+    let bare = design.bare();
+    let span = claim_span(bare, claim, phase, depth);
+    let tables = Tables::of(alloc, bare, design.drivers(), design.gates(), claim)?;
+    let asked = claim_asked(alloc, bare, claim, phase, depth, inv)?;
+    let frames = Frames::by_claim(alloc, bare, claim, &tables, span.cycles, &asked)?;
+    let cone = Cone::of(alloc, design.points(), &frames, span.cycles)?;
     let starts = start_nets(alloc, &tables)?;
     let mut clauses = Seq::new(alloc);
     list_claim_cycles(
         alloc,
         &frames,
-        design,
+        bare,
         claim,
         &tables,
         &starts,
@@ -107,7 +107,7 @@ pub fn formula(
 /// in each cycle before.
 fn clause_formula(
     alloc: Global,
-    design: &Design,
+    design: &Prepared,
     inv: &[InvClause],
     clause: &InvClause,
     phase: Phase,
@@ -121,17 +121,18 @@ fn clause_formula(
     ensures normal { IfOk result (λ p. IsFormula p.formula) }
     ensures complete { IfOk result (IsCompleteFor (clause_query design.now inv.now clause.now phase depth)) }
 {
-    let span = clause_span(design, phase, depth);
-    let drivers = net_drivers(alloc, design)?;
-    let asked = clause_asked(alloc, design, inv, clause, phase, depth)?;
-    let frames = Frames::by_clause(alloc, design, &drivers, span.cycles, &asked)?;
-    let cone = Cone::of(alloc, design, &frames, span.cycles)?;
+    let bare = design.bare();
+    let drivers = design.drivers();
+    let span = clause_span(bare, phase, depth);
+    let asked = clause_asked(alloc, bare, inv, clause, phase, depth)?;
+    let frames = Frames::by_clause(alloc, bare, drivers, design.gates(), span.cycles, &asked)?;
+    let cone = Cone::of(alloc, design.points(), &frames, span.cycles)?;
     let mut clauses = Seq::new(alloc);
     list_clause_cycles(
         alloc,
         &frames,
-        design,
-        &drivers,
+        bare,
+        drivers,
         &cone,
         span.live,
         span.cycles,
@@ -144,7 +145,7 @@ fn clause_formula(
 /// The query whether the clause at a place of `inv` fails at a depth, as a formula.
 pub fn inv_formula(
     alloc: Global,
-    design: &Design,
+    design: &Prepared,
     inv: &[InvClause],
     place: usize,
     phase: Phase,

@@ -16,11 +16,14 @@ mod input_values;
 mod layers;
 mod needed;
 mod point_rows;
+mod point_tables;
 mod points;
+mod prepared_designs;
 mod problems;
 mod runs;
 mod tables;
 
 pub use formulas::{formula, inv_formula};
+pub use prepared_designs::Prepared;
 pub use problems::Problem;
 pub use runs::read_back;

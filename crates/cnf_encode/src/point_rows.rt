@@ -1,5 +1,5 @@
 //! The places, in a list of points, of what keys are about, cycle by cycle.
-ghost use Rattle.std.specs.Prelude.{◌≡◌, ◌<◌, [], map, replicate, All, IfOk, OnOk};
+ghost use Rattle.std.specs.Prelude.{◌≡◌, ◌<◌, ℕ, List, [], map, replicate, All, IfOk, OnOk};
 ghost use Rattle.cnf_encode.specs.Coned.{AreRows};
 ghost use Rattle.cnf_encode.specs.Placed.{StandOnce, ArePlaces, ArePushed, IsInOrder, AreInOrder, place_of, with_place};
 
@@ -8,27 +8,23 @@ use query_model::Key;
 use sdcv_base::Seq;
 use std::alloc::{AllocError, Global};
 
-/// For each cycle the places of the points that keys are about in it, ascending.
+/// For each cycle the places of the points that keys are about in it, ascending, by a table of the places.
 ///
-/// It takes the time that the keys and `size` take, and that of sorting each row.
+/// It takes the time that the keys take, and that of sorting each row.
 pub fn point_rows(
     alloc: Global,
     frames: &Frames,
-    points: &[usize],
-    size: usize,
+    places: &Seq<Option<usize>>,
     cycles: usize,
 ) -> Result<Seq<Seq<usize>>, AllocError>
-    requires below { All (λ p. p < size) points.now }
-    requires once { StandOnce points.now }
-    ensures { IfOk result (AreRows frames.now points.now cycles) }
+    ensures { IfOk result (λ rows. (points : List ℕ) (size : ℕ) → ArePlaces points size places.now → AreRows frames.now points cycles rows) }
 {
-    let places = places_by_point(alloc, points, size)?;
-    let found = by_cycle(alloc, frames, &places, cycles)?;
+    let found = by_cycle(alloc, frames, places, cycles)?;
     all_in_order(alloc, &found)
 }
 
 /// At which place each point stands.
-fn places_by_point(
+pub fn places_by_point(
     alloc: Global,
     points: &[usize],
     size: usize,

@@ -98,7 +98,7 @@ fn list_differ(
         let low = late_capture_lit(design, claim, tables, cycle, 1);
         list_both(alloc, frames, differs, high, low, clauses)?;
     } else {
-        let capture = capture_lit(design, &tables.drivers, claim.end, cycle);
+        let capture = capture_lit(design, tables.drivers, claim.end, cycle);
         list_exclusive(alloc, frames, differs, high, capture, clauses)?;
     }
     Ok(())
@@ -186,7 +186,7 @@ pub fn list_points(
         alloc,
         frames,
         design,
-        &tables.drivers,
+        tables.drivers,
         claim.start,
         cycle,
         clauses,
@@ -195,20 +195,12 @@ pub fn list_points(
         alloc,
         frames,
         design,
-        &tables.drivers,
+        tables.drivers,
         claim.end,
         cycle,
         clauses,
     )?;
     list_differ(alloc, frames, design, claim, tables, cycle, clauses)?;
-    list_stales(
-        alloc,
-        frames,
-        design,
-        claim,
-        &tables.drivers,
-        cycle,
-        clauses,
-    )?;
+    list_stales(alloc, frames, design, claim, tables.drivers, cycle, clauses)?;
     Ok(())
 }

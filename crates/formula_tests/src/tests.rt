@@ -8,7 +8,7 @@ ghost use Rattle.cnf_encode.specs.Problems.{IsMadeFor};
 use crate::plain_answers::{
     advance, is_broken, is_lawful, marked, models, number_of, run_of, stimulus_of,
 };
-use cnf_encode::{Problem, formula, inv_formula};
+use cnf_encode::{Prepared, Problem, formula, inv_formula};
 use net_model::Phase::{Base, Step};
 use net_model::PinRef::{GateIn as G, Net as N, OutPort as O, RegIn as R};
 use net_model::{Claim, Cycle, Design, InvClause, Phase, Stimulus};
@@ -43,7 +43,7 @@ fn all_name_regs(design: &Design, clauses: &[InvClause]) -> bool
 /// The formula of a query about a claim.
 fn claim_problem(
     alloc: Global,
-    design: &Design,
+    design: &Prepared,
     claim: &Claim,
     phase: Phase,
     depth: usize,
@@ -61,7 +61,7 @@ fn claim_problem(
 /// The formula of a query about the first clause.
 fn first_problem(
     alloc: Global,
-    design: &Design,
+    design: &Prepared,
     inv: &[InvClause],
     phase: Phase,
     depth: usize,
@@ -90,12 +90,13 @@ fn problem_of(
     let clauses = case.clauses.as_slice();
     assert!(rt; depth <= 64);
     assert!(rt; all_name_regs(design, clauses));
+    let prepared = Prepared::of(alloc, design)?;
     if case.has_claim {
         assert!(rt; case.claim.fits(design));
-        return claim_problem(alloc, design, &case.claim, phase, depth, clauses);
+        return claim_problem(alloc, &prepared, &case.claim, phase, depth, clauses);
     }
     assert!(rt; !clauses.is_empty());
-    first_problem(alloc, design, clauses, phase, depth)
+    first_problem(alloc, &prepared, clauses, phase, depth)
 }
 
 /// Each number is that of its key, and keys ascend.

@@ -10,6 +10,7 @@ ghost use Rattle.cert_call.specs.Texts.{IsAcceptedText};
 
 use cert_call::found_is_writable;
 use cert_text::write_cert;
+use cnf_encode::Prepared;
 use invariants::invariants;
 use net_model::{Claim, Design};
 use pair_prove::prove;
@@ -27,7 +28,7 @@ pub struct Found {
 /// The verdict on each claim, with the kept clauses.
 fn verdicts_on(
     alloc: Global,
-    design: &Design,
+    design: &Prepared,
     claims: &Seq<Claim>,
     inv: &InvSet,
     limits: Limits,
@@ -65,7 +66,8 @@ pub fn find(
     ensures { IfOk result (λ f. IsAcceptedText design.now claims.now f.text.items (justified_numbers f.verdicts)) }
 {
     let inv = invariants(alloc, design, claims, depth, limits.budget)?;
-    let verdicts = verdicts_on(alloc, design, claims, &inv, limits)?;
+    let prepared = Prepared::of(alloc, design)?;
+    let verdicts = verdicts_on(alloc, &prepared, claims, &inv, limits)?;
     let text = write_cert(alloc, verdicts.as_slice(), &inv)?;
     found_is_writable(design, claims, &inv, limits, &verdicts);
     Ok(Found { verdicts, text })

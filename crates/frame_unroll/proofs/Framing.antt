@@ -7,7 +7,7 @@ use Rattle.std.proofs.lemmas.Bool.{or_left, or_right, cond-true, cond-false}
 use Rattle.query_model.specs.Formula.{same_key, has_key}
 use Rattle.query_model.specs.Variables.{number_of}
 use Rattle.query_model.specs.declared.keys.Key.{Key}
-use Rattle.net_model.proofs.Members.{In, In-from_Contains}
+use Rattle.net_model.proofs.Members.{In-from_Contains}
 use Rattle.query_model.proofs.Needs.{same_key-refl}
 use Rattle.query_model.proofs.Places.{same_key-true, at_number}
 use Rattle.indexmap.proofs.CallerLemmas.{Contains-list_any}

@@ -306,7 +306,7 @@ fn add_differ_reads(
     let other = if claim.hazard {
         late_capture_lit(design, claim, tables, cycle, 1)
     } else {
-        capture_lit(design, &tables.drivers, claim.end, cycle)
+        capture_lit(design, tables.drivers, claim.end, cycle)
     };
     add_two(late, other, found)
 }
@@ -326,8 +326,8 @@ fn add_starts(
     ensures { OnOk result (Finds (defined.start_lit design.now claim.now.start cycle ∷ defined.start_lit design.now claim.now.start before ∷ [])
         found.old.keys found.new.keys) }
 {
-    let now = start_lit(design, &tables.drivers, claim.start, cycle);
-    let then = start_lit(design, &tables.drivers, claim.start, before);
+    let now = start_lit(design, tables.drivers, claim.start, cycle);
+    let then = start_lit(design, tables.drivers, claim.start, before);
     add_two(now, then, found)
 }
 
@@ -347,8 +347,8 @@ fn add_captures(
         found.old.keys found.new.keys) }
 {
     let before = cycle.saturating_sub(1);
-    let now = capture_lit(design, &tables.drivers, claim.end, cycle);
-    let then = capture_lit(design, &tables.drivers, claim.end, before);
+    let now = capture_lit(design, tables.drivers, claim.end, cycle);
+    let then = capture_lit(design, tables.drivers, claim.end, before);
     add_two(now, then, found)
 }
 
@@ -380,7 +380,7 @@ fn add_cycle_reads(
             let before = key.cycle.saturating_sub(cycles).saturating_sub(1);
             add_starts(design, claim, tables, key.cycle, before, found)
         }
-        _ => add_base_reads(alloc, design, &tables.drivers, key, origin, found),
+        _ => add_base_reads(alloc, design, tables.drivers, key, origin, found),
     }
 }
 

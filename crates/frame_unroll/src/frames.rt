@@ -9,7 +9,7 @@ ghost use Rattle.query_model.specs.Formula.{same_key};
 ghost use Rattle.query_model.specs.declared.keys.Key.{Key};
 ghost use Rattle.frame_unroll.specs.Drivers.{AreDrivers};
 ghost use Rattle.frame_unroll.specs.Reading.{AreTables};
-ghost use Rattle.frame_unroll.specs.Found.{AreSmall, AreAscending};
+ghost use Rattle.frame_unroll.specs.Found.{AreNetGates, AreSmall, AreAscending};
 ghost use Rattle.frame_unroll.specs.Framed.{AreFramesOf, AreNeededOfClaim, AreNeededOfClause, AtPlace, AreWithin, key_of, number_if_any};
 
 use crate::asked::{claim_asked, clause_asked};
@@ -48,8 +48,7 @@ impl Model for Frames {
 impl Frames {
     /// The keys that are needed where it is asked about a claim, of which `asked` is what is asked of the keys.
     ///
-    /// Beside one table of the gates of nets it takes the time and memory that the needed keys take, and not those of all
-    /// keys that a query could have.
+    /// It takes the time and memory that the needed keys take, and not those of all keys that a query could have.
     pub fn by_claim(
         alloc: Global,
         design: &Design,
@@ -65,10 +64,10 @@ impl Frames {
         requires within { AreWithin design.now cycles asked.now }
         ensures { IfOk result (AreNeededOfClaim design.now claim.now cycles tables.now.moved asked.now) }
     {
-        let gates = net_gates(alloc, design)?;
+        let gates = tables.gates;
         let mut found = IndexSet::new(alloc);
         add_clauses(asked, &mut found)?;
-        reach_of_claim(alloc, design, claim, tables, &gates, cycles, &mut found)?;
+        reach_of_claim(alloc, design, claim, tables, gates, cycles, &mut found)?;
         Frames::in_order(found)
     }
 
@@ -77,19 +76,20 @@ impl Frames {
         alloc: Global,
         design: &Design,
         drivers: &Seq<Driver>,
+        gates: &Seq<Option<usize>>,
         cycles: usize,
         asked: &Seq<Seq<KeyLit>>,
     ) -> Result<Frames, AllocError>
         requires sound { IsSound design.now }
         requires drivers { AreDrivers design.now drivers.now }
+        requires gates { AreNetGates design.now gates.now }
         requires cycles { cycles ≤ 144 }
         requires within { AreWithin design.now cycles asked.now }
         ensures { IfOk result (AreNeededOfClause design.now cycles asked.now) }
     {
-        let gates = net_gates(alloc, design)?;
         let mut found = IndexSet::new(alloc);
         add_clauses(asked, &mut found)?;
-        reach_of_clause(alloc, design, drivers, &gates, cycles, &mut found)?;
+        reach_of_clause(alloc, design, drivers, gates, cycles, &mut found)?;
         Frames::in_order(found)
     }
 
@@ -108,7 +108,9 @@ impl Frames {
         requires few { depth ≤ 64 }
         ensures { IfOk result (AreFramesOf (claim_query design.now claim.now phase depth inv.now)) }
     {
-        let tables = Tables::of(alloc, design, claim)?;
+        let drivers = net_drivers(alloc, design)?;
+        let gates = net_gates(alloc, design)?;
+        let tables = Tables::of(alloc, design, &drivers, &gates, claim)?;
         let asked = claim_asked(alloc, design, claim, phase, depth, inv)?;
         let span = claim_span(design, claim, phase, depth);
         Frames::by_claim(alloc, design, claim, &tables, span.cycles, &asked)
@@ -131,9 +133,10 @@ impl Frames {
     {
         let clause = &inv[place];
         let drivers = net_drivers(alloc, design)?;
+        let gates = net_gates(alloc, design)?;
         let asked = clause_asked(alloc, design, inv, clause, phase, depth)?;
         let span = clause_span(design, phase, depth);
-        Frames::by_clause(alloc, design, &drivers, span.cycles, &asked)
+        Frames::by_clause(alloc, design, &drivers, &gates, span.cycles, &asked)
     }
 
     fn in_order(found: IndexSet<Key>) -> Result<Frames, AllocError>

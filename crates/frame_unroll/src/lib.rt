@@ -26,6 +26,7 @@ mod violations;
 pub use asked::{claim_asked, clause_asked};
 pub use drivers::{Driver, base_lit, net_drivers};
 pub use frames::Frames;
+pub use gate_tables::net_gates;
 pub use gathered::{
     Owner, RailAt, bit_lit, capture_lit, late_capture_lit, pin_literals, pin_literals_at, pin_of,
     push_own, start_lit,

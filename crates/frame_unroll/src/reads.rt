@@ -53,7 +53,7 @@ pub fn net_lit(design: &Design, claim: &Claim, tables: &Tables, key: Key) -> Key
     ensures { result ≡ read design.now claim.now tables.now.moved key.cycle key.layer key.rail key.point }
 {
     let net = key.point;
-    let base = base_lit(design, &tables.drivers, key.cycle, net);
+    let base = base_lit(design, tables.drivers, key.cycle, net);
     if key.layer == 0 || !tables.moved.item(key.layer - 1).at(net) {
         return flip_if(base, key.rail == 1);
     }

@@ -5,7 +5,8 @@ ghost use Rattle.query_model.specs.Laws.{NamesRegs};
 ghost use Rattle.induction.specs.Bases.{IsRightBase, FailsLive};
 
 use crate::members::{copy_of, holds_in};
-use net_model::{Cycle, Design, InvClause, Phase};
+use cnf_encode::Prepared;
+use net_model::{Cycle, InvClause, Phase};
 use proof_log::Derivation;
 use query_asks::{Asked, Probe, ask_clause};
 use sdcv_base::Seq;
@@ -25,7 +26,7 @@ pub(crate) enum Based {
 /// Asks the base queries of a clause at the offsets below a depth, until one is not refuted.
 pub(crate) fn ask_bases(
     alloc: Global,
-    design: &Design,
+    design: &Prepared,
     clause: &InvClause,
     depth: usize,
     budget: u64,

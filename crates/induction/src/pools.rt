@@ -9,7 +9,8 @@ ghost use Rattle.induction.specs.Bases.{FailsInSome};
 
 use crate::bases::{Based, ask_bases, fails_live};
 use crate::members::{Member, copy_of};
-use net_model::{Cycle, Design, InvClause, Phase};
+use cnf_encode::Prepared;
+use net_model::{Cycle, InvClause, Phase};
 use proof_log::Derivation;
 use sdcv_base::Seq;
 use std::alloc::{AllocError, Global};
@@ -28,7 +29,7 @@ impl Pool {
     /// The candidates that hold in the first live cycles of every run, as many as the depth.
     pub fn of(
         alloc: Global,
-        design: &Design,
+        design: &Prepared,
         candidates: &Seq<InvClause>,
         depth: usize,
         budget: u64,
@@ -60,7 +61,7 @@ impl Pool {
     fn add(
         &mut self,
         alloc: Global,
-        design: &Design,
+        design: &Prepared,
         clause: &InvClause,
         depth: usize,
         budget: u64,
@@ -89,11 +90,12 @@ impl Pool {
     }
 
     // Whether the clause fails in a live cycle of a known run.
-    fn fails(&self, design: &Design, clause: &InvClause) -> bool
+    fn fails(&self, design: &Prepared, clause: &InvClause) -> bool
         ensures { IsTrue result ↔ FailsInSome design.now.reset_len self.now.runs clause.now }
     {
+        let live = design.bare().reset_len;
         for k in 0..self.runs.len() {
-            if fails_live(self.runs.item(k), design.reset_len, clause) {
+            if fails_live(self.runs.item(k), live, clause) {
                 return true;
             }
         }

@@ -10,7 +10,8 @@ ghost use Rattle.induction.specs.Pools.{IsEmptySet};
 use crate::members::{clauses_of, holding_in, proofs_of, take_out};
 use crate::pools::Pool;
 use crate::steps::{Round, ask_steps};
-use net_model::{Design, InvClause, Phase};
+use cnf_encode::Prepared;
+use net_model::{InvClause, Phase};
 use sdcv_base::Seq;
 use std::alloc::{AllocError, Global};
 use verdicts::{InvSet, InvSpent};
@@ -22,7 +23,7 @@ use verdicts::{InvSet, InvSpent};
 /// out the round begins with those that stood after it, so none is asked twice before all others were.
 pub fn greatest_set(
     alloc: Global,
-    design: &Design,
+    design: &Prepared,
     candidates: &Seq<InvClause>,
     depth: usize,
     budget: u64,

@@ -4,7 +4,8 @@ ghost use Rattle.net_model.specs.Netlist.{IsSound};
 ghost use Rattle.query_model.specs.Laws.{NamesRegs};
 ghost use Rattle.induction.specs.Steps.{IsRightRound};
 
-use net_model::{Cycle, Design, InvClause, Phase};
+use cnf_encode::Prepared;
+use net_model::{Cycle, InvClause, Phase};
 use proof_log::Derivation;
 use query_asks::{Asked, Probe, ask_clause};
 use sdcv_base::Seq;
@@ -24,7 +25,7 @@ pub(crate) enum Round {
 /// Asks the step query of each clause against all of them, until one is not refuted.
 pub(crate) fn ask_steps(
     alloc: Global,
-    design: &Design,
+    design: &Prepared,
     clauses: &Seq<InvClause>,
     depth: usize,
     budget: u64,

@@ -1,6 +1,7 @@
 //! Verdicts, beside those worked out by hand.
 use crate::cases::{one_claim, sound_case};
 use crate::designs::{AFTER_7, LATE, NEVER_7, PARITY, PHASES, RING, TURNS};
+use cnf_encode::Prepared;
 use invariants::invariants;
 use net_model::Phase;
 use net_model::PinRef::Net;
@@ -104,7 +105,8 @@ fn judge(rt: &impl Abort, alloc: Global, row: &Row) -> Result<Says, AllocError> 
         depth: row.3,
         budget: row.4,
     };
-    let verdict = prove(alloc, &design, claims.item(0), &inv, &limits)?;
+    let prepared = Prepared::of(alloc, &design)?;
+    let verdict = prove(alloc, &prepared, claims.item(0), &inv, &limits)?;
     Ok(told(&verdict))
 }
 

@@ -9,6 +9,7 @@ ghost use Rattle.verdicts.specs.Certified.{ProveKept};
 ghost use Rattle.verdicts.specs.Forms.{IsSetInForm};
 ghost use Rattle.invariants.specs.Invariants.{AreInvariants};
 
+use cnf_encode::Prepared;
 use drawn_runs::survivors;
 use induction::greatest_set;
 use inv_candidates::candidates;
@@ -41,6 +42,7 @@ pub fn invariants(
 {
     let clauses = candidates(alloc, design, claims)?;
     let left = survivors(alloc, design, clauses)?;
-    let set = greatest_set(alloc, design, &left, depth, budget)?;
+    let prepared = Prepared::of(alloc, design)?;
+    let set = greatest_set(alloc, &prepared, &left, depth, budget)?;
     Ok(set)
 }

@@ -7,6 +7,7 @@ ghost use Rattle.verdicts.specs.Inductive.{AreAlwaysMet};
 ghost use Rattle.judgements.specs.Judgements.{AreAllInForm, AreFound, AreJudged};
 
 use crate::judged::Judged;
+use cnf_encode::Prepared;
 use invariants::invariants;
 use net_model::{Claim, Design};
 use pair_prove::prove;
@@ -32,14 +33,15 @@ pub fn judge(
     ensures in_form { IfOk result AreAllInForm }
 {
     let inv = invariants(alloc, design, claims, inv_depth, limits.budget)?;
-    let verdicts = verdicts_on(alloc, design, claims, &inv, limits)?;
+    let prepared = Prepared::of(alloc, design)?;
+    let verdicts = verdicts_on(alloc, &prepared, claims, &inv, limits)?;
     Ok(Judged { inv, verdicts })
 }
 
 // The verdict on each claim.
 fn verdicts_on(
     alloc: Global,
-    design: &Design,
+    design: &Prepared,
     claims: &Seq<Claim>,
     inv: &InvSet,
     limits: &Limits,

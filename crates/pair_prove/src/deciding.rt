@@ -7,7 +7,8 @@ ghost use Rattle.query_model.specs.Laws.{NamesRegs};
 ghost use Rattle.verdicts.specs.Verdicts.{IsJudged, IsRight};
 ghost use Rattle.verdicts.specs.Forms.{IsVerdictInForm};
 
-use net_model::{Claim, Cycle, Design, InvClause, Phase, Stimulus};
+use cnf_encode::Prepared;
+use net_model::{Claim, Cycle, InvClause, Phase, Stimulus};
 use query_asks::{Asked, Probe, ask_claim};
 use sdcv_base::Seq;
 use std::alloc::{AllocError, Global};
@@ -16,7 +17,7 @@ use verdicts::{Cause, Limits, Proof, Verdict};
 /// The verdict on a claim about which queries are asked.
 pub(crate) fn decide(
     alloc: Global,
-    design: &Design,
+    design: &Prepared,
     claim: &Claim,
     kept: &[InvClause],
     limits: Limits,

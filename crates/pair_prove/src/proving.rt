@@ -9,7 +9,8 @@ ghost use Rattle.verdicts.specs.Forms.{IsVerdictInForm};
 ghost use Rattle.pair_prove.specs.Proving.{HoldsWhereJustified, IsLeastWhereRefuted};
 
 use crate::deciding::decide;
-use net_model::{Claim, Design};
+use cnf_encode::Prepared;
+use net_model::Claim;
 use std::alloc::{AllocError, Global};
 use verdicts::{InvSet, Limits, Proof, Verdict, is_held_start};
 
@@ -21,7 +22,7 @@ use verdicts::{InvSet, Limits, Proof, Verdict, is_held_start};
 /// or where more clauses than the budget would have to be learnt for a query.
 pub fn prove(
     alloc: Global,
-    design: &Design,
+    design: &Prepared,
     claim: &Claim,
     inv: &InvSet,
     limits: &Limits,
@@ -43,7 +44,7 @@ pub fn prove(
 /// The verdict on a claim, which may judge no capture or have a start that never toggles.
 fn verdict_of(
     alloc: Global,
-    design: &Design,
+    design: &Prepared,
     claim: &Claim,
     inv: &InvSet,
     limits: &Limits,
@@ -58,7 +59,7 @@ fn verdict_of(
     if claim.kind.judged_count() == 0 {
         return Ok(Verdict::Justified(Proof::Single));
     }
-    if is_held_start(design, &claim.start) {
+    if is_held_start(design.bare(), &claim.start) {
         return Ok(Verdict::Justified(Proof::Fixed));
     }
     decide(alloc, design, claim, inv.kept.as_slice(), *limits)

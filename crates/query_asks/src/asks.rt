@@ -9,8 +9,8 @@ ghost use Rattle.proof_log.specs.Formulas.{IsFormula};
 ghost use Rattle.cnf_encode.specs.Problems.{IsMadeFor};
 ghost use Rattle.query_asks.specs.Asks.{IsRightOf, IsRightFor};
 
-use cnf_encode::{Problem, formula, inv_formula, read_back};
-use net_model::{Claim, Cycle, Design, InvClause, Phase};
+use cnf_encode::{Prepared, Problem, formula, inv_formula, read_back};
+use net_model::{Claim, Cycle, InvClause, Phase};
 use proof_log::Derivation;
 use sat_solver::{Answer, solve};
 use sdcv_base::Seq;
@@ -39,7 +39,7 @@ pub enum Asked {
 /// cycles meet the kept clauses and in which it is violated at no smaller offset.
 pub fn ask_claim(
     alloc: Global,
-    design: &Design,
+    design: &Prepared,
     claim: &Claim,
     kept: &[InvClause],
     probe: Probe,
@@ -58,7 +58,7 @@ pub fn ask_claim(
 /// run from reset, in the step phase in a stretch whose cycles before meet all of `inv`.
 pub fn ask_clause(
     alloc: Global,
-    design: &Design,
+    design: &Prepared,
     inv: &[InvClause],
     place: usize,
     probe: Probe,
@@ -77,7 +77,7 @@ pub fn ask_clause(
 /// What the solver finds of a query's clauses: a model goes back as the run that it is.
 fn answer_of(
     alloc: Global,
-    design: &Design,
+    design: &Prepared,
     problem: &Problem,
     budget: u64,
 ) -> Result<Asked, AllocError>
@@ -88,7 +88,7 @@ fn answer_of(
 {
     match solve(alloc, &problem.formula, budget)? {
         Answer::Sat(model) => {
-            let run = read_back(alloc, design, problem, &model)?;
+            let run = read_back(alloc, design.bare(), problem, &model)?;
             Ok(Asked::Answered(run))
         }
         Answer::Unsat(derivation) => {

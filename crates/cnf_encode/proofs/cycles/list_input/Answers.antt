@@ -11,8 +11,8 @@ list_setting-requires-2 c =
     record {
       closed = Closed-right (unit_if c.at-2.result false out) (unit_if c.at-3.result (leb c.args.live c.args.cycle) out)
           (Closed-same (sym (input_is c.args.design.now c.args.live c.args.cycle c.args.input c.at.result c.at-2.result c.at-3.result _
-          (value_is c.args.design.now.fixed (length c.args.design.now.inputs) c.args.cone.now.fixed c.args.input c.at-2.result
-          c.requires.cone.of.fixed c.at-2.ensures) (value_is c.args.design.now.resets (length c.args.design.now.inputs) c.args.cone.now.resets
+          (value_is c.args.design.now.fixed (length c.args.design.now.inputs) c.args.cone.now.fixed.now c.args.input c.at-2.result
+          c.requires.cone.of.fixed c.at-2.ensures) (value_is c.args.design.now.resets (length c.args.design.now.inputs) c.args.cone.now.resets.now
           c.args.input c.at-3.result c.requires.cone.of.resets c.at-3.ensures) c.at.ensures (at_least c.args.live c.args.cycle)))
           c.requires.closed);
     }
@@ -20,8 +20,8 @@ list_setting-requires-2 c =
 pub returns : goal.returns
 returns c =
     Lists-same (input_is c.args.design.now c.args.live c.args.cycle c.args.input c.at.result c.at-2.result c.at-3.result _
-    (value_is c.args.design.now.fixed (length c.args.design.now.inputs) c.args.cone.now.fixed c.args.input c.at-2.result c.requires.cone.of.fixed
-    c.at-2.ensures) (value_is c.args.design.now.resets (length c.args.design.now.inputs) c.args.cone.now.resets c.args.input c.at-3.result
+    (value_is c.args.design.now.fixed (length c.args.design.now.inputs) c.args.cone.now.fixed.now c.args.input c.at-2.result c.requires.cone.of.fixed
+    c.at-2.ensures) (value_is c.args.design.now.resets (length c.args.design.now.inputs) c.args.cone.now.resets.now c.args.input c.at-3.result
     c.requires.cone.of.resets c.at-3.ensures) c.at.ensures (at_least c.args.live c.args.cycle))
     (Lists-append c.in_ok-list_setting.ensures c.in_ok-list_setting-2.ensures)
 

@@ -1,4 +1,4 @@
-use Rattle.std.proofs.Common.{◌≡◌, ◌+◌, ◌∙◌, List, Bool, arith, subst, sym}
+use Rattle.std.proofs.Common.{◌+◌, ◌∙◌, List, Bool, arith, subst, sym}
 use Rattle.cnf_encode.proofs.Running.{InputsSoFar, inputs_more}
 use Rattle.cnf_encode.proofs.runs.stimulus_of.Goals as goal
 

@@ -1,6 +1,5 @@
-use Rattle.std.proofs.Common.{◌≡◌, ◌∙◌, ap, sym, ℕ, ◌+◌, ◌-◌, List, Some, Option, slice_get, arith}
+use Rattle.std.proofs.Common.{◌≡◌, ◌∙◌, ap, sym, ℕ, ◌+◌, ◌-◌, List, Some, slice_get, arith}
 use Rattle.query_model.specs.declared.keys.Key.{Key}
-use Rattle.frame_unroll.specs.Framed.{number_if_any}
 use Rattle.frame_unroll.proofs.Framing.{number-placed}
 use Rattle.frame_unroll.proofs.frames.Frames.key.Goals as goal
 
