@@ -1,6 +1,6 @@
 -- Places of names in a table.
 use Rattle.std.proofs.Common.{arith, ◌≡◌, ◌≢◌, ◌∙◌, ◌⊎◌, inl, inr, ℕ, zero, suc, ◌+◌, ◌<◌, Bool, true, false, not}
-use Rattle.std.proofs.Common.{List, [], ◌∷◌, take, get_or, refl, sym, ap, subst, ◌&&◌, ◌++◌}
+use Rattle.std.proofs.Common.{List, [], ◌∷◌, length, take, get_or, refl, sym, ap, subst, ◌&&◌, ◌++◌}
 use Rattle.std.specs.Prelude.{Option, Some, None, slice_get, slice_index}
 use Rattle.std.specs.Str.{bytes_eq}
 use Rattle.std.proofs.lemmas.Bool.{cases_Bool, and_parts, not-true}
@@ -15,7 +15,7 @@ use Rattle.name_index.specs.declared.indexes.Look.TheVariants.{Nowhere, At}
 use Rattle.name_index.specs.declared.owners.Owner.{Owner}
 use Rattle.name_index.specs.declared.owners.Owner.TheVariants.{Nobody, One, Many}
 use Rattle.name_index.specs.Indexes.{IsIndexOf, IsExact, IsLook}
-use Rattle.name_index.specs.Owners.{IsPlace, IsOwnerAt, IsOwnerTo, join}
+use Rattle.name_index.specs.Owners.{IsPlace, IsOwnerAt, HasTwoOwners, IsOwnerTo, join}
 
 equal_bytes : (n m : List ℕ) → n ≡ m → bytes_eq n m ≡ true
 equal_bytes n m e = let (f, g) = bytes_eq-Decides n m in g e
@@ -55,7 +55,7 @@ pub look_at : (names : List (List ℕ)) (index : Index) (pattern : List ℕ) (hi
     → IsExact pattern hier → (are_distinct index.names ≡ true → IsPlace index.names pattern (Some place)) → IsLook names pattern hier (At place)
 look_at names index pattern hier place of distinct exact found =
     let same = of.same distinct in
-    let once : are_distinct index.names ≡ true = subst (λ (l : List (List ℕ)). are_distinct l ≡ true) (sym same) (of.once distinct) in
+    let once : are_distinct index.names ≡ true = subst (λ (l : List (List ℕ)). are_distinct l ≡ true) (sym same) (sym of.distinct ∙ distinct) in
     let (here, only) = subst (λ (l : List (List ℕ)). IsPlace l pattern (Some place)) same (found once) in
     ((pattern, here, (exact pattern).1 refl), λ k name there match. only k (there ∙ ap (λ (n : List ℕ). Some n) ((exact name).0 match)))
 
@@ -63,7 +63,7 @@ pub look_nowhere : (names : List (List ℕ)) (index : Index) (pattern : List ℕ
     → IsExact pattern hier → (are_distinct index.names ≡ true → IsPlace index.names pattern None) → IsLook names pattern hier Nowhere
 look_nowhere names index pattern hier of distinct exact found =
     let same = of.same distinct in
-    let once : are_distinct index.names ≡ true = subst (λ (l : List (List ℕ)). are_distinct l ≡ true) (sym same) (of.once distinct) in
+    let once : are_distinct index.names ≡ true = subst (λ (l : List (List ℕ)). are_distinct l ≡ true) (sym same) (sym of.distinct ∙ distinct) in
     let never = subst (λ (l : List (List ℕ)). IsPlace l pattern None) same (found once) in
     λ k name there. elim (cases_Bool (matches pattern name hier)) [
       | inl match ↦ absurd (never k (there ∙ ap (λ (n : List ℕ). Some n) ((exact name).0 match)))
@@ -73,45 +73,87 @@ look_nowhere names index pattern hier of distinct exact found =
 last_or : (s n : ℕ) → s < n + 1 → (s < n) ⊎ (s ≡ n)
 last_or s n low = grind arith
 
+more_owners : (names : List (List ℕ)) (pattern : List ℕ) (n : ℕ) → HasTwoOwners names pattern n → HasTwoOwners names pattern (n + 1)
+more_owners names pattern n two = record {
+  first = two.first;
+  second = two.second;
+  in_order = two.in_order;
+  within = omega (arith, two.within);
+  k = two.k;
+  l = two.l;
+  one = two.one;
+  other = two.other;
+}
+
+still_owner : (names : List (List ℕ)) (pattern : List ℕ) (n owner : ℕ) → ((slash : ℕ) × (slash < n) × IsOwnerAt names pattern slash owner)
+    → (slash : ℕ) × (slash < n + 1) × IsOwnerAt names pattern slash owner
+still_owner names pattern n owner (slash, low, at) = (slash, omega (arith, low), at)
+
 -- a byte more, which is no slash
 pub passed : (names : List (List ℕ)) (pattern : List ℕ) (n : ℕ) (owner : Owner) → slice_index pattern n ≢ 47 → IsOwnerTo names pattern n owner
     → IsOwnerTo names pattern (n + 1) owner
 passed names pattern n Nobody other before =
     λ s k low at. elim (last_or s n low) [ inl less ↦ before s k less at | inr same ↦ other (subst (λ (m : ℕ). slice_index pattern m ≡ 47) same at.here) ]
-passed names pattern n (One owner) other (within, before) = (
+passed names pattern n (One owner) other (within, stands, before) = (
   within,
+  still_owner names pattern n owner stands,
   λ s k low at. elim (last_or s n low) [
     | inl less ↦ before s k less at
     | inr same ↦ absurd (other (subst (λ (m : ℕ). slice_index pattern m ≡ 47) same at.here))
   ],
 )
-passed names pattern n Many other before = tt
+passed names pattern n Many other two = more_owners names pattern n two
 
 name_at_last : (names : List (List ℕ)) (pattern : List ℕ) (s n k : ℕ) → s ≡ n → IsOwnerAt names pattern s k → slice_get names k ≡ Some (take n pattern)
 name_at_last names pattern s n k same at = subst (λ (m : ℕ). slice_get names k ≡ Some (take m pattern)) same at.name
 
+owner_at : (names : List (List ℕ)) (pattern : List ℕ) (n place : ℕ) → n < length pattern → slice_index pattern n ≡ 47
+    → slice_get names place ≡ Some (take n pattern) → IsOwnerAt names pattern n place
+owner_at names pattern n place low slash here = record { within = low; here = slash; name = here }
+
 -- a slash more, with the name before it
-pub owned : (names : List (List ℕ)) (pattern : List ℕ) (n : ℕ) (owner : Owner) (place : Option ℕ) → IsPlace names (take n pattern) place
-    → IsOwnerTo names pattern n owner → IsOwnerTo names pattern (n + 1) (join owner place)
-owned names pattern n Nobody None never before =
-    λ s k low at. elim (last_or s n low) [ inl less ↦ before s k less at | inr same ↦ never k (name_at_last names pattern s n k same at) ]
-owned names pattern n (One owner) None never (within, before) = (
+pub owned : (names : List (List ℕ)) (pattern : List ℕ) (n : ℕ) (owner : Owner) (place : Option ℕ) → n < length pattern → slice_index pattern n ≡ 47
+    → IsPlace names (take n pattern) place → IsOwnerTo names pattern n owner → IsOwnerTo names pattern (n + 1) (join owner place)
+owned names pattern n Nobody None low slash never before =
+    λ s k less at. elim (last_or s n less) [ inl less ↦ before s k less at | inr same ↦ never k (name_at_last names pattern s n k same at) ]
+owned names pattern n (One owner) None low slash never (within, stands, before) = (
   within,
-  λ s k low at. elim (last_or s n low) [
+  still_owner names pattern n owner stands,
+  λ s k less at. elim (last_or s n less) [
     | inl less ↦ before s k less at
     | inr same ↦ absurd (never k (name_at_last names pattern s n k same at))
   ],
 )
-owned names pattern n Many None never before = tt
-owned names pattern n Nobody (Some place) (here, only) before = (
+owned names pattern n Many None low slash never two = more_owners names pattern n two
+owned names pattern n Nobody (Some place) low slash (here, only) before = (
   slice_get_within names place (take n pattern) here,
-  λ s k low at. elim (last_or s n low) [
+  (n, omega arith, owner_at names pattern n place low slash here),
+  λ s k less at. elim (last_or s n less) [
     | inl less ↦ absurd (before s k less at)
     | inr same ↦ only k (name_at_last names pattern s n k same at)
   ],
 )
-owned names pattern n (One owner) (Some place) is before = tt
-owned names pattern n Many (Some place) is before = tt
+owned names pattern n (One owner) (Some place) low slash (here, only) (within, (s, less, at), before) = record {
+  first = s;
+  second = n;
+  in_order = less;
+  within = omega arith;
+  k = owner;
+  l = place;
+  one = at;
+  other = owner_at names pattern n place low slash here;
+}
+owned names pattern n Many (Some place) low slash is two = more_owners names pattern n two
+
+-- whether no two names are equal, with one name more
+distinct_more : (names : List (List ℕ)) (name : List ℕ) (old : Index) (fresh b : Bool) → IsIndexOf names old → fresh ≡ not (is_among name old.names)
+    → old.distinct ≡ b → (b && fresh) ≡ are_distinct (names ++ name ∷ [])
+distinct_more names name old fresh true of is e =
+    let all : are_distinct names ≡ true = sym of.distinct ∙ e in
+    is ∙ ap (λ (l : List (List ℕ)). not (is_among name l)) (of.same e) ∙ sym (are_distinct-push names name ∙ rw all refl)
+distinct_more names name old fresh false of is e =
+    let some : are_distinct names ≡ false = sym of.distinct ∙ e in
+    sym (are_distinct-push names name ∙ rw some refl)
 
 -- one name more in the table, which tells whether it is new
 pub more : (names : List (List ℕ)) (name : List ℕ) (old new : Index) (fresh : Bool) → IsIndexOf names old → fresh ≡ not (is_among name old.names)
@@ -121,10 +163,6 @@ more names name old new fresh of is added joined =
     let absent : new.distinct ≡ true → is_among name old.names ≡ false =
     λ distinct. let (b, f) = both distinct in not-true (is_among name old.names) (sym is ∙ f) in
     record {
+      distinct = joined ∙ distinct_more names name old fresh old.distinct of is refl;
       same = λ distinct. let (b, f) = both distinct in added ∙ rw (absent distinct) (ap (λ (l : List (List ℕ)). l ++ name ∷ []) (of.same b));
-      once = λ distinct. let (b, f) = both distinct in are_distinct-push names name ∙ rw (
-        of.once b,
-        subst (λ (l : List (List ℕ)). is_among name l ≡ false)
-            (of.same b) (absent distinct),
-      ) refl;
     }

@@ -1,6 +1,7 @@
 //! Names in a table, with their places.
 ghost use Rattle.std.specs.Prelude.{◌≡◌, ◌++◌, ◌∷◌, ℕ, List, [], true, OnOk};
 ghost use Rattle.texts.specs.Names.{are_distinct};
+ghost use Rattle.name_index.specs.Indexes as spec;
 ghost use Rattle.name_index.specs.Indexes.{IsIndexOf, IsExact, IsLook};
 ghost use Rattle.name_index.specs.Owners.{IsPlace};
 
@@ -16,7 +17,8 @@ pub struct Index {
     pub(crate) distinct: bool,
 }
 
-/// Where a pattern matches a name of a list: nowhere, at this place alone, or the table doesn't tell.
+/// Where a pattern matches a name of a list: nowhere, at this place alone, or the table doesn't tell, since two names are equal
+/// or the pattern may match another name than itself.
 #[derive(Clone, Copy, Debug, PartialEq, Eq)]
 pub enum Look {
     Nowhere,
@@ -24,9 +26,10 @@ pub enum Look {
     Anywhere,
 }
 
-/// Whether a pattern matches itself and no other name. With `hier` it may match below a `/` too.
+/// Whether a pattern has no wildcard, and matches itself and no other name. With `hier` it may match below a `/` too.
 pub fn is_exact(pattern: &Name, hier: bool) -> bool
-    ensures { result ≡ true → IsExact pattern.now hier }
+    ensures exact { result ≡ spec.is_exact pattern.now hier }
+    ensures itself { result ≡ true → IsExact pattern.now hier }
 {
     !hier && is_plain(pattern.as_bytes())
 }

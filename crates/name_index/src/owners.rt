@@ -10,7 +10,8 @@ use sdcv_base::Name;
 use std::alloc::{AllocError, Global};
 use texts::upto;
 
-/// Which names of a list stand before a `/` of a pattern: none, the one at this place alone, or maybe several.
+/// Which names of a list stand before a `/` of a pattern: none, the one at this place alone, or several, or the table doesn't
+/// tell.
 #[derive(Clone, Copy, Debug, PartialEq, Eq)]
 pub enum Owner {
     Nobody,

@@ -9,7 +9,7 @@ use Rattle.std.proofs.lemmas.Option.{slice_get-map, slice_get_within}
 use Rattle.std.proofs.Math.Seq.{get_or-append_seam, take-append_seam}
 use Rattle.glob.specs.Match.{matches}
 use Rattle.name_index.specs.declared.indexes.Look.TheVariants.{Nowhere, At}
-use Rattle.name_index.specs.declared.owners.Owner.TheVariants.{Nobody, One, Many}
+use Rattle.name_index.specs.declared.owners.Owner.TheVariants.{Nobody, One}
 use Rattle.name_index.specs.Indexes.{IsLook, IsExact}
 use Rattle.name_index.specs.Owners.{IsOwner, IsOwnerAt}
 use Rattle.sdc_objects.specs.Places.{each_at, where_true}
@@ -69,23 +69,17 @@ no_pins pattern hier cell pins pin made cells k c exact here never =
 pub owned_by_nobody : {C P B : Type 0} (pattern : List ℕ) (hier : Bool) (cell : C → List ℕ) (pins : C → List P) (pin : P → List ℕ)
     (made : ℕ → ℕ → B) (cells : List C)
     → IsOwner (map cell cells) pattern hier Nobody → each_at (pins_matched pattern hier cell pins pin made) 0 cells ≡ []
-owned_by_nobody pattern hier cell pins pin made cells owner =
-    elim owner.exact [
-      | inl bad ↦ absurd cc
-      | inr exact ↦ nothing_made (pins_matched pattern hier cell pins pin made) cells (λ k c here. no_pins pattern hier cell pins pin made cells k c exact here
-          (λ slash at. owner.before slash k at.within at))
-    ]
+owned_by_nobody pattern hier cell pins pin made cells (never, exact) =
+    nothing_made (pins_matched pattern hier cell pins pin made) cells (λ k c here. no_pins pattern hier cell pins pin made cells k c exact here
+    (λ slash at. never slash k at.within at))
 
 pub owned_by_one : {C P B : Type 0} (pattern : List ℕ) (hier : Bool) (cell : C → List ℕ) (pins : C → List P) (pin : P → List ℕ)
     (made : ℕ → ℕ → B) (cells : List C) (k : ℕ) (c : C)
     → slice_get cells k ≡ Some c → IsOwner (map cell cells) pattern hier (One k)
     → each_at (pins_matched pattern hier cell pins pin made) 0 cells ≡ pins_matched pattern hier cell pins pin made k c
-owned_by_one pattern hier cell pins pin made cells k c here owner =
-    elim owner.exact [
-      | inl bad ↦ absurd cc
-      | inr exact ↦ let (low, only) = owner.before in one_made (pins_matched pattern hier cell pins pin made) cells k c here (λ j y there other.
-          no_pins pattern hier cell pins pin made cells j y exact there (λ slash at. other (only slash j at.within at)))
-    ]
+owned_by_one pattern hier cell pins pin made cells k c here ((within, stands, only), exact) =
+    one_made (pins_matched pattern hier cell pins pin made) cells k c here (λ j y there other.
+    no_pins pattern hier cell pins pin made cells j y exact there (λ slash at. other (only slash j at.within at)))
 
 -- an item at the place that a look finds
 pub look_item : {A : Type 0} (name : A → List ℕ) (xs : List A) (pattern : List ℕ) (hier : Bool) (place : ℕ) → IsLook (map name xs) pattern hier (At place)

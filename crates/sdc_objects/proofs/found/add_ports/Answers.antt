@@ -9,5 +9,5 @@ pub returns-then-not-contains : goal.returns-then-not-contains
 returns-then-not-contains c =
     let q = c.args.query.now in
     let names = c.args.scope.now.linked.now.names in
-    added_nothing c.args.found.now (ports_named q names) (no_ports q names (c.is_exact.ensures c.if-is_exact.true)
+    added_nothing c.args.found.now (ports_named q names) (no_ports q names (c.is_exact.ensures.itself c.if-is_exact.true)
     (ap (is_among q.pattern) (sym c.requires.ports) ∙ sym c.contains.ensures ∙ c.if-not-contains.true))

@@ -3,4 +3,4 @@ use Rattle.name_index.proofs.indexes.Index.new.Goals as goal
 
 pub returns : goal.returns
 unfolding Rattle.texts.specs.Names.are_distinct
-returns c = record { same = λ distinct. c.new.ensures; once = λ distinct. refl }
+returns c = record { distinct = refl; same = λ distinct. c.new.ensures }
