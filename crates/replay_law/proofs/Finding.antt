@@ -1,0 +1,28 @@
+-- What is known of a design that is found of texts.
+use Rattle.std.proofs.Common.{◌≡◌, ◌≤◌, ℕ, Bool, length, Ok, Err, ap, sym, ◌∙◌, subst, arith}
+use Rattle.std.proofs.lemmas.List.{length-map}
+use Rattle.design_stages.specs.declared.designs.ReadTexts.{ReadTexts}
+use Rattle.design_stages.specs.declared.designs.Reset.{Reset}
+use Rattle.design_stages.specs.declared.designs.Designed.{Designed}
+use Rattle.design_stages.specs.Stages.{Found, Then}
+use Rattle.design_stages.specs.Designs.{Designs, CanBeJudged}
+use Rattle.design_stages.proofs.Judging.{can_be_judged}
+
+-- it can be judged, has fewer pairs than a number of 64 bits can count, and is held in reset for as long as is said
+pub record IsKnown (d : Designed) (reset_len : ℕ) : Type 0 where
+  pub judged : CanBeJudged d
+  pub few : length d.selected.claims ≤ 100000
+  pub len : d.linked.design.reset_len ≡ reset_len
+
+-- so is a design that is found
+pub known : (texts : ReadTexts) (reset : Reset) (hazard : Bool) (d : Designed) → Designs texts reset hazard (Ok d) → IsKnown d reset.len
+unfolding Designs Then
+known texts reset hazard d (inputs, has, (settings, set, (linked, links, (selected, selects, is)))) =
+    let made : Designed = record { linked = linked; selected = selected } in
+    let same : made ≡ d = sym (ap (λ (r : Found Designed). elim r [ Ok found ↦ found | Err line ↦ d ]) is) in
+    let count : length selected.claims ≡ length selects.chosen = sym (length-map selected.claims _) ∙ ap length selects.claims ∙ length-map selects.chosen _ in
+    subst (λ (found : Designed). IsKnown found reset.len) same (record {
+      judged = can_be_judged linked texts.script hazard selected links.1 selects;
+      few = omega (arith, selects.few, count);
+      len = links.0.reset_len;
+    })

@@ -1,0 +1,4 @@
+pub mod Finding
+pub mod Going
+pub mod Standing
+pub mod Telling
