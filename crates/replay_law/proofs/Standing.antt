@@ -1,10 +1,11 @@
 -- What a stimulus says of which a run is known.
-use Rattle.std.proofs.Common.{◌≡◌, ℕ, zero, suc, ◌+◌, ◌-◌, ◌<◌, ◌≤◌, Bool, List, [], ◌∷◌, length, map, get_or, Some, refl, ap, sym, ◌∙◌, subst, arith, inl, inr}
+use Rattle.std.proofs.Common.{◌≡◌, ℕ, zero, suc, ◌+◌, ◌-◌, ◌<◌, ◌≤◌, Bool, List, [], ◌∷◌, length, map, get_or, Some, refl, ap, sym, ◌∙◌, subst, arith}
+use Rattle.std.proofs.Common.{inl, inr}
 use Rattle.std.specs.Prelude.{slice_get, nat_lt}
 use Rattle.std.proofs.lemmas.Bool.{cases_lt}
 use Rattle.std.proofs.lemmas.List.{length-map}
 use Rattle.std.proofs.lemmas.List.Elements.{All-head}
-use Rattle.std.proofs.lemmas.Option.{slice_get-get_or}
+use Rattle.std.proofs.lemmas.Option.{slice_get-get_or, slice_get_within}
 use Rattle.net_model.specs.Netlist.{IsSound}
 use Rattle.net_model.specs.Cycles.{IsSettled, HasFixed, IsRun}
 use Rattle.net_model.specs.Judge.{IsViolatedAt}
@@ -63,9 +64,7 @@ pub refused_memory : (d : Design) (s : Stimulus) (run : List Cycle) → IsRun d 
     → fault ≡ Memory
 refused_memory d s run is stands Shape cause = absurd (cause (has_shape d s run is stands))
 refused_memory d s run is stands (NotReset t) cause =
-    let (c, there, same) = row_at s run t cause.ins stands cause.at in
-    let kept = subst (λ (row : List Bool). AreSettingsKept d (nat_lt t d.reset_len) row) same (All-at (HasFixed d) run t c there is.linked.fixed, is.resets t c there) in
-    absurd (cause.differs kept)
+    absurd (cause.differs (keeps d s run is stands t (slice_get_within s.inputs t cause.ins cause.at) cause.ins cause.at))
 refused_memory d s run is stands Memory cause = refl
 
 -- no run is violated before a cycle up to which all offsets hold

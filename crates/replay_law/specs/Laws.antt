@@ -29,7 +29,7 @@ pub record HasRefuted (texts : ReadTexts) (o : Options) (d : Designed) (due : Ou
 abbrev pub violated_after : Options → ℕ → ℕ → Outcome
 violated_after o number offset = replayed number (Violated (o.reset_len + 1 + offset))
 
--- this is due for a replay of the refuted pair on that design, whose report is what was printed; a file can be as long
+-- this is due for a replay of the refuted pair on that design, whose report is what was printed, where that is shorter than 2^64 bytes
 abbrev pub ReplayIsDue : ReadTexts → Options → Type 0
 ReplayIsDue texts o =
     (d : Designed) (due : Outcome) (number offset : ℕ) → HasRefuted texts o d due number offset → length due.printed < 2 ^ 64
