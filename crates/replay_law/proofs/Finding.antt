@@ -20,7 +20,8 @@ unfolding Designs Then
 known texts reset hazard d (inputs, has, (settings, set, (linked, links, (selected, selects, is)))) =
     let made : Designed = record { linked = linked; selected = selected } in
     let same : made ≡ d = sym (ap (λ (r : Found Designed). elim r [ Ok found ↦ found | Err line ↦ d ]) is) in
-    let count : length selected.claims ≡ length selects.chosen = sym (length-map selected.claims _) ∙ ap length selects.claims ∙ length-map selects.chosen _ in
+    let count : length selected.claims ≡ length selects.chosen =
+    sym (length-map selected.claims _) ∙ ap length selects.claims ∙ length-map selects.chosen _ in
     subst (λ (found : Designed). IsKnown found reset.len) same (record {
       judged = can_be_judged linked texts.script hazard selected links.1 selects;
       few = omega (arith, selects.few, count);

@@ -7,7 +7,8 @@ use Rattle.sdcv_top.specs.Stages.{Due, After, AfterText}
 
 -- a stage that finds no other value and never refuses leads on with this one
 pub goes_on : {A : Type 0} (Finds : Found A → Type 0) (next : A → Due) (value : A) (reads : List Got) (due : Outcome)
-    → ((other : A) → Finds (Ok other) → other ≡ value) → ((line : List ℕ) → ¬ Finds (Err line)) → After Finds next reads due → next value reads due
+    → ((other : A) → Finds (Ok other) → other ≡ value) → ((line : List ℕ) → ¬ Finds (Err line))
+    → After Finds next reads due → next value reads due
 unfolding After
 goes_on {A} Finds next value reads due alone never (inl (other, found, rest)) = subst (λ (v : A). next v reads due) (alone other found) rest
 goes_on Finds next value reads due alone never (inr (line, found, none, refusal)) = absurd (never line found)
@@ -20,7 +21,8 @@ leads_on Finds next value reads due found rest = inl (value, found, rest)
 
 -- so it is where the stage reads a text
 pub goes_on_text : {A : Type 0} (Finds : Got → Found A → Type 0) (next : A → Due) (value : A) (got : Got) (reads : List Got) (due : Outcome)
-    → ((other : A) → Finds got (Ok other) → other ≡ value) → ((line : List ℕ) → ¬ Finds got (Err line)) → AfterText Finds next (got ∷ reads) due
+    → ((other : A) → Finds got (Ok other) → other ≡ value) → ((line : List ℕ) → ¬ Finds got (Err line))
+    → AfterText Finds next (got ∷ reads) due
     → next value reads due
 unfolding AfterText
 goes_on_text Finds next value got reads due alone never rest = goes_on (Finds got) next value reads due alone never rest
