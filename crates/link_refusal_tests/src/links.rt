@@ -2,10 +2,10 @@
 ghost use Rattle.std.specs.Prelude.{◌≡◌, IfOk};
 ghost use Rattle.cell_types.specs.Libraries.{IsLawful as IsLawfulLibrary};
 
-use crate::rows::{CELLS, NETLISTS, SETTINGS, TOPS};
+use crate::rows::{CELLS, NETLISTS, SETTINGS};
 use cell_lib::read_lib;
 use cell_types::{Library, builtin};
-use net_link::{LinkOptions, link, top_inputs};
+use net_link::{LinkOptions, link};
 use sdcv_base::{Name, Seq, Setting};
 use std::alloc::{AllocError, Global};
 use std::test::Fail;
@@ -69,15 +69,6 @@ fn told(alloc: Global, netlist: &str, cells: &str, given: &Given) -> Result<Stri
     }
 }
 
-/// How the refusal of its inputs is told, and nothing where a netlist has a top module.
-fn top_told(alloc: Global, netlist: &str) -> Result<String, Fail> {
-    let source = read_verilog(alloc, netlist.as_bytes())?;
-    match top_inputs(alloc, &source) {
-        Ok(_) => Ok(String::new(alloc)),
-        Err(fault) => Ok(format!(in alloc; "{fault}")?),
-    }
-}
-
 #[test]
 fn netlists_without_a_design_are_refused_by_full_names(rt: HostRuntime) -> Result<(), Fail> {
     for (clock, netlist, want) in NETLISTS {
@@ -117,15 +108,6 @@ fn settings_of_no_data_input_are_refused(rt: HostRuntime) -> Result<(), Fail> {
         let netlist = "module top (input clk, a, output y); assign y = a; endmodule";
         let told = told(rt.alloc(), netlist, "", &given)?;
         assert_eq!(rt; told.as_str(), *want, "{clock} {fixed} {reset}");
-    }
-    Ok(())
-}
-
-#[test]
-fn one_module_alone_is_the_top(rt: HostRuntime) -> Result<(), Fail> {
-    for (netlist, want) in TOPS {
-        let told = top_told(rt.alloc(), netlist)?;
-        assert_eq!(rt; told.as_str(), *want, "{netlist}");
     }
     Ok(())
 }

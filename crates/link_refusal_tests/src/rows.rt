@@ -131,6 +131,7 @@ pub(crate) const NETLISTS: &[(&str, &str, &str)] = &[
         "module a (); endmodule module b (); endmodule",
         "2 modules could be the top",
     ),
+    ("", "", "0 modules could be the top"),
     (
         "",
         "module top (input a, output y); and (y, a, a, a, a, a, a, a); endmodule",
@@ -169,14 +170,4 @@ pub(crate) const SETTINGS: &[(&str, &str, &str, &str)] = &[
     ("clk", "", "clk", "no setting for clk"),
     ("clk", "a", "a", "no setting for a"),
     ("clk", "a", "", ""),
-];
-
-/// Netlists, and what is told of their top module.
-pub(crate) const TOPS: &[(&str, &str)] = &[
-    ("", "0 modules could be the top"),
-    (
-        "module a; b u (); endmodule module b; endmodule module c; endmodule",
-        "2 modules could be the top",
-    ),
-    ("module a; b u (); endmodule module b; endmodule", ""),
 ];

@@ -1,16 +1,17 @@
 //! Texts linked, row by row.
 ghost use Rattle.std.specs.Prelude.{◌≡◌, IfOk};
 ghost use Rattle.cell_types.specs.Libraries.{IsLawful as IsLawfulLibrary};
+ghost use Rattle.verilog_net.specs.Lawful.{IsLawful};
 
 use crate::rows::{ROWS, Row};
 use crate::shown::{design_text, names_text, ports_text};
 use cell_lib::read_lib;
 use cell_types::{Library, builtin};
-use net_link::{LinkOptions, link, top_inputs};
+use net_link::{LinkOptions, Linked, link, top_inputs};
 use sdcv_base::{Name, Seq, Setting};
 use std::alloc::{AllocError, Global};
 use std::test::Fail;
-use verilog_net::read_verilog;
+use verilog_net::{Source, read_verilog};
 
 /// The cells of a Liberty text, or those that are known without a file.
 fn library(alloc: Global, cells: &str) -> Result<Library, Fail>
@@ -51,16 +52,24 @@ fn options(alloc: Global, row: &Row) -> Result<LinkOptions, AllocError>
     })
 }
 
-/// The inputs of the top module, the design, and its names.
-fn told(alloc: Global, row: &Row) -> Result<(String, String, String), Fail> {
-    let source = read_verilog(alloc, row.netlist.as_bytes())?;
-    let inputs = ports_text(alloc, &top_inputs(alloc, &source)?)?;
+fn linked_source(alloc: Global, row: &Row, source: &Source) -> Result<Linked, Fail>
+    requires { IsLawful source.now }
+{
     let library = library(alloc, row.cells)?;
     let options = options(alloc, row)?;
-    let linked = link(alloc, &source, &library, &options)?;
-    let design = design_text(alloc, &linked)?;
-    let names = names_text(alloc, &linked)?;
-    Ok((inputs, design, names))
+    Ok(link(alloc, source, &library, &options)?)
+}
+
+fn linked(alloc: Global, row: &Row) -> Result<Linked, Fail> {
+    let source = read_verilog(alloc, row.netlist.as_bytes())?;
+    linked_source(alloc, row, &source)
+}
+
+/// The inputs of the top module.
+fn inputs(alloc: Global, row: &Row) -> Result<String, Fail> {
+    let source = read_verilog(alloc, row.netlist.as_bytes())?;
+    let inputs = top_inputs(alloc, &source)?;
+    ports_text(alloc, &inputs)
 }
 
 fn has_word(text: &str, word: &str) -> bool {
@@ -86,9 +95,12 @@ fn are_in(words: &str, text: &str) -> bool {
 #[test]
 fn netlists_are_linked_with_all_their_names(rt: HostRuntime) -> Result<(), Fail> {
     for row in ROWS {
-        let (inputs, design, names) = told(rt.alloc(), row)?;
+        let inputs = inputs(rt.alloc(), row)?;
         assert_eq!(rt; inputs.as_str(), row.inputs);
+        let linked = linked(rt.alloc(), row)?;
+        let design = design_text(rt.alloc(), &linked)?;
         assert_eq!(rt; design.as_str(), row.design);
+        let names = names_text(rt.alloc(), &linked)?;
         assert!(rt; are_in(names.as_str(), row.names), "{names}");
         assert!(rt; are_in(row.names, names.as_str()), "{names}");
     }
