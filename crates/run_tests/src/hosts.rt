@@ -1,37 +1,40 @@
-//! Hosts with files, and words.
+//! Hosts with the files of calls.
 
+use crate::files::FILES;
 use sdcv_base::{Fail, FileRec, MemHost, Name};
 use std::alloc::{AllocError, Global};
 
 // The room of a host for what it prints.
 const ROOM: usize = 65_536;
 
-/// A file of that name.
-pub fn file(alloc: Global, name: &str, bytes: &[u8]) -> Result<FileRec, AllocError> {
-    Ok(FileRec {
+// A file of that name is there too.
+fn add_file(
+    alloc: Global,
+    files: &mut Vec<FileRec>,
+    name: &str,
+    bytes: &[u8],
+) -> Result<(), AllocError> {
+    files.push(FileRec {
         name: Name::new(alloc, name.as_bytes())?,
         bytes: Vec::from_slice(alloc, bytes)?,
-    })
+    })?;
+    Ok(())
 }
 
-/// The files of a netlist and its constraints.
-pub fn texts(alloc: Global, netlist: &str, constraints: &str) -> Result<Vec<FileRec>, AllocError> {
-    let mut files = Vec::new(alloc);
-    files.push(file(alloc, "v", netlist.as_bytes())?)?;
-    files.push(file(alloc, "s", constraints.as_bytes())?)?;
-    Ok(files)
-}
-
-/// A host with these files, one of whose calls may fail.
+/// A host with all files, and with these constraints and bytes in the files `s` and `first`. One of its calls may fail.
 pub fn host_of(
     alloc: Global,
-    files: Vec<FileRec>,
+    constraints: &str,
+    first: &[u8],
     fail: Option<Fail>,
 ) -> Result<MemHost, AllocError> {
-    let mut fails = Vec::new(alloc);
-    if let Some(fail) = fail {
-        fails.push(fail)?;
+    let mut files = Vec::new(alloc);
+    add_file(alloc, &mut files, "s", constraints.as_bytes())?;
+    add_file(alloc, &mut files, "first", first)?;
+    for (name, text) in FILES {
+        add_file(alloc, &mut files, name, text.as_bytes())?;
     }
+    let fails = Vec::from_slice(alloc, fail.as_slice())?;
     MemHost::new(alloc, files, fails, ROOM)
 }
 

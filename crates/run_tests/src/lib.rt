@@ -1,14 +1,20 @@
 //! The program's call against what is worked out by hand: command words and files in, a status, printed lines and a saved
 //! certificate out.
 //!
-//! This crate has tests alone.
+//! A row of a table is a call, with its files, and what it owes. This crate has tests alone.
 #![tactic(auto)]
 
+#[cfg(test)]
+mod calls;
+#[cfg(test)]
+mod demonstrations;
+#[cfg(test)]
+mod files;
 #[cfg(test)]
 mod hosts;
 #[cfg(test)]
 mod judged_rows;
 #[cfg(test)]
-mod netlists;
-#[cfg(test)]
 mod other_rows;
+#[cfg(test)]
+mod synthesised;

@@ -1,25 +1,33 @@
-//! Netlists and constraints that the rows share.
+//! The files of hosts, by their names.
 
-/// The and gate of `n1` has an input that is always 0, so `b` captures 0 whatever `a` holds.
-pub const TIED: &str = "module top (input clk, input rst, input d, output y);
+/// Netlists with their libraries and constraints, reports and certificates.
+pub const FILES: &[(&str, &str)] = &[
+    // The and gate of `n1` has an input that is always 0, so `b` captures 0 whatever `a` holds.
+    (
+        "tied",
+        "module top (input clk, input rst, input d, output y);
   wire qa, z, n1;
   TIE0 t0 (.Y(z));
   DFFC a (.D(d), .C(rst), .CK(clk), .Q(qa));
   AND2 g1 (.A(qa), .B(z), .Y(n1));
   DFFC b (.D(n1), .C(rst), .CK(clk), .Q(y));
 endmodule
-";
-
-/// `b` takes what `a` holds.
-pub const DIRECT: &str = "module top (input clk, input rst, input d, output y);
+",
+    ),
+    // `b` takes what `a` holds.
+    (
+        "direct",
+        "module top (input clk, input rst, input d, output y);
   wire qa;
   DFFC a (.D(d), .C(rst), .CK(clk), .Q(qa));
   DFFC b (.D(qa), .C(rst), .CK(clk), .Q(y));
 endmodule
-";
-
-/// A counter of two bits lets `a` load in phase 0 and `b` in phase 2.
-pub const PHASES: &str = "module top (input clk, input rst, input d, output y);
+",
+    ),
+    // A counter of two bits lets `a` load in phase 0 and `b` in phase 2.
+    (
+        "phases",
+        "module top (input clk, input rst, input d, output y);
   wire p0, p1, n0, n1, la, lb, qa;
   INV i0 (.A(p0), .Y(n0));
   XOR2 x1 (.A(p1), .B(p0), .Y(n1));
@@ -30,10 +38,12 @@ pub const PHASES: &str = "module top (input clk, input rst, input d, output y);
   DFFE a (.D(d), .E(la), .CK(clk), .Q(qa));
   DFFE b (.D(qa), .E(lb), .CK(clk), .Q(y));
 endmodule
-";
-
-/// A ring of three registers with one 1 in it lets `a` load two cycles before `b`.
-pub const RING: &str = "module top (input clk, input rst, input d, output y);
+",
+    ),
+    // A ring of three registers with one 1 in it lets `a` load two cycles before `b`.
+    (
+        "ring",
+        "module top (input clk, input rst, input d, output y);
   wire h0, h1, h2, qa;
   DFFP p0 (.D(h2), .P(rst), .CK(clk), .Q(h0));
   DFFC p1 (.D(h0), .C(rst), .CK(clk), .Q(h1));
@@ -41,10 +51,12 @@ pub const RING: &str = "module top (input clk, input rst, input d, output y);
   DFFE a (.D(d), .E(h0), .CK(clk), .Q(qa));
   DFFE b (.D(qa), .E(h2), .CK(clk), .Q(y));
 endmodule
-";
-
-/// A counter of three bits that never reaches 7 from 0, though no two of its bits tell.
-pub const COUNTER: &str = "module top (input clk, input rst, input d, output y);
+",
+    ),
+    // A counter of three bits that never reaches 7 from 0, though no two of its bits tell.
+    (
+        "counter",
+        "module top (input clk, input rst, input d, output y);
   wire q0, q1, q2, n0, al, sx, ns, x1, c1, x2, t0, t1, t2, d0, d1, d2, qa;
   AND3 gal (.A(q0), .B(q1), .C(q2), .Y(al));
   INV i0 (.A(q0), .Y(n0));
@@ -61,10 +73,12 @@ pub const COUNTER: &str = "module top (input clk, input rst, input d, output y);
   DFFE a (.D(d), .E(al), .CK(clk), .Q(qa));
   DFFE b (.D(qa), .E(al), .CK(clk), .Q(y));
 endmodule
-";
-
-/// The two parities of `x` are equal, whatever their order: `b` captures 0.
-pub const PARITY: &str = "module top (input clk, input d, input [3:0] x, output y);
+",
+    ),
+    // The two parities of `x` are equal, whatever their order: `b` captures 0.
+    (
+        "parity",
+        "module top (input clk, input d, input [3:0] x, output y);
   wire qa, u1, u2, u3, w1, w2, w3, m, n1;
   DFF a (.D(d), .CK(clk), .Q(qa));
   XOR2 e1 (.A(x[0]), .B(x[1]), .Y(u1)), e2 (.A(u1), .B(x[2]), .Y(u2)), e3 (.A(u2), .B(x[3]), .Y(u3));
@@ -73,10 +87,12 @@ pub const PARITY: &str = "module top (input clk, input d, input [3:0] x, output 
   AND2 h (.A(qa), .B(m), .Y(n1));
   DFF b (.D(n1), .CK(clk), .Q(y));
 endmodule
-";
-
-/// Two ways from `a` to `b`, of which one goes through the tied gate.
-pub const TWO_WAYS: &str = "module top (input clk, input rst, input d, output y);
+",
+    ),
+    // Two ways from `a` to `b`, of which one goes through the tied gate.
+    (
+        "two_ways",
+        "module top (input clk, input rst, input d, output y);
   wire qa, z, n1, n2, n3;
   TIE0 t0 (.Y(z));
   DFFC a (.D(d), .C(rst), .CK(clk), .Q(qa));
@@ -85,10 +101,12 @@ pub const TWO_WAYS: &str = "module top (input clk, input rst, input d, output y)
   OR2 g2 (.A(n1), .B(n2), .Y(n3));
   DFFC b (.D(n3), .C(rst), .CK(clk), .Q(y));
 endmodule
-";
-
-/// `s` selects between two nets of one value: `b` may glitch at the or gate, `c` behind the multiplexer may not.
-pub const GLITCH: &str = "module top (input clk, input rst, input d, input u, output y, output w);
+",
+    ),
+    // `s` selects between two nets of one value: `b` may glitch at the or gate, `c` behind the multiplexer may not.
+    (
+        "glitch",
+        "module top (input clk, input rst, input d, input u, output y, output w);
   wire qs, qe, ns, n1, n2, n3, n4;
   DFFC s (.D(u), .C(rst), .CK(clk), .Q(qs));
   DFFC e (.D(d), .C(rst), .CK(clk), .Q(qe));
@@ -100,14 +118,17 @@ pub const GLITCH: &str = "module top (input clk, input rst, input d, input u, ou
   DFFC b (.D(n3), .C(rst), .CK(clk), .Q(y));
   DFFC c (.D(n4), .C(rst), .CK(clk), .Q(w));
 endmodule
-";
-
-/// `r` toggles in each cycle.
-pub const TOGGLE: &str =
-    "module top (input clk, input rst, output q); wire n; INV i (.A(q), .Y(n)); DFFC r (.D(n), .C(rst), .CK(clk), .Q(q)); endmodule";
-
-/// A netlist as a synthesis tool writes it: two bits of `a` go to two bits of `b` by two phases, with a scan chain.
-pub const SYNTHESISED: &str = "// as a synthesis tool writes it
+",
+    ),
+    // `r` toggles in each cycle.
+    (
+        "toggle",
+        "module top (input clk, input rst, output q); wire n; INV i (.A(q), .Y(n)); DFFC r (.D(n), .C(rst), .CK(clk), .Q(q)); endmodule",
+    ),
+    // A netlist as a synthesis tool writes it: two bits of `a` go to two bits of `b` by two phases, with a scan chain.
+    (
+        "blk",
+        "// as a synthesis tool writes it
 `timescale 1ns/1ps
 (* top = 1 *)
 module blk (clk, rst_n, se, si, din, so);
@@ -133,10 +154,12 @@ module blk (clk, rst_n, se, si, din, so);
   SDFFRX1 \\b_reg[1] (.D(m3), .SI(b[0]), .SE(se), .RN(rst_n), .CK(clk), .Q(b[1]));
   assign so = b[1];
 endmodule
-";
-
-/// The cells of SYNTHESISED.
-pub const LIBRARY: &str = "library (demo45) {
+",
+    ),
+    // The cells of blk.
+    (
+        "cells",
+        "library (demo45) {
   time_unit : \"1ns\";
   cell (INVX1) { area : 1.5; pin (A) { direction : input; }
     pin (Y) { direction : output; function : \"A'\"; timing () { related_pin : \"A\"; } } }
@@ -151,10 +174,12 @@ pub const LIBRARY: &str = "library (demo45) {
     pin (Q) { direction : output; function : \"IQ\"; }
     pin (QN) { direction : output; function : \"IQN\"; } }
 }
-";
-
-/// Constraints of SYNTHESISED, as a tool writes them.
-pub const CONSTRAINTS: &str = "set sdc_version 2.1
+",
+    ),
+    // Constraints of blk, as a tool writes them.
+    (
+        "tool",
+        "set sdc_version 2.1
 set_units -time ns
 create_clock -name clk -period 10.0 -waveform {0 5} [get_ports clk]
 create_clock -name vio -period 10.0
@@ -166,4 +191,51 @@ set_multicycle_path 2 -setup -from [get_cells {a_reg[*]}] \\
   -to [get_cells {b_reg[*]}]
 set_multicycle_path 1 -hold -from [get_cells {a_reg[*]}] -to [get_cells {b_reg[*]}]
 set_false_path -from [get_ports rst_n]
-";
+",
+    ),
+    (
+        "many_drivers",
+        "module top (input s, output q); INV g1 (.A(s), .Y(q)); BUF g2 (.A(s), .Y(q)); endmodule",
+    ),
+    (
+        "open_input",
+        "module top (input s, output q); INV g1 (.A(), .Y(q)); endmodule",
+    ),
+    (
+        "unknown_cell",
+        "module top (input s, output q); BUF g1 (.A(s), .Y(q)); FOO g2 (.A(s)); endmodule",
+    ),
+    (
+        "always",
+        "module top (input a, output y); always @(a) y = a; endmodule",
+    ),
+    ("empty", "module top; endmodule"),
+    // A library whose function is none.
+    (
+        "broken",
+        "library (l) { cell (X) { pin (Y) { direction : output; function : \"A +\"; } } }",
+    ),
+    // Reports, with a stimulus of direct or with none.
+    (
+        "late",
+        "stimulus 1 cycles 3\nstate 00\ninput 10\ninput 01\ninput 00\nend\n",
+    ),
+    (
+        "quiet",
+        "stimulus 1 cycles 3\nstate 00\ninput 10\ninput 00\ninput 00\nend\n",
+    ),
+    (
+        "unreset",
+        "stimulus 1 cycles 3\nstate 00\ninput 00\ninput 01\ninput 00\nend\n",
+    ),
+    ("blank", ""),
+    // Certificates.
+    ("single", "sdcv-cert 1\ninv 0 0\npair 1 single\nend\n"),
+    ("open", "sdcv-cert 1\ninv 0 0\npair 1 single\n"),
+    ("nine", "sdcv-cert 9\ninv 0 0\npair 1 single\nend\n"),
+    ("second", "sdcv-cert 1\ninv 0 0\npair 2 single\nend\n"),
+    (
+        "twice",
+        "sdcv-cert 1\ninv 0 0\npair 1 single\npair 1 single\nend\n",
+    ),
+];
