@@ -1,11 +1,10 @@
 -- Each kind of line: its words have no space or newline, and they tell its value.
-use Rattle.std.proofs.Common.{◌≡◌, ◌≢◌, ℕ, ◌+◌, ◌*◌, ◌<◌, ◌≤◌, ◌^◌, ◌==◌, Bool, true, false, List, [], ◌∷◌, ◌++◌, map, length, get_or, refl, sym, ap, ◌∙◌, subst, append_assoc, arith}
+use Rattle.std.proofs.Common.{◌≡◌, ℕ, ◌+◌, ◌*◌, ◌<◌, ◌^◌, Bool, true, false, List, [], ◌∷◌, ◌++◌, map, length, get_or, refl, sym, ap, ◌∙◌, arith}
 use Rattle.std.specs.Prelude.{codes}
 use Rattle.std.specs.List.{list_all}
 use Rattle.std.specs.Fmt.{decimal}
-use Rattle.std.proofs.lemmas.Bool.Decides.{nat_tests}
 use Rattle.std.proofs.lemmas.Fmt.{decimal_injective}
-use Rattle.proof_log.specs.Literals.{literal, lit_var, lit_positive}
+use Rattle.proof_log.specs.Literals.{literal, lit_var}
 use Rattle.proof_log.specs.declared.derivations.DerivStep.{DerivStep}
 use Rattle.net_model.specs.declared.invariants.StateLit.{StateLit}
 use Rattle.net_model.specs.declared.invariants.InvClause.{InvClause}
@@ -20,7 +19,8 @@ use Rattle.cert_words.proofs.LineLemmas.{IsKind}
 use Rattle.cert_lines.specs.declared.heads.InvHead.{InvHead}
 use Rattle.cert_lines.specs.declared.sections.Section.{Section}
 use Rattle.cert_lines.specs.declared.sections.Section.TheVariants.{Single, Fixed, Depth, End}
-use Rattle.cert_lines.specs.Kinds.{first_words, IsVersion, inv_words, IsInvHead, state_word, kept_words, AreKept, IsKept, phase_word, head_words, IsCount, section_words, IsSection, step_words, IsStep}
+use Rattle.cert_lines.specs.Kinds.{first_words, IsVersion, inv_words, IsInvHead, state_word, kept_words, AreKept, IsKept, phase_word}
+use Rattle.cert_lines.specs.Kinds.{head_words, IsCount, section_words, IsSection, step_words, IsStep}
 
 pub first_kind : IsKind IsVersion first_words
 first_kind = record {

@@ -1,5 +1,6 @@
 -- What each line goes on with, by its parts.
-use Rattle.std.proofs.Common.{inl, inr, ◌⊎◌, IsTrue, ◌↔◌, ◌≡◌, ◌≢◌, ℕ, zero, suc, ◌+◌, ◌-◌, ◌*◌, ◌/◌, ◌%◌, ◌<◌, ◌≤◌, ◌^◌, ◌==◌, ◌||◌, Bool, true, false, List, [], ◌∷◌, ◌++◌, map, length, drop, get_or, refl, sym, ap, ◌∙◌, subst, append_assoc, arith}
+use Rattle.std.proofs.Common.{◌≡◌, ℕ, zero, suc, ◌+◌, ◌-◌, ◌<◌, ◌≤◌, ◌^◌, Bool, true, false, List, [], ◌∷◌, ◌++◌, map, length, drop, get_or}
+use Rattle.std.proofs.Common.{refl, sym, ap, ◌∙◌, append_assoc, arith}
 use Rattle.std.specs.Prelude.{codes}
 use Rattle.std.specs.Fmt.{decimal}
 use Rattle.std.proofs.lemmas.Bool.Decides.{nat_tests}
@@ -8,9 +9,9 @@ use Rattle.proof_log.specs.Literals.{literal, lit_var, lit_positive}
 use Rattle.proof_log.specs.declared.derivations.DerivStep.{DerivStep}
 use Rattle.net_model.specs.declared.invariants.StateLit.{StateLit}
 use Rattle.net_model.specs.declared.invariants.InvClause.{InvClause}
-use Rattle.cert_words.specs.Numbers.{zero_word, lit_word, IsLitAbove, IsHint, IsDue, IsNumberWord, IsLitWord}
+use Rattle.cert_words.specs.Numbers.{zero_word, lit_word, IsLitAbove, IsHint, IsNumberWord, IsLitWord}
 use Rattle.cert_words.specs.Growth.{Chain, HasRow, HasRowBefore}
-use Rattle.cert_words.specs.Parts.{HasOne, HasOneBefore}
+use Rattle.cert_words.specs.Parts.{HasOne}
 use Rattle.cert_words.proofs.Literals.{hints_tell, lits_tell}
 use Rattle.cert_words.proofs.RowLemmas.{row_same}
 use Rattle.cert_words.proofs.LineLemmas.{HasWords}
@@ -18,7 +19,7 @@ use Rattle.cert_lines.specs.declared.heads.InvHead.{InvHead}
 use Rattle.cert_lines.specs.declared.sections.Section.{Section}
 use Rattle.cert_lines.specs.declared.sections.Section.TheVariants.{Single, Fixed, Depth, End}
 use Rattle.cert_lines.specs.declared.sections.ProofWord.TheVariants as word
-use Rattle.cert_lines.specs.Kinds.{first_words, IsVersion, inv_words, IsInvHead, state_word, kept_words, AreKept, IsKept, head_words, IsCount, section_words, IsSection, step_words, IsStep}
+use Rattle.cert_lines.specs.Kinds.{inv_words, IsInvHead, state_word, kept_words, AreKept, IsKept, section_words, IsSection, step_words, IsStep}
 use Rattle.cert_lines.specs.SectionWords.{pair_or_end, first_rest, IsFirstWord, IsFirstBefore, IsProofWord, IsProofBefore}
 use Rattle.cert_lines.proofs.KindLemmas.{clash, state_fits, step_tail}
 

@@ -1,5 +1,5 @@
 //! The first line, the line of kept clauses, and the first line of a derivation.
-ghost use Rattle.std.specs.Prelude.{◌≡◌, ◌∷◌, ◌<◌, ℕ, true, false, IfOk, IfErr, OnOk, length};
+ghost use Rattle.std.specs.Prelude.{◌≡◌, ◌≢◌, ◌∷◌, ◌<◌, ℕ, true, false, IfOk, IfErr, OnOk, length};
 ghost use Rattle.cert_words.specs.Lines.{Spells, IsLineStop};
 ghost use Rattle.cert_words.specs.Numbers.{IsDue};
 ghost use Rattle.cert_words.specs.Parts.{left, IsOneStop};
@@ -26,6 +26,7 @@ pub fn read_first(line: &[u8], cut: bool) -> Result<u64, Stop>
     ensures ok { IfOk result (Spells IsVersion first_words line.now) }
     ensures whole { OnOk result (cut ≡ false) }
     ensures err { IfErr result (IsLineStop IsVersion first_words cut line.now) }
+    ensures told { IfErr result (λ e. e ≢ Stop.Memory) }
 {
     let mut words = Words::new(line, cut);
     take_word(&mut words, b"sdcv-cert")?;
@@ -47,6 +48,7 @@ pub fn read_inv(line: &[u8], cut: bool) -> Result<InvHead, Stop>
     ensures ok { IfOk result (Spells IsInvHead inv_words line.now) }
     ensures whole { OnOk result (cut ≡ false) }
     ensures err { IfErr result (IsLineStop IsInvHead inv_words cut line.now) }
+    ensures told { IfErr result (λ e. e ≢ Stop.Memory) }
 {
     let mut words = Words::new(line, cut);
     take_word(&mut words, b"inv")?;
@@ -65,6 +67,7 @@ fn take_phase(words: &mut Words<'_>, phase: Phase) -> Result<(), Stop>
     ensures more { OnOk result (words.old.cut ≡ true → 0 < length (left words.new)) }
     ensures cut { words.new.cut ≡ words.old.cut }
     ensures err { IfErr result (IsOneStop (IsDue (phase_word phase)) words.old.cut (left words.old)) }
+    ensures told { IfErr result (λ e. e ≢ Stop.Memory) }
 {
     match phase {
         Phase::Base => take_word(words, b"b"),
@@ -77,6 +80,7 @@ pub fn read_head(phase: Phase, line: &[u8], cut: bool) -> Result<u64, Stop>
     ensures ok { IfOk result (Spells IsCount (head_words phase) line.now) }
     ensures whole { OnOk result (cut ≡ false) }
     ensures err { IfErr result (IsLineStop IsCount (head_words phase) cut line.now) }
+    ensures told { IfErr result (λ e. e ≢ Stop.Memory) }
 {
     let mut words = Words::new(line, cut);
     take_phase(&mut words, phase)?;

@@ -1,5 +1,5 @@
 //! The first line of a pair, and the last line.
-ghost use Rattle.std.specs.Prelude.{◌≡◌, ◌∷◌, ◌++◌, ◌<◌, ◌↔◌, ℕ, List, true, false, IfOk, IfErr, OnOk, IsTrue};
+ghost use Rattle.std.specs.Prelude.{◌≡◌, ◌≢◌, ◌∷◌, ◌++◌, ◌<◌, ◌↔◌, ℕ, List, true, false, IfOk, IfErr, OnOk, IsTrue};
 ghost use Rattle.std.specs.Prelude.{MatchOption, length};
 ghost use Rattle.cert_words.specs.Lines.{Spells, IsLineStop};
 ghost use Rattle.cert_words.specs.Parts.{left, HasOne, IsPartStop};
@@ -51,6 +51,7 @@ fn take_first(words: &mut Words<'_>) -> Result<bool, Stop>
     ensures more { OnOk result (words.old.cut ≡ true → 0 < length (left words.new)) }
     ensures cut { words.new.cut ≡ words.old.cut }
     ensures err { IfErr result (IsPartStop (HasOne IsFirstWord) (λ tail. IsFirstBefore) words.old.cut (left words.old)) }
+    ensures told { IfErr result (λ e. e ≢ Stop.Memory) }
 {
     let Some(word) = words.next() else {
         return Err(Stop::Bad);
@@ -94,6 +95,7 @@ fn take_proof_word(words: &mut Words<'_>) -> Result<ProofWord, Stop>
     ensures more { OnOk result (words.old.cut ≡ true → 0 < length (left words.new)) }
     ensures cut { words.new.cut ≡ words.old.cut }
     ensures err { IfErr result (IsPartStop (HasOne IsProofWord) (λ tail. IsProofBefore) words.old.cut (left words.old)) }
+    ensures told { IfErr result (λ e. e ≢ Stop.Memory) }
 {
     let Some(word) = words.next() else {
         return Err(Stop::Bad);
@@ -112,6 +114,7 @@ pub fn read_section(line: &[u8], cut: bool) -> Result<Section, Stop>
     ensures ok { IfOk result (Spells IsSection section_words line.now) }
     ensures whole { OnOk result (cut ≡ false) }
     ensures err { IfErr result (IsLineStop IsSection section_words cut line.now) }
+    ensures told { IfErr result (λ e. e ≢ Stop.Memory) }
 {
     let mut words = Words::new(line, cut);
     if !take_first(&mut words)? {

@@ -1,9 +1,10 @@
 -- Where a text breaks off, told by its parts.
-use Rattle.std.proofs.Common.{inl, inr, ◌⊎◌, ◌≡◌, ◌≢◌, ℕ, ◌+◌, List, [], ◌∷◌, ◌++◌, length, refl, sym, ap, ◌∙◌, subst, append_assoc, append-nil, length-append, arith}
+use Rattle.std.proofs.Common.{inl, inr, ◌⊎◌, ◌≡◌, ◌≢◌, ℕ, ◌+◌, List, [], ◌∷◌, ◌++◌, length, refl, sym, ap, ◌∙◌, subst, append_assoc}
+use Rattle.std.proofs.Common.{append-nil, length-append, arith}
 use Rattle.std.proofs.lemmas.List.{append_cancel_left}
 use Rattle.cert_parts.specs.declared.faults.Fault.{Fault}
 use Rattle.cert_parts.specs.declared.faults.Fault.TheVariants.{Form, Memory}
-use Rattle.cert_parts.specs.Texts.{IsText, BeginsIn, IsWhole, BreaksAt, StopsAt, Sticks, IsFault}
+use Rattle.cert_parts.specs.Texts.{BeginsIn, IsWhole, StopsAt, Sticks, IsFault}
 
 onto : (h k : ℕ) (a b : List ℕ) → h ≡ k → ((r : List ℕ) × (a ≡ b ++ r)) ⊎ ((r : List ℕ) × (b ≡ a ++ r))
     → ((r : List ℕ) × (h ∷ a ≡ k ∷ (b ++ r))) ⊎ ((r : List ℕ) × (k ∷ b ≡ h ∷ (a ++ r)))

@@ -1,5 +1,6 @@
 -- Lines with their newlines, in bytes.
-use Rattle.std.proofs.Common.{◌-◌, inl, inr, ◌⊎◌, ◌≡◌, ◌≢◌, ℕ, zero, suc, ◌+◌, ◌<◌, ◌≤◌, ◌==◌, nat_lt, Bool, true, false, not, cond, List, [], ◌∷◌, ◌++◌, length, take, drop, refl, sym, ap, ◌∙◌, subst, append_assoc, append-nil, arith, length-append}
+use Rattle.std.proofs.Common.{inl, inr, ◌⊎◌, ◌≡◌, ◌≢◌, ℕ, zero, suc, ◌+◌, ◌<◌, ◌≤◌, ◌==◌, nat_lt, Bool, true, false, not, cond, List, []}
+use Rattle.std.proofs.Common.{◌∷◌, ◌++◌, length, take, drop, refl, sym, ap, ◌∙◌, subst, append_assoc, append-nil, arith, length-append}
 use Rattle.std.specs.List.{prefix_len, list_all}
 use Rattle.std.proofs.lemmas.Bool.{and_parts, not-true, eqb-true}
 use Rattle.std.proofs.Math.Dec.{eqb}
@@ -13,8 +14,7 @@ use Rattle.cert_words.specs.Lines.{Spells, Begins, IsLineStop}
 use Rattle.cert_words.proofs.Tokens.{is_token}
 use Rattle.cert_words.proofs.LineLemmas.{IsKind, words_of}
 use Rattle.cert_lines.specs.Kinds.{text_of}
-use Rattle.cert_parts.specs.declared.faults.Fault.{Fault}
-use Rattle.cert_parts.specs.Texts.{is_inline, BeginsIn, IsWhole, IsOneLine, Sticks, IsFault}
+use Rattle.cert_parts.specs.Texts.{is_inline, IsWhole, IsOneLine, Sticks, IsFault}
 use Rattle.cert_parts.specs.Places.{IsCutAt, IsNextLine, fault_of}
 use Rattle.cert_parts.proofs.Leading.{fronts, Tells}
 

@@ -1,5 +1,5 @@
 -- Derivations in a text.
-use Rattle.std.specs.Prelude.{◌≡◌, ℕ, List, ◌++◌, length}
+use Rattle.std.specs.Prelude.{ℕ, List, ◌++◌, length}
 use Rattle.proof_log.specs.declared.derivations.Derivation.{Derivation}
 use Rattle.net_model.specs.declared.queries.Phase.{Phase}
 use Rattle.cert_lines.specs.Kinds.{text_of, head_words, IsCount, step_words, IsStep}

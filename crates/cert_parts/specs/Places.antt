@@ -1,5 +1,5 @@
 -- The line at a place of a text.
-use Rattle.std.specs.Prelude.{◌≡◌, ℕ, ◌+◌, ◌<◌, ◌==◌, Bool, true, false, not, List, [], ◌∷◌, ◌++◌, length, drop}
+use Rattle.std.specs.Prelude.{◌≡◌, ℕ, ◌+◌, Bool, true, false, List, ◌∷◌, ◌++◌, length, drop}
 use Rattle.cert_words.specs.declared.stops.Stop.{Stop}
 use Rattle.cert_words.specs.declared.stops.Stop.TheVariants.{Bad, Early, Memory}
 use Rattle.cert_parts.specs.declared.faults.Fault.{Fault}

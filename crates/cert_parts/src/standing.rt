@@ -1,5 +1,5 @@
 //! Lines where they stand in a text.
-ghost use Rattle.std.specs.Prelude.{◌≡◌, ◌+◌, ◌++◌, length, IfOk, IfErr, OnOk};
+ghost use Rattle.std.specs.Prelude.{◌≡◌, ◌≢◌, ◌+◌, ◌++◌, length, IfOk, IfErr, OnOk};
 ghost use Rattle.sdcv_base.specs.Cursors.{rest, place_of};
 ghost use Rattle.cert_lines.specs.Kinds.{text_of, first_words, IsVersion, inv_words, IsInvHead, kept_words, IsKept};
 ghost use Rattle.cert_lines.specs.Kinds.{head_words, IsCount, section_words, IsSection, step_words, IsStep};
@@ -20,6 +20,7 @@ pub fn take_first(cursor: &mut Cursor<'_>) -> Result<u64, Fault>
     ensures ok { IfOk result (λ v. IsVersion v × (rest cursor.old ≡ text_of first_words v ++ rest cursor.new)) }
     ensures place { OnOk result (place_of cursor.new + length (rest cursor.new) ≡ place_of cursor.old + length (rest cursor.old)) }
     ensures err { IfErr result (IsFault IsVersion (text_of first_words) (rest cursor.old) (place_of cursor.old)) }
+    ensures told { IfErr result (λ e. e ≢ Fault.Memory) }
 {
     let line = next_line(cursor);
     match read_first(line.text, line.cut) {
@@ -36,6 +37,7 @@ pub fn take_inv(cursor: &mut Cursor<'_>) -> Result<InvHead, Fault>
     ensures ok { IfOk result (λ v. IsInvHead v × (rest cursor.old ≡ text_of inv_words v ++ rest cursor.new)) }
     ensures place { OnOk result (place_of cursor.new + length (rest cursor.new) ≡ place_of cursor.old + length (rest cursor.old)) }
     ensures err { IfErr result (IsFault IsInvHead (text_of inv_words) (rest cursor.old) (place_of cursor.old)) }
+    ensures told { IfErr result (λ e. e ≢ Fault.Memory) }
 {
     let line = next_line(cursor);
     match read_inv(line.text, line.cut) {
@@ -68,6 +70,7 @@ pub fn take_head(cursor: &mut Cursor<'_>, phase: Phase) -> Result<u64, Fault>
     ensures ok { IfOk result (λ v. IsCount v × (rest cursor.old ≡ text_of (head_words phase) v ++ rest cursor.new)) }
     ensures place { OnOk result (place_of cursor.new + length (rest cursor.new) ≡ place_of cursor.old + length (rest cursor.old)) }
     ensures err { IfErr result (IsFault IsCount (text_of (head_words phase)) (rest cursor.old) (place_of cursor.old)) }
+    ensures told { IfErr result (λ e. e ≢ Fault.Memory) }
 {
     let line = next_line(cursor);
     match read_head(phase, line.text, line.cut) {
@@ -84,6 +87,7 @@ pub fn take_section(cursor: &mut Cursor<'_>) -> Result<Section, Fault>
     ensures ok { IfOk result (λ v. IsSection v × (rest cursor.old ≡ text_of section_words v ++ rest cursor.new)) }
     ensures place { OnOk result (place_of cursor.new + length (rest cursor.new) ≡ place_of cursor.old + length (rest cursor.old)) }
     ensures err { IfErr result (IsFault IsSection (text_of section_words) (rest cursor.old) (place_of cursor.old)) }
+    ensures told { IfErr result (λ e. e ≢ Fault.Memory) }
 {
     let line = next_line(cursor);
     match read_section(line.text, line.cut) {

@@ -1,5 +1,6 @@
 -- Numbers that grow by digits.
-use Rattle.std.proofs.Common.{◌⊎◌, inl, inr, min, ◌≡◌, ℕ, zero, suc, ◌+◌, ◌*◌, ◌/◌, ◌%◌, ◌<◌, ◌≤◌, ◌^◌, List, [], ◌∷◌, ◌++◌, length, refl, sym, ap, ◌∙◌, append_assoc, append-nil, arith, subst}
+use Rattle.std.proofs.Common.{◌⊎◌, inl, inr, min, ◌≡◌, ℕ, zero, suc, ◌+◌, ◌*◌, ◌/◌, ◌%◌, ◌<◌, ◌≤◌, ◌^◌, List, [], ◌∷◌, ◌++◌, length, refl}
+use Rattle.std.proofs.Common.{sym, ap, ◌∙◌, append_assoc, append-nil, arith, subst}
 use Rattle.std.specs.Fmt.{decimal}
 use Rattle.cert_words.specs.Numbers.{IsGreatestWith}
 use Rattle.std.specs.Char.{digit_value}

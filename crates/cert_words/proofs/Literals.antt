@@ -1,5 +1,7 @@
 -- The words of numbers and of literals.
-use Rattle.std.proofs.Common.{is_some, drop, IsTrue, nat_lt, ◌&&◌, ◌↔◌, Option, None, Some, IsSome, IfSome, MatchOption, inl, inr, ◌≡◌, ◌≢◌, ◌⊎◌, ℕ, zero, suc, ◌+◌, ◌*◌, ◌<◌, ◌≤◌, ◌^◌, ◌==◌, Bool, true, false, if◌then◌else◌, List, [], ◌∷◌, ◌++◌, length, get_or, refl, sym, ap, ◌∙◌, subst, arith, append-nil}
+use Rattle.std.proofs.Common.{is_some, drop, IsTrue, nat_lt, ◌&&◌, ◌↔◌, Option, None, Some, IsSome, IfSome, MatchOption, inl, inr, ◌≡◌, ◌≢◌}
+use Rattle.std.proofs.Common.{◌⊎◌, ℕ, zero, suc, ◌+◌, ◌*◌, ◌<◌, ◌≤◌, ◌^◌, ◌==◌, Bool, true, false, if◌then◌else◌, List, [], ◌∷◌, ◌++◌}
+use Rattle.std.proofs.Common.{length, get_or, refl, sym, ap, ◌∙◌, subst, arith, append-nil}
 use Rattle.std.specs.Fmt.{decimal}
 use Rattle.std.specs.Str.Parse.{digits_value, AllDigits}
 use Rattle.std.proofs.lemmas.Bool.{and_parts, eqb-true, eq-eqb}

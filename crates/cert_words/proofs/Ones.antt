@@ -1,5 +1,6 @@
 -- One word of a kind.
-use Rattle.std.proofs.Common.{if◌then◌else◌, ◌≡◌, ◌≢◌, ℕ, ◌<◌, Bool, true, false, Option, None, Some, Bor, MatchOption, is_some, List, [], ◌∷◌, ◌++◌, length, refl, sym, ap, ◌∙◌, subst, append-nil, arith}
+use Rattle.std.proofs.Common.{if◌then◌else◌, ◌≡◌, ◌≢◌, ℕ, ◌<◌, Bool, true, false, Option, None, Some, Bor, MatchOption, is_some, List, []}
+use Rattle.std.proofs.Common.{◌∷◌, ◌++◌, length, refl, sym, subst}
 use Rattle.cert_words.specs.declared.stops.Stop.TheVariants.{Bad, Early}
 use Rattle.cert_words.specs.Growth.{Grows, Fails}
 use Rattle.cert_words.specs.Numbers.{IsDue}

@@ -1,5 +1,6 @@
 -- Rows of items, and words that may grow.
-use Rattle.std.proofs.Common.{Option, None, Some, Bor, MatchOption, is_some, ◌&&◌, if◌then◌else◌, ◌⊎◌, inl, inr, append-nil, ◌≡◌, ◌≢◌, ℕ, ◌<◌, Bool, true, false, List, [], ◌∷◌, ◌++◌, map, length, refl, sym, ap, ◌∙◌, subst, append_assoc, arith}
+use Rattle.std.proofs.Common.{◌&&◌, if◌then◌else◌, ◌⊎◌, inl, inr, append-nil, ◌≡◌, ◌≢◌, ℕ, ◌<◌, Bool, true, false, List, [], ◌∷◌, ◌++◌, map}
+use Rattle.std.proofs.Common.{length, refl, sym, ap, ◌∙◌, subst, append_assoc, arith}
 use Rattle.cert_words.specs.Numbers.{zero_word}
 use Rattle.cert_words.specs.declared.stops.Stop.TheVariants.{Bad, Early}
 use Rattle.cert_words.specs.Parts.{IsRowStop, no_words}

@@ -1,5 +1,5 @@
 //! Parts of a line that are one word each, and its end.
-ghost use Rattle.std.specs.Prelude.{◌≡◌, ◌≤◌, ◌<◌, [], ◌∷◌, true, IfOk, IfErr, OnOk, length};
+ghost use Rattle.std.specs.Prelude.{◌≡◌, ◌≢◌, ◌≤◌, ◌<◌, [], ◌∷◌, true, IfOk, IfErr, OnOk, length};
 ghost use Rattle.std.specs.Fmt.{decimal};
 ghost use Rattle.cert_words.specs.Numbers.{lit_word, IsLitAbove, IsDue, IsNumberWord, IsLitWord};
 ghost use Rattle.cert_words.specs.Parts.{left, IsOneStop};
@@ -15,6 +15,7 @@ pub fn take_word(words: &mut Words<'_>, due: &[u8]) -> Result<(), Stop>
     ensures more { OnOk result (words.old.cut ≡ true → 0 < length (left words.new)) }
     ensures cut { words.new.cut ≡ words.old.cut }
     ensures err { IfErr result (IsOneStop (IsDue due.now) words.old.cut (left words.old)) }
+    ensures told { IfErr result (λ e. e ≢ Stop.Memory) }
 {
     let Some(word) = words.next() else {
         return Err(Stop::Bad);
@@ -31,6 +32,7 @@ pub fn take_number(words: &mut Words<'_>, most: u64) -> Result<u64, Stop>
     ensures more { OnOk result (words.old.cut ≡ true → 0 < length (left words.new)) }
     ensures cut { words.new.cut ≡ words.old.cut }
     ensures err { IfErr result (IsOneStop (IsNumberWord most) words.old.cut (left words.old)) }
+    ensures told { IfErr result (λ e. e ≢ Stop.Memory) }
 {
     let Some(word) = words.next() else {
         return Err(Stop::Bad);
@@ -50,6 +52,7 @@ pub fn take_lit(words: &mut Words<'_>, above: u32) -> Result<Lit, Stop>
     ensures more { OnOk result (words.old.cut ≡ true → 0 < length (left words.new)) }
     ensures cut { words.new.cut ≡ words.old.cut }
     ensures err { IfErr result (IsOneStop (IsLitWord above) words.old.cut (left words.old)) }
+    ensures told { IfErr result (λ e. e ≢ Stop.Memory) }
 {
     let Some(word) = words.next() else {
         return Err(Stop::Bad);

@@ -1,16 +1,13 @@
-use Rattle.std.proofs.Common.{◌≡◌, ◌<◌, ℕ, List, [], ◌∷◌, ◌++◌, map, drop, length, true, refl, sym, ap, ◌∙◌, subst, arith}
+use Rattle.std.proofs.Common.{◌≡◌, ℕ, List, [], ◌∷◌, drop, refl, sym, ap, ◌∙◌}
 use Rattle.std.specs.Prelude.{codes}
 use Rattle.std.specs.Fmt.{decimal}
 use Rattle.std.proofs.lemmas.Result.{err_from_is_err_and}
-use Rattle.proof_log.specs.Literals.{lit_var}
-use Rattle.cert_words.specs.Numbers.{zero_word, lit_word, IsLitAbove, IsHint, IsDue, IsNumberWord, IsLitWord}
-use Rattle.cert_words.specs.Growth.{HasRow, HasRowBefore}
+use Rattle.cert_words.specs.Numbers.{IsDue}
 use Rattle.cert_words.specs.Parts.{left, HasOne, HasOneBefore}
-use Rattle.cert_words.proofs.LineLemmas.{IsAt, at_next, stop_part, stop_more, stop_end, whole, none_is, some_is}
-use Rattle.cert_lines.specs.Kinds.{first_words, IsVersion, inv_words, IsInvHead, state_word, kept_words, IsKept, phase_word, head_words, IsCount, section_words, IsSection, step_words, IsStep}
-use Rattle.cert_lines.specs.SectionWords.{IsFirstWord, IsFirstBefore, IsProofWord, IsProofBefore}
-use Rattle.cert_lines.proofs.KindLemmas.{first_kind, inv_kind, head_kind, kept_kind, section_kind, step_kind}
-use Rattle.cert_lines.proofs.PartLemmas.{one_is, count_in, count_onto, state_of, first_state, lit_in, lit_onto, second_in, second_onto, kept_end, section_in, section_onto, end_end, number_in, proof_in, proof_onto, single_end, fixed_end, depth_in, depth_end, to_hints, lits_in, lits_onto, hints_in, hints_onto, to_end, step_end, step_is, row_part}
+use Rattle.cert_words.proofs.LineLemmas.{IsAt, at_next, stop_part, stop_end, whole}
+use Rattle.cert_lines.specs.Kinds.{first_words, IsVersion}
+use Rattle.cert_lines.proofs.KindLemmas.{first_kind}
+use Rattle.cert_lines.proofs.PartLemmas.{one_is}
 use Rattle.cert_lines.proofs.heads.read_first.Goals as goal
 
 pub returns-in_err-take_word-clause-err : goal.returns-in_err-take_word-clause-err

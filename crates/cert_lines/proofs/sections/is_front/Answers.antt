@@ -1,4 +1,4 @@
-use Rattle.std.proofs.Common.{Option, None, Some, Bor, MatchOption, is_some, IsTrue, ◌↔◌, ◌≡◌, ◌≢◌, ℕ, List, ◌++◌, true, sym, refl}
+use Rattle.std.proofs.Common.{Option, None, Some, Bor, MatchOption, is_some, IsTrue, ◌↔◌, ◌≡◌, ◌≢◌, ℕ, List, ◌++◌, sym, refl}
 use Rattle.std.proofs.lemmas.Bool.Decides.{Decides-eqb}
 use Rattle.std.proofs.lemmas.Slice.Eq.{strip_prefix_is}
 use Rattle.cert_lines.proofs.sections.is_front.Goals as goal

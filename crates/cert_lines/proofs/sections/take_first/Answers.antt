@@ -1,9 +1,9 @@
-use Rattle.std.proofs.Common.{◌≡◌, ◌∷◌, ◌++◌, List, ℕ, Bool, sym, ap, ◌∙◌, true, false, refl, append_assoc}
+use Rattle.std.proofs.Common.{◌≡◌, ◌∷◌, sym, ap, ◌∙◌, true, false}
 use Rattle.cert_words.specs.Parts.{left}
 use Rattle.cert_words.proofs.RowLemmas.{at_cut_parts, not_at_cut, never}
 use Rattle.cert_words.proofs.Literals.{bytes_same}
 use Rattle.cert_words.proofs.Ones.{choice_cut, one_bad}
-use Rattle.cert_lines.specs.SectionWords.{pair_or_end, first_rest, IsFirstWord, IsFirstBefore}
+use Rattle.cert_lines.specs.SectionWords.{first_rest, IsFirstWord, IsFirstBefore}
 use Rattle.cert_lines.proofs.sections.take_first.Goals as goal
 
 pub returns-then-is_at_cut-clause-err : goal.returns-then-is_at_cut-clause-err

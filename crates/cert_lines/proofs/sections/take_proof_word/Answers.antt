@@ -1,8 +1,8 @@
-use Rattle.std.proofs.Common.{◌≡◌, ◌∷◌, ◌++◌, List, ℕ, Bool, sym, ap, ◌∙◌, true, false, refl}
+use Rattle.std.proofs.Common.{◌≡◌, ◌∷◌, sym, ap, ◌∙◌, true}
 use Rattle.cert_words.specs.Parts.{left}
 use Rattle.cert_words.proofs.RowLemmas.{at_cut_parts, not_at_cut}
 use Rattle.cert_words.proofs.Ones.{choice_cut, one_bad}
-use Rattle.cert_lines.specs.SectionWords.{proof_word, proof_rest, IsProofWord, IsProofBefore}
+use Rattle.cert_lines.specs.SectionWords.{proof_rest, IsProofWord, IsProofBefore}
 use Rattle.cert_lines.proofs.sections.take_proof_word.Goals as goal
 
 pub returns-then-is_at_cut-clause-err : goal.returns-then-is_at_cut-clause-err

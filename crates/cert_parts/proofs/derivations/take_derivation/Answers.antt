@@ -1,4 +1,3 @@
-use Rattle.std.proofs.Common.{◌≡◌, ◌+◌, length, sym, ap, ◌∙◌}
 use Rattle.std.proofs.lemmas.Result.{err_from_is_err_and}
 use Rattle.sdcv_base.specs.Cursors.{rest, place_of}
 use Rattle.cert_parts.proofs.DerivationTexts.{head_fault, body_fault, derivation_read}

@@ -1,5 +1,5 @@
-use Rattle.std.proofs.Common.{◌≡◌, ◌+◌, length, sym, ap, ◌∙◌}
-use Rattle.sdcv_base.specs.Cursors.{rest, place_of}
+use Rattle.std.proofs.Common.{sym, ◌∙◌}
+use Rattle.sdcv_base.specs.Cursors.{place_of}
 use Rattle.cert_parts.proofs.LineTexts.{next_line_is}
 use Rattle.cert_parts.proofs.places.next_line.Goals as goal
 

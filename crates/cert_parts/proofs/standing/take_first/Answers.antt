@@ -1,10 +1,8 @@
-use Rattle.std.proofs.Common.{refl, arith}
+use Rattle.std.proofs.Common.{refl}
 use Rattle.sdcv_base.specs.Cursors.{rest, place_of}
-use Rattle.cert_lines.specs.declared.sections.Section.TheVariants.{End}
-use Rattle.cert_lines.specs.Kinds.{first_words, IsVersion, inv_words, IsInvHead, kept_words, IsKept, head_words, IsCount, section_words, IsSection, step_words, IsStep}
-use Rattle.cert_lines.proofs.KindLemmas.{first_kind, inv_kind, head_kind, kept_kind, section_kind, step_kind}
+use Rattle.cert_lines.specs.Kinds.{first_words, IsVersion}
+use Rattle.cert_lines.proofs.KindLemmas.{first_kind}
 use Rattle.cert_parts.proofs.LineTexts.{line_read, line_fault}
-use Rattle.cert_parts.proofs.Shortest.{no_inv, no_inv_fits, one_state, one_state_fits, no_step, no_step_fits}
 use Rattle.cert_parts.proofs.standing.take_first.Goals as goal
 
 pub skip-requires : goal.skip-requires

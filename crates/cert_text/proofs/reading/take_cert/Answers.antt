@@ -4,7 +4,8 @@ use Rattle.sdcv_base.specs.Cursors.{rest, place_of}
 use Rattle.cert_lines.specs.Kinds.{text_of, first_words, inv_words, kept_words}
 use Rattle.cert_parts.specs.Texts.{many_text}
 use Rattle.cert_text.specs.Certs.{proof_text}
-use Rattle.cert_text.proofs.CertTexts.{first_fault, head_fault, kept_fault, proofs_fault, tail_fault, cert_read, first_front, head_front, kept_front, proofs_front}
+use Rattle.cert_text.proofs.CertTexts.{first_fault, head_fault, kept_fault, proofs_fault, tail_fault, cert_read, first_front, head_front}
+use Rattle.cert_text.proofs.CertTexts.{kept_front, proofs_front}
 use Rattle.cert_text.proofs.reading.take_cert.Goals as goal
 
 pub returns-in_err-take_first-clause-err : goal.returns-in_err-take_first-clause-err

@@ -1,4 +1,4 @@
-use Rattle.std.proofs.Common.{◌≡◌, ◌∷◌, ◌++◌, sym, ap, ◌∙◌, true}
+use Rattle.std.proofs.Common.{◌≡◌, ◌∷◌, sym, ap, ◌∙◌, true}
 use Rattle.cert_words.specs.Numbers.{IsLitWord}
 use Rattle.cert_words.specs.Parts.{left}
 use Rattle.cert_words.proofs.RowLemmas.{at_cut_parts, not_at_cut}
