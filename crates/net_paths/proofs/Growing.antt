@@ -29,7 +29,7 @@ pub some_is : {A : Type 0} (x y : A) → Some x ≡ Some y → x ≡ y
 some_is x y e = grind arith
 
 -- the one item of a list
-only_one : (x n : ℕ) → Contains (x ∷ []) n → x ≡ n
+pub only_one : (x n : ℕ) → Contains (x ∷ []) n → x ≡ n
 only_one x n (zero, below, is) = is
 only_one x n (suc i, below, is) = absurd (omega arith)
 

@@ -281,13 +281,22 @@ arrives_from_meets d start (OutputEnd o) sets levels sound fits are (count, know
       all = all;
     }
 
+-- there is a path exactly where all sets are met at a pin of the end
+pub path_from_meets : (d : Design) (start : Start) (end_ : End) (sets : List (List PinRef)) (levels : List (Option ℕ)) → IsSound d → IsEndIn d end_
+    → ((net : ℕ) → net < d.nets → IsLevel d start sets net (level_at levels net)) → MeetsAtEnd d sets levels end_ → HasPath d start end_ sets
+path_from_meets d start end_ sets levels sound fits are meets = path_from_arrives d start end_ sets (arrives_from_meets d start end_ sets levels sound fits are meets)
+
+pub meets_from_path : (d : Design) (start : Start) (end_ : End) (sets : List (List PinRef)) (levels : List (Option ℕ)) → IsSound d → IsEndIn d end_
+    → ((net : ℕ) → net < d.nets → IsLevel d start sets net (level_at levels net)) → HasPath d start end_ sets → MeetsAtEnd d sets levels end_
+meets_from_path d start end_ sets levels sound fits are path = meets_from_arrives d start end_ sets levels sound fits are (arrives_from_path d start end_ sets path)
+
 -- the levels decide whether there is a path
 pub path_decided : (d : Design) (start : Start) (end_ : End) (sets : List (List PinRef)) (levels : List (Option ℕ)) (test : Bool) → IsSound d → IsEndIn d end_
     → ((net : ℕ) → net < d.nets → IsLevel d start sets net (level_at levels net)) → (IsTrue test ↔ MeetsAtEnd d sets levels end_)
     → IsTrue test ↔ HasPath d start end_ sets
 path_decided d start end_ sets levels test sound fits are decides = (
-  (λ yes. path_from_arrives d start end_ sets (arrives_from_meets d start end_ sets levels sound fits are (decides.0 yes))),
-  (λ path. decides.1 (meets_from_arrives d start end_ sets levels sound fits are (arrives_from_path d start end_ sets path))),
+  (λ yes. path_from_meets d start end_ sets levels sound fits are (decides.0 yes)),
+  (λ path. decides.1 (meets_from_path d start end_ sets levels sound fits are path)),
 )
 
 -- the nets of one more output, after those of the outputs before it

@@ -67,7 +67,7 @@ pub readers_fewer : (d : Design) (Looked More : PinRef → Type 0) (rows : List 
 readers_fewer d Looked More rows fewer are = record { len = are.len; reads = are.reads; all = λ n p lead more. are.all n p lead (fewer n p lead more) }
 
 -- the register of a pin that a net leads to, and the output port
-reg_of_pin : (d : Design) (net r i : ℕ) → LeadsTo d (Net net) (RegIn r i) → (reg : Reg) × (slice_get d.regs r ≡ Some reg) × (i < length reg.ins)
+pub reg_of_pin : (d : Design) (net r i : ℕ) → LeadsTo d (Net net) (RegIn r i) → (reg : Reg) × (slice_get d.regs r ≡ Some reg) × (i < length reg.ins)
     × (slice_index reg.ins i ≡ net)
 reg_of_pin d net r i leads =
     elim (lead_of d (Net net) (RegIn r i) leads) [
@@ -85,7 +85,7 @@ reg_of_pin d net r i leads =
       | Into_port o here from to ↦ absurd (grind arith)
     ]
 
-port_of_pin : (d : Design) (net o : ℕ) → LeadsTo d (Net net) (OutPort o) → (o < length d.outputs) × (slice_index d.outputs o ≡ net)
+pub port_of_pin : (d : Design) (net o : ℕ) → LeadsTo d (Net net) (OutPort o) → (o < length d.outputs) × (slice_index d.outputs o ≡ net)
 port_of_pin d net o leads =
     elim (lead_of d (Net net) (OutPort o) leads) [
       | Into_gate j g p at here from to ↦ absurd (grind arith)

@@ -1,6 +1,7 @@
 -- Lists of those of which something holds.
-use Rattle.std.proofs.Common.{◌≡◌, ℕ, ◌+◌, ◌<◌, ◌≤◌, List, [], ◌∷◌, ◌++◌, length, take, map, get_or, refl, sym, ap, subst, append-nil}
+use Rattle.std.proofs.Common.{◌≡◌, ℕ, suc, ◌+◌, ◌<◌, ◌≤◌, List, [], ◌∷◌, ◌++◌, length, take, map, get_or, refl, sym, ap, subst, append-nil}
 use Rattle.std.proofs.lemmas.List.{take_more, take_all}
+use Rattle.std.specs.Prelude.{Some, slice_get}
 use Rattle.net_paths.specs.Those.{AreThose, All_seen, Taken, Left_out}
 
 pub those_append : {A : Type 0} (P : A → Type 0) (xs ys zs ws : List A) → AreThose P xs ys → AreThose P zs ws → AreThose P (xs ++ zs) (ys ++ ws)
@@ -49,3 +50,12 @@ pub those_map : {A B : Type 0} (f : A → B) (P : A → Type 0) (Q : B → Type 
 those_map f P Q _ _ there back All_seen = All_seen
 those_map f P Q _ _ there back (Taken x xs ys holds rest) = Taken (f x) (map f xs) (map f ys) (there x holds) (those_map f P Q xs ys there back rest)
 those_map f P Q _ _ there back (Left_out x xs ys not rest) = Left_out (f x) (map f xs) (map f ys) (λ q. not (back x q)) (those_map f P Q xs ys there back rest)
+
+-- where the other holds of the same items of the list
+pub those_alike : {A : Type 0} (P Q : A → Type 0) (xs ys : List A) → ((k : ℕ) (x : A) → slice_get xs k ≡ Some x → P x → Q x)
+    → ((k : ℕ) (x : A) → slice_get xs k ≡ Some x → Q x → P x) → AreThose P xs ys → AreThose Q xs ys
+those_alike P Q _ _ there back All_seen = All_seen
+those_alike P Q _ _ there back (Taken x xs ys holds rest) =
+    Taken x xs ys (there 0 x refl holds) (those_alike P Q xs ys (λ k y at. there (suc k) y at) (λ k y at. back (suc k) y at) rest)
+those_alike P Q _ _ there back (Left_out x xs ys not rest) =
+    Left_out x xs ys (λ q. not (back 0 x refl q)) (those_alike P Q xs ys (λ k y at. there (suc k) y at) (λ k y at. back (suc k) y at) rest)

@@ -4,3 +4,5 @@ pub mod Cones
 pub mod Those
 pub mod Searches
 pub mod Launches
+pub mod Aims
+pub mod Arrivals

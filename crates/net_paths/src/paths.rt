@@ -62,7 +62,12 @@ fn meets_at_pins(sets: &Seq<PinSet>, levels: &Seq<Option<usize>>, reg: usize, in
     false
 }
 
-fn meets_all(sets: &Seq<PinSet>, levels: &Seq<Option<usize>>, pin: PinRef, net: usize) -> bool
+pub(crate) fn meets_all(
+    sets: &Seq<PinSet>,
+    levels: &Seq<Option<usize>>,
+    pin: PinRef,
+    net: usize,
+) -> bool
     requires { net < length levels.now }
     ensures { IsTrue result ↔ MeetsAllAt sets.now levels.now pin net }
 {

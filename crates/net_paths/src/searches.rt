@@ -1,14 +1,17 @@
 //! Searches for the ends of paths, start by start.
-ghost use Rattle.std.specs.Prelude.{All, IfOk};
+ghost use Rattle.std.specs.Prelude.{IfOk};
 ghost use Rattle.net_model.specs.Netlist.{IsSound};
-ghost use Rattle.net_model.specs.Fits.{IsStartIn, IsEndIn};
+ghost use Rattle.net_model.specs.Fits.{IsStartIn};
 ghost use Rattle.net_model.specs.Paths.{HasPath};
 ghost use Rattle.net_paths.specs.Those.{AreThose};
+ghost use Rattle.net_paths.specs.Aims.{AreAimsOf};
 ghost use Rattle.net_paths.specs.Searches.{IsSearchOf};
 
+use crate::aims::Aims;
 use crate::cones::Cone;
 use crate::ends::ends_of;
 use crate::launches::Launch;
+use crate::reaches::Reach;
 use crate::readers::Readers;
 use net_model::{Design, End, PinSet, Start};
 use sdcv_base::Seq;
@@ -37,21 +40,21 @@ impl Search {
     }
 
     /// Those of these ends, in their order, to which a path leads from the start and meets a pin of each set, in the
-    /// order of the sets (SDC 2.1, `-through`). It takes time for the nets of these paths, those of the start before, and
-    /// the ends, whatever the size of the design.
+    /// order of the sets (SDC 2.1, `-through`). It takes time for the nets of these paths, their readers, and the nets of the
+    /// start before, whatever the size of the design and the number of ends; where an end stands twice, for all ends too.
     pub fn ends_from(
         &mut self,
         alloc: Global,
         design: &Design,
         start: &Start,
         sets: &Seq<PinSet>,
-        ends: &Seq<End>,
+        aims: &Aims,
     ) -> Result<Seq<End>, AllocError>
         requires sound { IsSound design.now }
         requires start { IsStartIn design.now start.now }
-        requires ends { All (IsEndIn design.now) ends.now }
+        requires aims { AreAimsOf design.now aims.now }
         requires search { IsSearchOf design.now self.old }
-        ensures found { IfOk result (AreThose (λ end. HasPath design.now start.now end sets.now) ends.now) }
+        ensures found { IfOk result (AreThose (λ end. HasPath design.now start.now end sets.now) aims.now.ends.now) }
         ensures search { IsSearchOf design.now self.new }
     {
         let launch = Launch {
@@ -61,6 +64,11 @@ impl Search {
         };
         self.cone.clear(design.nets);
         self.cone.grow(&launch, &self.readers)?;
-        ends_of(alloc, &self.cone, &launch, ends)
+        let reach = Reach {
+            launch: &launch,
+            cone: &self.cone,
+            readers: &self.readers,
+        };
+        ends_of(alloc, &reach, aims)
     }
 }

@@ -12,12 +12,12 @@ on_ok (Err e) p f = p
 
 pub returns-clause-pairs : goal.returns-clause-pairs
 returns-clause-pairs c =
-    let d = c.args.design.now in
-    let sets = c.args.lists.now.sets in
+    let d = c.args.route.now.design.now in
+    let sets = c.args.route.now.sets.now in
     let start = c.args.start in
     on_ok c.push_pairs.result c.push_pairs.ensures (λ joined. record {
       more = map (pair start) c.in_ok-ends.ends;
-      those = those_map (pair start) (λ (end : End). HasPath d start end sets) (IsConnected d sets) c.args.lists.now.ends c.in_ok-ends.ends
+      those = those_map (pair start) (λ (end : End). HasPath d start end sets) (IsConnected d sets) c.args.route.now.aims.now.ends.now c.in_ok-ends.ends
           (λ x p. p) (λ x p. p) c.in_ok-ends.ensures.found;
       joined = joined;
     })

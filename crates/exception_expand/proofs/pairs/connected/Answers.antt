@@ -1,9 +1,11 @@
-use Rattle.std.proofs.Common.{arith, [], sym, subst, map}
+use Rattle.std.proofs.Common.{arith, List, [], sym, subst, map}
 use Rattle.net_model.specs.Fits.{IsStartIn}
 use Rattle.net_model.specs.declared.claims.Start.{Start}
+use Rattle.net_model.specs.declared.claims.End.{End}
 use Rattle.net_model.proofs.Settling.{All-at}
 use Rattle.net_paths.specs.Those.{AreThose, All_seen}
 use Rattle.exception_expand.specs.Pairs.{IsConnected, pair}
+use Rattle.exception_expand.specs.Cuts.{AddsThose}
 use Rattle.exception_expand.proofs.Cutting.{those_next, cut_here, cut_nowhere}
 use Rattle.exception_expand.proofs.pairs.connected.Goals as goal
 
@@ -19,7 +21,9 @@ add_start-requires-clause-start c = All-at (IsStartIn c.args.design.now) c.args.
 pub loop-k-preserved : goal.loop-k-preserved
 loop-k-preserved c = record {
   those = those_next (λ (start : Start). map (pair start) c.args.lists.now.ends) (IsConnected c.args.design.now c.args.lists.now.sets) c.args.lists.now.starts
-      c.loop-k.k c.at.result c.loop-k.pairs c.add_start.new.pairs c.at.ensures c.loop-k.invariant.those c.in_ok-add_start.ensures.pairs;
+      c.loop-k.k c.at.result c.loop-k.pairs c.add_start.new.pairs c.at.ensures c.loop-k.invariant.those
+      (subst (λ (ends : List End). AddsThose (IsConnected c.args.design.now c.args.lists.now.sets) (map (pair c.at.result) ends) c.loop-k.pairs
+      c.add_start.new.pairs) c.in_ok-aims.ensures.ends c.in_ok-add_start.ensures.pairs);
   search = c.in_ok-add_start.ensures.search;
 }
 
