@@ -3,7 +3,7 @@ ghost use Rattle.std.specs.Prelude.{IfOk};
 ghost use Rattle.net_model.specs.Netlist.{IsSound};
 ghost use Rattle.net_model.specs.Fits.{Fits};
 
-use frame_unroll::{Frames, Tables, moved_nets, net_drivers, net_gates, net_lit, pin_lit};
+use frame_unroll::{Frames, Subject, moved_nets, net_drivers, net_gates, net_lit, pin_lit};
 use net_model::PinRef::{GateIn, Net, RegIn};
 use net_model::{Design, InvClause, Phase, PinRef, StateLit};
 use net_samples::Ask::{Either, Hazard, In, To, Via};
@@ -138,10 +138,10 @@ fn read_lit(rt: &impl Abort, alloc: Global, case: &Case, row: &Read) -> Result<K
     assert!(rt; key.point < design.nets && key.layer <= claim.through.len() + 1);
     let drivers = net_drivers(alloc, design)?;
     let gates = net_gates(alloc, design)?;
-    let tables = Tables::of(alloc, design, &drivers, &gates, claim)?;
+    let subject = Subject::of(alloc, design, claim, &drivers, &gates)?;
     Ok(match row.1 {
-        None => net_lit(design, claim, &tables, key),
-        Some(pin) => pin_lit(design, claim, &tables, pin, key),
+        None => net_lit(&subject, key),
+        Some(pin) => pin_lit(&subject, pin, key),
     })
 }
 

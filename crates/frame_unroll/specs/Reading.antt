@@ -1,17 +1,19 @@
--- The tables by which the nets and pins of a query are read.
+-- What the nets and pins of a query about a claim are read by.
 use Rattle.std.specs.Prelude.{◌≡◌, ℕ, length}
 use Rattle.sdcv_base.specs.Seqs.{is_marked}
-use Rattle.net_model.specs.declared.netlist.Design.{Design}
-use Rattle.net_model.specs.declared.claims.Claim.{Claim}
+use Rattle.net_model.specs.Netlist.{IsSound}
+use Rattle.net_model.specs.Fits.{Fits}
 use Rattle.query_model.specs.Reads.{is_start_net, AreMoved}
 use Rattle.frame_unroll.specs.Drivers.{AreDrivers}
 use Rattle.frame_unroll.specs.Found.{AreNetGates}
-use Rattle.frame_unroll.specs.declared.read_tables.Tables.{Tables}
+use Rattle.frame_unroll.specs.declared.subjects.Subject.{Subject}
 
--- the tables are those of the design and the claim
-pub record AreTables (d : Design) (claim : Claim) (tables : Tables) : Type 0 where
-  pub drivers : AreDrivers d tables.drivers.now
-  pub gates : AreNetGates d tables.gates.now
-  pub starts_len : length tables.starts ≡ d.nets
-  pub starts : (n : ℕ) → is_marked tables.starts n ≡ is_start_net d claim n
-  pub moved : AreMoved d claim tables.moved
+-- the design is sound, the claim fits it, and the tables are those of the two
+pub record IsSubject (s : Subject) : Type 0 where
+  pub sound : IsSound s.design.now
+  pub fits : Fits s.design.now s.claim.now
+  pub drivers : AreDrivers s.design.now s.drivers.now
+  pub gates : AreNetGates s.design.now s.gates.now
+  pub starts_len : length s.starts ≡ s.design.now.nets
+  pub starts : (n : ℕ) → is_marked s.starts n ≡ is_start_net s.design.now s.claim.now n
+  pub moved : AreMoved s.design.now s.claim.now s.moved

@@ -1,11 +1,10 @@
 //! The keys that definitions read, added to those that were found.
 ghost use Rattle.std.specs.Prelude.{◌≡◌, ◌<◌, ◌≤◌, ◌+◌, ◌-◌, ◌^◌, [], ◌∷◌, length, slice_get, OnOk};
 ghost use Rattle.net_model.specs.Netlist.{AllBelow, IsSound};
-ghost use Rattle.net_model.specs.Fits.{Fits};
 ghost use Rattle.query_model.specs.Defined as defined;
 ghost use Rattle.frame_unroll.specs.Drivers.{AreDrivers};
-ghost use Rattle.frame_unroll.specs.Reading.{AreTables};
-ghost use Rattle.frame_unroll.specs.Found.{AreNetGates, IsOriginIn, IsOriginAt, gate_rail, reg_rail, with_clauses, Finds};
+ghost use Rattle.frame_unroll.specs.Reading.{IsSubject};
+ghost use Rattle.frame_unroll.specs.Found.{IsOriginIn, IsOriginAt, gate_rail, reg_rail, with_clauses, Finds};
 ghost use Rattle.frame_unroll.specs.Origins as origins;
 
 use crate::drivers::Driver;
@@ -13,10 +12,10 @@ use crate::gathered::{
     Owner, RailAt, bit_lit, capture_lit, late_capture_lit, pin_literals, pin_literals_at, push_own,
     start_lit,
 };
-use crate::origins::{Origin, claim_origin, clause_origin};
-use crate::read_tables::Tables;
+use crate::origins::{Origin, claim_origin};
+use crate::subjects::Subject;
 use indexmap::IndexSet;
-use net_model::{Claim, Design, Gate, Reg};
+use net_model::{Design, Gate, Reg};
 use query_model::{Key, KeyLit};
 use sdcv_base::Seq;
 use std::alloc::{AllocError, Global};
@@ -87,7 +86,7 @@ fn add_base_reg(
 }
 
 /// Adds the keys by which a net or a register's bit is defined in a cycle.
-fn add_base_reads(
+pub fn add_base_reads(
     alloc: Global,
     design: &Design,
     drivers: &Seq<Driver>,
@@ -110,52 +109,22 @@ fn add_base_reads(
     }
 }
 
-/// Adds the keys by which a key is defined where it is asked about a clause over register bits.
-pub fn add_clause_reads(
-    alloc: Global,
-    design: &Design,
-    drivers: &Seq<Driver>,
-    gates: &Seq<Option<usize>>,
-    cycles: usize,
-    key: Key,
-    found: &mut IndexSet<Key>,
-) -> Result<(), AllocError>
-    requires sound { IsSound design.now }
-    requires drivers { AreDrivers design.now drivers.now }
-    requires gates { AreNetGates design.now gates.now }
-    ensures { OnOk result (Finds (origins.clause_reads design.now cycles key) found.old.keys found.new.keys) }
-{
-    let origin = clause_origin(design, gates, cycles, key);
-    add_base_reads(alloc, design, drivers, key, origin, found)
-}
-
 /// Adds what a gate's pins read on a rail of a layer, and the key of its net there.
 fn add_gate_rail(
     alloc: Global,
-    design: &Design,
-    claim: &Claim,
-    tables: &Tables,
+    subject: &Subject,
     number: usize,
     gate: &Gate,
     rail_at: RailAt,
     found: &mut IndexSet<Key>,
 ) -> Result<(), AllocError>
-    requires sound { IsSound design.now }
-    requires tables { AreTables design.now claim.now tables.now }
-    requires nets { AllBelow design.now.nets gate.now.ins }
-    requires layer { rail_at.layer ≤ length claim.now.through + 1 }
-    ensures { OnOk result (Finds (gate_rail design.now claim.now tables.now.moved rail_at.cycle rail_at.layer rail_at.rail number gate.now)
-        found.old.keys found.new.keys) }
+    requires subject { IsSubject subject.now }
+    requires nets { AllBelow subject.now.design.now.nets gate.now.ins }
+    requires layer { rail_at.layer ≤ length subject.now.claim.now.through + 1 }
+    ensures { OnOk result (Finds (gate_rail subject.now.design.now subject.now.claim.now subject.now.moved rail_at.cycle rail_at.layer rail_at.rail
+        number gate.now) found.old.keys found.new.keys) }
 {
-    let reads = pin_literals_at(
-        alloc,
-        design,
-        claim,
-        tables,
-        Owner::Gate(number),
-        &gate.ins,
-        rail_at,
-    )?;
+    let reads = pin_literals_at(alloc, subject, Owner::Gate(number), &gate.ins, rail_at)?;
     add_keys(&reads, found)?;
     found.insert(Key {
         cycle: rail_at.cycle,
@@ -169,51 +138,47 @@ fn add_gate_rail(
 /// Adds what a gate's pins read in a layer, and the keys of its net there.
 fn add_late_gate(
     alloc: Global,
-    design: &Design,
-    claim: &Claim,
-    tables: &Tables,
+    subject: &Subject,
     gate: usize,
     rail_at: RailAt,
     found: &mut IndexSet<Key>,
 ) -> Result<(), AllocError>
-    requires sound { IsSound design.now }
-    requires tables { AreTables design.now claim.now tables.now }
-    requires gate { gate < length design.now.gates }
+    requires subject { IsSubject subject.now }
+    requires gate { gate < length subject.now.design.now.gates }
     requires late { 0 < rail_at.layer }
-    requires layer { rail_at.layer ≤ length claim.now.through + 1 }
+    requires layer { rail_at.layer ≤ length subject.now.claim.now.through + 1 }
     requires rail { rail_at.rail ≡ 0 }
-    ensures { OnOk result (Finds (origins.gate_late design.now claim.now tables.now.moved rail_at.cycle (rail_at.layer - 1) gate
-        (slice_get design.now.gates gate)) found.old.keys found.new.keys) }
+    ensures { OnOk result (Finds (origins.gate_late subject.now.design.now subject.now.claim.now subject.now.moved rail_at.cycle (rail_at.layer - 1)
+        gate (slice_get subject.now.design.now.gates gate)) found.old.keys found.new.keys) }
 {
-    let driver = design.gates.item(gate);
-    add_gate_rail(alloc, design, claim, tables, gate, driver, rail_at, found)?;
-    if !claim.hazard {
+    let driver = subject.design.gates.item(gate);
+    add_gate_rail(alloc, subject, gate, driver, rail_at, found)?;
+    if !subject.claim.hazard {
         return Ok(());
     }
     let other = RailAt { rail: 1, ..rail_at };
-    add_gate_rail(alloc, design, claim, tables, gate, driver, other, found)
+    add_gate_rail(alloc, subject, gate, driver, other, found)
 }
 
 /// Adds what a register's pins read on a rail of the last layer, and the key of the late capture.
 fn add_reg_rail(
     alloc: Global,
-    design: &Design,
-    claim: &Claim,
-    tables: &Tables,
+    subject: &Subject,
     number: usize,
     reg: &Reg,
     rail_at: RailAt,
     found: &mut IndexSet<Key>,
 ) -> Result<(), AllocError>
-    requires sound { IsSound design.now }
-    requires tables { AreTables design.now claim.now tables.now }
-    requires number { number < length design.now.regs }
-    requires nets { AllBelow design.now.nets reg.now.ins }
-    requires layer { rail_at.layer ≡ length claim.now.through + 1 }
-    ensures { OnOk result (Finds (reg_rail design.now claim.now tables.now.moved rail_at.cycle rail_at.rail number reg.now) found.old.keys found.new.keys) }
+    requires subject { IsSubject subject.now }
+    requires number { number < length subject.now.design.now.regs }
+    requires nets { AllBelow subject.now.design.now.nets reg.now.ins }
+    requires layer { rail_at.layer ≡ length subject.now.claim.now.through + 1 }
+    ensures { OnOk result (Finds (reg_rail subject.now.design.now subject.now.claim.now subject.now.moved rail_at.cycle rail_at.rail
+        number reg.now) found.old.keys found.new.keys) }
 {
+    let design = subject.design;
     let owner = Owner::Reg(number);
-    let mut reads = pin_literals_at(alloc, design, claim, tables, owner, &reg.ins, rail_at)?;
+    let mut reads = pin_literals_at(alloc, subject, owner, &reg.ins, rail_at)?;
     push_own(&mut reads, reg, bit_lit(design, rail_at.cycle, number))?;
     add_keys(&reads, found)?;
     found.insert(Key {
@@ -228,51 +193,44 @@ fn add_reg_rail(
 /// Adds what a register's pins read in the last layer, and the keys of the late capture.
 fn add_late_reg(
     alloc: Global,
-    design: &Design,
-    claim: &Claim,
-    tables: &Tables,
+    subject: &Subject,
     cycle: usize,
     reg: usize,
     found: &mut IndexSet<Key>,
 ) -> Result<(), AllocError>
-    requires sound { IsSound design.now }
-    requires fits { Fits design.now claim.now }
-    requires tables { AreTables design.now claim.now tables.now }
-    requires reg { reg < length design.now.regs }
-    ensures { OnOk result (Finds (origins.reg_late design.now claim.now tables.now.moved cycle reg (slice_get design.now.regs reg)) found.old.keys
-        found.new.keys) }
+    requires subject { IsSubject subject.now }
+    requires reg { reg < length subject.now.design.now.regs }
+    ensures { OnOk result (Finds (origins.reg_late subject.now.design.now subject.now.claim.now subject.now.moved cycle reg
+        (slice_get subject.now.design.now.regs reg)) found.old.keys found.new.keys) }
 {
-    let register = design.regs.item(reg);
-    let layer = claim.through.len() + 1;
+    let register = subject.design.regs.item(reg);
+    let layer = subject.claim.through.len() + 1;
     let rail_at = RailAt {
         cycle,
         layer,
         rail: 0,
     };
-    add_reg_rail(alloc, design, claim, tables, reg, register, rail_at, found)?;
-    if !claim.hazard {
+    add_reg_rail(alloc, subject, reg, register, rail_at, found)?;
+    if !subject.claim.hazard {
         return Ok(());
     }
     let other = RailAt { rail: 1, ..rail_at };
-    add_reg_rail(alloc, design, claim, tables, reg, register, other, found)
+    add_reg_rail(alloc, subject, reg, register, other, found)
 }
 
 /// Adds the keys by which a key of a layer after the cycle itself is defined.
 fn add_late_reads(
     alloc: Global,
-    design: &Design,
-    claim: &Claim,
-    tables: &Tables,
+    subject: &Subject,
     key: Key,
     origin: Origin,
     found: &mut IndexSet<Key>,
 ) -> Result<(), AllocError>
-    requires sound { IsSound design.now }
-    requires fits { Fits design.now claim.now }
-    requires tables { AreTables design.now claim.now tables.now }
+    requires subject { IsSubject subject.now }
     requires late { 0 < key.layer }
-    requires origin { IsOriginAt design.now claim.now key.layer origin }
-    ensures { OnOk result (Finds (origins.late_reads design.now claim.now tables.now.moved key (key.layer - 1) origin) found.old.keys found.new.keys) }
+    requires origin { IsOriginAt subject.now.design.now subject.now.claim.now key.layer origin }
+    ensures { OnOk result (Finds (origins.late_reads subject.now.design.now subject.now.claim.now subject.now.moved key (key.layer - 1) origin)
+        found.old.keys found.new.keys) }
 {
     match origin {
         Origin::Gate(gate) => {
@@ -281,131 +239,111 @@ fn add_late_reads(
                 layer: key.layer,
                 rail: 0,
             };
-            add_late_gate(alloc, design, claim, tables, gate, rail_at, found)
+            add_late_gate(alloc, subject, gate, rail_at, found)
         }
-        Origin::Reg(reg) => add_late_reg(alloc, design, claim, tables, key.cycle, reg, found),
+        Origin::Reg(reg) => add_late_reg(alloc, subject, key.cycle, reg, found),
         _ => Ok(()),
     }
 }
 
 /// Adds the keys by which it is defined whether the late capture differs.
 fn add_differ_reads(
-    design: &Design,
-    claim: &Claim,
-    tables: &Tables,
+    subject: &Subject,
     cycle: usize,
     found: &mut IndexSet<Key>,
 ) -> Result<(), AllocError>
-    requires sound { IsSound design.now }
-    requires fits { Fits design.now claim.now }
-    requires tables { AreTables design.now claim.now tables.now }
+    requires subject { IsSubject subject.now }
     requires early { cycle < 2 ^ 32 }
-    ensures { OnOk result (Finds (origins.differ_reads design.now claim.now tables.now.moved cycle) found.old.keys found.new.keys) }
+    ensures { OnOk result (Finds (origins.differ_reads subject.now.design.now subject.now.claim.now subject.now.moved cycle) found.old.keys found.new.keys) }
 {
-    let late = late_capture_lit(design, claim, tables, cycle, 0);
-    let other = if claim.hazard {
-        late_capture_lit(design, claim, tables, cycle, 1)
+    let late = late_capture_lit(subject, cycle, 0);
+    let other = if subject.claim.hazard {
+        late_capture_lit(subject, cycle, 1)
     } else {
-        capture_lit(design, tables.drivers, claim.end, cycle)
+        capture_lit(subject, cycle)
     };
     add_two(late, other, found)
 }
 
 /// Adds the keys of the start in two cycles.
 fn add_starts(
-    design: &Design,
-    claim: &Claim,
-    tables: &Tables,
+    subject: &Subject,
     cycle: usize,
     before: usize,
     found: &mut IndexSet<Key>,
 ) -> Result<(), AllocError>
-    requires sound { IsSound design.now }
-    requires fits { Fits design.now claim.now }
-    requires tables { AreTables design.now claim.now tables.now }
-    ensures { OnOk result (Finds (defined.start_lit design.now claim.now.start cycle ∷ defined.start_lit design.now claim.now.start before ∷ [])
-        found.old.keys found.new.keys) }
+    requires subject { IsSubject subject.now }
+    ensures { OnOk result (Finds (defined.start_lit subject.now.design.now subject.now.claim.now.start cycle
+        ∷ defined.start_lit subject.now.design.now subject.now.claim.now.start before ∷ []) found.old.keys found.new.keys) }
 {
-    let now = start_lit(design, tables.drivers, claim.start, cycle);
-    let then = start_lit(design, tables.drivers, claim.start, before);
+    let now = start_lit(subject, cycle);
+    let then = start_lit(subject, before);
     add_two(now, then, found)
 }
 
 /// Adds the keys of what the end captures in a cycle and in the one before.
 fn add_captures(
-    design: &Design,
-    claim: &Claim,
-    tables: &Tables,
+    subject: &Subject,
     cycle: usize,
     found: &mut IndexSet<Key>,
 ) -> Result<(), AllocError>
-    requires sound { IsSound design.now }
-    requires fits { Fits design.now claim.now }
-    requires tables { AreTables design.now claim.now tables.now }
+    requires subject { IsSubject subject.now }
     requires early { cycle < 2 ^ 32 }
-    ensures { OnOk result (Finds (defined.capture_lit design.now claim.now.end cycle ∷ defined.capture_lit design.now claim.now.end (cycle - 1) ∷ [])
-        found.old.keys found.new.keys) }
+    ensures { OnOk result (Finds (defined.capture_lit subject.now.design.now subject.now.claim.now.end cycle
+        ∷ defined.capture_lit subject.now.design.now subject.now.claim.now.end (cycle - 1) ∷ []) found.old.keys found.new.keys) }
 {
     let before = cycle.saturating_sub(1);
-    let now = capture_lit(design, tables.drivers, claim.end, cycle);
-    let then = capture_lit(design, tables.drivers, claim.end, before);
+    let now = capture_lit(subject, cycle);
+    let then = capture_lit(subject, before);
     add_two(now, then, found)
 }
 
 /// Adds the keys by which a key of the cycle itself is defined.
 fn add_cycle_reads(
     alloc: Global,
-    design: &Design,
-    claim: &Claim,
-    tables: &Tables,
+    subject: &Subject,
     key: Key,
     origin: Origin,
     found: &mut IndexSet<Key>,
 ) -> Result<(), AllocError>
-    requires sound { IsSound design.now }
-    requires fits { Fits design.now claim.now }
-    requires tables { AreTables design.now claim.now tables.now }
-    requires origin { IsOriginIn design.now origin }
+    requires subject { IsSubject subject.now }
+    requires origin { IsOriginIn subject.now.design.now origin }
     requires early { key.cycle < 2 ^ 32 }
-    ensures { OnOk result (Finds (origins.reads_in_layer design.now claim.now tables.now.moved key 0 origin) found.old.keys found.new.keys) }
+    ensures { OnOk result (Finds (origins.reads_in_layer subject.now.design.now subject.now.claim.now subject.now.moved key 0 origin)
+        found.old.keys found.new.keys) }
 {
     match origin {
         Origin::Toggle => {
             let before = key.cycle.saturating_sub(1);
-            add_starts(design, claim, tables, key.cycle, before, found)
+            add_starts(subject, key.cycle, before, found)
         }
-        Origin::Change => add_captures(design, claim, tables, key.cycle, found),
-        Origin::Differ => add_differ_reads(design, claim, tables, key.cycle, found),
+        Origin::Change => add_captures(subject, key.cycle, found),
+        Origin::Differ => add_differ_reads(subject, key.cycle, found),
         Origin::Stale(cycles) => {
             let before = key.cycle.saturating_sub(cycles).saturating_sub(1);
-            add_starts(design, claim, tables, key.cycle, before, found)
+            add_starts(subject, key.cycle, before, found)
         }
-        _ => add_base_reads(alloc, design, tables.drivers, key, origin, found),
+        _ => add_base_reads(alloc, subject.design, subject.drivers, key, origin, found),
     }
 }
 
 /// Adds the keys by which a key is defined where it is asked about a claim.
 pub fn add_claim_reads(
     alloc: Global,
-    design: &Design,
-    claim: &Claim,
-    tables: &Tables,
-    gates: &Seq<Option<usize>>,
+    subject: &Subject,
     cycles: usize,
     key: Key,
     found: &mut IndexSet<Key>,
 ) -> Result<(), AllocError>
-    requires sound { IsSound design.now }
-    requires fits { Fits design.now claim.now }
-    requires tables { AreTables design.now claim.now tables.now }
-    requires gates { AreNetGates design.now gates.now }
+    requires subject { IsSubject subject.now }
     requires early { key.cycle < 2 ^ 32 }
-    ensures { OnOk result (Finds (origins.claim_reads design.now claim.now tables.now.moved cycles key) found.old.keys found.new.keys) }
+    ensures { OnOk result (Finds (origins.claim_reads subject.now.design.now subject.now.claim.now subject.now.moved cycles key)
+        found.old.keys found.new.keys) }
 {
-    let origin = claim_origin(design, claim, tables, gates, cycles, key);
+    let origin = claim_origin(subject, cycles, key);
     if key.layer == 0 {
-        add_cycle_reads(alloc, design, claim, tables, key, origin, found)
+        add_cycle_reads(alloc, subject, key, origin, found)
     } else {
-        add_late_reads(alloc, design, claim, tables, key, origin, found)
+        add_late_reads(alloc, subject, key, origin, found)
     }
 }

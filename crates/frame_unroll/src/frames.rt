@@ -8,7 +8,7 @@ ghost use Rattle.std.specs.List.{IsDistinct};
 ghost use Rattle.query_model.specs.Formula.{same_key};
 ghost use Rattle.query_model.specs.declared.keys.Key.{Key};
 ghost use Rattle.frame_unroll.specs.Drivers.{AreDrivers};
-ghost use Rattle.frame_unroll.specs.Reading.{AreTables};
+ghost use Rattle.frame_unroll.specs.Reading.{IsSubject};
 ghost use Rattle.frame_unroll.specs.Found.{AreNetGates, AreSmall, AreAscending};
 ghost use Rattle.frame_unroll.specs.Framed.{AreFramesOf, AreNeededOfClaim, AreNeededOfClause, AtPlace, AreWithin, key_of, number_if_any};
 
@@ -17,8 +17,8 @@ use crate::drivers::{Driver, net_drivers};
 use crate::found_keys::add_clauses;
 use crate::gate_tables::net_gates;
 use crate::reached_keys::{reach_of_claim, reach_of_clause};
-use crate::read_tables::Tables;
 use crate::spans::{claim_span, clause_span};
+use crate::subjects::Subject;
 use indexmap::IndexSet;
 use net_model::{Claim, Design, InvClause, Phase};
 use query_model::{Key, KeyLit};
@@ -51,23 +51,18 @@ impl Frames {
     /// It takes the time and memory that the needed keys take, and not those of all keys that a query could have.
     pub fn by_claim(
         alloc: Global,
-        design: &Design,
-        claim: &Claim,
-        tables: &Tables,
+        subject: &Subject,
         cycles: usize,
         asked: &Seq<Seq<KeyLit>>,
     ) -> Result<Frames, AllocError>
-        requires sound { IsSound design.now }
-        requires fits { Fits design.now claim.now }
-        requires tables { AreTables design.now claim.now tables.now }
+        requires subject { IsSubject subject.now }
         requires cycles { cycles ≤ 144 }
-        requires within { AreWithin design.now cycles asked.now }
-        ensures { IfOk result (AreNeededOfClaim design.now claim.now cycles tables.now.moved asked.now) }
+        requires within { AreWithin subject.now.design.now cycles asked.now }
+        ensures { IfOk result (AreNeededOfClaim subject.now.design.now subject.now.claim.now cycles subject.now.moved asked.now) }
     {
-        let gates = tables.gates;
         let mut found = IndexSet::new(alloc);
         add_clauses(asked, &mut found)?;
-        reach_of_claim(alloc, design, claim, tables, gates, cycles, &mut found)?;
+        reach_of_claim(alloc, subject, cycles, &mut found)?;
         Frames::in_order(found)
     }
 
@@ -110,10 +105,10 @@ impl Frames {
     {
         let drivers = net_drivers(alloc, design)?;
         let gates = net_gates(alloc, design)?;
-        let tables = Tables::of(alloc, design, &drivers, &gates, claim)?;
+        let subject = Subject::of(alloc, design, claim, &drivers, &gates)?;
         let asked = claim_asked(alloc, design, claim, phase, depth, inv)?;
         let span = claim_span(design, claim, phase, depth);
-        Frames::by_claim(alloc, design, claim, &tables, span.cycles, &asked)
+        Frames::by_claim(alloc, &subject, span.cycles, &asked)
     }
 
     /// The needed keys of the query whether the invariant at a place fails at a depth.

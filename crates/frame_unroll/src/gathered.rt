@@ -1,19 +1,18 @@
 //! The literals that the functions of gates and registers read, and those of starts and ends.
 ghost use Rattle.std.specs.Prelude.{◌≡◌, ◌<◌, ◌≤◌, ◌+◌, ◌^◌, length, map, IfOk, OnOk};
 ghost use Rattle.net_model.specs.Netlist.{AllBelow, IsSound};
-ghost use Rattle.net_model.specs.Fits.{Fits, IsStartIn, IsEndIn};
 ghost use Rattle.std.specs.Prelude.{true};
 ghost use Rattle.query_model.specs.Reads.{bit_key, read_base};
 ghost use Rattle.query_model.specs.Defined.{with_own};
 ghost use Rattle.query_model.specs.Defined as defined;
 ghost use Rattle.frame_unroll.specs.Drivers.{AreDrivers};
-ghost use Rattle.frame_unroll.specs.Reading.{AreTables};
+ghost use Rattle.frame_unroll.specs.Reading.{IsSubject};
 ghost use Rattle.frame_unroll.specs.Gathered.{pin_of, reads_at};
 
 use crate::drivers::{Driver, base_lit};
-use crate::read_tables::Tables;
 use crate::reads::pin_lit;
-use net_model::{Claim, Design, End, PinRef, Reg, Start};
+use crate::subjects::Subject;
+use net_model::{Design, End, PinRef, Reg, Start};
 use query_model::{Key, KeyLit};
 use sdcv_base::Seq;
 use std::alloc::{AllocError, Global};
@@ -66,18 +65,15 @@ pub fn pin_literals(
 /// What an owner's pins on these nets read on a rail of a layer, in their order.
 pub fn pin_literals_at(
     alloc: Global,
-    design: &Design,
-    claim: &Claim,
-    tables: &Tables,
+    subject: &Subject,
     owner: Owner,
     ins: &Seq<usize>,
     rail_at: RailAt,
 ) -> Result<Seq<KeyLit>, AllocError>
-    requires sound { IsSound design.now }
-    requires tables { AreTables design.now claim.now tables.now }
-    requires nets { AllBelow design.now.nets ins.now }
-    requires layer { rail_at.layer ≤ length claim.now.through + 1 }
-    ensures { IfOk result (λ reads. reads ≡ reads_at design.now claim.now tables.now.moved owner ins.now rail_at) }
+    requires subject { IsSubject subject.now }
+    requires nets { AllBelow subject.now.design.now.nets ins.now }
+    requires layer { rail_at.layer ≤ length subject.now.claim.now.through + 1 }
+    ensures { IfOk result (λ reads. reads ≡ reads_at subject.now.design.now subject.now.claim.now subject.now.moved owner ins.now rail_at) }
 {
     let mut reads = Seq::new(alloc);
     for i in 0..ins.len() {
@@ -87,21 +83,20 @@ pub fn pin_literals_at(
             rail: rail_at.rail,
             point: ins.at(i),
         };
-        reads.push(pin_lit(design, claim, tables, pin_of(owner, i), key))?;
+        reads.push(pin_lit(subject, pin_of(owner, i), key))?;
     }
     Ok(reads)
 }
 
-/// The literal of a start in layer 0 of a cycle.
-pub fn start_lit(design: &Design, drivers: &Seq<Driver>, start: Start, cycle: usize) -> KeyLit
-    requires sound { IsSound design.now }
-    requires drivers { AreDrivers design.now drivers.now }
-    requires start { IsStartIn design.now start }
-    ensures { result ≡ defined.start_lit design.now start cycle }
+/// The literal of a claim's start in layer 0 of a cycle.
+pub fn start_lit(subject: &Subject, cycle: usize) -> KeyLit
+    requires subject { IsSubject subject.now }
+    ensures { result ≡ defined.start_lit subject.now.design.now subject.now.claim.now.start cycle }
 {
-    match start {
+    let design = subject.design;
+    match subject.claim.start {
         Start::Reg(r) => bit_lit(design, cycle, r),
-        Start::Input(i) => base_lit(design, drivers, cycle, design.inputs.at(i)),
+        Start::Input(i) => base_lit(design, subject.drivers, cycle, design.inputs.at(i)),
     }
 }
 
@@ -133,35 +128,28 @@ pub fn push_own(reads: &mut Seq<KeyLit>, reg: &Reg, own: KeyLit) -> Result<(), A
     Ok(())
 }
 
-/// The literal of what an end captures in a cycle.
-pub fn capture_lit(design: &Design, drivers: &Seq<Driver>, end: End, cycle: usize) -> KeyLit
-    requires sound { IsSound design.now }
-    requires drivers { AreDrivers design.now drivers.now }
-    requires end { IsEndIn design.now end }
+/// The literal of what a claim's end captures in a cycle.
+pub fn capture_lit(subject: &Subject, cycle: usize) -> KeyLit
+    requires subject { IsSubject subject.now }
     requires late { cycle < 2 ^ 32 }
-    ensures { result ≡ defined.capture_lit design.now end cycle }
+    ensures { result ≡ defined.capture_lit subject.now.design.now subject.now.claim.now.end cycle }
 {
-    match end {
+    let design = subject.design;
+    match subject.claim.end {
         End::Reg(r) => bit_lit(design, cycle + 1, r),
-        End::Output(o) => base_lit(design, drivers, cycle, design.outputs.at(o)),
+        End::Output(o) => base_lit(design, subject.drivers, cycle, design.outputs.at(o)),
     }
 }
 
 /// The literal of what a claim's end captures in a cycle where the start is late, on a rail.
-pub fn late_capture_lit(
-    design: &Design,
-    claim: &Claim,
-    tables: &Tables,
-    cycle: usize,
-    rail: usize,
-) -> KeyLit
-    requires sound { IsSound design.now }
-    requires fits { Fits design.now claim.now }
-    requires tables { AreTables design.now claim.now tables.now }
-    ensures { result ≡ defined.late_capture_lit design.now claim.now tables.now.moved cycle rail claim.now.end }
+pub fn late_capture_lit(subject: &Subject, cycle: usize, rail: usize) -> KeyLit
+    requires subject { IsSubject subject.now }
+    ensures { result
+        ≡ defined.late_capture_lit subject.now.design.now subject.now.claim.now subject.now.moved cycle rail subject.now.claim.now.end }
 {
-    let layer = claim.through.len() + 1;
-    let point = match claim.end {
+    let (design, end) = (subject.design, subject.claim.end);
+    let layer = subject.claim.through.len() + 1;
+    let point = match end {
         End::Reg(_) => design.nets + design.regs.len(),
         End::Output(o) => design.outputs.at(o),
     };
@@ -171,11 +159,11 @@ pub fn late_capture_lit(
         rail,
         point,
     };
-    match claim.end {
+    match end {
         End::Reg(_) => KeyLit {
             key,
             positive: true,
         },
-        End::Output(o) => pin_lit(design, claim, tables, PinRef::OutPort(o), key),
+        End::Output(o) => pin_lit(subject, PinRef::OutPort(o), key),
     }
 }

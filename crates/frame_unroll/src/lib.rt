@@ -1,8 +1,8 @@
 //! What a query asks of its keys, what these read, and which keys it needs: which nets a late start moves, the literal
 //! that stands for a net or a pin, and the keys that are reached from what is asked, numbered.
 //!
-//! Read `moved_rows` first, and `reached_keys` for the needed keys. What it all means is said in query_model's
-//! `specs/Reads` and `specs/Formula`.
+//! Read `subjects` and `moved_rows` first, and `reached_keys` for the needed keys. What it all means is said in
+//! query_model's `specs/Reads` and `specs/Formula`.
 #![tactic(auto)]
 
 mod asked;
@@ -17,10 +17,10 @@ mod moved_rows;
 mod origins;
 mod pins;
 mod reached_keys;
-mod read_tables;
 mod reads;
 mod spans;
 mod start_marks;
+mod subjects;
 mod violations;
 
 pub use asked::{claim_asked, clause_asked};
@@ -33,6 +33,6 @@ pub use gathered::{
 };
 pub use moved_rows::moved_nets;
 pub use origins::has_own;
-pub use read_tables::Tables;
 pub use reads::{net_lit, pin_lit};
 pub use spans::{Span, claim_span, clause_span};
+pub use subjects::Subject;

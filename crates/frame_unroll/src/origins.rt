@@ -1,13 +1,12 @@
 //! What defines a key.
-ghost use Rattle.std.specs.Prelude.{◌≡◌, ◌<◌, ◌≤◌, Bool, List, length};
+ghost use Rattle.std.specs.Prelude.{◌≡◌, ◌<◌, ◌≤◌, length};
 ghost use Rattle.net_model.specs.Netlist.{IsSound};
-ghost use Rattle.net_model.specs.Layers.{row_at};
 ghost use Rattle.query_model.specs.Defined.{has_own};
-ghost use Rattle.frame_unroll.specs.Reading.{AreTables};
+ghost use Rattle.frame_unroll.specs.Reading.{IsSubject};
 ghost use Rattle.frame_unroll.specs.Found.{AreNetGates};
 ghost use Rattle.frame_unroll.specs.Origins as origins;
 
-use crate::read_tables::Tables;
+use crate::subjects::Subject;
 use net_model::{Claim, Design, End, PinRef, is_held};
 use query_model::Key;
 use sdcv_base::Seq;
@@ -109,33 +108,25 @@ fn end_origin(end: End) -> Origin
 }
 
 /// Whether a net has keys of its own in a layer after the cycle itself, by the number of through sets come through.
-pub fn has_own(claim: &Claim, moved: &Seq<Seq<bool>>, layer: usize, net: usize) -> bool
-    requires layer { layer ≤ length claim.now.through }
-    requires rows { layer < length moved.now }
-    requires net { net < length (row_at moved.now layer) }
-    ensures { result ≡ has_own claim.now moved.now layer net }
+pub fn has_own(subject: &Subject, layer: usize, net: usize) -> bool
+    requires subject { IsSubject subject.now }
+    requires layer { layer ≤ length subject.now.claim.now.through }
+    requires net { net < subject.now.design.now.nets }
+    ensures { result ≡ has_own subject.now.claim.now subject.now.moved layer net }
 {
-    moved.item(layer).at(net) && !is_held(&claim.through, layer, PinRef::Net(net))
+    subject.moved.item(layer).at(net) && !is_held(&subject.claim.through, layer, PinRef::Net(net))
 }
 
 /// What defines a net of a layer, or the late capture, where the layer has come through so many sets.
-fn late_origin(
-    design: &Design,
-    claim: &Claim,
-    tables: &Tables,
-    gates: &Seq<Option<usize>>,
-    sets: usize,
-    key: Key,
-) -> Origin
-    requires sound { IsSound design.now }
-    requires tables { AreTables design.now claim.now tables.now }
-    requires gates { AreNetGates design.now gates.now }
-    requires sets { sets ≤ length claim.now.through }
-    ensures { result ≡ origins.late_origin design.now claim.now tables.now.moved sets key }
+fn late_origin(subject: &Subject, sets: usize, key: Key) -> Origin
+    requires subject { IsSubject subject.now }
+    requires sets { sets ≤ length subject.now.claim.now.through }
+    ensures { result ≡ origins.late_origin subject.now.design.now subject.now.claim.now subject.now.moved sets key }
 {
+    let (design, claim) = (subject.design, subject.claim);
     if key.point < design.nets {
-        if has_own(claim, &tables.moved, sets, key.point) {
-            of_gate(gates.at(key.point))
+        if has_own(subject, sets, key.point) {
+            of_gate(subject.gates.at(key.point))
         } else {
             Origin::Free
         }
@@ -147,24 +138,18 @@ fn late_origin(
 }
 
 /// What defines a key of a cycle itself.
-fn cycle_origin(
-    design: &Design,
-    claim: &Claim,
-    gates: &Seq<Option<usize>>,
-    cycles: usize,
-    key: Key,
-) -> Origin
-    requires sound { IsSound design.now }
-    requires gates { AreNetGates design.now gates.now }
-    ensures { (moved : List (List Bool)) → result ≡ origins.layer_origin design.now claim.now moved cycles key 0 }
+fn cycle_origin(subject: &Subject, cycles: usize, key: Key) -> Origin
+    requires subject { IsSubject subject.now }
+    ensures { result ≡ origins.layer_origin subject.now.design.now subject.now.claim.now subject.now.moved cycles key 0 }
 {
+    let design = subject.design;
     let first = design.nets + design.regs.len();
     if key.rail != 0 {
         Origin::Free
     } else if key.point < first {
-        base_origin(design, gates, cycles, key)
+        base_origin(design, subject.gates, cycles, key)
     } else if key.cycle < cycles {
-        extra_origin(claim, key.point - first)
+        extra_origin(subject.claim, key.point - first)
     } else {
         Origin::Free
     }
@@ -177,25 +162,17 @@ fn has_rail(claim: &Claim, rail: usize) -> bool
 }
 
 /// What defines a key where it is asked about a claim.
-pub fn claim_origin(
-    design: &Design,
-    claim: &Claim,
-    tables: &Tables,
-    gates: &Seq<Option<usize>>,
-    cycles: usize,
-    key: Key,
-) -> Origin
-    requires sound { IsSound design.now }
-    requires tables { AreTables design.now claim.now tables.now }
-    requires gates { AreNetGates design.now gates.now }
-    ensures { result ≡ origins.claim_origin design.now claim.now tables.now.moved cycles key }
+pub fn claim_origin(subject: &Subject, cycles: usize, key: Key) -> Origin
+    requires subject { IsSubject subject.now }
+    ensures { result ≡ origins.claim_origin subject.now.design.now subject.now.claim.now subject.now.moved cycles key }
 {
     if key.layer == 0 {
-        return cycle_origin(design, claim, gates, cycles, key);
+        return cycle_origin(subject, cycles, key);
     }
+    let claim = subject.claim;
     let sets = key.layer - 1;
     if key.cycle < cycles && sets <= claim.through.len() && has_rail(claim, key.rail) {
-        late_origin(design, claim, tables, gates, sets, key)
+        late_origin(subject, sets, key)
     } else {
         Origin::Free
     }

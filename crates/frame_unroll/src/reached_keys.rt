@@ -1,17 +1,17 @@
 //! The keys that are reached by what definitions read.
 ghost use Rattle.std.specs.Prelude.{◌≤◌, OnOk};
 ghost use Rattle.net_model.specs.Netlist.{IsSound};
-ghost use Rattle.net_model.specs.Fits.{Fits};
 ghost use Rattle.frame_unroll.specs.Drivers.{AreDrivers};
-ghost use Rattle.frame_unroll.specs.Reading.{AreTables};
+ghost use Rattle.frame_unroll.specs.Reading.{IsSubject};
 ghost use Rattle.frame_unroll.specs.Found.{AreNetGates, AreKeysWithin, AreReached};
 ghost use Rattle.frame_unroll.specs.Origins.{claim_reads, clause_reads};
 
 use crate::drivers::Driver;
-use crate::found_keys::{add_claim_reads, add_clause_reads};
-use crate::read_tables::Tables;
+use crate::found_keys::{add_base_reads, add_claim_reads};
+use crate::origins::clause_origin;
+use crate::subjects::Subject;
 use indexmap::IndexSet;
-use net_model::{Claim, Design};
+use net_model::Design;
 use query_model::Key;
 use sdcv_base::Seq;
 use std::alloc::{AllocError, Global};
@@ -20,25 +20,20 @@ use std::alloc::{AllocError, Global};
 /// asked about a claim. Each key is looked at once, in the order in which they are found.
 pub fn reach_of_claim(
     alloc: Global,
-    design: &Design,
-    claim: &Claim,
-    tables: &Tables,
-    gates: &Seq<Option<usize>>,
+    subject: &Subject,
     cycles: usize,
     found: &mut IndexSet<Key>,
 ) -> Result<(), AllocError>
-    requires sound { IsSound design.now }
-    requires fits { Fits design.now claim.now }
-    requires tables { AreTables design.now claim.now tables.now }
-    requires gates { AreNetGates design.now gates.now }
+    requires subject { IsSubject subject.now }
     requires cycles { cycles ≤ 144 }
-    requires within { AreKeysWithin design.now cycles found.old.keys }
-    ensures { OnOk result (AreReached (claim_reads design.now claim.now tables.now.moved cycles) found.old.keys found.new.keys) }
+    requires within { AreKeysWithin subject.now.design.now cycles found.old.keys }
+    ensures { OnOk result (AreReached (claim_reads subject.now.design.now subject.now.claim.now subject.now.moved cycles) found.old.keys
+        found.new.keys) }
 {
     let mut next = 0;
     while next < found.len() {
         let key = found.as_slice()[next];
-        add_claim_reads(alloc, design, claim, tables, gates, cycles, key, found)?;
+        add_claim_reads(alloc, subject, cycles, key, found)?;
         next += 1;
     }
     Ok(())
@@ -61,7 +56,8 @@ pub fn reach_of_clause(
     let mut next = 0;
     while next < found.len() {
         let key = found.as_slice()[next];
-        add_clause_reads(alloc, design, drivers, gates, cycles, key, found)?;
+        let origin = clause_origin(design, gates, cycles, key);
+        add_base_reads(alloc, design, drivers, key, origin, found)?;
         next += 1;
     }
     Ok(())

@@ -7,17 +7,23 @@ use Rattle.frame_unroll.proofs.found_keys.add_claim_reads.Goals as goal
 
 pub add_cycle_reads-requires-clause-origin : goal.add_cycle_reads-requires-clause-origin
 add_cycle_reads-requires-clause-origin c =
-    subst (IsOriginIn c.args.design.now) (sym c.claim_origin-origin.ensures)
-    (claim_origin_in c.args.design.now c.args.claim.now c.args.tables.now.moved c.args.cycles c.args.key (omega arith))
+    let d = c.args.subject.now.design.now in
+    let claim = c.args.subject.now.claim.now in
+    subst (IsOriginIn d) (sym c.claim_origin-origin.ensures)
+    (claim_origin_in d claim c.args.subject.now.moved c.args.cycles c.args.key (omega arith))
 
 pub add_late_reads-requires-clause-origin : goal.add_late_reads-requires-clause-origin
 add_late_reads-requires-clause-origin c =
-    subst (IsOriginAt c.args.design.now c.args.claim.now c.args.key.layer) (sym c.claim_origin-origin.ensures)
-    (claim_origin_at c.args.design.now c.args.claim.now c.args.tables.now.moved c.args.cycles c.args.key c.requires.fits (omega arith))
+    let d = c.args.subject.now.design.now in
+    let claim = c.args.subject.now.claim.now in
+    subst (IsOriginAt d claim c.args.key.layer) (sym c.claim_origin-origin.ensures)
+    (claim_origin_at d claim c.args.subject.now.moved c.args.cycles c.args.key c.requires.subject.fits (omega arith))
 
 pub returns-else-key-eq0 : goal.returns-else-key-eq0
 returns-else-key-eq0 c =
-    let reads = late_reads_at c.args.design.now c.args.claim.now c.args.tables.now.moved c.args.cycles c.args.key c.claim_origin-origin.result
-    (omega arith) c.claim_origin-origin.ensures in
+    let d = c.args.subject.now.design.now in
+    let claim = c.args.subject.now.claim.now in
+    let reads = late_reads_at d claim c.args.subject.now.moved c.args.cycles c.args.key c.claim_origin-origin.result (omega arith)
+    c.claim_origin-origin.ensures in
     subst (λ (keys : List Key). OnOk c.add_late_reads.result (c.add_late_reads.new.found.keys ≡ keys)) (ap (with_keys c.args.found.now.keys) reads)
     c.add_late_reads.ensures

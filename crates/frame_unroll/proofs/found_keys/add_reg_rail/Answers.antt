@@ -11,13 +11,13 @@ use Rattle.frame_unroll.proofs.found_keys.add_reg_rail.Goals as goal
 
 pub returns : goal.returns
 returns c =
-    let d = c.args.design.now in
-    let claim = c.args.claim.now in
+    let d = c.args.subject.now.design.now in
+    let claim = c.args.subject.now.claim.now in
     let row = c.args.rail_at in
     let reg = c.args.reg.now in
     let found = c.args.found.now.keys in
     let last = length claim.through + 1 in
-    let pins : ℕ → List KeyLit = λ layer. numbered (λ i n. read_pin d claim c.args.tables.now.moved row.cycle layer row.rail
+    let pins : ℕ → List KeyLit = λ layer. numbered (λ i n. read_pin d claim c.args.subject.now.moved row.cycle layer row.rail
     (RegIn c.args.number i) n) 0 reg.ins in
     let bit : KeyLit = lit true (bit_key d row.cycle c.args.number) in
     let reads : List KeyLit = with_own reg bit (pins last) in

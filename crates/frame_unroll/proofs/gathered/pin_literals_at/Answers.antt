@@ -9,8 +9,10 @@ use Rattle.frame_unroll.proofs.gathered.pin_literals_at.Goals as goal
 
 pub loop-i-preserved : goal.loop-i-preserved
 loop-i-preserved c =
-    let at : PinRef → ℕ → KeyLit = λ pin n. read_pin c.args.design.now c.args.claim.now c.args.tables.now.moved c.args.rail_at.cycle
-    c.args.rail_at.layer c.args.rail_at.rail pin n in
+    let d = c.args.subject.now.design.now in
+    let claim = c.args.subject.now.claim.now in
+    let row = c.args.rail_at in
+    let at : PinRef → ℕ → KeyLit = λ pin n. read_pin d claim c.args.subject.now.moved row.cycle row.layer row.rail pin n in
     let f : ℕ → ℕ → KeyLit = λ i n. at (pin_of c.args.owner i) n in
     let read : c.pin_lit.result ≡ f c.loop-i.i c.at.result = c.pin_lit.ensures ∙ ap (λ pin. at pin c.at.result) c.pin_of.ensures in
     c.in_ok-push.ensures.ok ∙ ap (λ (ls : List KeyLit). ls ++ c.pin_lit.result ∷ []) c.loop-i.invariant

@@ -10,23 +10,28 @@ use Rattle.frame_unroll.proofs.Reaching.{Reaches, reaches_first, reaches_more, r
 use Rattle.frame_unroll.proofs.reached_keys.reach_of_claim.Goals as goal
 
 pub loop-next-init : goal.loop-next-init
-loop-next-init c = reaches_first (claim_reads c.args.design.now c.args.claim.now c.args.tables.now.moved c.args.cycles) c.args.found.now.keys
+loop-next-init c =
+    let subject = c.args.subject.now in
+    reaches_first (claim_reads subject.design.now subject.claim.now subject.moved c.args.cycles) c.args.found.now.keys
 
 pub add_claim_reads-requires-clause-early : goal.add_claim_reads-requires-clause-early
 add_claim_reads-requires-clause-early c =
+    let subject = c.args.subject.now in
+    let is = c.requires.subject in
     let found = c.loop-next.found.keys in
     let next = c.loop-next.next in
     let here : Key = get_or c.as_slice.result.now next (key 0 0 0 0) in
     let at : slice_get found next ≡ Some here =
     subst (λ (keys : List Key). slice_get keys next ≡ Some here) c.as_slice.ensures.keys
     (slice_get-get_or c.as_slice.result.now next (key 0 0 0 0) (omega (arith, ap (length {A = Key}) c.as_slice.ensures.keys))) in
-    let within = claim_keys_within c.args.design.now c.args.claim.now c.args.tables.now.moved c.args.cycles c.args.found.now.keys c.requires.sound
-    c.requires.fits c.requires.within here (c.loop-next.invariant.only here (in_place here found next at)) in
+    let within = claim_keys_within subject.design.now subject.claim.now subject.moved c.args.cycles c.args.found.now.keys is.sound is.fits
+    c.requires.within here (c.loop-next.invariant.only here (in_place here found next at)) in
     omega (arith, within.cycle, c.requires.cycles)
 
 pub loop-next-preserved : goal.loop-next-preserved
 loop-next-preserved c =
-    let reads = claim_reads c.args.design.now c.args.claim.now c.args.tables.now.moved c.args.cycles in
+    let subject = c.args.subject.now in
+    let reads = claim_reads subject.design.now subject.claim.now subject.moved c.args.cycles in
     let start = c.args.found.now.keys in
     let found = c.loop-next.found.keys in
     let next = c.loop-next.next in
@@ -38,5 +43,7 @@ loop-next-preserved c =
     (reaches_more reads start found next here at c.loop-next.invariant)
 
 pub returns : goal.returns
-returns c = reaches_all (claim_reads c.args.design.now c.args.claim.now c.args.tables.now.moved c.args.cycles) c.args.found.now.keys
+returns c =
+    let subject = c.args.subject.now in
+    reaches_all (claim_reads subject.design.now subject.claim.now subject.moved c.args.cycles) c.args.found.now.keys
     c.loop-next.found.keys c.loop-next.next (omega arith) c.loop-next.invariant

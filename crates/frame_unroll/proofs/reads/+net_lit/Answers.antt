@@ -8,20 +8,22 @@ use Rattle.frame_unroll.proofs.reads.+net_lit.Goals.{then-key-eq0-via-then-key-e
 
 pub returns-then-key-eq0 : goal.returns-then-key-eq0
 returns-then-key-eq0 t c =
+    let d = c.args.subject.now.design.now in
+    let claim = c.args.subject.now.claim.now in
     let key = c.args.key in
     c.flip_if.ensures ∙ (ap (flipped (key.rail == 1)) c.base_lit-base.ensures
     ∙ sym (elim c.then-key-eq0.branch [
-      | then-key-eq0-via-then-key-eq0 w ↦ read_first c.args.design.now c.args.claim.now c.args.tables.now.moved key.cycle key.layer key.rail key.point
+      | then-key-eq0-via-then-key-eq0 w ↦ read_first d claim c.args.subject.now.moved key.cycle key.layer key.rail key.point
           (omega (arith, w.if-key-eq0.true))
-      | then-key-eq0-via-else-key-eq0+then-not-at w ↦ read_unmoved c.args.design.now c.args.claim.now c.args.tables.now.moved key.cycle
+      | then-key-eq0-via-else-key-eq0+then-not-at w ↦ read_unmoved d claim c.args.subject.now.moved key.cycle
           (key.layer - 1) key.layer key.rail key.point w.item.result.now (omega (arith, w.if-key-eq0.false)) w.item.ensures w.if-not-at.ensures
     ]))
 
 pub returns-then-is_held : goal.returns-then-is_held
 returns-then-is_held t c =
-    let d = c.args.design.now in
-    let claim = c.args.claim.now in
-    let moved = c.args.tables.now.moved in
+    let d = c.args.subject.now.design.now in
+    let claim = c.args.subject.now.claim.now in
+    let moved = c.args.subject.now.moved in
     let key = c.args.key in
     let next : key.layer ≡ suc (key.layer - 1) = omega arith in
     ◌∙◌ {b = read d claim moved key.cycle (key.layer - 1) key.rail key.point} c.net_lit.ensures
@@ -30,8 +32,10 @@ returns-then-is_held t c =
 
 pub returns : goal.returns
 returns t c =
+    let d = c.args.subject.now.design.now in
+    let claim = c.args.subject.now.claim.now in
     let key = c.args.key in
     let next : key.layer ≡ suc (key.layer - 1) = omega arith in
     c.late_net_lit.ensures
-    ∙ sym (read_free c.args.design.now c.args.claim.now c.args.tables.now.moved key.cycle (key.layer - 1) key.layer key.rail key.point
+    ∙ sym (read_free d claim c.args.subject.now.moved key.cycle (key.layer - 1) key.layer key.rail key.point
     c.item.result.now next c.item.ensures c.if-not-at.ensures (sym c.if-is_held.ensures))

@@ -17,25 +17,28 @@ use Rattle.frame_unroll.proofs.frames.Frames.by_claim.Goals as goal
 
 pub reach_of_claim-requires-clause-within : goal.reach_of_claim-requires-clause-within
 reach_of_claim-requires-clause-within c =
-    let start = c.in_ok-add_clauses.ensures ∙ ap (λ (keys : List Key). with_clauses keys c.args.asked.now) c.new-found.ensures.empty in
-    subst (AreKeysWithin c.args.design.now c.args.cycles) (sym start) (start_within c.args.design.now c.args.cycles c.args.asked.now c.requires.within)
+    let d = c.args.subject.now.design.now in
+    let asked = c.args.asked.now in
+    let start = c.in_ok-add_clauses.ensures ∙ ap (λ (keys : List Key). with_clauses keys asked) c.new-found.ensures.empty in
+    subst (AreKeysWithin d c.args.cycles) (sym start) (start_within d c.args.cycles asked c.requires.within)
 
 pub in_order-requires : goal.in_order-requires
 in_order-requires c k has =
-    let d = c.args.design.now in
-    let claim = c.args.claim.now in
+    let d = c.args.subject.now.design.now in
+    let claim = c.args.subject.now.claim.now in
     let asked = c.args.asked.now in
+    let is = c.requires.subject in
     let start = c.in_ok-add_clauses.ensures ∙ ap (λ (keys : List Key). with_clauses keys asked) c.new-found.ensures.empty in
     let within = subst (AreKeysWithin d c.args.cycles) (sym start) (start_within d c.args.cycles asked c.requires.within) in
-    small_within d c.args.cycles k c.requires.sound c.requires.cycles
-    (claim_keys_within d claim c.args.tables.now.moved c.args.cycles c.add_clauses.new.found.keys c.requires.sound c.requires.fits within k
+    small_within d c.args.cycles k is.sound c.requires.cycles
+    (claim_keys_within d claim c.args.subject.now.moved c.args.cycles c.add_clauses.new.found.keys is.sound is.fits within k
     (c.in_ok-reach_of_claim.ensures.only k has))
 
 pub returns : goal.returns
 returns c =
-    let d = c.args.design.now in
-    let claim = c.args.claim.now in
-    let moved = c.args.tables.now.moved in
+    let d = c.args.subject.now.design.now in
+    let claim = c.args.subject.now.claim.now in
+    let moved = c.args.subject.now.moved in
     let cycles = c.args.cycles in
     let asked = c.args.asked.now in
     let found = c.reach_of_claim.new.found.keys in
@@ -44,8 +47,8 @@ returns c =
     let needed : (keys : List Key) → AreAscending found keys → (q : Query) (offset clean : ℕ) → q.design ≡ d → q.cycles ≡ cycles
     → q.question ≡ Violates claim offset clean → AreNeeded (definitions Rows q moved) asked keys =
     λ keys sorted q offset clean of_design of_cycles asks.
-    let sound = subst IsSound (sym of_design) c.requires.sound in
-    let fits = subst (λ (e : Design). Fits e claim) (sym of_design) c.requires.fits in
+    let sound = subst IsSound (sym of_design) c.requires.subject.sound in
+    let fits = subst (λ (e : Design). Fits e claim) (sym of_design) c.requires.subject.fits in
     let there = subst (λ (e : Design). AreReached (claim_reads e claim moved q.cycles) (with_clauses [] asked) found) (sym of_design)
     (subst (λ (n : ℕ). AreReached (claim_reads d claim moved n) (with_clauses [] asked) found) (sym of_cycles) reached) in
     needed_from_reached (definitions Rows q moved) asked (claim_reads q.design claim moved q.cycles) found keys
