@@ -1,10 +1,12 @@
 -- The capture of a register as one function: the places it reads, and the clauses of its definitions.
-use Rattle.std.proofs.Common.{◌≡◌, ℕ, ◌+◌, ◌<◌, ◌≤◌, Bool, true, false, cond, List, [], ◌∷◌, ◌++◌, map, length, sym, ◌∙◌, ap, subst, arith, nat_eq}
-use Rattle.std.proofs.Common.{length-append}
+use Rattle.std.proofs.Common.{◌≡◌, ℕ, ◌+◌, ◌<◌, ◌≤◌, Bool, true, false, cond, Some, List, [], ◌∷◌, ◌++◌, map, length, sym, ◌∙◌, ap, subst, arith}
+use Rattle.std.proofs.Common.{nat_eq, length-append, refl, Option, None}
+use Rattle.std.specs.Prelude.{slice_get}
 use Rattle.std.proofs.lemmas.List.{append-nil}
 use Rattle.std.proofs.lemmas.Bool.{or_parts}
 use Rattle.net_model.specs.Form.{Form, ZeroForm, OneForm, PinForm, NotForm, AndForm, OrForm, XorForm, value, IsOver}
-use Rattle.net_model.specs.Netlist.{IsOptionOver, IsRegInRange}
+use Rattle.net_model.specs.Netlist.{IsOptionOver, IsRegInRange, IsSound}
+use Rattle.net_model.proofs.Settling.{All-at}
 use Rattle.net_model.specs.Mentions.{mentions, reg_mentions}
 use Rattle.net_model.specs.declared.netlist.Design.{Design}
 use Rattle.net_model.specs.declared.netlist.Reg.{Reg}
@@ -16,7 +18,8 @@ use Rattle.net_model.specs.declared.claims.PinRef.TheVariants.{RegIn}
 use Rattle.net_model.specs.Mentions.{reads_own}
 use Rattle.query_model.specs.Defined.{plain, rails, with_own, numbered, late_key, bit_definition}
 use Rattle.query_model.proofs.Lists.{length-numbered}
-use Rattle.query_model.specs.Defined.{reg_reads, plain_reg, rails_reg}
+use Rattle.query_model.specs.Defined.{reg_reads, plain_reg, rails_reg, late_reg}
+use Rattle.cnf_encode.specs.Listed.{of_item, at_place, alone}
 use Rattle.query_model.specs.declared.keys.Key.{Key}
 use Rattle.query_model.specs.declared.keys.KeyLit.{KeyLit}
 use Rattle.query_model.specs.declared.keys.Coding.TheVariants.{Rows}
@@ -35,6 +38,10 @@ rails_equal cell other hs hs2 ls ls2 high high2 low low2 same reads lows one zer
     rails_same Rows cell other hs ls high low same
     ∙ ap (λ (rs : List KeyLit). rails Rows other rs ls high low) reads ∙ ap (λ (rs : List KeyLit). rails Rows other hs2 rs high low) lows
     ∙ ap (λ (k : Key). rails Rows other hs2 ls2 k low) one ∙ ap (λ (k : Key). rails Rows other hs2 ls2 high2 k) zero
+
+-- a register of a sound design
+pub reg_in_range : (d : Design) (r : ℕ) (reg : Reg) → IsSound d → slice_get d.regs r ≡ Some reg → IsRegInRange d reg
+reg_in_range d r reg sound at = All-at (IsRegInRange d) d.regs r reg at sound.in_range.regs
 
 less : (i n : ℕ) → i < n + 1 → nat_eq i n ≡ false → i < n
 less i n lt apart = grind arith
@@ -137,3 +144,20 @@ pub rails_reg_is : (d : Design) (claim : Claim) (moved : List (List Bool)) (c r 
 rails_reg_is d claim moved c r reg f hs ls high low value_is highs lows high_is low_is =
     rails_equal (value f) (reg_capture reg) hs (reg_reads d claim moved c 0 true r reg) ls (reg_reads d claim moved c 1 false r reg) high
     (late_key d claim c 0) low (late_key d claim c 1) value_is highs lows high_is low_is
+
+-- the late capture of the register of a number, by whether hazards count
+late_of : (d : Design) (claim : Claim) (moved : List (List Bool)) (c r : ℕ) (hazard : Bool) → claim.hazard ≡ hazard → (o : Option Reg)
+    → late_reg Rows d claim moved c r o
+    ≡ cond hazard (of_item (alone (rails_reg Rows d claim moved c)) r o) (of_item (alone (plain_reg Rows d claim moved c)) r o)
+late_of d claim moved c r true is None = refl
+late_of d claim moved c r false is None = refl
+late_of d claim moved c r hazard is (Some reg) =
+    ap (λ (b : Bool). cond b (rails_reg Rows d claim moved c r reg ∷ []) (plain_reg Rows d claim moved c r reg ∷ [])) is
+
+pub late_rails_at : (d : Design) (claim : Claim) (moved : List (List Bool)) (c r : ℕ) → claim.hazard ≡ true
+    → late_reg Rows d claim moved c r (slice_get d.regs r) ≡ at_place (alone (rails_reg Rows d claim moved c)) d.regs r
+late_rails_at d claim moved c r hazard = late_of d claim moved c r true hazard (slice_get d.regs r)
+
+pub late_plain_at : (d : Design) (claim : Claim) (moved : List (List Bool)) (c r : ℕ) → claim.hazard ≡ false
+    → late_reg Rows d claim moved c r (slice_get d.regs r) ≡ at_place (alone (plain_reg Rows d claim moved c)) d.regs r
+late_plain_at d claim moved c r hazard = late_of d claim moved c r false hazard (slice_get d.regs r)

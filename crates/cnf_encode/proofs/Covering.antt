@@ -19,25 +19,34 @@ use Rattle.query_model.specs.declared.keys.KeyLit.{KeyLit}
 use Rattle.query_model.specs.declared.keys.Coding.TheVariants.{Rows}
 use Rattle.query_model.proofs.Based.{get_within}
 use Rattle.query_model.proofs.Places.{same_key-true}
-use Rattle.cnf_encode.specs.Listed.{Lists}
+use Rattle.cnf_encode.specs.Listed.{IsClosed, Lists, of_item, at_place, alone}
 use Rattle.cnf_encode.specs.declared.cones.Cone.{Cone}
 use Rattle.query_model.specs.Defined.{plain_gate, rails_gate}
 use Rattle.cnf_encode.specs.Coned.{AreRows, IsConeFor, Covers, has_point, gate_points, bit_points}
 use Rattle.cnf_encode.proofs.Covered.{covered}
 use Rattle.cnf_encode.proofs.Standing.{length-below, bit_at_place}
 use Rattle.frame_unroll.proofs.Numbering.{take_at, numbered-take}
-use Rattle.cnf_encode.proofs.Listing.{Lists-same, Lists-append, flat-push}
-
--- what is made of the item at a place, if there is one
-abbrev pub of_item : {X A : Type 0} → (ℕ → X → List A) → ℕ → Option X → List A
-of_item f k None = []
-of_item f k (Some x) = f k x
-
-abbrev pub at_place : {X A : Type 0} → (ℕ → X → List A) → List X → ℕ → List A
-at_place f xs k = of_item f k (slice_get xs k)
+use Rattle.cnf_encode.proofs.Listing.{Lists-same, Lists-append, Closed-none, Closed-same, Closed-numbered, Closed-flat_numbered, flat-push}
 
 pub at_place_is : {X A : Type 0} (f : ℕ → X → List A) (xs : List X) (k : ℕ) (x : X) → slice_get xs k ≡ Some x → at_place f xs k ≡ f k x
 at_place_is f xs k x at = ap (of_item f k) at
+
+-- the definition of an item is closed with those of all
+pub Closed-at_place : {keys : List Key} {X : Type 0} (f : ℕ → X → Definition) (xs : List X) (k : ℕ) → IsClosed keys (numbered f 0 xs)
+    → IsClosed keys (at_place (alone f) xs k)
+Closed-at_place {keys} {X} f xs k closed = by (slice_get xs k) refl
+  where
+    by : (o : Option X) → slice_get xs k ≡ o → IsClosed keys (at_place (alone f) xs k)
+    by None e = Closed-same (sym (ap (of_item (alone f) k) e)) Closed-none
+    by (Some x) e = Closed-same (sym (at_place_is (alone f) xs k x e)) (Closed-numbered f xs k x e closed)
+
+pub Closed-flat_at_place : {keys : List Key} {X : Type 0} (f : ℕ → X → List Definition) (xs : List X) (k : ℕ)
+    → IsClosed keys (flat_map (λ (defs : List Definition). defs) (numbered f 0 xs)) → IsClosed keys (at_place f xs k)
+Closed-flat_at_place {keys} {X} f xs k closed = by (slice_get xs k) refl
+  where
+    by : (o : Option X) → slice_get xs k ≡ o → IsClosed keys (at_place f xs k)
+    by None e = Closed-same (sym (ap (of_item f k) e)) Closed-none
+    by (Some x) e = Closed-same (sym (at_place_is f xs k x e)) (Closed-flat_numbered f xs k x e closed)
 
 places_to : {X A : Type 0} (f : ℕ → X → List A) (xs : List X) (n : ℕ) → n ≤ length xs → flat_map (at_place f xs) (below n) ≡ flat_map
     (λ (ys : List A). ys) (numbered f 0 (take n xs))
@@ -172,14 +181,11 @@ Lists-layer_gates d claim moved keys c l places n covers all lists =
     all lists)
 
 -- register bits, which are those of the cycle after
-abbrev pub bit_defs : Design → ℕ → ℕ → Reg → List Definition
-bit_defs d c r reg = bit_definition Rows d c r reg ∷ []
-
 bits_left_out : (d : Design) (keys : List Key) (c k p : ℕ) → slice_get (bit_points d) k ≡ Some p → has_point keys (c + 1) p ≡ false
-    → flat_map (listed keys) (at_place (bit_defs d c) d.regs k) ≡ []
+    → flat_map (listed keys) (at_place (alone (bit_definition Rows d c)) d.regs k) ≡ []
 bits_left_out d keys c k p at miss = by (slice_get d.regs k)
   where
-    by : (reg : Option Reg) → flat_map (listed keys) (of_item (bit_defs d c) k reg) ≡ []
+    by : (reg : Option Reg) → flat_map (listed keys) (of_item (alone (bit_definition Rows d c)) k reg) ≡ []
     by None = refl
     by (Some reg) =
         let here : p ≡ d.nets + k = (bit_at_place d k p at).0 in
@@ -190,13 +196,14 @@ pub length-bit_points : (d : Design) → length (bit_points d) ≡ length d.regs
 length-bit_points d = length-map (below (length d.regs)) (λ r. d.nets + r) ∙ length-below (length d.regs)
 
 pub Lists-bits : (d : Design) (keys : List Key) (c : ℕ) (places : List ℕ) (n : ℕ) {old new : List (List ℕ)}
-    → Covers keys (c + 1) (bit_points d) places → length places ≤ n → Lists keys (flat_map (at_place (bit_defs d c) d.regs) (take n places)) old new
+    → Covers keys (c + 1) (bit_points d) places → length places ≤ n → Lists keys (flat_map (at_place (alone (bit_definition Rows d c)) d.regs) (take n
+    places)) old new
     → Lists keys (numbered (bit_definition Rows d c) 0 d.regs) old new
 Lists-bits d keys c places n covers all lists =
     Lists-same
-    (ap (λ (m : ℕ). flat_map (at_place (bit_defs d c) d.regs) (below m)) (length-bit_points d)
-    ∙ all_places (bit_defs d c) d.regs ∙ singles (bit_definition Rows d c) 0 d.regs)
-    (Lists-covered keys (c + 1) (bit_points d) places (at_place (bit_defs d c) d.regs) n covers (bits_left_out d keys c) all lists)
+    (ap (λ (m : ℕ). flat_map (at_place (alone (bit_definition Rows d c)) d.regs) (below m)) (length-bit_points d)
+    ∙ all_places (alone (bit_definition Rows d c)) d.regs ∙ singles (bit_definition Rows d c) 0 d.regs)
+    (Lists-covered keys (c + 1) (bit_points d) places (at_place (alone (bit_definition Rows d c)) d.regs) n covers (bits_left_out d keys c) all lists)
 
 -- inputs
 unit_left_out : (keys : List Key) (o : Option Bool) (flip : Bool) (out : Key) → has_key keys out ≡ false → flat_map (listed keys) (unit_if o flip out) ≡ []
@@ -228,14 +235,14 @@ pub row_covers : (keys : List Key) (points : List ℕ) (n c : ℕ) (rows : List 
     → slice_get rows c ≡ Some row → Covers keys c points row
 row_covers keys points n c rows row are lt at = subst (Covers keys c points) (get_or_from_slice_get rows c row [] at) (are.each c lt)
 
-pub input_places : (d : Design) (keys : List Key) (c : ℕ) (cone : Cone) (row : List ℕ) → IsConeFor d keys c cone → slice_get cone.inputs c ≡ Some row
-    → Covers keys c d.inputs row
-input_places d keys c cone row is at = row_covers keys d.inputs (is.cycles + 1) c cone.inputs row is.of.inputs (omega (arith, is.lt)) at
+pub input_places : (keys : List Key) (c : ℕ) (cone : Cone) (row : List ℕ) → IsConeFor keys c cone → slice_get cone.inputs c ≡ Some row
+    → Covers keys c cone.design.now.inputs row
+input_places keys c cone row is at = row_covers keys cone.design.now.inputs (is.cycles + 1) c cone.inputs row is.of.inputs (omega (arith, is.lt)) at
 
-pub gate_places : (d : Design) (keys : List Key) (c : ℕ) (cone : Cone) (row : List ℕ) → IsConeFor d keys c cone → slice_get cone.gates c ≡ Some row
-    → Covers keys c (gate_points d) row
-gate_places d keys c cone row is at = row_covers keys (gate_points d) (is.cycles + 1) c cone.gates row is.of.gates (omega (arith, is.lt)) at
+pub gate_places : (keys : List Key) (c : ℕ) (cone : Cone) (row : List ℕ) → IsConeFor keys c cone → slice_get cone.gates c ≡ Some row
+    → Covers keys c (gate_points cone.design.now) row
+gate_places keys c cone row is at = row_covers keys (gate_points cone.design.now) (is.cycles + 1) c cone.gates row is.of.gates (omega (arith, is.lt)) at
 
-pub bit_places : (d : Design) (keys : List Key) (c : ℕ) (cone : Cone) (row : List ℕ) → IsConeFor d keys c cone
-    → slice_get cone.bits (c + 1) ≡ Some row → Covers keys (c + 1) (bit_points d) row
-bit_places d keys c cone row is at = row_covers keys (bit_points d) (is.cycles + 1) (c + 1) cone.bits row is.of.bits (omega (arith, is.lt)) at
+pub bit_places : (keys : List Key) (c : ℕ) (cone : Cone) (row : List ℕ) → IsConeFor keys c cone
+    → slice_get cone.bits (c + 1) ≡ Some row → Covers keys (c + 1) (bit_points cone.design.now) row
+bit_places keys c cone row is at = row_covers keys (bit_points cone.design.now) (is.cycles + 1) (c + 1) cone.bits row is.of.bits (omega (arith, is.lt)) at

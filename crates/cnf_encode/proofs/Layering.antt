@@ -3,7 +3,8 @@ use Rattle.std.proofs.Common.{◌≡◌, ℕ, suc, ◌+◌, ◌≤◌, Bool, tru
 use Rattle.std.specs.Prelude.{filter, slice_get}
 use Rattle.sdcv_base.specs.Seqs.{is_marked}
 use Rattle.net_model.specs.Form.{value, IsOver}
-use Rattle.net_model.specs.Netlist.{IsGateInRange}
+use Rattle.net_model.specs.Netlist.{IsGateInRange, IsSound}
+use Rattle.net_model.proofs.Settling.{All-at}
 use Rattle.net_model.specs.declared.netlist.Design.{Design}
 use Rattle.net_model.specs.declared.netlist.Gate.{Gate}
 use Rattle.net_model.specs.declared.claims.Claim.{Claim}
@@ -18,10 +19,16 @@ use Rattle.query_model.specs.declared.keys.Key.{Key}
 use Rattle.query_model.specs.declared.keys.KeyLit.{KeyLit}
 use Rattle.query_model.specs.declared.keys.Coding.TheVariants.{Rows}
 use Rattle.query_model.proofs.Lists.{length-numbered}
-use Rattle.frame_unroll.specs.Reading.{AreTables}
-use Rattle.frame_unroll.specs.declared.read_tables.Tables.{Tables}
+use Rattle.frame_unroll.specs.Reading.{IsSubject}
+use Rattle.frame_unroll.specs.declared.subjects.Subject.{Subject}
+use Rattle.cnf_encode.specs.Listed.{at_place, alone}
 use Rattle.query_model.specs.Defined.{gate_reads, plain_gate, rails_gate}
 use Rattle.cnf_encode.proofs.Captures.{plain_equal, rails_equal}
+use Rattle.cnf_encode.proofs.Covering.{at_place_is}
+
+-- a gate of a sound design
+pub gate_in_range : (d : Design) (k : ℕ) (g : Gate) → IsSound d → slice_get d.gates k ≡ Some g → IsGateInRange d g
+gate_in_range d k g sound at = All-at (IsGateInRange d) d.gates k g at sound.in_range.gates
 
 -- as many literals as pins
 pub length-gate_reads : (d : Design) (claim : Claim) (moved : List (List Bool)) (c layer rail k : ℕ) (g : Gate)
@@ -67,6 +74,27 @@ pub layer_plain : (d : Design) (claim : Claim) (moved : List (List Bool)) (c l k
     → claim.hazard ≡ false → layer_gate Rows d claim moved c l k g ≡ plain_gate Rows d claim moved c (l + 1) k g ∷ []
 layer_plain d claim moved c l k g own hazard = by_own d claim moved c l k g true false own hazard
 
+-- the same of the gate of a number
+pub layer_rails_at : (d : Design) (claim : Claim) (moved : List (List Bool)) (c l k : ℕ) (g : Gate) → slice_get d.gates k ≡ Some g
+    → has_own claim moved l g.out ≡ true → claim.hazard ≡ true
+    → at_place (layer_gate Rows d claim moved c l) d.gates k ≡ at_place (alone (rails_gate Rows d claim moved c (l + 1))) d.gates k
+layer_rails_at d claim moved c l k g at own hazard =
+    at_place_is (layer_gate Rows d claim moved c l) d.gates k g at ∙ layer_rails d claim moved c l k g own hazard
+    ∙ sym (at_place_is (alone (rails_gate Rows d claim moved c (l + 1))) d.gates k g at)
+
+pub layer_plain_at : (d : Design) (claim : Claim) (moved : List (List Bool)) (c l k : ℕ) (g : Gate) → slice_get d.gates k ≡ Some g
+    → has_own claim moved l g.out ≡ true → claim.hazard ≡ false
+    → at_place (layer_gate Rows d claim moved c l) d.gates k ≡ at_place (alone (plain_gate Rows d claim moved c (l + 1))) d.gates k
+layer_plain_at d claim moved c l k g at own hazard =
+    at_place_is (layer_gate Rows d claim moved c l) d.gates k g at ∙ layer_plain d claim moved c l k g own hazard
+    ∙ sym (at_place_is (alone (plain_gate Rows d claim moved c (l + 1))) d.gates k g at)
+
+-- a net without a key of its own there
+pub layer_none_at : (d : Design) (claim : Claim) (moved : List (List Bool)) (c l k : ℕ) (g : Gate) → slice_get d.gates k ≡ Some g
+    → has_own claim moved l g.out ≡ false → at_place (layer_gate Rows d claim moved c l) d.gates k ≡ []
+layer_none_at d claim moved c l k g at own =
+    at_place_is (layer_gate Rows d claim moved c l) d.gates k g at ∙ by_own d claim moved c l k g false claim.hazard own refl
+
 -- the marked numbers, by one more number
 pub marked_more : (p : ℕ → Bool) (n : ℕ) → p n ≡ true → filter p (below (n + 1)) ≡ filter p (below n) ++ n ∷ []
 marked_more p n is =
@@ -86,8 +114,8 @@ filter_same {X} p q same (x ∷ xs) = ap (λ (b : Bool). cond b (x ∷ filter p 
     (filter_same p q same xs)
 
 -- the marked nets are those of the start
-pub starts_are : (d : Design) (claim : Claim) (tables : Tables) (nets : List ℕ) → AreTables d claim tables → nets ≡ filter (is_marked tables.starts)
-    (below (length tables.starts)) → nets ≡ filter (is_start_net d claim) (below d.nets)
-starts_are d claim tables nets are is =
-    is ∙ ap (λ (n : ℕ). filter (is_marked tables.starts) (below n)) are.starts_len ∙ filter_same (is_marked tables.starts)
-    (is_start_net d claim) are.starts (below d.nets)
+pub starts_are : (s : Subject) (nets : List ℕ) → IsSubject s → nets ≡ filter (is_marked s.starts) (below (length s.starts))
+    → nets ≡ filter (is_start_net s.design.now s.claim.now) (below s.design.now.nets)
+starts_are s nets are is =
+    is ∙ ap (λ (n : ℕ). filter (is_marked s.starts) (below n)) are.starts_len ∙ filter_same (is_marked s.starts)
+    (is_start_net s.design.now s.claim.now) are.starts (below s.design.now.nets)

@@ -46,6 +46,9 @@ Closed-left a b closed = Closed-some a (λ def. In-left def a b) closed
 pub Closed-right : {keys : List Key} (a b : List Definition) → IsClosed keys (a ++ b) → IsClosed keys b
 Closed-right a b closed = Closed-some b (λ def. In-right def a b) closed
 
+pub Closed-none : {keys : List Key} → IsClosed keys []
+Closed-none {keys} = record { mentioned = λ def has hit. absurd (In-from_Contains [] def has) }
+
 pub Closed-same : {keys : List Key} {a b : List Definition} → a ≡ b → IsClosed keys a → IsClosed keys b
 Closed-same {keys} same closed = subst (λ (defs : List Definition). IsClosed keys defs) same closed
 

@@ -1,6 +1,7 @@
 -- The problems of the queries about a claim and about a clause.
-use Rattle.std.proofs.Common.{◌≡◌, ℕ, ◌+◌, ◌^◌, ◌<◌, Bool, List, [], length, ap, sym, ◌∙◌, subst}
-use Rattle.std.specs.Prelude.{All, Contains}
+use Rattle.std.proofs.Common.{◌≡◌, ℕ, ◌+◌, ◌^◌, ◌<◌, Bool, List, [], length, refl, ap, sym, ◌∙◌, subst}
+use Rattle.std.specs.Prelude.{All, Contains, flat_map}
+use Rattle.sdcv_base.specs.Kinds.{judged_count}
 use Rattle.std.proofs.lemmas.List.Elements.{All-contains}
 use Rattle.net_model.proofs.Members.{In-from_Contains}
 use Rattle.net_model.specs.Netlist.{IsSound}
@@ -10,9 +11,9 @@ use Rattle.net_model.specs.declared.cycles.Cycle.{Cycle}
 use Rattle.net_model.specs.declared.claims.Claim.{Claim}
 use Rattle.net_model.specs.declared.invariants.InvClause.{InvClause}
 use Rattle.net_model.specs.declared.queries.Phase.{Phase}
-use Rattle.net_model.specs.Queries.{Query, Question, claim_query, clause_query}
-use Rattle.query_model.specs.Keys.{key}
-use Rattle.query_model.specs.Reads.{bit_key}
+use Rattle.net_model.specs.Queries.{Query, Question, live_of, only_in_step, claim_query, clause_query}
+use Rattle.query_model.specs.Keys.{key, below}
+use Rattle.query_model.specs.Reads.{bit_key, AreMoved}
 use Rattle.query_model.specs.Defined.{Definition}
 use Rattle.query_model.specs.Formula.{definitions, asked_clauses, AreMovedFor, AreNeeded}
 use Rattle.query_model.specs.Variables.{number_of, by_number}
@@ -24,7 +25,8 @@ use Rattle.query_model.specs.declared.keys.KeyLit.{KeyLit}
 use Rattle.query_model.specs.declared.keys.Coding.TheVariants.{Rows}
 use Rattle.proof_log.specs.Formulas.{value_in}
 use Rattle.cnf_encode.specs.Coded.{Adds}
-use Rattle.cnf_encode.specs.Listed.{Lists}
+use Rattle.frame_unroll.specs.Framed.{AreNeededOfClaim, AreNeededOfClause}
+use Rattle.cnf_encode.specs.Listed.{Lists, claim_cycle, clause_cycle}
 use Rattle.cnf_encode.specs.Problems.{IsCompleteFor}
 use Rattle.cnf_encode.specs.declared.problems.Problem.{Problem}
 use Rattle.cnf_encode.proofs.Coding.{number_from, number_to}
@@ -66,6 +68,41 @@ made q moved problem keys asked none defined clauses are_moved of needed asked_a
           (subst (λ (new : List (List ℕ)). Adds problem.frames (asked_clauses q) defined new) (sym of.clauses_are)
           (subst (λ (ks : List Key). Adds ks (asked_clauses q) defined clauses) back adds_are));
     }
+
+-- so it is where the cycles of a query about a claim were listed one by one
+pub claim_made : (d : Design) (claim : Claim) (phase : Phase) (depth : ℕ) (inv : List InvClause) (moved : List (List Bool)) (problem : Problem)
+    (keys : List Key) (asked : List (List KeyLit)) (live cycles : ℕ) (none defined clauses : List (List ℕ)) → AreMoved d claim moved
+    → IsOf problem keys live cycles clauses → live ≡ live_of d phase → cycles ≡ live_of d phase + depth + 1 + judged_count claim.kind
+    → AreNeededOfClaim d claim cycles moved asked keys → asked ≡ asked_clauses (claim_query d claim phase depth inv) → none ≡ []
+    → Lists keys (flat_map (claim_cycle d claim moved live) (below cycles)) none defined → Adds keys asked defined clauses
+    → IsMade (claim_query d claim phase depth inv) moved problem
+claim_made d claim phase depth inv moved problem keys asked live cycles none defined clauses are_moved of live_is cycles_are needed asked_are empty lists adds =
+    let q : Query = claim_query d claim phase depth inv in
+    let of_query : IsOf problem keys q.live q.cycles clauses =
+    subst (λ (n : ℕ). IsOf problem keys n q.cycles clauses) live_is (subst (λ (n : ℕ). IsOf problem keys live n clauses) cycles_are of) in
+    let of_cycles : Lists keys (flat_map (claim_cycle d claim moved q.live) (below q.cycles)) none defined =
+    subst (λ (n : ℕ). Lists keys (flat_map (claim_cycle d claim moved q.live) (below n)) none defined) cycles_are
+    (subst (λ (n : ℕ). Lists keys (flat_map (claim_cycle d claim moved n) (below cycles)) none defined) live_is lists) in
+    made q moved problem keys asked none defined clauses are_moved of_query
+    (needed q depth (only_in_step phase depth) refl (sym cycles_are) refl) asked_are empty of_cycles adds
+
+-- and where those of a query about a clause were
+pub clause_made : (d e : Design) (inv : List InvClause) (clause : InvClause) (phase : Phase) (depth : ℕ) (problem : Problem)
+    (keys : List Key) (asked : List (List KeyLit)) (live cycles : ℕ) (none defined clauses : List (List ℕ))
+    → IsOf problem keys live cycles clauses → e ≡ d → live ≡ live_of d phase → cycles ≡ live_of d phase + depth + 1
+    → AreNeededOfClause d cycles asked keys → asked ≡ asked_clauses (clause_query d inv clause phase depth) → none ≡ []
+    → Lists keys (flat_map (clause_cycle e live) (below cycles)) none defined → Adds keys asked defined clauses
+    → IsMade (clause_query d inv clause phase depth) [] problem
+clause_made d e inv clause phase depth problem keys asked live cycles none defined clauses of same live_is cycles_are needed asked_are empty lists adds =
+    let q : Query = clause_query d inv clause phase depth in
+    let of_query : IsOf problem keys q.live q.cycles clauses =
+    subst (λ (n : ℕ). IsOf problem keys n q.cycles clauses) live_is (subst (λ (n : ℕ). IsOf problem keys live n clauses) cycles_are of) in
+    let of_design : Lists keys (flat_map (clause_cycle d live) (below cycles)) none defined =
+    subst (λ (f : Design). Lists keys (flat_map (clause_cycle f live) (below cycles)) none defined) same lists in
+    let of_cycles : Lists keys (flat_map (clause_cycle d q.live) (below q.cycles)) none defined =
+    subst (λ (n : ℕ). Lists keys (flat_map (clause_cycle d q.live) (below n)) none defined) cycles_are
+    (subst (λ (n : ℕ). Lists keys (flat_map (clause_cycle d n) (below cycles)) none defined) live_is of_design) in
+    made q [] problem keys asked none defined clauses refl of_query (needed q clause refl (sym cycles_are) refl) asked_are empty of_cycles adds
 
 -- values of keys that are the same agree with the same cycles
 agrees_too : (d : Design) (keys : List Key) (v w : Key → Bool) (run : List Cycle) → ((k : Key) → Contains keys k → w k ≡ v k)

@@ -2,12 +2,14 @@
 use Rattle.std.specs.Prelude.{◌≡◌, ℕ, ◌+◌, ◌<◌, ◌==◌, ◌&&◌, Bool, true, List, [], map, length, All, Contains, Option, Some, None, slice_get, slice_index_or}
 use Rattle.std.specs.List.{list_any}
 use Rattle.std.specs.List.Sorted.{IsStrictlyIncreasing}
+use Rattle.net_model.specs.Netlist.{IsSound}
 use Rattle.net_model.specs.declared.netlist.Design.{Design}
 use Rattle.net_model.specs.declared.netlist.Gate.{Gate}
 use Rattle.net_model.specs.declared.netlist.Fixed.{Fixed}
 use Rattle.query_model.specs.Keys.{below}
 use Rattle.query_model.specs.Defined.{set_in}
 use Rattle.query_model.specs.declared.keys.Key.{Key}
+use Rattle.frame_unroll.specs.Drivers.{AreDrivers}
 use Rattle.cnf_encode.specs.declared.cones.Cone.{Cone}
 
 -- one of the keys is about this point in this cycle, in whatever layer and on whatever rail
@@ -38,16 +40,18 @@ pub record AreValuesOf (settings : List Fixed) (inputs : ℕ) (values : List (Op
   pub len : length values ≡ inputs
   pub each : (i : ℕ) → i < inputs → slice_index_or values i None ≡ set_in settings i
 
--- inputs with their settings, and what the keys are about in the cycles up to this one
-pub record IsConeOf (d : Design) (keys : List Key) (cycles : ℕ) (cone : Cone) : Type 0 where
-  pub fixed : AreValuesOf d.fixed (length d.inputs) cone.fixed.now
-  pub resets : AreValuesOf d.resets (length d.inputs) cone.resets.now
-  pub inputs : AreRows keys d.inputs (cycles + 1) cone.inputs
-  pub gates : AreRows keys (gate_points d) (cycles + 1) cone.gates
-  pub bits : AreRows keys (bit_points d) (cycles + 1) cone.bits
+-- of a sound design: what drives its nets, the settings of its inputs, and what the keys are about in the cycles up to this one
+pub record IsConeOf (keys : List Key) (cycles : ℕ) (cone : Cone) : Type 0 where
+  pub sound : IsSound cone.design.now
+  pub drivers : AreDrivers cone.design.now cone.drivers.now
+  pub fixed : AreValuesOf cone.design.now.fixed (length cone.design.now.inputs) cone.fixed.now
+  pub resets : AreValuesOf cone.design.now.resets (length cone.design.now.inputs) cone.resets.now
+  pub inputs : AreRows keys cone.design.now.inputs (cycles + 1) cone.inputs
+  pub gates : AreRows keys (gate_points cone.design.now) (cycles + 1) cone.gates
+  pub bits : AreRows keys (bit_points cone.design.now) (cycles + 1) cone.bits
 
 -- a cone of keys of more cycles than this one's number
-pub record IsConeFor (d : Design) (keys : List Key) (c : ℕ) (cone : Cone) : Type 0 where
+pub record IsConeFor (keys : List Key) (c : ℕ) (cone : Cone) : Type 0 where
   pub cycles : ℕ
-  pub of : IsConeOf d keys cycles cone
+  pub of : IsConeOf keys cycles cone
   pub lt : c < cycles

@@ -7,3 +7,4 @@ pub mod Listed
 pub mod Coned
 pub mod Placed
 pub mod Prepared
+pub mod Late

@@ -1,5 +1,5 @@
 -- The clauses of definitions, where one of their keys is needed.
-use Rattle.std.specs.Prelude.{◌≡◌, ℕ, Bool, true, List, [], ◌++◌, flat_map, Contains}
+use Rattle.std.specs.Prelude.{◌≡◌, ℕ, Bool, true, List, [], ◌∷◌, ◌++◌, flat_map, Contains, Option, Some, None, slice_get}
 use Rattle.std.specs.List.{list_any}
 use Rattle.net_model.specs.declared.netlist.Design.{Design}
 use Rattle.net_model.specs.declared.claims.Claim.{Claim}
@@ -16,6 +16,18 @@ pub record IsClosed (keys : List Key) (defs : List Definition) : Type 0 where
 -- the clauses of these definitions were added, of those alone that define one of the keys
 pub record Lists (keys : List Key) (defs : List Definition) (old new : List (List ℕ)) : Type 0 where
   pub adds : Adds keys (flat_map (listed keys) defs) old new
+
+-- what is made of the item at a place, if there is one
+abbrev pub of_item : {X A : Type 0} → (ℕ → X → List A) → ℕ → Option X → List A
+of_item f k None = []
+of_item f k (Some x) = f k x
+
+abbrev pub at_place : {X A : Type 0} → (ℕ → X → List A) → List X → ℕ → List A
+at_place f xs k = of_item f k (slice_get xs k)
+
+-- the definition that is made of an item, alone
+abbrev pub alone : {X : Type 0} → (ℕ → X → Definition) → ℕ → X → List Definition
+alone f k x = f k x ∷ []
 
 -- the definitions of a cycle in a query about a claim
 abbrev pub claim_cycle : Design → Claim → List (List Bool) → ℕ → ℕ → List Definition

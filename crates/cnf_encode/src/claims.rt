@@ -1,23 +1,19 @@
 //! All definitions of a query, cycle by cycle.
-ghost use Rattle.std.specs.Prelude.{◌≡◌, ◌<◌, ◌≤◌, ◌^◌, filter, flat_map, OnOk};
-ghost use Rattle.net_model.specs.Netlist.{IsSound};
-ghost use Rattle.net_model.specs.Fits.{Fits};
+ghost use Rattle.std.specs.Prelude.{◌≡◌, ◌<◌, ◌≤◌, ◌^◌, flat_map, OnOk};
 ghost use Rattle.query_model.specs.Keys.{below};
-ghost use Rattle.query_model.specs.Reads.{is_start_net};
-ghost use Rattle.query_model.specs.Defined.{base_definitions, claim_definitions};
+ghost use Rattle.query_model.specs.Defined.{claim_definitions};
 ghost use Rattle.query_model.specs.declared.keys.Coding.TheVariants.{Rows};
-ghost use Rattle.frame_unroll.specs.Drivers.{AreDrivers};
-ghost use Rattle.frame_unroll.specs.Reading.{AreTables};
 ghost use Rattle.cnf_encode.specs.Listed.{IsClosed, Lists, claim_cycle, clause_cycle};
-ghost use Rattle.cnf_encode.specs.Coned.{IsConeOf, IsConeFor};
+ghost use Rattle.cnf_encode.specs.Coned.{Covers, IsConeOf, IsConeFor, gate_points};
+ghost use Rattle.cnf_encode.specs.Late.{IsLateStart};
 
 use crate::cones::Cone;
 use crate::cycles::list_cycle;
 use crate::ends::list_end;
+use crate::late_starts::LateStart;
 use crate::layers::list_layers;
 use crate::points::list_points;
-use frame_unroll::{Driver, Frames, Tables};
-use net_model::{Claim, Design};
+use frame_unroll::Frames;
 use proof_log::Clause;
 use sdcv_base::Seq;
 use std::alloc::{AllocError, Global};
@@ -27,111 +23,85 @@ use std::alloc::{AllocError, Global};
 fn list_late(
     alloc: Global,
     frames: &Frames,
-    design: &Design,
-    claim: &Claim,
-    tables: &Tables,
-    starts: &Seq<usize>,
-    cone: &Cone,
+    late: &LateStart,
+    gates: &Seq<usize>,
     cycle: usize,
     clauses: &mut Seq<Clause>,
 ) -> Result<(), AllocError>
-    requires sound { IsSound design.now }
-    requires fits { Fits design.now claim.now }
-    requires tables { AreTables design.now claim.now tables.now }
-    requires starts { starts.now ≡ filter (is_start_net design.now claim.now) (below design.now.nets) }
-    requires cone { IsConeFor design.now frames.now cycle cone.now }
+    requires late { IsLateStart late.now }
+    requires gates { Covers frames.now cycle (gate_points late.now.subject.design.now) gates.now }
     requires cycle { cycle < 2 ^ 32 }
-    requires closed { IsClosed frames.now (claim_definitions Rows design.now claim.now tables.now.moved cycle) }
-    ensures { OnOk result (Lists frames.now (claim_definitions Rows design.now claim.now tables.now.moved cycle) clauses.old clauses.new) }
+    requires closed { IsClosed frames.now (claim_definitions Rows late.now.subject.design.now late.now.subject.claim.now late.now.subject.moved cycle) }
+    ensures { OnOk result (Lists frames.now (claim_definitions Rows late.now.subject.design.now late.now.subject.claim.now late.now.subject.moved cycle)
+        clauses.old clauses.new) }
 {
-    let gates = cone.gates.item(cycle);
-    list_layers(
-        alloc, frames, design, claim, tables, starts, gates, cycle, clauses,
-    )?;
-    list_end(alloc, frames, design, claim, tables, cycle, clauses)?;
-    list_points(alloc, frames, design, claim, tables, cycle, clauses)?;
+    list_layers(alloc, frames, late, gates, cycle, clauses)?;
+    list_end(alloc, frames, &late.subject, cycle, clauses)?;
+    list_points(alloc, frames, &late.subject, cycle, clauses)?;
     Ok(())
 }
 
 fn list_claim_cycle(
     alloc: Global,
     frames: &Frames,
-    design: &Design,
-    claim: &Claim,
-    tables: &Tables,
-    starts: &Seq<usize>,
+    late: &LateStart,
     cone: &Cone,
-    live: usize,
     cycle: usize,
     clauses: &mut Seq<Clause>,
 ) -> Result<(), AllocError>
-    requires sound { IsSound design.now }
-    requires fits { Fits design.now claim.now }
-    requires tables { AreTables design.now claim.now tables.now }
-    requires starts { starts.now ≡ filter (is_start_net design.now claim.now) (below design.now.nets) }
-    requires cone { IsConeFor design.now frames.now cycle cone.now }
+    requires late { IsLateStart late.now }
+    requires cone { IsConeFor frames.now cycle cone.now }
+    requires same { cone.now.design.now ≡ late.now.subject.design.now }
     requires cycle { cycle < 2 ^ 32 }
-    requires closed { IsClosed frames.now (claim_cycle design.now claim.now tables.now.moved live cycle) }
-    ensures { OnOk result (Lists frames.now (claim_cycle design.now claim.now tables.now.moved live cycle) clauses.old clauses.new) }
+    requires closed { IsClosed frames.now (claim_cycle late.now.subject.design.now late.now.subject.claim.now late.now.subject.moved cone.now.live cycle) }
+    ensures { OnOk result (Lists frames.now (claim_cycle late.now.subject.design.now late.now.subject.claim.now late.now.subject.moved cone.now.live cycle)
+        clauses.old clauses.new) }
 {
-    let drivers = tables.drivers;
-    list_cycle(alloc, frames, design, drivers, cone, live, cycle, clauses)?;
-    list_late(
-        alloc, frames, design, claim, tables, starts, cone, cycle, clauses,
-    )?;
+    let gates = cone.gates.item(cycle);
+    list_cycle(alloc, frames, cone, cycle, clauses)?;
+    list_late(alloc, frames, late, gates, cycle, clauses)?;
     Ok(())
 }
 
-/// The definitions of all cycles of a query about a claim. Resets are active in the cycles below `live`.
+/// The definitions of all cycles of a query about a claim.
 pub fn list_claim_cycles(
     alloc: Global,
     frames: &Frames,
-    design: &Design,
-    claim: &Claim,
-    tables: &Tables,
-    starts: &Seq<usize>,
+    late: &LateStart,
     cone: &Cone,
-    live: usize,
     cycles: usize,
     clauses: &mut Seq<Clause>,
 ) -> Result<(), AllocError>
-    requires sound { IsSound design.now }
-    requires fits { Fits design.now claim.now }
-    requires tables { AreTables design.now claim.now tables.now }
-    requires starts { starts.now ≡ filter (is_start_net design.now claim.now) (below design.now.nets) }
-    requires cone { IsConeOf design.now frames.now cycles cone.now }
+    requires late { IsLateStart late.now }
+    requires cone { IsConeOf frames.now cycles cone.now }
+    requires same { cone.now.design.now ≡ late.now.subject.design.now }
     requires cycles { cycles ≤ 2 ^ 32 }
-    requires closed { IsClosed frames.now (flat_map (claim_cycle design.now claim.now tables.now.moved live) (below cycles)) }
-    ensures { OnOk result (Lists frames.now (flat_map (claim_cycle design.now claim.now tables.now.moved live) (below cycles)) clauses.old clauses.new) }
+    requires closed { IsClosed frames.now (flat_map (claim_cycle late.now.subject.design.now late.now.subject.claim.now late.now.subject.moved cone.now.live)
+        (below cycles)) }
+    ensures { OnOk result (Lists frames.now (flat_map (claim_cycle late.now.subject.design.now late.now.subject.claim.now late.now.subject.moved cone.now.live)
+        (below cycles)) clauses.old clauses.new) }
 {
     for cycle in 0..cycles {
-        list_claim_cycle(
-            alloc, frames, design, claim, tables, starts, cone, live, cycle, clauses,
-        )?;
+        list_claim_cycle(alloc, frames, late, cone, cycle, clauses)?;
     }
     Ok(())
 }
 
-/// The definitions of all cycles of a query about a clause. Resets are active in the cycles below `live`.
+/// The definitions of all cycles of a query about a clause.
 pub fn list_clause_cycles(
     alloc: Global,
     frames: &Frames,
-    design: &Design,
-    drivers: &Seq<Driver>,
     cone: &Cone,
-    live: usize,
     cycles: usize,
     clauses: &mut Seq<Clause>,
 ) -> Result<(), AllocError>
-    requires sound { IsSound design.now }
-    requires drivers { AreDrivers design.now drivers.now }
-    requires cone { IsConeOf design.now frames.now cycles cone.now }
+    requires cone { IsConeOf frames.now cycles cone.now }
     requires cycles { cycles ≤ 2 ^ 32 }
-    requires closed { IsClosed frames.now (flat_map (clause_cycle design.now live) (below cycles)) }
-    ensures { OnOk result (Lists frames.now (flat_map (clause_cycle design.now live) (below cycles)) clauses.old clauses.new) }
+    requires closed { IsClosed frames.now (flat_map (clause_cycle cone.now.design.now cone.now.live) (below cycles)) }
+    ensures { OnOk result (Lists frames.now (flat_map (clause_cycle cone.now.design.now cone.now.live) (below cycles)) clauses.old clauses.new) }
 {
     for cycle in 0..cycles {
-        list_cycle(alloc, frames, design, drivers, cone, live, cycle, clauses)?;
+        list_cycle(alloc, frames, cone, cycle, clauses)?;
     }
     Ok(())
 }

@@ -1,18 +1,22 @@
 //! What the keys of a query are about.
-ghost use Rattle.std.specs.Prelude.{◌≤◌, IfOk};
-ghost use Rattle.net_model.specs.declared.netlist.Design.{Design};
+ghost use Rattle.std.specs.Prelude.{◌≡◌, ◌≤◌, IfOk};
+ghost use Rattle.net_model.specs.Netlist.{IsSound};
 ghost use Rattle.cnf_encode.specs.Coned.{IsConeOf};
-ghost use Rattle.cnf_encode.specs.Prepared.{ArePointTables};
 
 use crate::point_rows::point_rows;
-use crate::point_tables::PointTables;
-use frame_unroll::Frames;
+use crate::prepared_designs::Prepared;
+use frame_unroll::{Driver, Frames, Span};
+use net_model::Design;
 use sdcv_base::Seq;
 use std::alloc::{AllocError, Global};
 
-/// What a query's keys are about: the settings of inputs, and for each cycle the inputs, gates and register bits, by number.
+/// What a query's keys are about: a design with what drives its nets and the settings of its inputs, and for each cycle the
+/// inputs, gates and register bits, by number. Resets are active in the cycles below `live`.
 #[derive(Drop)]
 pub struct Cone<'a> {
+    pub design: &'a Design,
+    pub drivers: &'a Seq<Driver>,
+    pub live: usize,
     pub fixed: &'a Seq<Option<bool>>,
     pub resets: &'a Seq<Option<bool>>,
     pub inputs: Seq<Seq<usize>>,
@@ -21,20 +25,27 @@ pub struct Cone<'a> {
 }
 
 impl<'a> Cone<'a> {
-    /// The cone of these keys in the cycles up to `cycles`, by the tables of the design.
+    /// The cone of these keys in the cycles up to the last of the span, by the tables of the design.
     ///
     /// It takes the time that the keys take, and that of sorting each row.
     pub fn of(
         alloc: Global,
-        points: &'a PointTables,
+        prepared: &'a Prepared,
         frames: &Frames,
-        cycles: usize,
+        span: Span,
     ) -> Result<Cone<'a>, AllocError>
-        requires cycles { cycles ≤ 144 }
-        ensures { IfOk result (λ cone. (d : Design) → ArePointTables d points.now → IsConeOf d frames.now cycles cone) }
+        requires sound { IsSound prepared.now }
+        requires cycles { span.cycles ≤ 144 }
+        ensures cone { IfOk result (IsConeOf frames.now span.cycles) }
+        ensures design { IfOk result (λ cone. cone.design.now ≡ prepared.now) }
+        ensures live { IfOk result (λ cone. cone.live ≡ span.live) }
     {
-        let count = cycles + 1;
+        let count = span.cycles + 1;
+        let points = prepared.points();
         Ok(Cone {
+            design: prepared.bare(),
+            drivers: prepared.drivers(),
+            live: span.live,
             fixed: &points.fixed,
             resets: &points.resets,
             inputs: point_rows(alloc, frames, &points.inputs, count)?,

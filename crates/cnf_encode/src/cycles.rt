@@ -1,18 +1,17 @@
 //! The definitions of the nets of one cycle, and of the register bits of the cycle after.
-ghost use Rattle.std.specs.Prelude.{◌+◌, ◌≡◌, ◌<◌, ◌^◌, [], ◌∷◌, ◌++◌, not, map, flat_map, length, nat_lt, slice_get, slice_index, Some, OnOk};
-ghost use Rattle.net_model.specs.Netlist.{IsSound, IsGateInRange, IsRegInRange};
-ghost use Rattle.query_model.specs.Keys.{key, below};
-ghost use Rattle.query_model.specs.Defined.{numbered, unit_if, set_in, input_definition, gate_definition, bit_definition, base_definitions};
+ghost use Rattle.std.specs.Prelude.{◌<◌, ◌^◌, [], ◌∷◌, map, flat_map, length, OnOk};
+ghost use Rattle.net_model.specs.Netlist.{IsGateInRange};
+ghost use Rattle.query_model.specs.Keys.{below};
+ghost use Rattle.query_model.specs.Defined.{numbered, unit_if, input_definition, gate_definition, bit_definition, base_definitions};
 ghost use Rattle.query_model.specs.declared.keys.Coding.TheVariants.{Rows};
-ghost use Rattle.frame_unroll.specs.Drivers.{AreDrivers};
-ghost use Rattle.cnf_encode.specs.Listed.{IsClosed, Lists};
-ghost use Rattle.cnf_encode.specs.Coned.{Covers, IsConeFor, gate_points, bit_points};
+ghost use Rattle.cnf_encode.specs.Listed.{IsClosed, Lists, at_place, alone};
+ghost use Rattle.cnf_encode.specs.Coned.{IsConeFor};
 
 use crate::cones::Cone;
 use crate::needed::{is_needed, list_unit};
 use crate::tables::push_plain;
-use frame_unroll::{Driver, Frames, bit_lit, pin_literals, push_own};
-use net_model::{Design, Gate, Reg, capture_func};
+use frame_unroll::{Frames, bit_lit, pin_literals, push_own};
+use net_model::{Gate, capture_func};
 use proof_log::Clause;
 use query_model::Key;
 use sdcv_base::Seq;
@@ -40,61 +39,43 @@ fn list_setting(
 fn list_input(
     alloc: Global,
     frames: &Frames,
-    design: &Design,
     cone: &Cone,
-    live: usize,
     cycle: usize,
     input: usize,
     clauses: &mut Seq<Clause>,
 ) -> Result<(), AllocError>
-    requires cone { IsConeFor design.now frames.now cycle cone.now }
-    requires input { input < length design.now.inputs }
-    requires closed { IsClosed frames.now (input_definition design.now live cycle input) }
-    ensures { OnOk result (Lists frames.now (input_definition design.now live cycle input) clauses.old clauses.new) }
+    requires cone { IsConeFor frames.now cycle cone.now }
+    requires input { input < length cone.now.design.now.inputs }
+    requires closed { IsClosed frames.now (input_definition cone.now.design.now cone.now.live cycle input) }
+    ensures { OnOk result (Lists frames.now (input_definition cone.now.design.now cone.now.live cycle input) clauses.old clauses.new) }
 {
     let out = Key {
         cycle,
         layer: 0,
         rail: 0,
-        point: design.inputs.at(input),
+        point: cone.design.inputs.at(input),
     };
+    let off = cycle >= cone.live;
     list_setting(alloc, frames, cone.fixed.at(input), false, out, clauses)?;
-    list_setting(
-        alloc,
-        frames,
-        cone.resets.at(input),
-        cycle >= live,
-        out,
-        clauses,
-    )?;
+    list_setting(alloc, frames, cone.resets.at(input), off, out, clauses)?;
     Ok(())
 }
 
 fn list_inputs(
     alloc: Global,
     frames: &Frames,
-    design: &Design,
     cone: &Cone,
-    live: usize,
     cycle: usize,
     clauses: &mut Seq<Clause>,
 ) -> Result<(), AllocError>
-    requires cone { IsConeFor design.now frames.now cycle cone.now }
-    requires closed { IsClosed frames.now (flat_map (input_definition design.now live cycle) (below (length design.now.inputs))) }
-    ensures { OnOk result (Lists frames.now (flat_map (input_definition design.now live cycle) (below (length design.now.inputs))) clauses.old clauses.new) }
+    requires cone { IsConeFor frames.now cycle cone.now }
+    requires closed { IsClosed frames.now (flat_map (input_definition cone.now.design.now cone.now.live cycle) (below (length cone.now.design.now.inputs))) }
+    ensures { OnOk result (Lists frames.now
+        (flat_map (input_definition cone.now.design.now cone.now.live cycle) (below (length cone.now.design.now.inputs))) clauses.old clauses.new) }
 {
     let inputs = cone.inputs.item(cycle);
     for j in 0..inputs.len() {
-        list_input(
-            alloc,
-            frames,
-            design,
-            cone,
-            live,
-            cycle,
-            inputs.at(j),
-            clauses,
-        )?;
+        list_input(alloc, frames, cone, cycle, inputs.at(j), clauses)?;
     }
     Ok(())
 }
@@ -103,17 +84,15 @@ fn list_inputs(
 fn list_gate(
     alloc: Global,
     frames: &Frames,
-    design: &Design,
-    drivers: &Seq<Driver>,
+    cone: &Cone,
     cycle: usize,
     gate: &Gate,
     clauses: &mut Seq<Clause>,
 ) -> Result<(), AllocError>
-    requires sound { IsSound design.now }
-    requires drivers { AreDrivers design.now drivers.now }
-    requires gate { IsGateInRange design.now gate.now }
-    requires closed { IsClosed frames.now (gate_definition Rows design.now cycle gate.now ∷ []) }
-    ensures { OnOk result (Lists frames.now (gate_definition Rows design.now cycle gate.now ∷ []) clauses.old clauses.new) }
+    requires cone { IsConeFor frames.now cycle cone.now }
+    requires gate { IsGateInRange cone.now.design.now gate.now }
+    requires closed { IsClosed frames.now (gate_definition Rows cone.now.design.now cycle gate.now ∷ []) }
+    ensures { OnOk result (Lists frames.now (gate_definition Rows cone.now.design.now cycle gate.now ∷ []) clauses.old clauses.new) }
 {
     let out = Key {
         cycle,
@@ -124,7 +103,7 @@ fn list_gate(
     if !is_needed(frames, &out) {
         return Ok(());
     }
-    let reads = pin_literals(alloc, design, drivers, cycle, &gate.ins)?;
+    let reads = pin_literals(alloc, cone.design, cone.drivers, cycle, &gate.ins)?;
     push_plain(alloc, frames, &reads, out, &gate.func, clauses)?;
     Ok(())
 }
@@ -132,21 +111,18 @@ fn list_gate(
 fn list_gates(
     alloc: Global,
     frames: &Frames,
-    design: &Design,
-    drivers: &Seq<Driver>,
-    gates: &Seq<usize>,
+    cone: &Cone,
     cycle: usize,
     clauses: &mut Seq<Clause>,
 ) -> Result<(), AllocError>
-    requires sound { IsSound design.now }
-    requires drivers { AreDrivers design.now drivers.now }
-    requires gates { Covers frames.now cycle (gate_points design.now) gates.now }
-    requires closed { IsClosed frames.now (map (gate_definition Rows design.now cycle) design.now.gates) }
-    ensures { OnOk result (Lists frames.now (map (gate_definition Rows design.now cycle) design.now.gates) clauses.old clauses.new) }
+    requires cone { IsConeFor frames.now cycle cone.now }
+    requires closed { IsClosed frames.now (map (gate_definition Rows cone.now.design.now cycle) cone.now.design.now.gates) }
+    ensures { OnOk result (Lists frames.now (map (gate_definition Rows cone.now.design.now cycle) cone.now.design.now.gates) clauses.old clauses.new) }
 {
+    let gates = cone.gates.item(cycle);
     for j in 0..gates.len() {
-        let gate = design.gates.item(gates.at(j));
-        list_gate(alloc, frames, design, drivers, cycle, gate, clauses)?;
+        let gate = cone.design.gates.item(gates.at(j));
+        list_gate(alloc, frames, cone, cycle, gate, clauses)?;
     }
     Ok(())
 }
@@ -155,26 +131,25 @@ fn list_gates(
 fn list_bit(
     alloc: Global,
     frames: &Frames,
-    design: &Design,
-    drivers: &Seq<Driver>,
+    cone: &Cone,
     cycle: usize,
     r: usize,
-    reg: &Reg,
     clauses: &mut Seq<Clause>,
 ) -> Result<(), AllocError>
-    requires sound { IsSound design.now }
-    requires drivers { AreDrivers design.now drivers.now }
+    requires cone { IsConeFor frames.now cycle cone.now }
     requires cycle { cycle < 2 ^ 32 }
-    requires place { r < length design.now.regs }
-    requires reg { IsRegInRange design.now reg.now }
-    requires closed { IsClosed frames.now (bit_definition Rows design.now cycle r reg.now ∷ []) }
-    ensures { OnOk result (Lists frames.now (bit_definition Rows design.now cycle r reg.now ∷ []) clauses.old clauses.new) }
+    requires place { r < length cone.now.design.now.regs }
+    requires closed { IsClosed frames.now (at_place (alone (bit_definition Rows cone.now.design.now cycle)) cone.now.design.now.regs r) }
+    ensures { OnOk result (Lists frames.now (at_place (alone (bit_definition Rows cone.now.design.now cycle)) cone.now.design.now.regs r)
+        clauses.old clauses.new) }
 {
+    let design = cone.design;
     let out = bit_lit(design, cycle + 1, r).key;
     if !is_needed(frames, &out) {
         return Ok(());
     }
-    let mut reads = pin_literals(alloc, design, drivers, cycle, &reg.ins)?;
+    let reg = design.regs.item(r);
+    let mut reads = pin_literals(alloc, design, cone.drivers, cycle, &reg.ins)?;
     push_own(&mut reads, reg, bit_lit(design, cycle, r))?;
     let func = capture_func(alloc, reg)?;
     push_plain(alloc, frames, &reads, out, &func, clauses)?;
@@ -184,51 +159,37 @@ fn list_bit(
 fn list_bits(
     alloc: Global,
     frames: &Frames,
-    design: &Design,
-    drivers: &Seq<Driver>,
-    regs: &Seq<usize>,
+    cone: &Cone,
     cycle: usize,
     clauses: &mut Seq<Clause>,
 ) -> Result<(), AllocError>
-    requires sound { IsSound design.now }
-    requires drivers { AreDrivers design.now drivers.now }
+    requires cone { IsConeFor frames.now cycle cone.now }
     requires cycle { cycle < 2 ^ 32 }
-    requires regs { Covers frames.now (cycle + 1) (bit_points design.now) regs.now }
-    requires closed { IsClosed frames.now (numbered (bit_definition Rows design.now cycle) 0 design.now.regs) }
-    ensures { OnOk result (Lists frames.now (numbered (bit_definition Rows design.now cycle) 0 design.now.regs) clauses.old clauses.new) }
+    requires closed { IsClosed frames.now (numbered (bit_definition Rows cone.now.design.now cycle) 0 cone.now.design.now.regs) }
+    ensures { OnOk result (Lists frames.now (numbered (bit_definition Rows cone.now.design.now cycle) 0 cone.now.design.now.regs) clauses.old clauses.new) }
 {
+    let regs = cone.bits.item(cycle + 1);
     for j in 0..regs.len() {
-        let r = regs.at(j);
-        let reg = design.regs.item(r);
-        list_bit(alloc, frames, design, drivers, cycle, r, reg, clauses)?;
+        list_bit(alloc, frames, cone, cycle, regs.at(j), clauses)?;
     }
     Ok(())
 }
 
 /// The definitions of a cycle of which no claim asks: of inputs that have a setting, of nets, and of bits.
-///
-/// Resets are active in the cycles below `live`.
 pub fn list_cycle(
     alloc: Global,
     frames: &Frames,
-    design: &Design,
-    drivers: &Seq<Driver>,
     cone: &Cone,
-    live: usize,
     cycle: usize,
     clauses: &mut Seq<Clause>,
 ) -> Result<(), AllocError>
-    requires sound { IsSound design.now }
-    requires drivers { AreDrivers design.now drivers.now }
-    requires cone { IsConeFor design.now frames.now cycle cone.now }
+    requires cone { IsConeFor frames.now cycle cone.now }
     requires cycle { cycle < 2 ^ 32 }
-    requires closed { IsClosed frames.now (base_definitions Rows design.now live cycle) }
-    ensures { OnOk result (Lists frames.now (base_definitions Rows design.now live cycle) clauses.old clauses.new) }
+    requires closed { IsClosed frames.now (base_definitions Rows cone.now.design.now cone.now.live cycle) }
+    ensures { OnOk result (Lists frames.now (base_definitions Rows cone.now.design.now cone.now.live cycle) clauses.old clauses.new) }
 {
-    let gates = cone.gates.item(cycle);
-    let regs = cone.bits.item(cycle + 1);
-    list_inputs(alloc, frames, design, cone, live, cycle, clauses)?;
-    list_gates(alloc, frames, design, drivers, gates, cycle, clauses)?;
-    list_bits(alloc, frames, design, drivers, regs, cycle, clauses)?;
+    list_inputs(alloc, frames, cone, cycle, clauses)?;
+    list_gates(alloc, frames, cone, cycle, clauses)?;
+    list_bits(alloc, frames, cone, cycle, clauses)?;
     Ok(())
 }

@@ -7,15 +7,16 @@ ghost use Rattle.query_model.specs.Laws.{NamesRegs};
 ghost use Rattle.proof_log.specs.Formulas.{IsFormula};
 ghost use Rattle.frame_unroll.specs.Framed.{AtPlace};
 ghost use Rattle.cnf_encode.specs.Coded.{HasKeys, Adds};
+ghost use Rattle.cnf_encode.specs.Late.{IsLateStart};
 ghost use Rattle.cnf_encode.specs.Problems.{IsProblemFor, IsCompleteFor};
 
 use crate::claims::{list_claim_cycles, list_clause_cycles};
 use crate::clauses::push_clause;
 use crate::cones::Cone;
-use crate::layers::start_nets;
+use crate::late_starts::LateStart;
 use crate::prepared_designs::Prepared;
 use crate::problems::Problem;
-use frame_unroll::{Frames, Span, Tables, claim_asked, claim_span, clause_asked, clause_span};
+use frame_unroll::{Frames, Span, claim_asked, claim_span, clause_asked, clause_span};
 use net_model::{Claim, InvClause, Phase};
 use proof_log::{Clause, Formula};
 use query_model::KeyLit;
@@ -56,6 +57,34 @@ fn problem_of(frames: Frames, span: Span, clauses: Seq<Clause>) -> Problem
     }
 }
 
+/// The query whether the claim of a subject, which is about the prepared design, is violated at a depth.
+fn claim_formula(
+    alloc: Global,
+    prepared: &Prepared,
+    late: &LateStart,
+    phase: Phase,
+    depth: usize,
+    inv: &[InvClause],
+) -> Result<Problem, AllocError>
+    requires late { IsLateStart late.now }
+    requires same { late.now.subject.design.now ≡ prepared.now }
+    requires names { All (NamesRegs late.now.subject.design.now) inv.now }
+    requires few { depth ≤ 64 }
+    ensures exact { IfOk result (IsProblemFor (claim_query late.now.subject.design.now late.now.subject.claim.now phase depth inv.now)) }
+    ensures normal { IfOk result (λ p. IsFormula p.formula) }
+    ensures complete { IfOk result (IsCompleteFor (claim_query late.now.subject.design.now late.now.subject.claim.now phase depth inv.now)) }
+{
+    let (design, claim) = (late.subject.design, late.subject.claim);
+    let span = claim_span(design, claim, phase, depth);
+    let asked = claim_asked(alloc, design, claim, phase, depth, inv)?;
+    let frames = Frames::by_claim(alloc, &late.subject, span.cycles, &asked)?;
+    let cone = Cone::of(alloc, prepared, &frames, span)?;
+    let mut clauses = Seq::new(alloc);
+    list_claim_cycles(alloc, &frames, late, &cone, span.cycles, &mut clauses)?;
+    push_asked(alloc, &frames, &asked, &mut clauses)?;
+    Ok(problem_of(frames, span, clauses))
+}
+
 /// The query whether a claim is violated at a depth, as a formula.
 ///
 /// In the base phase the runs from reset are asked about, in which the start toggles `depth` cycles after the first live
@@ -77,28 +106,8 @@ pub fn formula(
     ensures normal { IfOk result (λ p. IsFormula p.formula) }
     ensures complete { IfOk result (IsCompleteFor (claim_query design.now claim.now phase depth inv.now)) }
 {
-    let bare = design.bare();
-    let span = claim_span(bare, claim, phase, depth);
-    let tables = Tables::of(alloc, bare, design.drivers(), design.gates(), claim)?;
-    let asked = claim_asked(alloc, bare, claim, phase, depth, inv)?;
-    let frames = Frames::by_claim(alloc, bare, claim, &tables, span.cycles, &asked)?;
-    let cone = Cone::of(alloc, design.points(), &frames, span.cycles)?;
-    let starts = start_nets(alloc, &tables)?;
-    let mut clauses = Seq::new(alloc);
-    list_claim_cycles(
-        alloc,
-        &frames,
-        bare,
-        claim,
-        &tables,
-        &starts,
-        &cone,
-        span.live,
-        span.cycles,
-        &mut clauses,
-    )?;
-    push_asked(alloc, &frames, &asked, &mut clauses)?;
-    Ok(problem_of(frames, span, clauses))
+    let late = LateStart::of(alloc, design, claim)?;
+    claim_formula(alloc, design, &late, phase, depth, inv)
 }
 
 /// The query whether a clause over register bits fails at a depth, as a formula.
@@ -121,23 +130,13 @@ fn clause_formula(
     ensures normal { IfOk result (λ p. IsFormula p.formula) }
     ensures complete { IfOk result (IsCompleteFor (clause_query design.now inv.now clause.now phase depth)) }
 {
-    let bare = design.bare();
-    let drivers = design.drivers();
+    let (bare, drivers, gates) = (design.bare(), design.drivers(), design.gates());
     let span = clause_span(bare, phase, depth);
     let asked = clause_asked(alloc, bare, inv, clause, phase, depth)?;
-    let frames = Frames::by_clause(alloc, bare, drivers, design.gates(), span.cycles, &asked)?;
-    let cone = Cone::of(alloc, design.points(), &frames, span.cycles)?;
+    let frames = Frames::by_clause(alloc, bare, drivers, gates, span.cycles, &asked)?;
+    let cone = Cone::of(alloc, design, &frames, span)?;
     let mut clauses = Seq::new(alloc);
-    list_clause_cycles(
-        alloc,
-        &frames,
-        bare,
-        drivers,
-        &cone,
-        span.live,
-        span.cycles,
-        &mut clauses,
-    )?;
+    list_clause_cycles(alloc, &frames, &cone, span.cycles, &mut clauses)?;
     push_asked(alloc, &frames, &asked, &mut clauses)?;
     Ok(problem_of(frames, span, clauses))
 }

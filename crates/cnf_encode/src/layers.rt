@@ -1,36 +1,28 @@
 //! The definitions of nets in the layers of a cycle whose start is late.
-ghost use Rattle.std.specs.Prelude.{◌≡◌, ◌<◌, ◌≤◌, ◌+◌, [], ◌∷◌, true, flat_map, filter, length, IfOk, OnOk};
-ghost use Rattle.net_model.specs.Netlist.{IsSound, IsGateInRange};
-ghost use Rattle.sdcv_base.specs.Seqs.{is_marked};
-ghost use Rattle.query_model.specs.Keys.{key, below};
-ghost use Rattle.query_model.specs.Reads.{is_start_net};
-ghost use Rattle.query_model.specs.Defined.{has_own, layer_gate, layer_gates, start_units, layer_definitions, all_layers};
-ghost use Rattle.query_model.specs.declared.keys.Coding.TheVariants.{Rows};
-ghost use Rattle.frame_unroll.specs.Reading.{AreTables};
-ghost use Rattle.cnf_encode.specs.Listed.{IsClosed, Lists};
-ghost use Rattle.cnf_encode.specs.Coned.{Covers, gate_points};
+ghost use Rattle.std.specs.Prelude.{◌≡◌, ◌<◌, ◌≤◌, ◌+◌, flat_map, length, OnOk};
+ghost use Rattle.query_model.specs.Keys.{key};
+ghost use Rattle.query_model.specs.Defined.{layer_gate, layer_gates, start_units, layer_definitions, all_layers};
 ghost use Rattle.query_model.specs.Defined.{plain_gate, rails_gate, start_net};
+ghost use Rattle.query_model.specs.declared.keys.Coding.TheVariants.{Rows};
+ghost use Rattle.frame_unroll.specs.Reading.{IsSubject};
+ghost use Rattle.cnf_encode.specs.Listed.{IsClosed, Lists, at_place, alone};
+ghost use Rattle.cnf_encode.specs.Coned.{Covers, gate_points};
+ghost use Rattle.cnf_encode.specs.Late.{IsLateStart};
 
+use crate::late_starts::LateStart;
 use crate::needed::{is_either_needed, is_needed, list_unit};
-use crate::tables::{push_plain, push_rails};
-use frame_unroll::{Frames, Owner, RailAt, Tables, has_own, pin_literals_at};
-use net_model::{Claim, Design, Gate, PinRef};
+use crate::tables::{Rails, push_plain, push_rails};
+use frame_unroll::{Frames, Owner, RailAt, Subject, has_own, pin_literals_at};
 use proof_log::Clause;
 use query_model::Key;
 use sdcv_base::Seq;
 use std::alloc::{AllocError, Global};
 
-/// The nets of the start, ascending.
-pub fn start_nets(alloc: Global, tables: &Tables) -> Result<Seq<usize>, AllocError>
-    ensures { IfOk result (λ nets. nets ≡ filter (is_marked tables.now.starts) (below (length tables.now.starts))) }
-{
-    let mut nets = Seq::new(alloc);
-    for net in 0..tables.starts.len() {
-        if tables.starts.at(net) {
-            nets.push(net)?;
-        }
-    }
-    Ok(nets)
+/// A layer of a cycle: what is late in it has come through so many through sets.
+#[derive(Debug, Clone, Copy, PartialEq, Eq)]
+pub struct LayerAt {
+    pub cycle: usize,
+    pub layer: usize,
 }
 
 /// The keys of a point of a layer, by which it may be 1 and may be 0.
@@ -51,22 +43,23 @@ pub fn rails_of(cycle: usize, layer: usize, point: usize) -> (Key, Key)
 fn list_plain_gate(
     alloc: Global,
     frames: &Frames,
-    design: &Design,
-    claim: &Claim,
-    tables: &Tables,
-    cycle: usize,
-    layer: usize,
+    subject: &Subject,
+    layer_at: LayerAt,
     k: usize,
-    gate: &Gate,
     clauses: &mut Seq<Clause>,
 ) -> Result<(), AllocError>
-    requires sound { IsSound design.now }
-    requires tables { AreTables design.now claim.now tables.now }
-    requires layer { layer ≤ length claim.now.through + 1 }
-    requires gate { IsGateInRange design.now gate.now }
-    requires closed { IsClosed frames.now (plain_gate Rows design.now claim.now tables.now.moved cycle layer k gate.now ∷ []) }
-    ensures { OnOk result (Lists frames.now (plain_gate Rows design.now claim.now tables.now.moved cycle layer k gate.now ∷ []) clauses.old clauses.new) }
+    requires subject { IsSubject subject.now }
+    requires layer { layer_at.layer ≤ length subject.now.claim.now.through }
+    requires gate { k < length subject.now.design.now.gates }
+    requires closed { IsClosed frames.now (at_place
+        (alone (plain_gate Rows subject.now.design.now subject.now.claim.now subject.now.moved layer_at.cycle (layer_at.layer + 1)))
+        subject.now.design.now.gates k) }
+    ensures { OnOk result (Lists frames.now (at_place
+        (alone (plain_gate Rows subject.now.design.now subject.now.claim.now subject.now.moved layer_at.cycle (layer_at.layer + 1)))
+        subject.now.design.now.gates k) clauses.old clauses.new) }
 {
+    let gate = subject.design.gates.item(k);
+    let (cycle, layer) = (layer_at.cycle, layer_at.layer + 1);
     let (out, _) = rails_of(cycle, layer, gate.out);
     if !is_needed(frames, &out) {
         return Ok(());
@@ -76,15 +69,7 @@ fn list_plain_gate(
         layer,
         rail: 0,
     };
-    let reads = pin_literals_at(
-        alloc,
-        design,
-        claim,
-        tables,
-        Owner::Gate(k),
-        &gate.ins,
-        rail_at,
-    )?;
+    let reads = pin_literals_at(alloc, subject, Owner::Gate(k), &gate.ins, rail_at)?;
     push_plain(alloc, frames, &reads, out, &gate.func, clauses)?;
     Ok(())
 }
@@ -93,22 +78,23 @@ fn list_plain_gate(
 fn list_rails_gate(
     alloc: Global,
     frames: &Frames,
-    design: &Design,
-    claim: &Claim,
-    tables: &Tables,
-    cycle: usize,
-    layer: usize,
+    subject: &Subject,
+    layer_at: LayerAt,
     k: usize,
-    gate: &Gate,
     clauses: &mut Seq<Clause>,
 ) -> Result<(), AllocError>
-    requires sound { IsSound design.now }
-    requires tables { AreTables design.now claim.now tables.now }
-    requires layer { layer ≤ length claim.now.through + 1 }
-    requires gate { IsGateInRange design.now gate.now }
-    requires closed { IsClosed frames.now (rails_gate Rows design.now claim.now tables.now.moved cycle layer k gate.now ∷ []) }
-    ensures { OnOk result (Lists frames.now (rails_gate Rows design.now claim.now tables.now.moved cycle layer k gate.now ∷ []) clauses.old clauses.new) }
+    requires subject { IsSubject subject.now }
+    requires layer { layer_at.layer ≤ length subject.now.claim.now.through }
+    requires gate { k < length subject.now.design.now.gates }
+    requires closed { IsClosed frames.now (at_place
+        (alone (rails_gate Rows subject.now.design.now subject.now.claim.now subject.now.moved layer_at.cycle (layer_at.layer + 1)))
+        subject.now.design.now.gates k) }
+    ensures { OnOk result (Lists frames.now (at_place
+        (alone (rails_gate Rows subject.now.design.now subject.now.claim.now subject.now.moved layer_at.cycle (layer_at.layer + 1)))
+        subject.now.design.now.gates k) clauses.old clauses.new) }
 {
+    let gate = subject.design.gates.item(k);
+    let (cycle, layer) = (layer_at.cycle, layer_at.layer + 1);
     let (high, low) = rails_of(cycle, layer, gate.out);
     if !is_either_needed(frames, &high, &low) {
         return Ok(());
@@ -118,26 +104,16 @@ fn list_rails_gate(
         layer,
         rail: 0,
     };
-    let highs = pin_literals_at(
-        alloc,
-        design,
-        claim,
-        tables,
-        Owner::Gate(k),
-        &gate.ins,
-        rail_at,
-    )?;
+    let highs = pin_literals_at(alloc, subject, Owner::Gate(k), &gate.ins, rail_at)?;
     let rail_at = RailAt { rail: 1, ..rail_at };
-    let lows = pin_literals_at(
-        alloc,
-        design,
-        claim,
-        tables,
-        Owner::Gate(k),
-        &gate.ins,
-        rail_at,
-    )?;
-    push_rails(alloc, frames, &highs, &lows, high, low, &gate.func, clauses)?;
+    let lows = pin_literals_at(alloc, subject, Owner::Gate(k), &gate.ins, rail_at)?;
+    let rails = Rails {
+        highs: &highs,
+        lows: &lows,
+        high,
+        low,
+    };
+    push_rails(alloc, frames, &rails, &gate.func, clauses)?;
     Ok(())
 }
 
@@ -145,52 +121,29 @@ fn list_rails_gate(
 fn list_layer_gate(
     alloc: Global,
     frames: &Frames,
-    design: &Design,
-    claim: &Claim,
-    tables: &Tables,
-    cycle: usize,
-    layer: usize,
+    subject: &Subject,
+    layer_at: LayerAt,
     k: usize,
-    gate: &Gate,
     clauses: &mut Seq<Clause>,
 ) -> Result<(), AllocError>
-    requires sound { IsSound design.now }
-    requires few { length claim.now.through ≤ 4 }
-    requires tables { AreTables design.now claim.now tables.now }
-    requires layer { layer ≤ length claim.now.through }
-    requires gate { IsGateInRange design.now gate.now }
-    requires closed { IsClosed frames.now (layer_gate Rows design.now claim.now tables.now.moved cycle layer k gate.now) }
-    ensures { OnOk result (Lists frames.now (layer_gate Rows design.now claim.now tables.now.moved cycle layer k gate.now) clauses.old clauses.new) }
+    requires subject { IsSubject subject.now }
+    requires layer { layer_at.layer ≤ length subject.now.claim.now.through }
+    requires gate { k < length subject.now.design.now.gates }
+    requires closed { IsClosed frames.now (at_place
+        (layer_gate Rows subject.now.design.now subject.now.claim.now subject.now.moved layer_at.cycle layer_at.layer)
+        subject.now.design.now.gates k) }
+    ensures { OnOk result (Lists frames.now (at_place
+        (layer_gate Rows subject.now.design.now subject.now.claim.now subject.now.moved layer_at.cycle layer_at.layer)
+        subject.now.design.now.gates k) clauses.old clauses.new) }
 {
-    if !has_own(claim, &tables.moved, layer, gate.out) {
+    let gate = subject.design.gates.item(k);
+    if !has_own(subject, layer_at.layer, gate.out) {
         return Ok(());
     }
-    if claim.hazard {
-        list_rails_gate(
-            alloc,
-            frames,
-            design,
-            claim,
-            tables,
-            cycle,
-            layer + 1,
-            k,
-            gate,
-            clauses,
-        )?;
+    if subject.claim.hazard {
+        list_rails_gate(alloc, frames, subject, layer_at, k, clauses)?;
     } else {
-        list_plain_gate(
-            alloc,
-            frames,
-            design,
-            claim,
-            tables,
-            cycle,
-            layer + 1,
-            k,
-            gate,
-            clauses,
-        )?;
+        list_plain_gate(alloc, frames, subject, layer_at, k, clauses)?;
     }
     Ok(())
 }
@@ -198,36 +151,20 @@ fn list_layer_gate(
 fn list_layer_gates(
     alloc: Global,
     frames: &Frames,
-    design: &Design,
-    claim: &Claim,
-    tables: &Tables,
+    subject: &Subject,
     gates: &Seq<usize>,
-    cycle: usize,
-    layer: usize,
+    layer_at: LayerAt,
     clauses: &mut Seq<Clause>,
 ) -> Result<(), AllocError>
-    requires sound { IsSound design.now }
-    requires few { length claim.now.through ≤ 4 }
-    requires tables { AreTables design.now claim.now tables.now }
-    requires gates { Covers frames.now cycle (gate_points design.now) gates.now }
-    requires layer { layer ≤ length claim.now.through }
-    requires closed { IsClosed frames.now (layer_gates Rows design.now claim.now tables.now.moved cycle layer) }
-    ensures { OnOk result (Lists frames.now (layer_gates Rows design.now claim.now tables.now.moved cycle layer) clauses.old clauses.new) }
+    requires subject { IsSubject subject.now }
+    requires gates { Covers frames.now layer_at.cycle (gate_points subject.now.design.now) gates.now }
+    requires layer { layer_at.layer ≤ length subject.now.claim.now.through }
+    requires closed { IsClosed frames.now (layer_gates Rows subject.now.design.now subject.now.claim.now subject.now.moved layer_at.cycle layer_at.layer) }
+    ensures { OnOk result (Lists frames.now (layer_gates Rows subject.now.design.now subject.now.claim.now subject.now.moved layer_at.cycle layer_at.layer)
+        clauses.old clauses.new) }
 {
     for j in 0..gates.len() {
-        let k = gates.at(j);
-        list_layer_gate(
-            alloc,
-            frames,
-            design,
-            claim,
-            tables,
-            cycle,
-            layer,
-            k,
-            design.gates.item(k),
-            clauses,
-        )?;
+        list_layer_gate(alloc, frames, subject, layer_at, gates.at(j), clauses)?;
     }
     Ok(())
 }
@@ -269,49 +206,40 @@ fn list_start_nets(
 fn list_starts(
     alloc: Global,
     frames: &Frames,
-    design: &Design,
-    claim: &Claim,
-    starts: &Seq<usize>,
-    cycle: usize,
-    layer: usize,
+    late: &LateStart,
+    layer_at: LayerAt,
     clauses: &mut Seq<Clause>,
 ) -> Result<(), AllocError>
-    requires starts { starts.now ≡ filter (is_start_net design.now claim.now) (below design.now.nets) }
-    requires closed { IsClosed frames.now (start_units design.now claim.now cycle layer) }
-    ensures { OnOk result (Lists frames.now (start_units design.now claim.now cycle layer) clauses.old clauses.new) }
+    requires late { IsLateStart late.now }
+    requires closed { IsClosed frames.now (start_units late.now.subject.design.now late.now.subject.claim.now layer_at.cycle layer_at.layer) }
+    ensures { OnOk result (Lists frames.now (start_units late.now.subject.design.now late.now.subject.claim.now layer_at.cycle layer_at.layer)
+        clauses.old clauses.new) }
 {
-    if layer > 0 || !claim.hazard {
+    if layer_at.layer > 0 || !late.subject.claim.hazard {
         return Ok(());
     }
-    list_start_nets(alloc, frames, starts, cycle, clauses)
+    list_start_nets(alloc, frames, &late.nets, layer_at.cycle, clauses)
 }
 
 /// The definitions of a cycle after so many through sets.
 fn list_layer(
     alloc: Global,
     frames: &Frames,
-    design: &Design,
-    claim: &Claim,
-    tables: &Tables,
-    starts: &Seq<usize>,
+    late: &LateStart,
     gates: &Seq<usize>,
-    cycle: usize,
-    layer: usize,
+    layer_at: LayerAt,
     clauses: &mut Seq<Clause>,
 ) -> Result<(), AllocError>
-    requires sound { IsSound design.now }
-    requires few { length claim.now.through ≤ 4 }
-    requires tables { AreTables design.now claim.now tables.now }
-    requires starts { starts.now ≡ filter (is_start_net design.now claim.now) (below design.now.nets) }
-    requires gates { Covers frames.now cycle (gate_points design.now) gates.now }
-    requires layer { layer ≤ length claim.now.through }
-    requires closed { IsClosed frames.now (layer_definitions Rows design.now claim.now tables.now.moved cycle layer) }
-    ensures { OnOk result (Lists frames.now (layer_definitions Rows design.now claim.now tables.now.moved cycle layer) clauses.old clauses.new) }
+    requires late { IsLateStart late.now }
+    requires gates { Covers frames.now layer_at.cycle (gate_points late.now.subject.design.now) gates.now }
+    requires layer { layer_at.layer ≤ length late.now.subject.claim.now.through }
+    requires closed { IsClosed frames.now (layer_definitions Rows late.now.subject.design.now late.now.subject.claim.now late.now.subject.moved
+        layer_at.cycle layer_at.layer) }
+    ensures { OnOk result (Lists frames.now (layer_definitions Rows late.now.subject.design.now late.now.subject.claim.now late.now.subject.moved
+        layer_at.cycle layer_at.layer) clauses.old clauses.new) }
 {
-    list_starts(alloc, frames, design, claim, starts, cycle, layer, clauses)?;
-    list_layer_gates(
-        alloc, frames, design, claim, tables, gates, cycle, layer, clauses,
-    )?;
+    list_starts(alloc, frames, late, layer_at, clauses)?;
+    list_layer_gates(alloc, frames, &late.subject, gates, layer_at, clauses)?;
     Ok(())
 }
 
@@ -319,26 +247,20 @@ fn list_layer(
 pub fn list_layers(
     alloc: Global,
     frames: &Frames,
-    design: &Design,
-    claim: &Claim,
-    tables: &Tables,
-    starts: &Seq<usize>,
+    late: &LateStart,
     gates: &Seq<usize>,
     cycle: usize,
     clauses: &mut Seq<Clause>,
 ) -> Result<(), AllocError>
-    requires sound { IsSound design.now }
-    requires few { length claim.now.through ≤ 4 }
-    requires tables { AreTables design.now claim.now tables.now }
-    requires starts { starts.now ≡ filter (is_start_net design.now claim.now) (below design.now.nets) }
-    requires gates { Covers frames.now cycle (gate_points design.now) gates.now }
-    requires closed { IsClosed frames.now (all_layers Rows design.now claim.now tables.now.moved cycle) }
-    ensures { OnOk result (Lists frames.now (all_layers Rows design.now claim.now tables.now.moved cycle) clauses.old clauses.new) }
+    requires late { IsLateStart late.now }
+    requires gates { Covers frames.now cycle (gate_points late.now.subject.design.now) gates.now }
+    requires closed { IsClosed frames.now (all_layers Rows late.now.subject.design.now late.now.subject.claim.now late.now.subject.moved cycle) }
+    ensures { OnOk result (Lists frames.now (all_layers Rows late.now.subject.design.now late.now.subject.claim.now late.now.subject.moved cycle)
+        clauses.old clauses.new) }
 {
-    for layer in 0..claim.through.len() + 1 {
-        list_layer(
-            alloc, frames, design, claim, tables, starts, gates, cycle, layer, clauses,
-        )?;
+    for layer in 0..late.subject.claim.through.len() + 1 {
+        let layer_at = LayerAt { cycle, layer };
+        list_layer(alloc, frames, late, gates, layer_at, clauses)?;
     }
     Ok(())
 }

@@ -13,6 +13,7 @@ mod ends;
 mod formulas;
 mod free_bits;
 mod input_values;
+mod late_starts;
 mod layers;
 mod needed;
 mod point_rows;

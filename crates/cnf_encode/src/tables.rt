@@ -3,7 +3,7 @@ ghost use Rattle.std.specs.Prelude.{◌≡◌, ◌≤◌, [], ◌∷◌, ◌++�
 ghost use Rattle.net_model.specs.Form.{value, IsOver};
 ghost use Rattle.query_model.specs.Keys.{lit};
 ghost use Rattle.query_model.specs.Tables.{may_be};
-ghost use Rattle.query_model.specs.Defined.{plain, rails};
+ghost use Rattle.query_model.specs.Defined as defined;
 ghost use Rattle.query_model.specs.declared.keys.Coding.TheVariants.{Rows};
 ghost use Rattle.cnf_encode.specs.Coded.{HasKey, HasKeys, Adds, AddsNormals};
 ghost use Rattle.cnf_encode.specs.Chosen.{chosen, row_chosen, may_clauses, must_clauses};
@@ -19,6 +19,15 @@ use query_model::{Key, KeyLit};
 use sdcv_base::Seq;
 use std::alloc::{AllocError, Global};
 
+/// What the places of a function may be on each rail, and the keys by which its output may be 1 and may be 0.
+#[derive(Drop)]
+pub struct Rails<'a> {
+    pub highs: &'a Seq<KeyLit>,
+    pub lows: &'a Seq<KeyLit>,
+    pub high: Key,
+    pub low: Key,
+}
+
 /// Adds a clause for each row: some place has another bit than in the row, or the output has the row's value.
 pub fn push_plain(
     alloc: Global,
@@ -30,8 +39,8 @@ pub fn push_plain(
 ) -> Result<(), AllocError>
     requires few { length reads.now ≤ 7 }
     requires over { IsOver (length reads.now) func.now }
-    requires keys { HasKeys frames.now (plain Rows (value func.now) reads.now out).clauses }
-    ensures { OnOk result (Adds frames.now (plain Rows (value func.now) reads.now out).clauses clauses.old clauses.new) }
+    requires keys { HasKeys frames.now (defined.plain Rows (value func.now) reads.now out).clauses }
+    ensures { OnOk result (Adds frames.now (defined.plain Rows (value func.now) reads.now out).clauses clauses.old clauses.new) }
 {
     let zeros = codes(alloc, frames, reads.as_slice())?;
     let ones = complements(alloc, zeros.as_slice())?;
@@ -48,47 +57,43 @@ pub fn push_plain(
 pub fn push_rails(
     alloc: Global,
     frames: &Frames,
-    hs: &Seq<KeyLit>,
-    ls: &Seq<KeyLit>,
-    high: Key,
-    low: Key,
+    rails: &Rails,
     func: &Func,
     clauses: &mut Seq<Clause>,
 ) -> Result<(), AllocError>
-    requires few { length hs.now ≤ 7 }
-    requires long { length ls.now ≡ length hs.now }
-    requires over { IsOver (length hs.now) func.now }
-    requires keys { HasKeys frames.now (rails Rows (value func.now) hs.now ls.now high low).clauses }
-    ensures { OnOk result (Adds frames.now (rails Rows (value func.now) hs.now ls.now high low).clauses clauses.old clauses.new) }
+    requires few { length rails.now.highs.now ≤ 7 }
+    requires long { length rails.now.lows.now ≡ length rails.now.highs.now }
+    requires over { IsOver (length rails.now.highs.now) func.now }
+    requires keys { HasKeys frames.now (defined.rails Rows (value func.now) rails.now.highs.now rails.now.lows.now rails.now.high rails.now.low).clauses }
+    ensures { OnOk result (Adds frames.now
+        (defined.rails Rows (value func.now) rails.now.highs.now rails.now.lows.now rails.now.high rails.now.low).clauses clauses.old clauses.new) }
 {
-    push_may(alloc, frames, hs, ls, high, low, func, clauses)?;
-    push_must(alloc, frames, hs, ls, high, low, func, clauses)
+    push_may(alloc, frames, rails, func, clauses)?;
+    push_must(alloc, frames, rails, func, clauses)
 }
 
 /// Adds the clauses of the rows.
 fn push_may(
     alloc: Global,
     frames: &Frames,
-    hs: &Seq<KeyLit>,
-    ls: &Seq<KeyLit>,
-    high: Key,
-    low: Key,
+    rails: &Rails,
     func: &Func,
     clauses: &mut Seq<Clause>,
 ) -> Result<(), AllocError>
-    requires few { length hs.now ≤ 7 }
-    requires long { length ls.now ≡ length hs.now }
-    requires over { IsOver (length hs.now) func.now }
-    requires keys { HasKeys frames.now (may_clauses func.now hs.now ls.now high low) }
-    ensures { OnOk result (Adds frames.now (may_clauses func.now hs.now ls.now high low) clauses.old clauses.new) }
+    requires few { length rails.now.highs.now ≤ 7 }
+    requires long { length rails.now.lows.now ≡ length rails.now.highs.now }
+    requires over { IsOver (length rails.now.highs.now) func.now }
+    requires keys { HasKeys frames.now (may_clauses func.now rails.now.highs.now rails.now.lows.now rails.now.high rails.now.low) }
+    ensures { OnOk result (Adds frames.now (may_clauses func.now rails.now.highs.now rails.now.lows.now rails.now.high rails.now.low)
+        clauses.old clauses.new) }
 {
-    let highs = codes(alloc, frames, hs.as_slice())?;
-    let lows = codes(alloc, frames, ls.as_slice())?;
+    let highs = codes(alloc, frames, rails.highs.as_slice())?;
+    let lows = codes(alloc, frames, rails.lows.as_slice())?;
     let zeros = complements(alloc, lows.as_slice())?;
     let ones = complements(alloc, highs.as_slice())?;
-    let values = rows(alloc, func, hs.len())?;
+    let values = rows(alloc, func, rails.highs.len())?;
     for w in 0..values.len() {
-        let may = code(frames, &lit(true, rail(values[w], high, low)));
+        let may = code(frames, &lit(true, rail(values[w], rails.high, rails.low)));
         push_row(alloc, zeros.as_slice(), ones.as_slice(), w, may, clauses)?;
     }
     Ok(())
@@ -98,26 +103,27 @@ fn push_may(
 fn push_must(
     alloc: Global,
     frames: &Frames,
-    hs: &Seq<KeyLit>,
-    ls: &Seq<KeyLit>,
-    high: Key,
-    low: Key,
+    rails: &Rails,
     func: &Func,
     clauses: &mut Seq<Clause>,
 ) -> Result<(), AllocError>
-    requires few { length hs.now ≤ 7 }
-    requires long { length ls.now ≡ length hs.now }
-    requires over { IsOver (length hs.now) func.now }
-    requires hs { All (HasKey frames.now) hs.now }
-    requires ls { All (HasKey frames.now) ls.now }
-    requires keys { HasKeys frames.now (must_clauses func.now hs.now ls.now high low) }
-    ensures { OnOk result (Adds frames.now (must_clauses func.now hs.now ls.now high low) clauses.old clauses.new) }
+    requires few { length rails.now.highs.now ≤ 7 }
+    requires long { length rails.now.lows.now ≡ length rails.now.highs.now }
+    requires over { IsOver (length rails.now.highs.now) func.now }
+    requires highs { All (HasKey frames.now) rails.now.highs.now }
+    requires lows { All (HasKey frames.now) rails.now.lows.now }
+    requires keys { HasKeys frames.now (must_clauses func.now rails.now.highs.now rails.now.lows.now rails.now.high rails.now.low) }
+    ensures { OnOk result (Adds frames.now (must_clauses func.now rails.now.highs.now rails.now.lows.now rails.now.high rails.now.low)
+        clauses.old clauses.new) }
 {
-    let zeros = codes(alloc, frames, hs.as_slice())?;
-    let ones = codes(alloc, frames, ls.as_slice())?;
-    let found = cubes(alloc, func, hs.len())?;
+    let zeros = codes(alloc, frames, rails.highs.as_slice())?;
+    let ones = codes(alloc, frames, rails.lows.as_slice())?;
+    let found = cubes(alloc, func, rails.highs.len())?;
     for cube in found.as_slice() {
-        let cannot = code(frames, &lit(false, rail(!cube.value, high, low)));
+        let cannot = code(
+            frames,
+            &lit(false, rail(!cube.value, rails.high, rails.low)),
+        );
         push_cube(
             alloc,
             zeros.as_slice(),

@@ -1,17 +1,33 @@
+use Rattle.std.proofs.Common.{List, ℕ, sym, ap, subst, arith}
+use Rattle.net_model.specs.declared.netlist.Design.{Design}
 use Rattle.query_model.specs.Defined.{base_definitions, claim_definitions}
 use Rattle.query_model.specs.declared.keys.Coding.TheVariants.{Rows}
-use Rattle.cnf_encode.proofs.Listing.{Closed-left, Closed-right, Lists-append}
+use Rattle.cnf_encode.specs.Coned.{Covers, gate_points}
+use Rattle.cnf_encode.proofs.Listing.{Closed-left, Closed-right, Closed-same, Lists-append, Lists-same}
+use Rattle.cnf_encode.proofs.Covering.{gate_places}
 use Rattle.cnf_encode.proofs.claims.list_claim_cycle.Goals as goal
+
+pub item-gates-requires : goal.item-gates-requires
+item-gates-requires c = omega (arith, c.requires.cone.of.gates.count, c.requires.cone.lt)
 
 pub list_cycle-requires-clause-closed : goal.list_cycle-requires-clause-closed
 list_cycle-requires-clause-closed c =
-    Closed-left (base_definitions Rows c.args.design.now c.args.live c.args.cycle)
-    (claim_definitions Rows c.args.design.now c.args.claim.now c.args.tables.now.moved c.args.cycle) c.requires.closed
+    Closed-same (ap (λ (d : Design). base_definitions Rows d c.args.cone.now.live c.args.cycle) (sym c.requires.same))
+    (Closed-left (base_definitions Rows c.args.late.now.subject.design.now c.args.cone.now.live c.args.cycle)
+    (claim_definitions Rows c.args.late.now.subject.design.now c.args.late.now.subject.claim.now c.args.late.now.subject.moved c.args.cycle) c.requires.closed)
 
 pub list_late-requires-clause-closed : goal.list_late-requires-clause-closed
 list_late-requires-clause-closed c =
-    Closed-right (base_definitions Rows c.args.design.now c.args.live c.args.cycle)
-    (claim_definitions Rows c.args.design.now c.args.claim.now c.args.tables.now.moved c.args.cycle) c.requires.closed
+    Closed-right (base_definitions Rows c.args.late.now.subject.design.now c.args.cone.now.live c.args.cycle)
+    (claim_definitions Rows c.args.late.now.subject.design.now c.args.late.now.subject.claim.now c.args.late.now.subject.moved c.args.cycle) c.requires.closed
+
+pub list_late-requires-clause-gates : goal.list_late-requires-clause-gates
+list_late-requires-clause-gates c =
+    let gates : List ℕ = c.item-gates.result.now in
+    subst (λ (d : Design). Covers c.args.frames.now c.args.cycle (gate_points d) gates) c.requires.same
+    (gate_places c.args.frames.now c.args.cycle c.args.cone.now gates c.requires.cone c.item-gates.ensures)
 
 pub returns : goal.returns
-returns c = Lists-append c.in_ok-list_cycle.ensures c.in_ok-list_late.ensures
+returns c =
+    Lists-append (Lists-same (ap (λ (d : Design). base_definitions Rows d c.args.cone.now.live c.args.cycle) c.requires.same)
+    c.in_ok-list_cycle.ensures) c.in_ok-list_late.ensures

@@ -4,12 +4,18 @@ use Rattle.cnf_encode.proofs.claims.list_claim_cycles.Goals as goal
 
 pub list_claim_cycle-requires-clause-closed : goal.list_claim_cycle-requires-clause-closed
 list_claim_cycle-requires-clause-closed c =
-    Closed-below (claim_cycle c.args.design.now c.args.claim.now c.args.tables.now.moved c.args.live) c.args.cycles c.loop-cycle.cycle
+    let d = c.args.late.now.subject.design.now in
+    let claim = c.args.late.now.subject.claim.now in
+    let moved = c.args.late.now.subject.moved in
+    Closed-below (claim_cycle d claim moved c.args.cone.now.live) c.args.cycles c.loop-cycle.cycle
     c.loop-cycle-test.true c.requires.closed
 
 pub loop-cycle-preserved : goal.loop-cycle-preserved
 loop-cycle-preserved c =
-    Lists-below_more (claim_cycle c.args.design.now c.args.claim.now c.args.tables.now.moved c.args.live) c.loop-cycle.cycle c.loop-cycle.invariant
+    let d = c.args.late.now.subject.design.now in
+    let claim = c.args.late.now.subject.claim.now in
+    let moved = c.args.late.now.subject.moved in
+    Lists-below_more (claim_cycle d claim moved c.args.cone.now.live) c.loop-cycle.cycle c.loop-cycle.invariant
     c.in_ok-list_claim_cycle.ensures
 
 pub list_claim_cycle-requires-clause-cone : goal.list_claim_cycle-requires-clause-cone

@@ -4,4 +4,5 @@ use Rattle.cnf_encode.specs.Listed.{Lists, claim_cycle}
 use Rattle.cnf_encode.proofs.claims.list_claim_cycles.Given as goal
 
 abbrev pub invariant-loop-cycle : goal.invariant-loop-cycle
-invariant-loop-cycle l = Lists l.frames (flat_map (claim_cycle l.design l.claim l.tables.moved l.live) (below l.cycle)) l.fn.clauses l.clauses
+invariant-loop-cycle l = Lists l.frames (flat_map (claim_cycle l.late.subject.design.now l.late.subject.claim.now l.late.subject.moved l.cone.live) (below
+    l.cycle)) l.fn.clauses l.clauses

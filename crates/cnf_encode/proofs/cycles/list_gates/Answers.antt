@@ -3,28 +3,39 @@ use Rattle.std.proofs.lemmas.List.{length-map}
 use Rattle.net_model.specs.declared.netlist.Gate.{Gate}
 use Rattle.query_model.specs.Defined.{gate_definition}
 use Rattle.query_model.specs.declared.keys.Coding.TheVariants.{Rows}
+use Rattle.cnf_encode.specs.Listed.{at_place}
 use Rattle.cnf_encode.specs.Coned.{gate_points}
 use Rattle.cnf_encode.proofs.Listing.{Closed-map, Lists-same}
-use Rattle.cnf_encode.proofs.Covering.{at_place, at_place_is, gate_defs, place_below, Lists-flat_more, Lists-gates}
+use Rattle.cnf_encode.proofs.Covering.{at_place_is, gate_defs, gate_places, place_below, Lists-flat_more, Lists-gates}
 use Rattle.cnf_encode.proofs.cycles.list_gates.Goals as goal
+
+pub item-gates-requires : goal.item-gates-requires
+item-gates-requires c = omega (arith, c.requires.cone.of.gates.count, c.requires.cone.lt)
 
 pub item-gate-requires : goal.item-gate-requires
 item-gate-requires c =
-    let low = place_below c.args.frames.now c.args.cycle (gate_points c.args.design.now) c.args.gates.now c.loop-j.j c.at.result c.requires.gates
-    c.at.ensures in
-    omega (arith, low, length-map c.args.design.now.gates (λ (g : Gate). g.out))
+    let d = c.args.cone.now.design.now in
+    let covers = gate_places c.args.frames.now c.args.cycle c.args.cone.now c.item-gates.result.now c.requires.cone c.item-gates.ensures in
+    let low = place_below c.args.frames.now c.args.cycle (gate_points d) c.item-gates.result.now c.loop-j.j c.at.result covers c.at.ensures in
+    omega (arith, low, length-map d.gates (λ (g : Gate). g.out))
 
 pub list_gate-requires-clause-closed : goal.list_gate-requires-clause-closed
 list_gate-requires-clause-closed c =
-    Closed-map (gate_definition Rows c.args.design.now c.args.cycle) c.args.design.now.gates c.at.result c.item-gate.result.now c.item-gate.ensures
+    let d = c.args.cone.now.design.now in
+    let g = c.item-gate.result.now in
+    Closed-map (gate_definition Rows d c.args.cycle) d.gates c.at.result g c.item-gate.ensures
     c.requires.closed
 
 pub loop-j-preserved : goal.loop-j-preserved
 loop-j-preserved c =
-    Lists-flat_more (at_place (gate_defs c.args.design.now c.args.cycle) c.args.design.now.gates) c.args.gates.now c.loop-j.j c.at.result c.at.ensures
+    let d = c.args.cone.now.design.now in
+    let g = c.item-gate.result.now in
+    Lists-flat_more (at_place (gate_defs d c.args.cycle) d.gates) c.item-gates.result.now c.loop-j.j c.at.result c.at.ensures
     c.loop-j.invariant
-    (Lists-same (sym (at_place_is (gate_defs c.args.design.now c.args.cycle) c.args.design.now.gates c.at.result c.item-gate.result.now
+    (Lists-same (sym (at_place_is (gate_defs d c.args.cycle) d.gates c.at.result g
     c.item-gate.ensures)) c.in_ok-list_gate.ensures)
 
 pub returns : goal.returns
-returns c = Lists-gates c.args.design.now c.args.frames.now c.args.cycle c.args.gates.now c.loop-j.j c.requires.gates (omega arith) c.loop-j.invariant
+returns c =
+    let covers = gate_places c.args.frames.now c.args.cycle c.args.cone.now c.item-gates.result.now c.requires.cone c.item-gates.ensures in
+    Lists-gates c.args.cone.now.design.now c.args.frames.now c.args.cycle c.item-gates.result.now c.loop-j.j covers (omega arith) c.loop-j.invariant

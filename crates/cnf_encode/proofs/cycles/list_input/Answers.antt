@@ -7,22 +7,24 @@ use Rattle.cnf_encode.proofs.cycles.list_input.Goals as goal
 
 pub list_setting-requires-2 : goal.list_setting-requires-2
 list_setting-requires-2 c =
+    let d = c.args.cone.now.design.now in
     let out = key c.args.cycle 0 0 c.at.result in
     record {
-      closed = Closed-right (unit_if c.at-2.result false out) (unit_if c.at-3.result (leb c.args.live c.args.cycle) out)
-          (Closed-same (sym (input_is c.args.design.now c.args.live c.args.cycle c.args.input c.at.result c.at-2.result c.at-3.result _
-          (value_is c.args.design.now.fixed (length c.args.design.now.inputs) c.args.cone.now.fixed.now c.args.input c.at-2.result
-          c.requires.cone.of.fixed c.at-2.ensures) (value_is c.args.design.now.resets (length c.args.design.now.inputs) c.args.cone.now.resets.now
-          c.args.input c.at-3.result c.requires.cone.of.resets c.at-3.ensures) c.at.ensures (at_least c.args.live c.args.cycle)))
+      closed = Closed-right (unit_if c.at-2.result false out) (unit_if c.at-3.result (leb c.args.cone.now.live c.args.cycle) out)
+          (Closed-same (sym (input_is d c.args.cone.now.live c.args.cycle c.args.input c.at.result c.at-2.result c.at-3.result _
+          (value_is d.fixed (length d.inputs) c.args.cone.now.fixed.now c.args.input c.at-2.result
+          c.requires.cone.of.fixed c.at-2.ensures) (value_is d.resets (length d.inputs) c.args.cone.now.resets.now
+          c.args.input c.at-3.result c.requires.cone.of.resets c.at-3.ensures) c.at.ensures (at_least c.args.cone.now.live c.args.cycle)))
           c.requires.closed);
     }
 
 pub returns : goal.returns
 returns c =
-    Lists-same (input_is c.args.design.now c.args.live c.args.cycle c.args.input c.at.result c.at-2.result c.at-3.result _
-    (value_is c.args.design.now.fixed (length c.args.design.now.inputs) c.args.cone.now.fixed.now c.args.input c.at-2.result c.requires.cone.of.fixed
-    c.at-2.ensures) (value_is c.args.design.now.resets (length c.args.design.now.inputs) c.args.cone.now.resets.now c.args.input c.at-3.result
-    c.requires.cone.of.resets c.at-3.ensures) c.at.ensures (at_least c.args.live c.args.cycle))
+    let d = c.args.cone.now.design.now in
+    Lists-same (input_is d c.args.cone.now.live c.args.cycle c.args.input c.at.result c.at-2.result c.at-3.result _
+    (value_is d.fixed (length d.inputs) c.args.cone.now.fixed.now c.args.input c.at-2.result c.requires.cone.of.fixed
+    c.at-2.ensures) (value_is d.resets (length d.inputs) c.args.cone.now.resets.now c.args.input c.at-3.result
+    c.requires.cone.of.resets c.at-3.ensures) c.at.ensures (at_least c.args.cone.now.live c.args.cycle))
     (Lists-append c.in_ok-list_setting.ensures c.in_ok-list_setting-2.ensures)
 
 pub at-requires-2 : goal.at-requires-2

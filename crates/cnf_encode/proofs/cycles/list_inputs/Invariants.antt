@@ -5,4 +5,4 @@ use Rattle.cnf_encode.specs.Listed.{Lists}
 use Rattle.cnf_encode.proofs.cycles.list_inputs.Given as goal
 
 abbrev pub invariant-loop-j : goal.invariant-loop-j
-invariant-loop-j l = Lists l.frames (flat_map (input_definition l.design l.live l.cycle) (take l.j l.inputs)) l.fn.clauses l.clauses
+invariant-loop-j l = Lists l.frames (flat_map (input_definition l.cone.design.now l.cone.live l.cycle) (take l.j l.inputs)) l.fn.clauses l.clauses

@@ -7,6 +7,11 @@ use Rattle.cnf_encode.proofs.layers.list_layer.Goals as goal
 
 pub list_layer_gates-requires-clause-closed : goal.list_layer_gates-requires-clause-closed
 list_layer_gates-requires-clause-closed c =
-    Closed-right (start_units c.args.design.now c.args.claim.now c.args.cycle c.args.layer)
-    (flat_map (λ (defs : List Definition). defs) (numbered (layer_gate Rows c.args.design.now c.args.claim.now c.args.tables.now.moved c.args.cycle
-    c.args.layer) 0 c.args.design.now.gates)) c.requires.closed
+    let d = c.args.late.now.subject.design.now in
+    let claim = c.args.late.now.subject.claim.now in
+    let moved = c.args.late.now.subject.moved in
+    let cycle = c.args.layer_at.cycle in
+    let l = c.args.layer_at.layer in
+    Closed-right (start_units d claim cycle l)
+    (flat_map (λ (defs : List Definition). defs) (numbered (layer_gate Rows d claim moved cycle
+    l) 0 d.gates)) c.requires.closed

@@ -1,30 +1,41 @@
-use Rattle.std.proofs.Common.{arith, sym}
+use Rattle.std.proofs.Common.{arith}
 use Rattle.std.proofs.lemmas.List.{length-map}
 use Rattle.net_model.specs.declared.netlist.Gate.{Gate}
 use Rattle.query_model.specs.Defined.{layer_gate}
 use Rattle.query_model.specs.declared.keys.Coding.TheVariants.{Rows}
+use Rattle.cnf_encode.specs.Listed.{at_place}
 use Rattle.cnf_encode.specs.Coned.{gate_points}
-use Rattle.cnf_encode.proofs.Listing.{Closed-flat_numbered, Lists-same}
-use Rattle.cnf_encode.proofs.Covering.{at_place, at_place_is, place_below, Lists-flat_more, Lists-layer_gates}
+use Rattle.cnf_encode.proofs.Covering.{Closed-flat_at_place, place_below, Lists-flat_more, Lists-layer_gates}
 use Rattle.cnf_encode.proofs.layers.list_layer_gates.Goals as goal
 
-pub item-requires : goal.item-requires
-item-requires c =
-    let low = place_below c.args.frames.now c.args.cycle (gate_points c.args.design.now) c.args.gates.now c.loop-j.j c.at-k.result c.requires.gates
-    c.at-k.ensures in
-    omega (arith, low, length-map c.args.design.now.gates (λ (g : Gate). g.out))
+pub list_layer_gate-requires-clause-gate : goal.list_layer_gate-requires-clause-gate
+list_layer_gate-requires-clause-gate c =
+    let low = place_below c.args.frames.now c.args.layer_at.cycle (gate_points c.args.subject.now.design.now) c.args.gates.now c.loop-j.j c.at.result
+    c.requires.gates c.at.ensures in
+    omega (arith, low, length-map c.args.subject.now.design.now.gates (λ (g : Gate). g.out))
 
 pub list_layer_gate-requires-clause-closed : goal.list_layer_gate-requires-clause-closed
 list_layer_gate-requires-clause-closed c =
-    Closed-flat_numbered (layer_gate Rows c.args.design.now c.args.claim.now c.args.tables.now.moved c.args.cycle c.args.layer)
-    c.args.design.now.gates c.at-k.result c.item.result.now c.item.ensures c.requires.closed
+    let d = c.args.subject.now.design.now in
+    let claim = c.args.subject.now.claim.now in
+    let moved = c.args.subject.now.moved in
+    let cycle = c.args.layer_at.cycle in
+    let l = c.args.layer_at.layer in
+    Closed-flat_at_place (layer_gate Rows d claim moved cycle l) d.gates
+    c.at.result c.requires.closed
 
 pub loop-j-preserved : goal.loop-j-preserved
 loop-j-preserved c =
-    let f = layer_gate Rows c.args.design.now c.args.claim.now c.args.tables.now.moved c.args.cycle c.args.layer in
-    Lists-flat_more (at_place f c.args.design.now.gates) c.args.gates.now c.loop-j.j c.at-k.result c.at-k.ensures c.loop-j.invariant
-    (Lists-same (sym (at_place_is f c.args.design.now.gates c.at-k.result c.item.result.now c.item.ensures)) c.in_ok-list_layer_gate.ensures)
+    let f = layer_gate Rows c.args.subject.now.design.now c.args.subject.now.claim.now c.args.subject.now.moved c.args.layer_at.cycle c.args.layer_at.layer in
+    Lists-flat_more (at_place f c.args.subject.now.design.now.gates) c.args.gates.now c.loop-j.j c.at.result c.at.ensures c.loop-j.invariant
+    c.in_ok-list_layer_gate.ensures
 
 pub returns : goal.returns
-returns c = Lists-layer_gates c.args.design.now c.args.claim.now c.args.tables.now.moved c.args.frames.now c.args.cycle c.args.layer c.args.gates.now
+returns c =
+    let d = c.args.subject.now.design.now in
+    let claim = c.args.subject.now.claim.now in
+    let moved = c.args.subject.now.moved in
+    let cycle = c.args.layer_at.cycle in
+    let l = c.args.layer_at.layer in
+    Lists-layer_gates d claim moved c.args.frames.now cycle l c.args.gates.now
     c.loop-j.j c.requires.gates (omega arith) c.loop-j.invariant

@@ -6,4 +6,5 @@ use Rattle.cnf_encode.specs.Listed.{Lists}
 use Rattle.cnf_encode.proofs.layers.list_layers.Given as goal
 
 abbrev pub invariant-loop-layer : goal.invariant-loop-layer
-invariant-loop-layer l = Lists l.frames (flat_map (layer_definitions Rows l.design l.claim l.tables.moved l.cycle) (below l.layer)) l.fn.clauses l.clauses
+invariant-loop-layer l = Lists l.frames (flat_map (layer_definitions Rows l.late.subject.design.now l.late.subject.claim.now l.late.subject.moved l.cycle)
+    (below l.layer)) l.fn.clauses l.clauses

@@ -8,18 +8,18 @@ use Rattle.cnf_encode.proofs.points.list_points.Goals as goal
 
 pub list_differ-requires-clause-closed : goal.list_differ-requires-clause-closed
 list_differ-requires-clause-closed c =
-    let toggle = toggle_definition c.args.design.now c.args.claim.now.start c.args.cycle in
-    let change = change_definition c.args.design.now c.args.claim.now.end c.args.cycle in
-    let differ = differ_definition c.args.design.now c.args.claim.now c.args.tables.now.moved c.args.cycle in
-    let stales : List Definition = map (stale_definition c.args.design.now c.args.claim.now.start c.args.cycle)
-    (below (judged_count c.args.claim.now.kind - 1)) in
+    let toggle = toggle_definition c.args.subject.now.design.now c.args.subject.now.claim.now.start c.args.cycle in
+    let change = change_definition c.args.subject.now.design.now c.args.subject.now.claim.now.end c.args.cycle in
+    let differ = differ_definition c.args.subject.now.design.now c.args.subject.now.claim.now c.args.subject.now.moved c.args.cycle in
+    let stales : List Definition = map (stale_definition c.args.subject.now.design.now c.args.subject.now.claim.now.start c.args.cycle)
+    (below (judged_count c.args.subject.now.claim.now.kind - 1)) in
     Closed-left (differ ∷ []) stales (Closed-right (toggle ∷ change ∷ []) (differ ∷ stales) c.requires.closed)
 
 pub list_stales-requires-clause-closed : goal.list_stales-requires-clause-closed
 list_stales-requires-clause-closed c =
-    let toggle = toggle_definition c.args.design.now c.args.claim.now.start c.args.cycle in
-    let change = change_definition c.args.design.now c.args.claim.now.end c.args.cycle in
-    let differ = differ_definition c.args.design.now c.args.claim.now c.args.tables.now.moved c.args.cycle in
-    let stales : List Definition = map (stale_definition c.args.design.now c.args.claim.now.start c.args.cycle)
-    (below (judged_count c.args.claim.now.kind - 1)) in
+    let toggle = toggle_definition c.args.subject.now.design.now c.args.subject.now.claim.now.start c.args.cycle in
+    let change = change_definition c.args.subject.now.design.now c.args.subject.now.claim.now.end c.args.cycle in
+    let differ = differ_definition c.args.subject.now.design.now c.args.subject.now.claim.now c.args.subject.now.moved c.args.cycle in
+    let stales : List Definition = map (stale_definition c.args.subject.now.design.now c.args.subject.now.claim.now.start c.args.cycle)
+    (below (judged_count c.args.subject.now.claim.now.kind - 1)) in
     Closed-right (toggle ∷ change ∷ differ ∷ []) stales c.requires.closed

@@ -6,10 +6,14 @@ use Rattle.cnf_encode.proofs.points.list_stales.Goals as goal
 
 pub list_stale-requires-clause-closed : goal.list_stale-requires-clause-closed
 list_stale-requires-clause-closed c =
+    let d = c.args.subject.now.design.now in
+    let claim = c.args.subject.now.claim.now in
     let end = c.saturating_sub-r-end.ensures ∙ ap (λ n. n - 1) c.judged_count.ensures in
-    Closed-map_below (stale_definition c.args.design.now c.args.claim.now.start c.args.cycle) (judged_count c.args.claim.now.kind - 1) c.loop-r.r
+    Closed-map_below (stale_definition d claim.start c.args.cycle) (judged_count claim.kind - 1) c.loop-r.r
     (subst (λ n. c.loop-r.r < n) end c.loop-r-test.true) c.requires.closed
 
 pub loop-r-preserved : goal.loop-r-preserved
 loop-r-preserved c =
-    Lists-map_below_more (stale_definition c.args.design.now c.args.claim.now.start c.args.cycle) c.loop-r.r c.loop-r.invariant c.in_ok-list_stale.ensures
+    let d = c.args.subject.now.design.now in
+    let claim = c.args.subject.now.claim.now in
+    Lists-map_below_more (stale_definition d claim.start c.args.cycle) c.loop-r.r c.loop-r.invariant c.in_ok-list_stale.ensures

@@ -13,14 +13,22 @@ use Rattle.cnf_encode.proofs.tables.push_may.Goals as goal
 
 pub codes-requires : goal.codes-requires
 codes-requires c =
+    let hs : List KeyLit = c.args.rails.now.highs.now in
+    let ls : List KeyLit = c.args.rails.now.lows.now in
+    let high = c.args.rails.now.high in
+    let low = c.args.rails.now.low in
     subst (λ (ls : List KeyLit). All (HasKey c.args.frames.now) ls) (sym c.as_slice.ensures)
-    (rails_reads c.args.frames.now (value c.args.func.now) c.args.hs.now c.args.ls.now (lit true c.args.high) (lit true c.args.low) c.requires.long
+    (rails_reads c.args.frames.now (value c.args.func.now) hs ls (lit true high) (lit true low) c.requires.long
     c.requires.keys).0
 
 pub codes-requires-2 : goal.codes-requires-2
 codes-requires-2 c =
+    let hs : List KeyLit = c.args.rails.now.highs.now in
+    let ls : List KeyLit = c.args.rails.now.lows.now in
+    let high = c.args.rails.now.high in
+    let low = c.args.rails.now.low in
     subst (λ (ls : List KeyLit). All (HasKey c.args.frames.now) ls) (sym c.as_slice-2.ensures)
-    (rails_reads c.args.frames.now (value c.args.func.now) c.args.hs.now c.args.ls.now (lit true c.args.high) (lit true c.args.low) c.requires.long
+    (rails_reads c.args.frames.now (value c.args.func.now) hs ls (lit true high) (lit true low) c.requires.long
     c.requires.keys).1
 
 pub push_row-requires : goal.push_row-requires
@@ -34,26 +42,29 @@ push_row-requires c =
 
 pub code-may-requires : goal.code-may-requires
 code-may-requires c =
+    let ls : List KeyLit = c.args.rails.now.lows.now in
+    let high = c.args.rails.now.high in
+    let low = c.args.rails.now.low in
     let cell : (ℕ → Bool) → Bool = value c.args.func.now in
-    let hs : List KeyLit = c.args.hs.now in
+    let hs : List KeyLit = c.args.rails.now.highs.now in
     let rows : AreRowValues cell (length hs) c.in_ok-values.values.items =
     subst (λ (n : ℕ). AreRowValues cell n c.in_ok-values.values.items) c.len.ensures c.in_ok-values.ensures in
     let many : length c.in_ok-values.values.items ≡ 2 ^ length hs = length-values cell (length hs) c.in_ok-values.values.items rows in
     let row : c.index.result.now ≡ on_list cell (row_bits (length hs) c.loop-w.w) =
     value_at cell (length hs) c.in_ok-values.values.items c.loop-w.w c.index.result.now rows (omega arith) c.index.ensures in
-    let is : c.lit.result ≡ may_be (on_list cell (row_bits (length hs) c.loop-w.w)) (lit true c.args.high) (lit true c.args.low) =
-    c.lit.ensures ∙ c.rail.ensures ∙ ap (λ (b : Bool). may_be b (lit true c.args.high) (lit true c.args.low)) row in
+    let is : c.lit.result ≡ may_be (on_list cell (row_bits (length hs) c.loop-w.w)) (lit true high) (lit true low) =
+    c.lit.ensures ∙ c.rail.ensures ∙ ap (λ (b : Bool). may_be b (lit true high) (lit true low)) row in
     subst (HasKey c.args.frames.now) (sym is)
-    (may_out c.args.frames.now cell hs c.args.ls.now (lit true c.args.high) (lit true c.args.low) c.loop-w.w (omega arith) c.requires.keys)
+    (may_out c.args.frames.now cell hs ls (lit true high) (lit true low) c.loop-w.w (omega arith) c.requires.keys)
 
 pub loop-w-preserved : goal.loop-w-preserved
 loop-w-preserved c =
     let keys = c.args.frames.now in
     let cell : (ℕ → Bool) → Bool = value c.args.func.now in
-    let hs : List KeyLit = c.args.hs.now in
-    let ls : List KeyLit = c.args.ls.now in
-    let high : KeyLit = lit true c.args.high in
-    let low : KeyLit = lit true c.args.low in
+    let hs : List KeyLit = c.args.rails.now.highs.now in
+    let ls : List KeyLit = c.args.rails.now.lows.now in
+    let high : KeyLit = lit true c.args.rails.now.high in
+    let low : KeyLit = lit true c.args.rails.now.low in
     let w = c.loop-w.w in
     let zeros : c.as_slice-in-loop-w.result.now ≡ map negated (map (code_of keys) ls) =
     c.as_slice-in-loop-w.ensures ∙ c.in_ok-zeros.ensures ∙ ap (map negated)
@@ -75,10 +86,10 @@ loop-w-preserved c =
 pub returns : goal.returns
 returns c =
     let cell : (ℕ → Bool) → Bool = value c.args.func.now in
-    let hs : List KeyLit = c.args.hs.now in
+    let hs : List KeyLit = c.args.rails.now.highs.now in
     let rows : AreRowValues cell (length hs) c.in_ok-values.values.items =
     subst (λ (n : ℕ). AreRowValues cell n c.in_ok-values.values.items) c.len.ensures c.in_ok-values.ensures in
     let many : length c.in_ok-values.values.items ≡ 2 ^ length hs = length-values cell (length hs) c.in_ok-values.values.items rows in
     let done : c.loop-w.w ≡ 2 ^ length hs = omega arith in
-    subst (λ (n : ℕ). Adds c.args.frames.now (map (may_clause hs c.args.ls.now (lit true c.args.high) (lit true c.args.low))
+    subst (λ (n : ℕ). Adds c.args.frames.now (map (may_clause hs c.args.rails.now.lows.now (lit true c.args.rails.now.high) (lit true c.args.rails.now.low))
     (map (row_cube cell (length hs)) (below n))) c.args.clauses.now c.loop-w.clauses) done c.loop-w.invariant

@@ -7,5 +7,6 @@ use Rattle.cnf_encode.proofs.tables.push_may.Given as goal
 
 abbrev pub invariant-loop-w : goal.invariant-loop-w
 invariant-loop-w l =
-    Adds l.frames (map (may_clause l.hs l.ls (lit true l.high) (lit true l.low)) (map (row_cube (value l.func) (length l.hs)) (below l.w)))
+    Adds l.frames (map (may_clause l.rails.highs.now l.rails.lows.now (lit true l.rails.high) (lit true l.rails.low)) (map (row_cube (value l.func) (length
+    l.rails.highs.now)) (below l.w)))
     l.fn.clauses l.clauses

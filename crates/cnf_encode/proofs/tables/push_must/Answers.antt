@@ -13,36 +13,38 @@ use Rattle.cnf_encode.proofs.tables.push_must.Goals as goal
 pub code-cannot-requires : goal.code-cannot-requires
 code-cannot-requires c =
     let keys = c.args.frames.now in
-    let high : KeyLit = lit true c.args.high in
-    let low : KeyLit = lit true c.args.low in
-    let cubes : c.as_slice-cube-items.result.now ≡ constant_cubes (value c.args.func.now) (length c.args.hs.now) =
+    let high : KeyLit = lit true c.args.rails.now.high in
+    let low : KeyLit = lit true c.args.rails.now.low in
+    let cubes : c.as_slice-cube-items.result.now ≡ constant_cubes (value c.args.func.now) (length c.args.rails.now.highs.now) =
     c.as_slice-cube-items.ensures.value ∙ c.in_ok-found.ensures ∙ ap (constant_cubes (value c.args.func.now)) c.len.ensures in
-    let listed : HasKeys keys (map (must_clause c.args.hs.now c.args.ls.now high low) c.as_slice-cube-items.result.now) =
-    subst (λ (cs : List Cube). HasKeys keys (map (must_clause c.args.hs.now c.args.ls.now high low) cs)) (sym cubes) c.requires.keys in
+    let listed : HasKeys keys (map (must_clause c.args.rails.now.highs.now c.args.rails.now.lows.now high low) c.as_slice-cube-items.result.now) =
+    subst (λ (cs : List Cube). HasKeys keys (map (must_clause c.args.rails.now.highs.now c.args.rails.now.lows.now high low) cs)) (sym cubes) c.requires.keys
+    in
     subst (HasKey keys) (sym (c.lit.ensures ∙ ap opposite c.rail.ensures))
-    (must_out keys c.args.hs.now c.args.ls.now high low c.as_slice-cube-items.result.now c.loop-cube.cube-index c.cube-item.result
+    (must_out keys c.args.rails.now.highs.now c.args.rails.now.lows.now high low c.as_slice-cube-items.result.now c.loop-cube.cube-index c.cube-item.result
     c.loop-cube-test.true c.cube-item.is listed)
 
 pub push_cube-requires : goal.push_cube-requires
 push_cube-requires c =
+    let hs : List KeyLit = c.args.rails.now.highs.now in
     let keys = c.args.frames.now in
-    let cubes : c.as_slice-cube-items.result.now ≡ constant_cubes (value c.args.func.now) (length c.args.hs.now) =
+    let cubes : c.as_slice-cube-items.result.now ≡ constant_cubes (value c.args.func.now) (length hs) =
     c.as_slice-cube-items.ensures.value ∙ c.in_ok-found.ensures ∙ ap (constant_cubes (value c.args.func.now)) c.len.ensures in
     let zeros = ap length (c.as_slice-in-loop-cube.ensures ∙ c.in_ok-zeros.ensures) ∙ length-map c.as_slice.result.now (code_of keys)
     ∙ ap length c.as_slice.ensures in
     let ones = ap length (c.as_slice-in-loop-cube-2.ensures ∙ c.in_ok-ones.ensures) ∙ length-map c.as_slice-2.result.now (code_of keys)
     ∙ ap length c.as_slice-2.ensures in
-    let places = cube_places (value c.args.func.now) (length c.args.hs.now) c.as_slice-cube-items.result.now c.loop-cube.cube-index c.cube-item.result
+    let places = cube_places (value c.args.func.now) (length hs) c.as_slice-cube-items.result.now c.loop-cube.cube-index c.cube-item.result
     cubes c.loop-cube-test.true c.cube-item.is in
     record { ones = ones ∙ c.requires.long ∙ sym zeros; fixed = ap length c.as_slice-in-loop-cube-3.ensures ∙ places ∙ sym zeros }
 
 pub loop-cube-preserved : goal.loop-cube-preserved
 loop-cube-preserved c =
     let keys = c.args.frames.now in
-    let hs : List KeyLit = c.args.hs.now in
-    let ls : List KeyLit = c.args.ls.now in
-    let high : KeyLit = lit true c.args.high in
-    let low : KeyLit = lit true c.args.low in
+    let hs : List KeyLit = c.args.rails.now.highs.now in
+    let ls : List KeyLit = c.args.rails.now.lows.now in
+    let high : KeyLit = lit true c.args.rails.now.high in
+    let low : KeyLit = lit true c.args.rails.now.low in
     let zeros : c.as_slice-in-loop-cube.result.now ≡ map (code_of keys) hs =
     c.as_slice-in-loop-cube.ensures ∙ c.in_ok-zeros.ensures ∙ ap (map (code_of keys)) c.as_slice.ensures in
     let ones : c.as_slice-in-loop-cube-2.result.now ≡ map (code_of keys) ls =
@@ -56,10 +58,10 @@ loop-cube-preserved c =
 
 pub returns : goal.returns
 returns c =
-    let high : KeyLit = lit true c.args.high in
-    let low : KeyLit = lit true c.args.low in
-    let cubes : c.as_slice-cube-items.result.now ≡ constant_cubes (value c.args.func.now) (length c.args.hs.now) =
+    let high : KeyLit = lit true c.args.rails.now.high in
+    let low : KeyLit = lit true c.args.rails.now.low in
+    let cubes : c.as_slice-cube-items.result.now ≡ constant_cubes (value c.args.func.now) (length c.args.rails.now.highs.now) =
     c.as_slice-cube-items.ensures.value ∙ c.in_ok-found.ensures ∙ ap (constant_cubes (value c.args.func.now)) c.len.ensures in
     let all = take_all c.loop-cube.cube-index c.as_slice-cube-items.result.now (omega arith) in
-    subst (λ (cs : List Cube). Adds c.args.frames.now (map (must_clause c.args.hs.now c.args.ls.now high low) cs) c.args.clauses.now
+    subst (λ (cs : List Cube). Adds c.args.frames.now (map (must_clause c.args.rails.now.highs.now c.args.rails.now.lows.now high low) cs) c.args.clauses.now
     c.loop-cube.clauses) (all ∙ cubes) c.loop-cube.invariant

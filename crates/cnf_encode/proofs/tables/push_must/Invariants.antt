@@ -6,4 +6,5 @@ use Rattle.cnf_encode.proofs.tables.push_must.Given as goal
 
 abbrev pub invariant-loop-cube : goal.invariant-loop-cube
 invariant-loop-cube l =
-    Adds l.frames (map (must_clause l.hs l.ls (lit true l.high) (lit true l.low)) (take l.cube-index l.cube-items)) l.fn.clauses l.clauses
+    Adds l.frames (map (must_clause l.rails.highs.now l.rails.lows.now (lit true l.rails.high) (lit true l.rails.low)) (take l.cube-index l.cube-items))
+    l.fn.clauses l.clauses

@@ -1,10 +1,19 @@
-use Rattle.std.proofs.Common.{◌+◌, length}
+use Rattle.std.proofs.Common.{◌+◌, length, sym, subst}
+use Rattle.net_model.specs.Netlist.{IsSound}
+use Rattle.net_model.specs.declared.netlist.Design.{Design}
+use Rattle.frame_unroll.specs.Drivers.{AreDrivers}
 use Rattle.cnf_encode.specs.Coned.{gate_points, bit_points}
+use Rattle.cnf_encode.specs.Prepared.{ArePointTables}
 use Rattle.cnf_encode.proofs.cones.Cone.of.Goals as goal
 
-pub returns : goal.returns
-returns c d are =
+pub returns-clause-cone : goal.returns-clause-cone
+returns-clause-cone c =
+    let back = sym c.bare.ensures in
+    let d = c.bare.result.now in
+    let are : ArePointTables d c.points-points.result.now = subst (λ (e : Design). ArePointTables e c.points-points.result.now) back c.points-points.ensures in
     record {
+      sound = subst IsSound back c.requires.sound;
+      drivers = subst (λ (e : Design). AreDrivers e c.drivers.result.now) back c.drivers.ensures;
       fixed = are.fixed;
       resets = are.resets;
       inputs = c.in_ok-point_rows.ensures d.inputs d.nets are.inputs;
