@@ -1,35 +1,79 @@
 //! Clauses and formulas in normal form, and what a clause does, judged by hand.
 use crate::numbers::{formula, lit, lits};
 use proof_log::{Assignment, Clause, Effect, Lit, LitSet};
+use std::alloc::{AllocError, Global};
 use std::process::Abort;
-use std::test::Fail;
 
 // Sorted by hand: by variable, each literal once, nothing where two are complements.
+const NORMAL: &[(&[i32], Option<&[i32]>)] = &[
+    (&[], Some(&[])),
+    (&[3, -1, 2], Some(&[-1, 2, 3])),
+    (&[2, -1, 2, -1], Some(&[-1, 2])),
+    (&[2, 1, -2], None),
+    (&[-1, 1], None),
+];
+
+fn is_normal_form(alloc: Global, given: &[i32], want: Option<&[i32]>) -> Result<bool, AllocError> {
+    match (Clause::normal(alloc, &lits(alloc, given)?)?, want) {
+        (Some(clause), Some(want)) => Ok(
+            clause.copy(alloc)?.as_slice() == lits(alloc, want)?.as_slice(),
+        ),
+        (None, None) => Ok(true),
+        _ => Ok(false),
+    }
+}
+
 #[test]
-fn a_clause_has_each_variable_once(rt: HostRuntime) -> Result<(), Fail> {
-    let alloc = rt.alloc();
-    let cases: [(&[i32], Option<&[i32]>); 5] = [
-        (&[], Some(&[])),
-        (&[3, -1, 2], Some(&[-1, 2, 3])),
-        (&[2, -1, 2, -1], Some(&[-1, 2])),
-        (&[2, 1, -2], None),
-        (&[-1, 1], None),
-    ];
-    for (given, want) in cases {
-        let clause = Clause::normal(alloc, &lits(alloc, given)?)?;
-        match (clause, want) {
-            (Some(clause), Some(want)) => {
-                let copy = clause.copy(alloc)?;
-                assert!(rt;
-                    copy.as_slice() == lits(alloc, want)?.as_slice(),
-                    "of {given:?}"
-                );
-            }
-            (None, None) => {}
-            _ => assert!(rt; false, "of {given:?}"),
-        }
+fn a_clause_has_each_variable_once(rt: HostRuntime) -> Result<(), AllocError> {
+    for (given, want) in NORMAL {
+        assert!(rt; is_normal_form(rt.alloc(), given, *want)?, "of {given:?}");
     }
     Ok(())
+}
+
+// Clauses in normal form ascend by variable and name none above the formula's.
+const FORMULAS: &[(u32, &[i32], bool)] = &[
+    (0, &[], true),
+    (2, &[-1, 2], true),
+    (1, &[-1, 2], false),
+    (2, &[2, -1], false),
+    (2, &[1, 1], false),
+    (2, &[1, -1], false),
+];
+
+#[test]
+fn a_formula_is_told_to_be_normal(rt: HostRuntime) -> Result<(), AllocError> {
+    for (vars, numbers, want) in FORMULAS {
+        let formula = formula(rt.alloc(), *vars, &[numbers])?;
+        assert!(rt; formula.is_normal() == *want, "{numbers:?} over {vars}");
+    }
+    Ok(())
+}
+
+/// What a clause does, with a literal by its number.
+enum Does {
+    Fails,
+    Sets(i32),
+    Neither,
+}
+
+// With 1 and -2 set and 3 unset.
+const EFFECTS: &[(&[i32], Does)] = &[
+    (&[], Does::Fails),
+    (&[-1, 2], Does::Fails),
+    (&[-1, 3], Does::Sets(3)),
+    (&[-1, 2, -3], Does::Sets(-3)),
+    (&[1], Does::Neither),
+    (&[1, 3], Does::Neither),
+    (&[3, 4], Does::Neither),
+];
+
+fn effect_of(does: &Does) -> Effect {
+    match does {
+        Does::Fails => Effect::Falsified,
+        Does::Sets(number) => Effect::Sets(lit(*number)),
+        Does::Neither => Effect::Neither,
+    }
 }
 
 fn set_unset(rt: &impl Abort, set: &mut Assignment, l: Lit) {
@@ -39,44 +83,27 @@ fn set_unset(rt: &impl Abort, set: &mut Assignment, l: Lit) {
     set.set(l);
 }
 
-// Clauses in normal form ascend by variable and name none above the formula's.
+/// An assignment of three variables, with 1 and -2 set.
+fn two_set(rt: &impl Abort, alloc: Global) -> Result<Assignment, AllocError> {
+    let mut set = Assignment::new(alloc, 3)?;
+    set_unset(rt, &mut set, lit(1));
+    set_unset(rt, &mut set, lit(-2));
+    Ok(set)
+}
+
 #[test]
-fn a_formula_is_told_to_be_normal(rt: HostRuntime) -> Result<(), Fail> {
-    let alloc = rt.alloc();
-    let cases: [(u32, &[i32], bool); 6] = [
-        (0, &[], true),
-        (2, &[-1, 2], true),
-        (1, &[-1, 2], false),
-        (2, &[2, -1], false),
-        (2, &[1, 1], false),
-        (2, &[1, -1], false),
-    ];
-    for (vars, numbers, want) in cases {
-        let formula = formula(alloc, vars, &[numbers])?;
-        assert_eq!(rt; formula.is_normal(), want, "{numbers:?} over {vars}");
+fn a_clause_is_false_unit_or_neither(rt: HostRuntime) -> Result<(), AllocError> {
+    let set = two_set(&rt, rt.alloc())?;
+    for (clause, does) in EFFECTS {
+        let found = set.effect(&lits(rt.alloc(), clause)?);
+        assert!(rt; found == effect_of(does), "of {clause:?}");
     }
     Ok(())
 }
 
-// What a clause does, with 1 and -2 set and 3 unset.
 #[test]
-fn a_clause_is_false_unit_or_neither(rt: HostRuntime) -> Result<(), Fail> {
-    let alloc = rt.alloc();
-    let mut set = Assignment::new(alloc, 3)?;
-    set_unset(&rt, &mut set, lit(1));
-    set_unset(&rt, &mut set, lit(-2));
-    let cases: [(&[i32], Effect); 7] = [
-        (&[], Effect::Falsified),
-        (&[-1, 2], Effect::Falsified),
-        (&[-1, 3], Effect::Sets(lit(3))),
-        (&[-1, 2, -3], Effect::Sets(lit(-3))),
-        (&[1], Effect::Neither),
-        (&[1, 3], Effect::Neither),
-        (&[3, 4], Effect::Neither),
-    ];
-    for (clause, want) in cases {
-        assert_eq!(rt; set.effect(&lits(alloc, clause)?), want, "of {clause:?}");
-    }
+fn a_shorter_assignment_keeps_the_first_literals(rt: HostRuntime) -> Result<(), AllocError> {
+    let mut set = two_set(&rt, rt.alloc())?;
     set.truncate(1);
     assert!(rt; !set.is_set(lit(-2)));
     assert!(rt; set.is_set(lit(1)));

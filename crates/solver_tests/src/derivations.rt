@@ -1,10 +1,10 @@
 //! Derivations that refute, and the first faults of others, judged by hand.
 use crate::numbers::{clause, formula};
-use proof_log::{DerivStep, Derivation};
+use proof_log::{DerivStep, Derivation, Formula};
 use rup_check::{CheckFault, check};
 use sdcv_base::Seq;
 use std::alloc::{AllocError, Global};
-use std::test::Fail;
+use std::process::Abort;
 
 fn derivation(alloc: Global, steps: &[(&[i32], &[u64])]) -> Result<Derivation, AllocError> {
     let mut list = Seq::new(alloc);
@@ -18,67 +18,76 @@ fn derivation(alloc: Global, steps: &[(&[i32], &[u64])]) -> Result<Derivation, A
     Ok(Derivation { steps: list })
 }
 
-// Both variables in all four signs. Judged by hand.
-#[test]
-fn the_first_fault_is_named(rt: HostRuntime) -> Result<(), Fail> {
-    let alloc = rt.alloc();
-    let f = formula(alloc, 2, &[&[1, 2], &[1, -2], &[-1, 2], &[-1, -2]])?;
-    let cases: [(&[(&[i32], &[u64])], Result<(), CheckFault>); 10] = [
-        (&[(&[1], &[1, 2]), (&[], &[5, 3, 4])], Ok(())),
-        (
-            &[(&[1], &[1]), (&[], &[5, 3, 4])],
-            Err(CheckFault::NoConflict(1)),
-        ),
-        (
-            &[(&[1], &[5]), (&[], &[5, 3, 4])],
-            Err(CheckFault::HintMissing(1)),
-        ),
-        (&[(&[1], &[0])], Err(CheckFault::HintMissing(1))),
-        (
-            &[(&[1], &[3, 1, 2]), (&[], &[5, 3, 4])],
-            Err(CheckFault::HintNotUnit(1, 1)),
-        ),
-        (&[(&[1], &[1, 2, 3])], Err(CheckFault::HintNotUnit(1, 3))),
-        (&[(&[1], &[1, 2, 9])], Err(CheckFault::HintMissing(1))),
-        (&[(&[1], &[1, 2])], Err(CheckFault::NotEmpty)),
-        (&[], Err(CheckFault::NotEmpty)),
-        (&[(&[], &[]), (&[], &[5])], Err(CheckFault::NoConflict(1))),
-    ];
-    for (steps, want) in cases {
-        let d = derivation(alloc, steps)?;
-        assert_eq!(rt; check(alloc, &f, &d), want, "{steps:?}");
-    }
-    Ok(())
-}
+/// A derivation, by the numbers of its steps' clauses and their hints, and what the checker says of it.
+struct Judged(
+    &'static [(&'static [i32], &'static [u64])],
+    Result<(), CheckFault>,
+);
+
+const FOUR: &[&[i32]] = &[&[1, 2], &[1, -2], &[-1, 2], &[-1, -2]];
+
+// Of both variables in all four signs. Judged by hand.
+const OF_FOUR: &[Judged] = &[
+    Judged(&[(&[1], &[1, 2]), (&[], &[5, 3, 4])], Ok(())),
+    Judged(
+        &[(&[1], &[1]), (&[], &[5, 3, 4])],
+        Err(CheckFault::NoConflict(1)),
+    ),
+    Judged(
+        &[(&[1], &[5]), (&[], &[5, 3, 4])],
+        Err(CheckFault::HintMissing(1)),
+    ),
+    Judged(&[(&[1], &[0])], Err(CheckFault::HintMissing(1))),
+    Judged(
+        &[(&[1], &[3, 1, 2]), (&[], &[5, 3, 4])],
+        Err(CheckFault::HintNotUnit(1, 1)),
+    ),
+    Judged(&[(&[1], &[1, 2, 3])], Err(CheckFault::HintNotUnit(1, 3))),
+    Judged(&[(&[1], &[1, 2, 9])], Err(CheckFault::HintMissing(1))),
+    Judged(&[(&[1], &[1, 2])], Err(CheckFault::NotEmpty)),
+    Judged(&[], Err(CheckFault::NotEmpty)),
+    Judged(&[(&[], &[]), (&[], &[5])], Err(CheckFault::NoConflict(1))),
+];
 
 const HIGH: i32 = 2147483647;
 
 // Clauses of any form are checked: repeated and complementary literals, and variables above the
 // formula's, which take no room by their size. Judged by hand.
-#[test]
-fn clauses_of_any_form_are_checked(rt: HostRuntime) -> Result<(), Fail> {
-    let alloc = rt.alloc();
-    let f = formula(alloc, 1, &[&[1, 1], &[-1]])?;
-    let cases: [(&[(&[i32], &[u64])], Result<(), CheckFault>); 4] = [
-        (&[(&[], &[2, 1])], Ok(())),
-        (&[(&[], &[1, 2])], Err(CheckFault::HintNotUnit(1, 1))),
-        (
-            &[(&[HIGH, 1], &[2, 1]), (&[], &[2, 1])],
-            Err(CheckFault::HintNotUnit(1, 1)),
-        ),
-        (
-            &[
-                (&[HIGH], &[2, 1]),
-                (&[1, -1, HIGH], &[3]),
-                (&[-HIGH, HIGH], &[3]),
-                (&[], &[2, 1]),
-            ],
-            Ok(()),
-        ),
-    ];
-    for (steps, want) in cases {
-        let d = derivation(alloc, steps)?;
-        assert_eq!(rt; check(alloc, &f, &d), want, "{steps:?}");
+const ONE: &[&[i32]] = &[&[1, 1], &[-1]];
+
+const OF_ONE: &[Judged] = &[
+    Judged(&[(&[], &[2, 1])], Ok(())),
+    Judged(&[(&[], &[1, 2])], Err(CheckFault::HintNotUnit(1, 1))),
+    Judged(
+        &[(&[HIGH, 1], &[2, 1]), (&[], &[2, 1])],
+        Err(CheckFault::HintNotUnit(1, 1)),
+    ),
+    Judged(
+        &[
+            (&[HIGH], &[2, 1]),
+            (&[1, -1, HIGH], &[3]),
+            (&[-HIGH, HIGH], &[3]),
+            (&[], &[2, 1]),
+        ],
+        Ok(()),
+    ),
+];
+
+fn judge(
+    rt: &impl Abort,
+    alloc: Global,
+    formula: &Formula,
+    rows: &[Judged],
+) -> Result<(), AllocError> {
+    for (place, row) in rows.iter().enumerate() {
+        let found = check(alloc, formula, &derivation(alloc, row.0)?);
+        assert!(rt; found == row.1, "row {place}");
     }
     Ok(())
+}
+
+#[test]
+fn the_first_fault_is_named(rt: HostRuntime) -> Result<(), AllocError> {
+    judge(&rt, rt.alloc(), &formula(rt.alloc(), 2, FOUR)?, OF_FOUR)?;
+    judge(&rt, rt.alloc(), &formula(rt.alloc(), 1, ONE)?, OF_ONE)
 }

@@ -28,11 +28,15 @@ fn told(alloc: Global, formula: &Formula, budget: u64) -> Result<(Found, usize),
     }
 }
 
-// The engine after a decision: what it learns, or none where there is no conflict.
-fn learnt(alloc: Global, engine: &mut Engine) -> Result<Option<Learnt>, AllocError> {
+// Decides a variable, if units alone meet no conflict.
+fn decide_once(engine: &mut Engine) {
     if engine.propagate().is_none() {
         let _decision = engine.decide();
     }
+}
+
+// What the engine learns from the conflict that units meet above the lowest level, if there is one.
+fn learnt(alloc: Global, engine: &mut Engine) -> Result<Option<Learnt>, AllocError> {
     let conflict = engine.propagate();
     if engine.level() == 0 {
         return Ok(None);
@@ -40,6 +44,18 @@ fn learnt(alloc: Global, engine: &mut Engine) -> Result<Option<Learnt>, AllocErr
     match conflict {
         Some(place) => Ok(Some(engine.learn(alloc, place)?)),
         None => Ok(None),
+    }
+}
+
+// How many levels are open.
+fn level(engine: &Engine) -> usize {
+    engine.level()
+}
+
+// Leaves the levels above this one.
+fn leave(engine: &mut Engine, level: usize) {
+    if level <= engine.level() {
+        engine.backjump(level);
     }
 }
 
@@ -104,7 +120,7 @@ const FOUR_PIGEONS: &[&[i32]] = &[
 ];
 
 // Known by hand; pigeons never fit into fewer holes.
-const CASES: [(u32, &[&[i32]], Found); 8] = [
+const CASES: &[(u32, &[&[i32]], Found)] = &[
     (0, &[], Found::Model),
     (0, &[&[]], Found::Refuted),
     (2, &[&[1, 2]], Found::Model),
@@ -122,26 +138,30 @@ const CASES: [(u32, &[&[i32]], Found); 8] = [
 #[test]
 fn formulas_have_a_model_or_none(rt: HostRuntime) -> Result<(), Fail> {
     for (vars, clauses, want) in CASES {
-        let f = formula(rt.alloc(), vars, clauses)?;
+        let f = formula(rt.alloc(), *vars, clauses)?;
         let (what, _steps) = told(rt.alloc(), &f, 1000)?;
-        assert_eq!(rt; what, want);
+        assert!(rt; what == *want);
     }
     Ok(())
 }
 
-// The checker agrees with the solver.
+// Whether the solver refutes a formula by a derivation that the checker accepts.
+fn is_refuted(alloc: Global, formula: &Formula) -> Result<bool, AllocError> {
+    if !formula.is_normal() {
+        return Ok(false);
+    }
+    match solve(alloc, formula, 1000)? {
+        Answer::Unsat(derivation) => Ok(check(alloc, formula, &derivation).is_ok()),
+        _ => Ok(false),
+    }
+}
+
 #[test]
 fn refutations_of_pigeons_are_checked(rt: HostRuntime) -> Result<(), Fail> {
-    for (vars, clauses) in [(6, THREE_PIGEONS), (12, FOUR_PIGEONS)] {
-        let f = formula(rt.alloc(), vars, clauses)?;
-        assert!(rt; f.is_normal());
-        match solve(rt.alloc(), &f, 1000)? {
-            Answer::Unsat(derivation) => {
-                assert_eq!(rt; check(rt.alloc(), &f, &derivation), Ok(()));
-            }
-            _ => assert!(rt; false),
-        }
-    }
+    let three = formula(rt.alloc(), 6, THREE_PIGEONS)?;
+    assert!(rt; is_refuted(rt.alloc(), &three)?);
+    let four = formula(rt.alloc(), 12, FOUR_PIGEONS)?;
+    assert!(rt; is_refuted(rt.alloc(), &four)?);
     Ok(())
 }
 
@@ -213,6 +233,7 @@ fn a_decision_is_learnt_to_be_wrong(rt: HostRuntime) -> Result<(), Fail> {
     let f = formula(rt.alloc(), 2, BOTH_IN_ALL_SIGNS)?;
     if f.is_normal() {
         let mut engine = Engine::load(rt.alloc(), &f)?;
+        decide_once(&mut engine);
         if let Some(learnt) = learnt(rt.alloc(), &mut engine)? {
             assert_eq!(rt; learnt.level, 0);
             assert_eq!(rt; learnt.step.clause.as_slice().len(), 1);
@@ -225,19 +246,24 @@ fn a_decision_is_learnt_to_be_wrong(rt: HostRuntime) -> Result<(), Fail> {
     Ok(())
 }
 
+// How many of three variables are decided and how many levels that opens; then, once all levels but one are left, how many
+// are decided anew in one go, and how many levels are open.
+fn reopened(alloc: Global, engine: &mut Engine) -> Result<[usize; 4], AllocError> {
+    let first = decided(alloc, engine, 3, 5)?;
+    let opened = level(engine);
+    leave(engine, 1);
+    let again = decided(alloc, engine, 3, 1)?;
+    Ok([first, opened, again, level(engine)])
+}
+
 // A level that is left can be decided again.
 #[test]
 fn levels_are_opened_and_left(rt: HostRuntime) -> Result<(), Fail> {
     let f = formula(rt.alloc(), 3, &[])?;
     if f.is_normal() {
         let mut engine = Engine::load(rt.alloc(), &f)?;
-        assert_eq!(rt; decided(rt.alloc(), &mut engine, 3, 5)?, 3);
-        if engine.level() == 3 {
-            engine.backjump(1);
-            assert_eq!(rt; decided(rt.alloc(), &mut engine, 3, 1)?, 1);
-            assert_eq!(rt; engine.level(), 2);
-            return Ok(());
-        }
+        assert!(rt; reopened(rt.alloc(), &mut engine)? == [3, 3, 1, 2]);
+        return Ok(());
     }
     assert!(rt; false);
     Ok(())
