@@ -11,3 +11,18 @@ returns-in_err-verified-in-Verify-clause-planned g c =
 pub returns-in_ok-verified-in-Verify-clause-planned : goal.returns-in_ok-verified-in-Verify-clause-planned
 returns-in_ok-verified-in-Verify-clause-planned g c =
     rw c.in-Verify.is (last_due _ _ _ _ _ _ c.in_ok-verified-in-Verify.ensures refl)
+
+pub verified-requires-clause-judged : goal.verified-requires-clause-judged
+verified-requires-clause-judged g c = c.requires.judged
+
+pub checked-requires : goal.checked-requires
+checked-requires g c = c.requires.judged
+
+pub replayed-requires-clause-judged : goal.replayed-requires-clause-judged
+replayed-requires-clause-judged g c = c.requires.judged
+
+pub returns-in-Check-clause-planned : goal.returns-in-Check-clause-planned
+returns-in-Check-clause-planned g c = rw c.in-Check.is c.checked.ensures.planned
+
+pub returns-in-Replay-clause-planned : goal.returns-in-Replay-clause-planned
+returns-in-Replay-clause-planned g c = rw c.in-Replay.is c.replayed.ensures.planned
