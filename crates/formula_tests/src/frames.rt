@@ -72,15 +72,21 @@ const MOVED: &[Moved] = &[
     ),
 ];
 
+// The nets that are moved after all sets of the claim.
+fn last_moved(alloc: Global, case: &Case) -> Result<Seq<bool>, AllocError>
+    requires sound { IsSound case.now.design }
+    requires fits { Fits case.now.design case.now.claim }
+{
+    let rows = moved_nets(alloc, &case.design, &case.claim)?;
+    rows.item(case.claim.through.len()).copy(alloc)
+}
+
 #[test]
 fn nets_are_moved_through_the_sets_in_order(rt: HostRuntime) -> Result<(), AllocError> {
     for (place, row) in MOVED.iter().enumerate() {
         let case = case(&rt, rt.alloc(), row.0)?;
-        let rows = moved_nets(rt.alloc(), &case.design, &case.claim)?;
-        assert!(rt;
-            rows.item(case.claim.through.len()).as_slice() == row.1,
-            "case {place}"
-        );
+        let moved = last_moved(rt.alloc(), &case)?;
+        assert!(rt; moved.as_slice() == row.1, "case {place}");
     }
     Ok(())
 }
@@ -135,10 +141,11 @@ fn read_lit(rt: &impl Abort, alloc: Global, case: &Case, row: &Read) -> Result<K
 {
     let (design, claim) = (&case.design, &case.claim);
     let key = key(row.2);
-    assert!(rt; key.point < design.nets && key.layer <= claim.through.len() + 1);
     let drivers = net_drivers(alloc, design)?;
     let gates = net_gates(alloc, design)?;
     let subject = Subject::of(alloc, design, claim, &drivers, &gates)?;
+    assert!(rt; key.point < subject.design.nets);
+    assert!(rt; key.layer <= subject.claim.through.len() + 1);
     Ok(match row.1 {
         None => net_lit(&subject, key),
         Some(pin) => pin_lit(&subject, pin, key),
@@ -218,13 +225,20 @@ fn frames_of_clause(rt: &impl Abort, alloc: Global, design: &Design) -> Result<F
     Frames::of_invariant(alloc, design, slice::from_ref(&clause), 0, Phase::Step, 1)
 }
 
+// The claim is violated in a stretch.
+fn frames_of_claim(alloc: Global, case: &Case) -> Result<Frames, AllocError>
+    requires sound { IsSound case.now.design }
+    requires fits { Fits case.now.design case.now.claim }
+{
+    Frames::of_claim(alloc, &case.design, &case.claim, Phase::Step, 0, &[])
+}
+
 #[test]
 fn needed_keys_are_numbered_in_order(rt: HostRuntime) -> Result<(), AllocError> {
     let case = case(&rt, rt.alloc(), &[In(0), To(0)])?;
-    let (design, claim) = (&case.design, &case.claim);
-    let of_claim = Frames::of_claim(rt.alloc(), design, claim, Phase::Step, 0, &[])?;
+    let of_claim = frames_of_claim(rt.alloc(), &case)?;
     check_keys(&rt, &of_claim, CLAIM_KEYS);
-    let of_clause = frames_of_clause(&rt, rt.alloc(), design)?;
+    let of_clause = frames_of_clause(&rt, rt.alloc(), &case.design)?;
     check_keys(&rt, &of_clause, CLAUSE_KEYS);
     Ok(())
 }
