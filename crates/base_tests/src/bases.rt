@@ -1,24 +1,10 @@
 use sdcv_base::{
-    Cursor, Fail, FileRec, Host, HostFault, Kind, LimitName, MemHost, Name, ReadFault, Seq,
-    push_decimal, read_decimal,
+    Cursor, Fail, FileRec, Host, HostFault, LimitName, MemHost, Name, ReadFault, Seq, push_decimal,
+    read_decimal,
 };
 use std::alloc::{AllocError, Global};
 use std::process::Abort;
 use std::test;
-
-// Judged captures by multiplier, counted by hand.
-#[test]
-fn a_multiplier_judges_one_capture_less(rt: HostRuntime) -> Result<(), test::Fail> {
-    assert_eq!(rt; Kind::False.judged_count(), 1);
-    for (multiplier, want) in [(1, 0), (2, 1), (16, 15)] {
-        assert_eq!(rt;
-            Kind::Multi(multiplier).judged_count(),
-            want,
-            "multiplier {multiplier}"
-        );
-    }
-    Ok(())
-}
 
 // Texts and limits, read by hand: 1 to 20 digits, leading zeros allowed, nothing else.
 #[test]

@@ -3,7 +3,7 @@ ghost use Rattle.std.specs.Prelude.{◌≡◌, ◌≢◌, ℕ, List, All, IsOk, 
 ghost use Rattle.net_model.specs.Netlist.{IsSound};
 ghost use Rattle.net_model.specs.Fits.{Fits};
 ghost use Rattle.net_model.specs.declared.claims.Claim.{Claim as TheClaim};
-ghost use Rattle.query_model.specs.Laws.{NamesRegs};
+ghost use Rattle.net_model.specs.Fits.{NamesRegs};
 ghost use Rattle.rup_check.specs.declared.faults.CheckFault.TheVariants.{Memory as NoRoom};
 ghost use Rattle.verdicts.specs.Logs.{own_coding};
 ghost use Rattle.verdicts.specs.Certified.{ProveKept};

@@ -1,7 +1,7 @@
 //! What is asked of a certificate before any formula.
 ghost use Rattle.std.specs.Prelude.{◌≡◌, ◌↔◌, ℕ, ◌≤◌, ◌<◌, IsTrue, All, MatchOption, IfOk, IfErr, Some, length};
 ghost use Rattle.net_model.specs.Netlist.{IsSound};
-ghost use Rattle.query_model.specs.Laws.{NamesRegs};
+ghost use Rattle.net_model.specs.Fits.{NamesRegs};
 ghost use Rattle.verdicts.specs.Logs.{own_coding};
 ghost use Rattle.cert_values.specs.Certs.{listed_numbers};
 ghost use Rattle.cert_defs.specs.Listed.{item_numbered, IsClaimNumber, AreSuited, Suits, IsWellListed};
@@ -104,7 +104,7 @@ pub(crate) fn claim_of(claims: &[Claim], number: u64) -> &Claim
 fn suits(design: &Design, claim: &Claim, proof: &Proof) -> bool
     ensures { IsTrue result ↔ Suits design.now claim.now proof.now }
 {
-    let captures = claim.kind.judged_count() != 0;
+    let captures = claim.judged_count() != 0;
     match proof {
         Proof::Single => !captures,
         Proof::Fixed => captures && is_held_start(design, &claim.start),

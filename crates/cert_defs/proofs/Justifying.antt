@@ -7,7 +7,7 @@ use Rattle.net_model.proofs.Existence.{item_at}
 use Rattle.net_model.specs.declared.netlist.Design.{Design}
 use Rattle.net_model.specs.declared.claims.Claim.{Claim}
 use Rattle.net_model.specs.declared.invariants.InvClause.{InvClause}
-use Rattle.query_model.specs.Laws.{NamesRegs}
+use Rattle.net_model.specs.Fits.{NamesRegs}
 use Rattle.verdicts.specs.Logs.{own_coding}
 use Rattle.verdicts.specs.Verdicts.{IsRightProof}
 use Rattle.verdicts.specs.Certified.{ProveKept, ProvesPair}

@@ -1,11 +1,11 @@
 -- What is asked of a certificate before any formula: its registers and claims are there, each claim is listed once, and what is
 -- told of it is of its kind.
 use Rattle.std.specs.Prelude.{◌≡◌, ◌≢◌, ℕ, zero, suc, ◌≤◌, Option, None, Some, List, length, All, slice_get}
-use Rattle.sdcv_base.specs.Kinds.{judged_count}
+use Rattle.net_model.specs.Judge.{judged_count}
 use Rattle.net_model.specs.Held.{IsHeldStart}
 use Rattle.net_model.specs.declared.netlist.Design.{Design}
 use Rattle.net_model.specs.declared.claims.Claim.{Claim}
-use Rattle.query_model.specs.Laws.{NamesRegs}
+use Rattle.net_model.specs.Fits.{NamesRegs}
 use Rattle.verdicts.specs.declared.outcomes.Proof.{Proof}
 use Rattle.verdicts.specs.declared.outcomes.Proof.TheVariants.{Single, Fixed, Depth}
 use Rattle.cert_values.specs.Certs.{listed_numbers}
@@ -34,9 +34,9 @@ pub record IsListed (claims : List Claim) (pairs : List PairProof) (pair : PairP
 -- what is told of a claim is of its kind: that it is single, where it judges no capture; that its start is fixed, where it judges
 -- some and its start never toggles; and a depth with derivations, where it judges some
 abbrev pub Suits : Design → Claim → Proof → Type 0
-Suits d claim Single = judged_count claim.kind ≡ 0
-Suits d claim Fixed = (judged_count claim.kind ≢ 0) × IsHeldStart d claim.start
-Suits d claim (Depth depth base step) = judged_count claim.kind ≢ 0
+Suits d claim Single = judged_count claim ≡ 0
+Suits d claim Fixed = (judged_count claim ≢ 0) × IsHeldStart d claim.start
+Suits d claim (Depth depth base step) = judged_count claim ≢ 0
 
 -- what is told of each listed pair is of its claim's kind
 abbrev pub AreSuited : Design → List Claim → List PairProof → Type 0

@@ -6,7 +6,7 @@ use Rattle.net_model.specs.declared.netlist.Design.{Design}
 use Rattle.net_model.specs.declared.claims.Claim.{Claim}
 use Rattle.net_model.specs.declared.invariants.InvClause.{InvClause}
 use Rattle.net_model.specs.declared.queries.Phase.TheVariants.{Base, Step}
-use Rattle.query_model.specs.Laws.{NamesRegs}
+use Rattle.net_model.specs.Fits.{NamesRegs}
 use Rattle.query_model.specs.declared.keys.Coding.{Coding}
 use Rattle.proof_log.specs.declared.formulas.Formula.{Formula}
 use Rattle.proof_log.specs.declared.derivations.Derivation.{Derivation}

@@ -9,7 +9,8 @@ use Rattle.net_model.specs.declared.netlist.Design.{Design}
 use Rattle.net_model.specs.declared.cycles.Cycle.{Cycle}
 use Rattle.net_model.specs.Queries.{Query, AreCyclesOf, IsAnswer, claim_query, clause_query}
 use Rattle.query_model.specs.Variables.{AllCodesTrue, code_true, by_number}
-use Rattle.query_model.specs.Laws.{NamesRegs, HasFreeBits, AgreesWith, NumberedModelsAnswer, HasRails, NumberedHaveRails}
+use Rattle.net_model.specs.Fits.{NamesRegs}
+use Rattle.query_model.specs.Laws.{HasFreeBits, AgreesWith, NumberedModelsAnswer, HasRails, NumberedHaveRails}
 use Rattle.query_model.proofs.Railed.{claim_rails, numbered_rails}
 use Rattle.query_model.proofs.Claims.{claim_models, clause_models}
 use Rattle.query_model.proofs.Problems.{numbered_models}

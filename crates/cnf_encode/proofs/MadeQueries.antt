@@ -1,7 +1,7 @@
 -- The problems of the queries about a claim and about a clause.
 use Rattle.std.proofs.Common.{◌≡◌, ℕ, ◌+◌, ◌^◌, ◌<◌, Bool, List, [], length, refl, ap, sym, ◌∙◌, subst}
 use Rattle.std.specs.Prelude.{All, Contains, flat_map}
-use Rattle.sdcv_base.specs.Kinds.{judged_count}
+use Rattle.net_model.specs.Judge.{judged_count}
 use Rattle.std.proofs.lemmas.List.Elements.{All-contains}
 use Rattle.net_model.proofs.Members.{In-from_Contains}
 use Rattle.net_model.specs.Netlist.{IsSound}
@@ -17,7 +17,8 @@ use Rattle.query_model.specs.Reads.{bit_key, AreMoved}
 use Rattle.query_model.specs.Defined.{Definition}
 use Rattle.query_model.specs.Formula.{definitions, asked_clauses, AreMovedFor, AreNeeded}
 use Rattle.query_model.specs.Variables.{number_of, by_number}
-use Rattle.query_model.specs.Laws.{NamesRegs, AgreesWith, AnswersHaveNumberedModels}
+use Rattle.net_model.specs.Fits.{NamesRegs}
+use Rattle.query_model.specs.Laws.{AgreesWith, AnswersHaveNumberedModels}
 use Rattle.query_model.proofs.Claims.{claim_answers, clause_answers}
 use Rattle.query_model.proofs.Problems.{numbered_answers}
 use Rattle.query_model.specs.declared.keys.Key.{Key}
@@ -72,7 +73,7 @@ made q moved problem keys asked none defined clauses are_moved of needed asked_a
 -- so it is where the cycles of a query about a claim were listed one by one
 pub claim_made : (d : Design) (claim : Claim) (phase : Phase) (depth : ℕ) (inv : List InvClause) (moved : List (List Bool)) (problem : Problem)
     (keys : List Key) (asked : List (List KeyLit)) (live cycles : ℕ) (none defined clauses : List (List ℕ)) → AreMoved d claim moved
-    → IsOf problem keys live cycles clauses → live ≡ live_of d phase → cycles ≡ live_of d phase + depth + 1 + judged_count claim.kind
+    → IsOf problem keys live cycles clauses → live ≡ live_of d phase → cycles ≡ live_of d phase + depth + 1 + judged_count claim
     → AreNeededOfClaim d claim cycles moved asked keys → asked ≡ asked_clauses (claim_query d claim phase depth inv) → none ≡ []
     → Lists keys (flat_map (claim_cycle d claim moved live) (below cycles)) none defined → Adds keys asked defined clauses
     → IsMade (claim_query d claim phase depth inv) moved problem

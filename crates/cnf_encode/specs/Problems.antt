@@ -8,7 +8,8 @@ use Rattle.net_model.specs.declared.invariants.InvClause.{InvClause}
 use Rattle.net_model.specs.declared.queries.Phase.{Phase}
 use Rattle.net_model.specs.Queries.{Query, IsAnswer, claim_query, clause_query}
 use Rattle.query_model.specs.Variables.{IsProblemOf, by_number}
-use Rattle.query_model.specs.Laws.{NamesRegs, AgreesWith, HasRails}
+use Rattle.net_model.specs.Fits.{NamesRegs}
+use Rattle.query_model.specs.Laws.{AgreesWith, HasRails}
 use Rattle.proof_log.specs.Formulas.{IsModel, value_in}
 use Rattle.proof_log.specs.declared.models.Model.{Model}
 use Rattle.query_model.specs.declared.keys.Coding.TheVariants.{Rows}

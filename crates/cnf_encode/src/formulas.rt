@@ -3,7 +3,7 @@ ghost use Rattle.std.specs.Prelude.{◌≡◌, ◌≤◌, ◌<◌, ◌^◌, leng
 ghost use Rattle.net_model.specs.Netlist.{IsSound};
 ghost use Rattle.net_model.specs.Fits.{Fits};
 ghost use Rattle.net_model.specs.Queries.{claim_query, clause_query};
-ghost use Rattle.query_model.specs.Laws.{NamesRegs};
+ghost use Rattle.net_model.specs.Fits.{NamesRegs};
 ghost use Rattle.proof_log.specs.Formulas.{IsFormula};
 ghost use Rattle.frame_unroll.specs.Framed.{AtPlace};
 ghost use Rattle.cnf_encode.specs.Coded.{HasKeys, Adds};

@@ -127,7 +127,7 @@ fn list_stales(
     requires closed { IsClosed frames.now (stale_definitions subject.now.design.now subject.now.claim.now cycle) }
     ensures { OnOk result (Lists frames.now (stale_definitions subject.now.design.now subject.now.claim.now cycle) clauses.old clauses.new) }
 {
-    for r in 0..subject.claim.kind.judged_count().saturating_sub(1) {
+    for r in 0..subject.claim.judged_count().saturating_sub(1) {
         list_stale(alloc, frames, subject, cycle, r, clauses)?;
     }
     Ok(())

@@ -17,7 +17,7 @@ use Rattle.sdc_values.specs.declared.faults.SdcFault.{SdcFault}
 use Rattle.sdc_values.specs.declared.faults.SdcFault.TheVariants as fault
 use Rattle.sdc_values.specs.declared.values.Value.{Value}
 use Rattle.sdc_values.specs.declared.values.Said.{Said}
-use Rattle.sdc_values.specs.Folds.{after_all}
+use Rattle.sdcv_base.specs.Steps.{after_all}
 use Rattle.sdc_values.specs.Lists.{objects_of}
 use Rattle.sdc_values.specs.Variables.{with_value}
 use Rattle.sdc_values.specs.Lines.{said_words, command_name}

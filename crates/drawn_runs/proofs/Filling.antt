@@ -20,7 +20,8 @@ use Rattle.net_sim.specs.Settings.{set_bit, AreApart}
 use Rattle.net_sim.proofs.LaneSettling.{length-lane_row}
 use Rattle.net_sim.proofs.SettingsPut.{SettingsDone, settings_more}
 use Rattle.drawn_runs.specs.Draws.{after, word}
-use Rattle.drawn_runs.specs.Drawn.{sets, is_held, free_below, AreFree}
+use Rattle.net_model.specs.Held.{sets, is_held, free_below}
+use Rattle.drawn_runs.specs.Drawn.{AreFree}
 use Rattle.drawn_runs.specs.Inputs.{AreDrawnTo}
 use Rattle.drawn_runs.proofs.Stepping.{lane_at}
 

@@ -15,7 +15,8 @@ use Rattle.net_model.specs.declared.lane_words.Lanes.{Lanes}
 use Rattle.net_sim.specs.LaneRows.{IsOnlyRow}
 use Rattle.net_sim.specs.Runs.{AreCaptures}
 use Rattle.net_sim.proofs.LaneSettling.{length-lane_row}
-use Rattle.drawn_runs.specs.Drawn.{free_below, words_before, AreFirst, AreFree, IsDrawn}
+use Rattle.net_model.specs.Held.{free_below}
+use Rattle.drawn_runs.specs.Drawn.{words_before, AreFirst, AreFree, IsDrawn}
 use Rattle.drawn_runs.specs.Sims.{AreFirst64, IsDrawnCycle, IsRunTo, AreBitsOf, IsCycleOf}
 use Rattle.drawn_runs.proofs.Stepping.{length_pushed}
 use Rattle.drawn_runs.proofs.Filling.{inputs_same}

@@ -1,27 +1,13 @@
 -- The drawn runs.
-use Rattle.std.specs.Prelude.{◌≡◌, ℕ, zero, suc, ◌+◌, ◌*◌, ◌<◌, ◌≤◌, Bool, true, false, ◌||◌, ◌==◌, if◌then◌else◌, List, length, Some, slice_get}
-use Rattle.std.specs.List.{list_any}
+use Rattle.std.specs.Prelude.{◌≡◌, ℕ, ◌+◌, ◌*◌, ◌<◌, ◌≤◌, Bool, true, false, List, length, Some, slice_get}
 use Rattle.net_model.specs.Cycles.{bit_at, IsRun}
+use Rattle.net_model.specs.Held.{is_held, free_below}
 use Rattle.net_model.specs.LaneBits.{lane}
 use Rattle.net_model.specs.Queries.{clause_holds}
 use Rattle.net_model.specs.declared.netlist.Design.{Design}
-use Rattle.net_model.specs.declared.netlist.Fixed.{Fixed}
 use Rattle.net_model.specs.declared.cycles.Cycle.{Cycle}
 use Rattle.net_model.specs.declared.invariants.InvClause.{InvClause}
 use Rattle.drawn_runs.specs.Draws.{word}
-
--- whether a setting is of this input
-abbrev pub sets : ℕ → Fixed → Bool
-sets input s = s.input == input
-
--- whether an input is fixed or reset
-abbrev pub is_held : Design → ℕ → Bool
-is_held d input = list_any (sets input) d.fixed || list_any (sets input) d.resets
-
--- how many inputs below this number are free, that is neither fixed nor reset
-unfoldable pub free_below : Design → ℕ → ℕ
-free_below d zero = 0
-free_below d (suc k) = free_below d k + (if is_held d k then 0 else 1)
 
 -- how many words are drawn before a cycle: one for each register, and then for each earlier cycle one for each free input
 abbrev pub words_before : Design → ℕ → ℕ

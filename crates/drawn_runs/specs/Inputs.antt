@@ -6,7 +6,7 @@ use Rattle.net_model.specs.LaneBits.{in_each_lane}
 use Rattle.net_model.specs.declared.netlist.Design.{Design}
 use Rattle.net_model.specs.declared.lane_words.Lanes.{Lanes}
 use Rattle.drawn_runs.specs.Draws.{after, word}
-use Rattle.drawn_runs.specs.Drawn.{is_held, free_below}
+use Rattle.net_model.specs.Held.{is_held, free_below}
 
 -- for each input whether it is fixed or reset
 pub record AreHeldMarks (d : Design) (marks : List Bool) : Type 0 where

@@ -7,7 +7,8 @@ ghost use Rattle.net_model.specs.Stimuli.{AreInputs};
 ghost use Rattle.net_model.specs.LaneBits.{lane, lane_row};
 ghost use Rattle.net_sim.specs.Settings.{set_bit, AreApart, AreSet};
 ghost use Rattle.drawn_runs.specs.Draws.{after};
-ghost use Rattle.drawn_runs.specs.Drawn.{sets, is_held, free_below, AreFree};
+ghost use Rattle.net_model.specs.Held.{sets, is_held, free_below};
+ghost use Rattle.drawn_runs.specs.Drawn.{AreFree};
 ghost use Rattle.drawn_runs.specs.Inputs.{AreHeldMarks, AreDrawnTo};
 
 use crate::draws::draw;

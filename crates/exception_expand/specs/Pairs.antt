@@ -1,7 +1,7 @@
 -- Pairs of a start and an end, the paths between them, and claims of them.
 use Rattle.std.specs.Prelude.{ℕ, Bool, true, not, ◌&&◌, ◌||◌, ◌==◌, nat_lt, List, map, flat_map}
 use Rattle.std.specs.List.{list_any}
-use Rattle.sdcv_base.specs.Kinds.{judged_count}
+use Rattle.net_model.specs.Judge.{judged_count}
 use Rattle.sdcv_base.specs.declared.kinds.Kind.{Kind}
 use Rattle.net_model.specs.Fits.{IsStartIn, IsEndIn}
 use Rattle.net_model.specs.Paths.{HasPath}
@@ -44,4 +44,4 @@ is_free d (InputStart i) = not (is_set i d.fixed || is_set i d.resets)
 
 -- a claim that needs a verdict: it judges some capture, and its start may toggle
 abbrev pub is_judged : Design → Claim → Bool
-is_judged d c = nat_lt 0 (judged_count c.kind) && is_free d c.start
+is_judged d c = nat_lt 0 (judged_count c) && is_free d c.start

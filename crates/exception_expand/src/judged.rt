@@ -29,7 +29,7 @@ fn judged(design: &Design, claims: &Seq<Claim>) -> usize
 fn is_judged(design: &Design, claim: &Claim) -> bool
     ensures { result ≡ spec.is_judged design.now claim.now }
 {
-    claim.kind.judged_count() > 0 && is_free(design, &claim.start)
+    claim.judged_count() > 0 && is_free(design, &claim.start)
 }
 
 fn is_free(design: &Design, start: &Start) -> bool

@@ -4,7 +4,7 @@ use Rattle.std.specs.Prelude.{All}
 use Rattle.std.proofs.lemmas.Grind.{flat_map-append}
 use Rattle.std.proofs.lemmas.List.Elements.{All-nil, All-cons, All-head, All-tail, All-append, All-map, All-weaker}
 use Rattle.net_model.specs.Fits.{Fits, IsKindFit}
-use Rattle.sdcv_base.specs.Kinds.{judged_count}
+use Rattle.net_model.specs.Judge.{judged_count}
 use Rattle.net_model.specs.declared.netlist.Design.{Design}
 use Rattle.net_model.specs.declared.claims.Claim.{Claim}
 use Rattle.sdcv_base.specs.declared.kinds.Kind.{Kind}
@@ -17,7 +17,7 @@ use Rattle.net_model.specs.declared.queries.Phase.TheVariants.{Base, Step}
 use Rattle.query_model.specs.Keys.{lit, opposite, below}
 use Rattle.query_model.specs.Reads.{bit_key}
 use Rattle.net_model.specs.Queries.{claim_query, clause_query, live_of, only_in_step}
-use Rattle.query_model.specs.Laws.{NamesRegs}
+use Rattle.net_model.specs.Fits.{NamesRegs}
 use Rattle.query_model.specs.Defined.{numbered, extra, toggle_key, change_key, differ_key, stale_key, bad_key}
 use Rattle.query_model.specs.Formula.{state_lit, clause_in, stale_if_later, plain_alternatives, hazard_alternatives, alternatives_at, alternatives}
 use Rattle.query_model.specs.Formula.{clean_clauses, bad_clauses, asked_clauses}
@@ -104,13 +104,13 @@ at_within true d claim cycles t r e le few = rw e (hazard_within claim.kind clai
 at_within false d claim cycles t r e le few = rw e (plain_within claim.kind claim.through d cycles (t + r) r le few)
 
 -- the conditions of a toggle, where the cycles judged are among these
-alternatives_within : (d : Design) (claim : Claim) (cycles t : ℕ) → IsKindFit claim.kind → t + judged_count claim.kind ≤ cycles
+alternatives_within : (d : Design) (claim : Claim) (cycles t : ℕ) → IsKindFit claim.kind → t + judged_count claim ≤ cycles
     → AreWithin d cycles (alternatives d claim t)
 alternatives_within d claim cycles t fit le =
-    All-below (AreLitsWithin d cycles) (alternatives_at d claim t) (judged_count claim.kind)
+    All-below (AreLitsWithin d cycles) (alternatives_at d claim t) (judged_count claim)
     (λ r lt. at_within claim.hazard d claim cycles t r refl (omega (arith, le, lt)) (omega (arith, lt, judged_few claim.kind fit)))
 
-clean_within : (d : Design) (claim : Claim) (cycles t : ℕ) → IsKindFit claim.kind → t + judged_count claim.kind ≤ cycles
+clean_within : (d : Design) (claim : Claim) (cycles t : ℕ) → IsKindFit claim.kind → t + judged_count claim ≤ cycles
     → AreWithin d cycles (clean_clauses d claim t)
 clean_within d claim cycles t fit le =
     let clause : List KeyLit → List KeyLit = λ conditions. lit false (toggle_key d t) ∷ map opposite conditions in
@@ -130,13 +130,13 @@ chosen_within d cycles t a conditions le lt within =
     (extra_within d cycles t (20 + a) le (omega (arith, lt))) (one d cycles condition is))
     conditions within)
 
-bad_within : (d : Design) (claim : Claim) (cycles t : ℕ) → IsKindFit claim.kind → t + judged_count claim.kind ≤ cycles
+bad_within : (d : Design) (claim : Claim) (cycles t : ℕ) → IsKindFit claim.kind → t + judged_count claim ≤ cycles
     → AreWithin d cycles (bad_clauses d claim t)
 bad_within d claim cycles t fit le =
     let found = alternatives d claim t in
     let within = alternatives_within d claim cycles t fit le in
     let now : t ≤ cycles = omega (arith, le) in
-    let few : length found ≤ 30 = omega (arith, below_few d claim t (judged_count claim.kind), judged_few claim.kind fit) in
+    let few : length found ≤ 30 = omega (arith, below_few d claim t (judged_count claim), judged_few claim.kind fit) in
     let toggles : IsLitWithin d cycles (lit true (toggle_key d t)) = extra_within d cycles t 0 now (omega arith) in
     let some : AreLitsWithin d cycles (some_chosen d t found) =
     All-numbered (AreLitsWithin d cycles) (IsLitWithin d cycles) (λ a (conditions : List KeyLit). lit true (bad_key d t a)) 0 found within
@@ -173,7 +173,7 @@ pub claim_within : (d : Design) (claim : Claim) (phase : Phase) (depth : ℕ) (i
 claim_within d claim phase depth inv fits names =
     let live = live_of d phase in
     let clean = only_in_step phase depth in
-    let cycles = live + depth + 1 + judged_count claim.kind in
+    let cycles = live + depth + 1 + judged_count claim in
     let before : AreWithin d cycles (flat_map (λ o. clean_clauses d claim (live + 1 + o)) (below clean)) =
     All-below (AreLitsWithin d cycles) (λ o. clean_clauses d claim (live + 1 + o)) clean
     (λ o lt. clean_within d claim cycles (live + 1 + o) fits.kind (omega (arith, lt, only_less phase depth))) in

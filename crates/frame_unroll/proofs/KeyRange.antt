@@ -4,7 +4,7 @@ use Rattle.std.proofs.Common.{refl, subst, arith, inl, inr, nat_lt}
 use Rattle.std.specs.Prelude.{slice_get, slice_index, ◌==◌, ◌&&◌, not}
 use Rattle.std.proofs.lemmas.Bool.{ltb-true}
 use Rattle.std.proofs.lemmas.Option.{slice_get_within}
-use Rattle.sdcv_base.specs.Kinds.{judged_count}
+use Rattle.net_model.specs.Judge.{judged_count}
 use Rattle.net_model.specs.Netlist.{IsSound, IsGateInRange, IsRegInRange, AllBelow}
 use Rattle.net_model.specs.Fits.{Fits, IsStartIn, IsEndIn}
 use Rattle.net_model.specs.Pins.{is_in}
@@ -240,7 +240,7 @@ extra_before claim cycles k zero early = tt
 extra_before claim cycles k (suc zero) early = early
 extra_before claim cycles k (suc (suc zero)) early = early
 extra_before claim cycles k (suc (suc (suc r))) early =
-    if_holds (IsBeforeLast cycles k) (nat_lt r (judged_count claim.kind - 1)) (Stale (r + 1)) Free (λ judged. tt) (λ other. tt)
+    if_holds (IsBeforeLast cycles k) (nat_lt r (judged_count claim - 1)) (Stale (r + 1)) Free (λ judged. tt) (λ other. tt)
 
 cycle_before : (d : Design) (claim : Claim) (moved : List (List Bool)) (cycles : ℕ) (k : Key) → IsBeforeLast cycles k (layer_origin d claim moved cycles k 0)
 cycle_before d claim moved cycles k =

@@ -3,7 +3,7 @@ use Rattle.std.proofs.Common.{◌≡◌, ℕ, zero, suc, ◌+◌, ◌-◌, ◌<�
 use Rattle.std.proofs.Common.{subst, arith, nat_lt}
 use Rattle.std.specs.Prelude.{◌==◌, ◌&&◌, not}
 use Rattle.std.proofs.lemmas.Bool.{and_parts, ltb-true, ltb-false}
-use Rattle.sdcv_base.specs.Kinds.{judged_count}
+use Rattle.net_model.specs.Judge.{judged_count}
 use Rattle.net_model.specs.Fits.{Fits, IsEndIn}
 use Rattle.net_model.specs.declared.netlist.Design.{Design}
 use Rattle.net_model.specs.declared.netlist.Gate.{Gate}
@@ -67,7 +67,7 @@ extra_origin_in : (d : Design) (claim : Claim) (place : ℕ) → IsOriginIn d (e
 extra_origin_in d claim zero = tt
 extra_origin_in d claim (suc zero) = tt
 extra_origin_in d claim (suc (suc zero)) = tt
-extra_origin_in d claim (suc (suc (suc r))) = if_holds (IsOriginIn d) (nat_lt r (judged_count claim.kind - 1)) (Stale (r + 1)) Free (λ judged. tt) (λ other. tt)
+extra_origin_in d claim (suc (suc (suc r))) = if_holds (IsOriginIn d) (nat_lt r (judged_count claim - 1)) (Stale (r + 1)) Free (λ judged. tt) (λ other. tt)
 
 cycle_origin_in : (d : Design) (claim : Claim) (moved : List (List Bool)) (cycles : ℕ) (k : Key) → IsOriginIn d (layer_origin d claim moved cycles k 0)
 cycle_origin_in d claim moved cycles k =

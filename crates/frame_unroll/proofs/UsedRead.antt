@@ -6,7 +6,7 @@ use Rattle.std.proofs.lemmas.Bool.{cond-true, cond-false, cases_Bool, lt-ltb, le
 use Rattle.net_model.specs.Form.{value}
 use Rattle.net_model.specs.Netlist.{IsSound, IsGateInRange}
 use Rattle.net_model.specs.Fits.{Fits}
-use Rattle.sdcv_base.specs.Kinds.{judged_count}
+use Rattle.net_model.specs.Judge.{judged_count}
 use Rattle.net_model.specs.Cycles.{reg_capture}
 use Rattle.net_model.proofs.Members.{In, In-cases, In-from_Contains, from_map, from_flat}
 use Rattle.net_model.proofs.Settling.{All-at}
@@ -282,11 +282,11 @@ from_extra d claim moved cycles c def k j early has out m = by_place has
         from_one d claim moved cycles this reads (extra d c n) k j outs says (read_at n reads same)
         (subst (λ (x : Definition). In k x.outs) (sym is) out) (subst (λ (x : Definition). Mentions x.clauses j) (sym is) m)
 
-    of_stale : (r : ℕ) → r < judged_count claim.kind - 1 → stale_definition d claim c r ≡ def → IsRead d claim moved cycles k j
+    of_stale : (r : ℕ) → r < judged_count claim - 1 → stale_definition d claim c r ≡ def → IsRead d claim moved cycles k j
     of_stale r lt is =
         let place : 2 + (r + 1) ≡ suc (suc (suc r)) = omega arith in
         let origin : extra_origin claim (2 + (r + 1)) ≡ Stale (r + 1) = ap (extra_origin claim) place
-        ∙ cond-true (nat_lt r (judged_count claim.kind - 1)) (Stale (r + 1)) Free (lt-ltb r (judged_count claim.kind - 1) lt) in
+        ∙ cond-true (nat_lt r (judged_count claim - 1)) (Stale (r + 1)) Free (lt-ltb r (judged_count claim - 1) lt) in
         let reads : reads_in_layer d claim moved (extra d c (2 + (r + 1))) 0 (extra_origin claim (2 + (r + 1))) ≡ start_lit d claim.start c
         ∷ start_lit d claim.start (c - r - 2) ∷ [] =
         ap (reads_in_layer d claim moved (extra d c (2 + (r + 1))) 0) origin
@@ -304,8 +304,8 @@ from_extra d claim moved cycles c def k j early has out m = by_place has
     by_place (inr (inr (inl is))) = one_of 2 (differ_definition d claim moved c) (differ_reads d claim moved c) (differ_out d claim moved c)
         (differ_says d claim moved c) refl is
     by_place (inr (inr (inr later))) =
-        let of = from_map (stale_definition d claim c) def (below (judged_count claim.kind - 1)) later in
-        of_stale of.0 (below_less (judged_count claim.kind - 1) of.0 of.1) of.2
+        let of = from_map (stale_definition d claim c) def (below (judged_count claim - 1)) later in
+        of_stale of.0 (below_less (judged_count claim - 1) of.0 of.1) of.2
 
 -- a used key is read
 pub used_read : (q : Query) (claim : Claim) (offset clean : ℕ) (moved : List (List Bool)) → IsSound q.design → Fits q.design claim

@@ -7,7 +7,7 @@ use Rattle.std.proofs.lemmas.List.{length-append}
 use Rattle.net_model.specs.Form.{value}
 use Rattle.net_model.specs.Netlist.{IsSound}
 use Rattle.net_model.specs.Fits.{Fits}
-use Rattle.sdcv_base.specs.Kinds.{judged_count}
+use Rattle.net_model.specs.Judge.{judged_count}
 use Rattle.net_model.specs.Cycles.{reg_capture}
 use Rattle.net_model.proofs.Members.{In, In-left, In-right, In-cases, Contains-from_In, In-map, In-flat}
 use Rattle.net_model.specs.declared.netlist.Design.{Design}
@@ -315,10 +315,10 @@ differ_out d claim moved c = by_mode claim.hazard
 abbrev pub stale_definition : Design → Claim → ℕ → ℕ → Definition
 stale_definition d claim c r = exclusive (stale_key d c (r + 1)) (start_lit d claim.start c) (start_lit d claim.start (c - r - 2))
 
-stale_in : (d : Design) (claim : Claim) (moved : List (List Bool)) (c r : ℕ) → r < judged_count claim.kind - 1 → In (stale_definition d claim c r)
+stale_in : (d : Design) (claim : Claim) (moved : List (List Bool)) (c r : ℕ) → r < judged_count claim - 1 → In (stale_definition d claim c r)
     (extra_definitions d claim moved c)
-stale_in d claim moved c r lt = inr (inr (inr (In-map (stale_definition d claim c) r (below (judged_count claim.kind - 1))
-    (In-below (judged_count claim.kind - 1) r lt))))
+stale_in d claim moved c r lt = inr (inr (inr (In-map (stale_definition d claim c) r (below (judged_count claim - 1))
+    (In-below (judged_count claim - 1) r lt))))
 
 pub earlier : (c r : ℕ) → c - (r + 1) - 1 ≡ c - r - 2
 earlier c r = omega arith
@@ -355,10 +355,10 @@ extra_used q claim offset clean moved k j asks layer rail early = by_point
         (listed (differ_definition d claim moved c) (inr (inr (inl refl))))
         (subst (λ (outs : List Key). In k outs) (sym (differ_out d claim moved c)) (inl (own 2 point))) (differ_says d claim moved c) a
     by_point (suc (suc (suc r))) point a =
-        cond_both (nat_lt r (judged_count claim.kind - 1)) (Stale (r + 1)) Free (λ o. Among (reads_in_layer d claim moved k 0 o) j
+        cond_both (nat_lt r (judged_count claim - 1)) (Stale (r + 1)) Free (λ o. Among (reads_in_layer d claim moved k 0 o) j
         → Uses (definitions Rows q moved) k j)
         (λ judged read.
-        let lt = ltb-true r (judged_count claim.kind - 1) judged in
+        let lt = ltb-true r (judged_count claim - 1) judged in
         let there : d.nets + length d.regs + (2 + (r + 1)) ≡ k.point = omega (arith, point) in
         use_by (definitions Rows q moved) (stale_definition d claim c r) (start_lit d claim.start c ∷ start_lit d claim.start (c - r - 2) ∷ []) k j
         (listed (stale_definition d claim c r) (stale_in d claim moved c r lt)) (inl (own (2 + (r + 1)) there))

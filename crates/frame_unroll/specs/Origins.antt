@@ -1,7 +1,7 @@
 -- What defines each key, and which keys its definition reads.
 use Rattle.std.specs.Prelude.{ℕ, zero, suc, ◌+◌, ◌-◌, ◌==◌, ◌&&◌, ◌||◌, Bool, true, not, List, [], ◌∷◌, ◌++◌, map, length, Contains, Option, Some}
 use Rattle.std.specs.Prelude.{None, slice_get, nat_lt, if◌then◌else◌}
-use Rattle.sdcv_base.specs.Kinds.{judged_count}
+use Rattle.net_model.specs.Judge.{judged_count}
 use Rattle.net_model.specs.declared.netlist.Design.{Design}
 use Rattle.net_model.specs.declared.netlist.Gate.{Gate}
 use Rattle.net_model.specs.declared.netlist.Reg.{Reg}
@@ -46,7 +46,7 @@ abbrev pub extra_origin : Claim → ℕ → Origin
 extra_origin claim zero = Toggle
 extra_origin claim (suc zero) = Change
 extra_origin claim (suc (suc zero)) = Differ
-extra_origin claim (suc (suc (suc r))) = if nat_lt r (judged_count claim.kind - 1) then Stale (r + 1) else Free
+extra_origin claim (suc (suc (suc r))) = if nat_lt r (judged_count claim - 1) then Stale (r + 1) else Free
 
 -- of the late capture: a register end
 abbrev pub end_origin : End → Origin

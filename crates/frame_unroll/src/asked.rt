@@ -2,10 +2,10 @@
 ghost use Rattle.std.specs.Prelude.{◌≡◌, ◌≤◌, ◌+◌, ◌++◌, ◌∷◌, [], map, All, IfOk, OnOk};
 ghost use Rattle.net_model.specs.Netlist.{IsSound};
 ghost use Rattle.net_model.specs.Fits.{Fits};
-ghost use Rattle.sdcv_base.specs.Kinds.{judged_count};
+ghost use Rattle.net_model.specs.Judge.{judged_count};
 ghost use Rattle.query_model.specs.Keys.{opposite};
 ghost use Rattle.net_model.specs.Queries.{live_of, claim_query, clause_query};
-ghost use Rattle.query_model.specs.Laws.{NamesRegs};
+ghost use Rattle.net_model.specs.Fits.{NamesRegs};
 ghost use Rattle.query_model.specs.Formula.{asked_clauses};
 ghost use Rattle.frame_unroll.specs.Framed.{AreWithin};
 
@@ -32,7 +32,7 @@ pub fn claim_asked(
     requires names { All (NamesRegs design.now) inv.now }
     requires few { depth ≤ 64 }
     ensures asked { IfOk result (λ asked. asked ≡ asked_clauses (claim_query design.now claim.now phase depth inv.now)) }
-    ensures within { IfOk result (AreWithin design.now (live_of design.now phase + depth + 1 + judged_count claim.now.kind)) }
+    ensures within { IfOk result (AreWithin design.now (live_of design.now phase + depth + 1 + judged_count claim.now)) }
 {
     let span = claim_span(design, claim, phase, depth);
     let clean = only_in_step(phase, depth);

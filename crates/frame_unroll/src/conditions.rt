@@ -151,7 +151,7 @@ pub fn alternatives(
     ensures few { IfOk result (λ found. length found ≤ 30) }
 {
     let mut found = Seq::new(alloc);
-    for later in 0..claim.kind.judged_count() {
+    for later in 0..claim.judged_count() {
         push_alternatives(alloc, &mut found, design, claim, toggle, later)?;
     }
     Ok(found)

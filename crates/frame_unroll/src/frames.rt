@@ -3,7 +3,7 @@ ghost use Rattle.std.specs.Prelude.{◌≡◌, ◌<◌, ◌≤◌, ◌^◌, ℕ,
 ghost use Rattle.net_model.specs.Netlist.{IsSound};
 ghost use Rattle.net_model.specs.Fits.{Fits};
 ghost use Rattle.net_model.specs.Queries.{claim_query, clause_query};
-ghost use Rattle.query_model.specs.Laws.{NamesRegs};
+ghost use Rattle.net_model.specs.Fits.{NamesRegs};
 ghost use Rattle.std.specs.List.{IsDistinct};
 ghost use Rattle.query_model.specs.Formula.{same_key};
 ghost use Rattle.query_model.specs.declared.keys.Key.{Key};

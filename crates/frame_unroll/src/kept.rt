@@ -2,7 +2,7 @@
 ghost use Rattle.std.specs.Prelude.{◌≡◌, ◌<◌, ◌++◌, length, flat_map, All, IfOk, OnOk};
 ghost use Rattle.net_model.specs.Netlist.{IsSound};
 ghost use Rattle.query_model.specs.Keys.{below};
-ghost use Rattle.query_model.specs.Laws.{NamesRegs};
+ghost use Rattle.net_model.specs.Fits.{NamesRegs};
 ghost use Rattle.query_model.specs.Formula as formula;
 ghost use Rattle.query_model.specs.Formula.{kept_in};
 

@@ -89,7 +89,7 @@ fn extra_origin(claim: &Claim, place: usize) -> Origin
         1 => Origin::Change,
         2 => Origin::Differ,
         _ => {
-            if place - 2 < claim.kind.judged_count() {
+            if place - 2 < claim.judged_count() {
                 Origin::Stale(place - 2)
             } else {
                 Origin::Free

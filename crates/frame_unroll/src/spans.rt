@@ -41,12 +41,12 @@ pub fn claim_span(design: &Design, claim: &Claim, phase: Phase, depth: usize) ->
     requires fits { Fits design.now claim.now }
     requires few { depth ≤ 64 }
     ensures live { result.live ≡ queries.live_of design.now phase }
-    ensures cycles { result.cycles ≡ queries.live_of design.now phase + depth + 1 + kinds.judged_count claim.now.kind }
+    ensures cycles { result.cycles ≡ queries.live_of design.now phase + depth + 1 + kinds.judged_count claim.now }
     ensures kept { result.kept_below ≡ queries.only_in_step phase result.cycles }
     ensures few { (result.live ≤ 64) × (result.cycles ≤ 144) }
 {
     let live = live_of(design, phase);
-    let cycles = live + depth + 1 + claim.kind.judged_count();
+    let cycles = live + depth + 1 + claim.judged_count();
     Span {
         live,
         cycles,

@@ -1,7 +1,7 @@
 //! The base queries of one clause.
 ghost use Rattle.std.specs.Prelude.{◌≤◌, ◌↔◌, IfOk, IsTrue};
 ghost use Rattle.net_model.specs.Netlist.{IsSound};
-ghost use Rattle.query_model.specs.Laws.{NamesRegs};
+ghost use Rattle.net_model.specs.Fits.{NamesRegs};
 ghost use Rattle.induction.specs.Bases.{IsRightBase, FailsLive};
 
 use crate::members::{copy_of, holds_in};

@@ -2,7 +2,7 @@
 ghost use Rattle.std.specs.Prelude.{◌≡◌, ◌≤◌, ◌↔◌, All, IfOk, OnOk, IsTrue};
 ghost use Rattle.net_model.specs.Netlist.{IsSound};
 ghost use Rattle.net_model.specs.Cycles.{IsRun};
-ghost use Rattle.query_model.specs.Laws.{NamesRegs};
+ghost use Rattle.net_model.specs.Fits.{NamesRegs};
 ghost use Rattle.verdicts.specs.Inductive.{StandOnce};
 ghost use Rattle.induction.specs.Pools.{base_entry, IsTried, IsPool, IsEmptyPool};
 ghost use Rattle.induction.specs.Bases.{FailsInSome};

@@ -1,7 +1,7 @@
 //! The greatest inductive set.
 ghost use Rattle.std.specs.Prelude.{◌≤◌, ◌<◌, All, IfOk};
 ghost use Rattle.net_model.specs.Netlist.{IsSound};
-ghost use Rattle.query_model.specs.Laws.{NamesRegs};
+ghost use Rattle.net_model.specs.Fits.{NamesRegs};
 ghost use Rattle.verdicts.specs.Inductive.{StandOnce};
 ghost use Rattle.verdicts.specs.Kept.{IsKeptSet};
 ghost use Rattle.verdicts.specs.Forms.{IsKeptClause, IsSetInForm};

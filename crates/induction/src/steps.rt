@@ -1,7 +1,7 @@
 //! The step queries of all clauses that are left, one after another.
 ghost use Rattle.std.specs.Prelude.{◌≤◌, All, IfOk};
 ghost use Rattle.net_model.specs.Netlist.{IsSound};
-ghost use Rattle.query_model.specs.Laws.{NamesRegs};
+ghost use Rattle.net_model.specs.Fits.{NamesRegs};
 ghost use Rattle.induction.specs.Steps.{IsRightRound};
 
 use cnf_encode::Prepared;

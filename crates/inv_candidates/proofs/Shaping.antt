@@ -8,7 +8,7 @@ use Rattle.net_model.specs.Netlist.{IsSound}
 use Rattle.net_model.specs.declared.netlist.Design.{Design}
 use Rattle.net_model.specs.declared.claims.Claim.{Claim}
 use Rattle.net_model.specs.declared.invariants.InvClause.{InvClause}
-use Rattle.query_model.specs.Laws.{NamesRegs}
+use Rattle.net_model.specs.Fits.{NamesRegs}
 use Rattle.verdicts.specs.Forms.{AreOneOrTwo, IsKeptClause}
 use Rattle.reg_groups.specs.Near.{Differ}
 use Rattle.reg_groups.proofs.Grouping.{differ_in_order}

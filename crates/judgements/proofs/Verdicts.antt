@@ -6,7 +6,7 @@ use Rattle.std.proofs.lemmas.Option.{same_Some, slice_get_within}
 use Rattle.net_model.specs.declared.netlist.Design.{Design}
 use Rattle.net_model.specs.declared.claims.Claim.{Claim}
 use Rattle.net_model.specs.declared.invariants.InvClause.{InvClause}
-use Rattle.query_model.specs.Laws.{NamesRegs}
+use Rattle.net_model.specs.Fits.{NamesRegs}
 use Rattle.verdicts.specs.Logs.{own_coding}
 use Rattle.verdicts.specs.Certified.{ProveKept}
 use Rattle.verdicts.specs.Forms.{IsVerdictInForm}

@@ -5,7 +5,7 @@ use Rattle.net_model.specs.declared.netlist.Design.{Design}
 use Rattle.net_model.specs.declared.cycles.Stimulus.{Stimulus}
 use Rattle.net_model.specs.declared.claims.Claim.{Claim}
 use Rattle.net_model.specs.declared.invariants.InvClause.{InvClause}
-use Rattle.query_model.specs.Laws.{NamesRegs}
+use Rattle.net_model.specs.Fits.{NamesRegs}
 use Rattle.verdicts.specs.Inductive.{AreAlwaysMet}
 use Rattle.verdicts.specs.Verdicts.{IsRight}
 use Rattle.verdicts.specs.Forms.{IsSetInForm, IsVerdictInForm}

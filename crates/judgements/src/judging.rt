@@ -2,7 +2,7 @@
 ghost use Rattle.std.specs.Prelude.{◌<◌, ◌≤◌, All, IfOk};
 ghost use Rattle.net_model.specs.Netlist.{IsSound};
 ghost use Rattle.net_model.specs.Fits.{Fits};
-ghost use Rattle.query_model.specs.Laws.{NamesRegs};
+ghost use Rattle.net_model.specs.Fits.{NamesRegs};
 ghost use Rattle.verdicts.specs.Inductive.{AreAlwaysMet};
 ghost use Rattle.judgements.specs.Judgements.{AreAllInForm, AreFound, AreJudged};
 

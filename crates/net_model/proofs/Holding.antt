@@ -3,10 +3,9 @@ use Rattle.std.proofs.Common.{◌≡◌, ℕ, ◌-◌, ◌≤◌, Bool, false, n
 use Rattle.std.specs.Prelude.{slice_get}
 use Rattle.std.proofs.lemmas.Bool.{le-ltb}
 use Rattle.std.proofs.lemmas.Option.{slice_get-get_or}
-use Rattle.sdcv_base.specs.Kinds.{judged_count}
 use Rattle.net_model.specs.Netlist.{setting_inputs, held_inputs}
 use Rattle.net_model.specs.Cycles.{bit_at, IsRun, HasFixed, HasResets}
-use Rattle.net_model.specs.Judge.{start_bit, Toggles, IsViolatedAt, Holds}
+use Rattle.net_model.specs.Judge.{judged_count, start_bit, Toggles, IsViolatedAt, Holds}
 use Rattle.net_model.specs.Held.{IsHeldStart}
 use Rattle.net_model.proofs.Settling.{All-at}
 use Rattle.net_model.proofs.Members.{In, In-from_Contains, Contains-from_In, In-cases, from_map}
@@ -14,6 +13,7 @@ use Rattle.net_model.specs.declared.netlist.Design.{Design}
 use Rattle.net_model.specs.declared.netlist.Fixed.{Fixed}
 use Rattle.net_model.specs.declared.cycles.Cycle.{Cycle}
 use Rattle.net_model.specs.declared.claims.Claim.{Claim}
+use Rattle.sdcv_base.specs.declared.kinds.Edge.{Edge}
 use Rattle.net_model.specs.declared.claims.Start.{Start}
 use Rattle.net_model.specs.declared.claims.Start.TheVariants.{Reg as RegStart, Input as InputStart}
 
@@ -45,9 +45,9 @@ held_same d (InputStart i) run t u a b held is low less at then =
     ]
 
 -- a start that is fixed or reset never toggles
-pub held_never_toggles : (d : Design) (start : Start) (run : List Cycle) (t : ℕ) (stale : Bool) → IsHeldStart d start → IsRun d run
-    → ¬ Toggles d.reset_len start run t stale
-held_never_toggles d start run t stale held is toggles =
+pub held_never_toggles : (d : Design) (edge : Edge) (start : Start) (run : List Cycle) (t : ℕ) (stale : Bool) → IsHeldStart d start → IsRun d run
+    → ¬ Toggles d.reset_len edge start run t stale
+held_never_toggles d edge start run t stale held is toggles =
     let same = held_same d start run t (t - 1) toggles.now toggles.before held is (omega (arith, toggles.is_live))
     (omega (arith, toggles.is_live)) toggles.now_at toggles.before_at in
     toggles.differs (same ∙ toggles.stale_is)
@@ -55,13 +55,13 @@ held_never_toggles d start run t stale held is toggles =
 -- so a claim with such a start holds
 pub held_holds : (d : Design) (claim : Claim) → IsHeldStart d claim.start → Holds d claim
 held_holds d claim held run t is violated =
-    held_never_toggles d claim.start run t violated.stale held is violated.toggles
+    held_never_toggles d claim.edge claim.start run t violated.stale held is violated.toggles
 
 -- a claim that judges no capture is nowhere violated
-pub unjudged_never_violated : (live : ℕ) (d : Design) (claim : Claim) (run : List Cycle) (t : ℕ) → judged_count claim.kind ≡ 0
+pub unjudged_never_violated : (live : ℕ) (d : Design) (claim : Claim) (run : List Cycle) (t : ℕ) → judged_count claim ≡ 0
     → ¬ IsViolatedAt live d claim run t
 unjudged_never_violated live d claim run t none violated = absurd (omega (arith, violated.judged, none))
 
 -- so it holds
-pub unjudged_holds : (d : Design) (claim : Claim) → judged_count claim.kind ≡ 0 → Holds d claim
+pub unjudged_holds : (d : Design) (claim : Claim) → judged_count claim ≡ 0 → Holds d claim
 unjudged_holds d claim none run t is violated = unjudged_never_violated d.reset_len d claim run t none violated

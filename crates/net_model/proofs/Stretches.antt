@@ -1,4 +1,4 @@
--- A run that is violated contains a stretch that is violated at offset 0.
+-- Cycles that follow one another in a run.
 use Rattle.std.proofs.Common.{◌≡◌, ℕ, zero, suc, ◌+◌, ◌-◌, ◌<◌, ◌≤◌, Bool, false, List, [], ◌∷◌, length, take, drop, get_or, Some, refl, ap, subst}
 use Rattle.std.proofs.Common.{sym, ◌∙◌, arith}
 use Rattle.std.specs.Prelude.{slice_get, nat_lt}
@@ -8,14 +8,8 @@ use Rattle.std.proofs.lemmas.List.Elements.{All-take, All-drop}
 use Rattle.std.proofs.lemmas.Option.{slice_get_within, slice_get-get_or}
 use Rattle.net_model.proofs.Settling.{All-at}
 use Rattle.net_model.specs.Cycles.{IsSettled, IsLinked, IsRun, IsStretch, HasFixed, HasResets}
-use Rattle.sdcv_base.specs.Kinds.{judged_count}
-use Rattle.net_model.specs.Judge.{IsViolatedAt, Holds}
-use Rattle.net_model.specs.Queries.{AreCyclesOf, IsStepAnswer, claim_query}
 use Rattle.net_model.specs.declared.netlist.Design.{Design}
 use Rattle.net_model.specs.declared.cycles.Cycle.{Cycle}
-use Rattle.net_model.specs.declared.claims.Claim.{Claim}
-use Rattle.sdcv_base.specs.declared.kinds.Kind.TheVariants.{False}
-use Rattle.net_model.specs.declared.queries.Phase.TheVariants.{Step}
 
 -- the m cycles of a run from cycle s on
 abbrev pub window : {X : Type 0} → ℕ → ℕ → List X → List X
@@ -68,73 +62,3 @@ IsStretch-window d run s m some long live from_reset =
           let inactive : nat_lt (s + t) d.reset_len ≡ false = le-ltb (s + t) d.reset_len (omega arith) in
           subst (λ (active : Bool). HasResets d active c) inactive (from_reset.resets (s + t) c at);
     }
-
--- a stretch that is violated at an offset and at none below answers the step query
-pub step_answer : (d : Design) (claim : Claim) (depth : ℕ) (stretch : List Cycle) → IsStretch d stretch → length stretch ≡ depth + 1 + judged_count claim.kind
-    → ((offset : ℕ) → offset < depth → ¬ IsViolatedAt 0 d claim stretch (0 + 1 + offset)) → IsViolatedAt 0 d claim stretch (0 + 1 + depth)
-    → IsStepAnswer d claim depth stretch
-step_answer d claim depth stretch is count clean violated =
-    record {
-      cycles =
-          record {
-            linked = is.linked;
-            resets = λ t c at.
-                let inactive : nat_lt t 0 ≡ false = le-ltb t 0 (omega arith) in
-                subst (λ (active : Bool). HasResets d active c) (sym inactive) (All-at (HasResets d false) stretch t c at is.resets);
-            count = omega arith;
-          };
-      kept = λ t c clause low at has. absurd (omega (arith, has.1));
-      asked = (clean, violated);
-    }
-
--- the cycles of an answer to a step query are a stretch
-pub stretch_of : (d : Design) (claim : Claim) (depth : ℕ) (stretch : List Cycle) → IsStepAnswer d claim depth stretch → IsStretch d stretch
-stretch_of d claim depth stretch answer =
-    record {
-      linked = answer.cycles.linked;
-      resets = λ t o within.
-          let inactive : nat_lt t 0 ≡ false = le-ltb t 0 (omega arith) in
-          subst (λ (active : Bool). HasResets d active (get_or stretch t o)) inactive
-          (answer.cycles.resets t (get_or stretch t o) (slice_get-get_or stretch t o within));
-    }
-
--- a run that is violated at t, and has all judged captures, contains an answer of the step query of depth 0
-pub violated_window : (d : Design) (claim : Claim) (run : List Cycle) (t : ℕ) → IsRun d run → t + judged_count claim.kind ≤ length run
-    → IsViolatedAt d.reset_len d claim run t → IsStepAnswer d claim 0 (window (t - 1) (1 + judged_count claim.kind) run)
-violated_window d claim run t from_reset long violated =
-    let s = t - 1 in
-    let m = 1 + judged_count claim.kind in
-    let live : d.reset_len ≤ s = omega (arith, violated.toggles.is_live) in
-    let fits : s + m ≤ length run = omega (arith, violated.toggles.is_live) in
-    let at : (i k : ℕ) (c : Cycle) → i < m → k ≡ s + i → slice_get run k ≡ Some c → slice_get (window s m run) i ≡ Some c =
-    λ i k c low same there. slice_get-window s m i run low ∙ subst (λ (j : ℕ). slice_get run j ≡ Some c) same there in
-    step_answer d claim 0 (window s m run) (IsStretch-window d run s m (omega arith) fits live from_reset) (length-window s m run fits)
-    (λ offset low. absurd (omega arith))
-    (record {
-      stale = violated.stale;
-      toggles =
-          record {
-            before = violated.toggles.before;
-            now = violated.toggles.now;
-            before_at = at 0 s violated.toggles.before (omega arith) (omega arith) violated.toggles.before_at;
-            now_at = at 1 t violated.toggles.now (omega (arith, violated.judged)) (omega (arith, violated.toggles.is_live)) violated.toggles.now_at;
-            is_live = omega arith;
-            stale_is = violated.toggles.stale_is;
-            differs = violated.toggles.differs;
-          };
-      r = violated.r;
-      judged = violated.judged;
-      before = violated.before;
-      c = violated.c;
-      before_at = at (1 + violated.r - 1) (t + violated.r - 1) violated.before (omega (arith, violated.judged))
-          (omega (arith, violated.toggles.is_live)) violated.before_at;
-      c_at = at (1 + violated.r) (t + violated.r) violated.c (omega (arith, violated.judged)) (omega (arith, violated.toggles.is_live)) violated.c_at;
-      bad = violated.bad;
-    })
-
--- a false path holds where no stretch of two cycles is violated
-pub holds_without_stretch : (d : Design) (claim : Claim) → claim.kind ≡ False → ((stretch : List Cycle) → ¬ IsStepAnswer d claim 0 stretch) → Holds d claim
-holds_without_stretch d claim plain none run t from_reset violated =
-    let one : judged_count claim.kind ≡ 1 = ap judged_count plain in
-    let within = slice_get_within run t violated.toggles.now violated.toggles.now_at in
-    none (window (t - 1) (1 + judged_count claim.kind) run) (violated_window d claim run t from_reset (omega arith) violated)

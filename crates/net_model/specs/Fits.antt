@@ -1,9 +1,11 @@
--- Claims whose places are those of a design.
-use Rattle.std.specs.Prelude.{◌≡◌, ◌<◌, ◌≤◌, length, All, Some, slice_get}
+-- Claims and clauses whose places are those of a design.
+use Rattle.std.specs.Prelude.{◌≡◌, ℕ, ◌<◌, ◌≤◌, length, All, Some, slice_get}
 use Rattle.net_model.specs.declared.netlist.Design.{Design}
 use Rattle.net_model.specs.declared.netlist.Gate.{Gate}
 use Rattle.net_model.specs.declared.netlist.Reg.{Reg}
 use Rattle.net_model.specs.declared.claims.Claim.{Claim}
+use Rattle.net_model.specs.declared.invariants.StateLit.{StateLit}
+use Rattle.net_model.specs.declared.invariants.InvClause.{InvClause}
 use Rattle.sdcv_base.specs.declared.kinds.Kind.{Kind}
 use Rattle.sdcv_base.specs.declared.kinds.Kind.TheVariants.{False, Multi}
 use Rattle.net_model.specs.declared.claims.Start.{Start}
@@ -35,10 +37,20 @@ abbrev pub IsKindFit : Kind → Type 0
 IsKindFit False = Unit {0}
 IsKindFit (Multi k) = (1 ≤ k) × (k ≤ 16)
 
+-- a false path is judged over at most eight cycles of lag, a multicycle path over none
+abbrev pub IsLagFit : Kind → ℕ → Type 0
+IsLagFit False lag = lag ≤ 8
+IsLagFit (Multi k) lag = lag ≡ 0
+
 -- all places of the claim are in range, and it has at most four through sets
 pub record Fits (d : Design) (claim : Claim) : Type 0 where
   pub kind : IsKindFit claim.kind
+  pub lag : IsLagFit claim.kind claim.lag
   pub start : IsStartIn d claim.start
   pub end_ : IsEndIn d claim.end
   pub pins : All (All (IsPinIn d)) claim.through
   pub few : length claim.through ≤ 4
+
+-- each literal of the clause is about a register of the design
+abbrev pub NamesRegs : Design → InvClause → Type 0
+NamesRegs d clause = All (λ (l : StateLit). l.reg < length d.regs) clause.lits

@@ -1,6 +1,5 @@
--- Toggles, bad cycles, and claims that hold.
+-- Judged captures, toggles, bad cycles, and claims that hold.
 use Rattle.std.specs.Prelude.{◌≡◌, ◌≢◌, ℕ, ◌<◌, ◌≤◌, ◌+◌, ◌-◌, Bool, true, false, List, [], ◌∷◌, Some, slice_get, ◌⊎◌}
-use Rattle.sdcv_base.specs.Kinds.{judged_count}
 use Rattle.net_model.specs.Cycles.{bit_at, capture, IsRun}
 use Rattle.net_model.specs.Layers.{IsLateCapture}
 use Rattle.net_model.specs.Ternary.{IsTernaryCapture}
@@ -9,19 +8,36 @@ use Rattle.net_model.specs.declared.cycles.Cycle.{Cycle}
 use Rattle.net_model.specs.declared.claims.Claim.{Claim}
 use Rattle.net_model.specs.declared.claims.PinRef.{PinRef}
 use Rattle.net_model.specs.declared.terns.Tern.TheVariants.{Unknown}
+use Rattle.sdcv_base.specs.declared.kinds.Edge.{Edge}
+use Rattle.sdcv_base.specs.declared.kinds.Edge.TheVariants.{Any, Rise, Fall}
 use Rattle.sdcv_base.specs.declared.kinds.Kind.{Kind}
 use Rattle.sdcv_base.specs.declared.kinds.Kind.TheVariants.{False, Multi}
 use Rattle.net_model.specs.declared.claims.Start.{Start}
 use Rattle.net_model.specs.declared.claims.Start.TheVariants.{Reg as RegStart, Input as InputStart}
+
+-- how many captures from the toggle on are judged: of a false path the first and one for each cycle of its lag; of a multicycle
+-- path those of the cycles before the last (Higuchi, DAC 2002)
+abbrev pub judged_by : Kind → ℕ → ℕ
+judged_by False lag = lag + 1
+judged_by (Multi k) lag = k - 1
+
+abbrev pub judged_count : Claim → ℕ
+judged_count claim = judged_by claim.kind claim.lag
 
 -- the bit of a start in a cycle
 abbrev pub start_bit : Start → Cycle → Bool
 start_bit (RegStart r) c = bit_at c.bits r
 start_bit (InputStart i) c = bit_at c.ins i
 
--- the start toggles at t: cycle t - 1 is live, and the start's bit in it, the stale bit, differs from its bit in t;
--- cycles are live from cycle `live` on
-pub record Toggles (live : ℕ) (start : Start) (run : List Cycle) (t : ℕ) (stale : Bool) : Type 0 where
+-- the edge of a change from a bit: a rising start was 0 before, a falling one 1
+abbrev pub IsEdge : Edge → Bool → Type 0
+IsEdge Any stale = Unit {0}
+IsEdge Rise stale = stale ≡ false
+IsEdge Fall stale = stale ≡ true
+
+-- the start toggles at t, with this edge: cycle t - 1 is live, and the start's bit in it, the stale bit, differs from its bit
+-- in t; cycles are live from cycle `live` on
+pub record Toggles (live : ℕ) (edge : Edge) (start : Start) (run : List Cycle) (t : ℕ) (stale : Bool) : Type 0 where
   pub before : Cycle
   pub now : Cycle
   pub before_at : slice_get run (t - 1) ≡ Some before
@@ -29,6 +45,7 @@ pub record Toggles (live : ℕ) (start : Start) (run : List Cycle) (t : ℕ) (st
   pub is_live : live + 1 ≤ t
   pub stale_is : start_bit start before ≡ stale
   pub differs : start_bit start now ≢ stale
+  pub edge_is : IsEdge edge stale
 
 -- the late capture differs from the capture
 abbrev pub DiffersLate : Design → Claim → Cycle → Bool → Type 0
@@ -63,9 +80,9 @@ IsBadFor true d claim stale before c = IsBadHazard claim.kind claim.through d cl
 -- the claim is violated at t: its start toggles at t, and cycle t + r of the run is bad for some judged r
 pub record IsViolatedAt (live : ℕ) (d : Design) (claim : Claim) (run : List Cycle) (t : ℕ) : Type 0 where
   pub stale : Bool
-  pub toggles : Toggles live claim.start run t stale
+  pub toggles : Toggles live claim.edge claim.start run t stale
   pub r : ℕ
-  pub judged : r < judged_count claim.kind
+  pub judged : r < judged_count claim
   pub before : Cycle
   pub c : Cycle
   pub before_at : slice_get run (t + r - 1) ≡ Some before

@@ -1,9 +1,8 @@
 -- What a query asks of runs and stretches, and those that answer it.
 use Rattle.std.specs.Prelude.{◌≡◌, ℕ, ◌+◌, ◌-◌, ◌<◌, Bool, true, false, not, List, [], length, Contains, Some, slice_get, nat_lt, if◌then◌else◌}
 use Rattle.std.specs.List.{list_any}
-use Rattle.sdcv_base.specs.Kinds.{judged_count}
 use Rattle.net_model.specs.Cycles.{bit_at, IsLinked, HasResets}
-use Rattle.net_model.specs.Judge.{IsViolatedAt}
+use Rattle.net_model.specs.Judge.{judged_count, IsViolatedAt}
 use Rattle.net_model.specs.declared.netlist.Design.{Design}
 use Rattle.net_model.specs.declared.cycles.Cycle.{Cycle}
 use Rattle.net_model.specs.declared.invariants.StateLit.{StateLit}
@@ -45,9 +44,9 @@ claim_query d claim phase depth inv =
     record {
       design = d;
       live = live_of d phase;
-      cycles = live_of d phase + depth + 1 + judged_count claim.kind;
+      cycles = live_of d phase + depth + 1 + judged_count claim;
       kept = inv;
-      kept_below = only_in_step phase (live_of d phase + depth + 1 + judged_count claim.kind);
+      kept_below = only_in_step phase (live_of d phase + depth + 1 + judged_count claim);
       question = Violates claim depth (only_in_step phase depth);
     }
 
@@ -88,11 +87,3 @@ pub record IsAnswer (q : Query) (run : List Cycle) : Type 0 where
   pub cycles : AreCyclesOf q run
   pub kept : (t : ℕ) (c : Cycle) (clause : InvClause) → t < q.kept_below → slice_get run t ≡ Some c → Contains q.kept clause → clause_holds c clause ≡ true
   pub asked : IsAsked q q.question run
-
--- answers the step query of a claim at a depth, without kept clauses
-abbrev pub IsStepAnswer : Design → Claim → ℕ → List Cycle → Type 0
-IsStepAnswer d claim depth stretch = IsAnswer (claim_query d claim Step depth []) stretch
-
--- some stretch answers that query
-abbrev pub HasStepAnswer : Design → Claim → ℕ → Type 0
-HasStepAnswer d claim depth = (stretch : List Cycle) × IsStepAnswer d claim depth stretch

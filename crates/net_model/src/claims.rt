@@ -1,6 +1,9 @@
 //! What a timing exception claims of one pair of a start and an end.
+ghost use Rattle.std.specs.Prelude.{◌≡◌};
+ghost use Rattle.net_model.specs.Judge.{judged_count};
+
 use crate::pins::PinSet;
-use sdcv_base::{Kind, Seq};
+use sdcv_base::{Edge, Kind, Seq};
 
 /// Where a path starts: at a register or an input, by its place in the design's list.
 #[derive(Debug, Clone, Copy, PartialEq, Eq)]
@@ -28,12 +31,28 @@ pub enum PinRef {
 
 /// A claim about the paths from `start` to `end` that meet a pin of each set of `through`, in that order.
 ///
-/// With `hazard` the end may not see a glitch either.
+/// The paths begin where the start's own bit changes as `edge` says. A false path is judged at `lag` more captures than
+/// the first; a multicycle path has no lag. With `hazard` the end may not see a glitch either.
 #[derive(Drop)]
 pub struct Claim {
     pub kind: Kind,
+    pub edge: Edge,
+    pub lag: u8,
     pub hazard: bool,
     pub start: Start,
     pub end: End,
     pub through: Seq<PinSet>,
+}
+
+impl Claim {
+    /// How many captures from the toggle on are judged: of a false path the first and one for each cycle of its lag; of a
+    /// multicycle path those of the cycles before the last (Higuchi, DAC 2002), so none of a multiplier of 1.
+    pub fn judged_count(&self) -> usize
+        ensures { result ≡ judged_count self.now }
+    {
+        match self.kind {
+            Kind::False => usize::from(self.lag) + 1,
+            Kind::Multi(cycles) => usize::from(cycles.saturating_sub(1)),
+        }
+    }
 }

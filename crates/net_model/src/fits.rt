@@ -1,9 +1,9 @@
 //! Whether a claim's places are those of a design.
 ghost use Rattle.std.specs.Prelude.{◌↔◌, IsTrue, All};
-ghost use Rattle.net_model.specs.Fits.{IsStartIn, IsEndIn, IsPinIn, IsKindFit, Fits};
+ghost use Rattle.net_model.specs.Fits.{IsStartIn, IsEndIn, IsPinIn, IsKindFit, IsLagFit, Fits};
 
 use crate::claims::{Claim, End, PinRef, Start};
-use crate::limits::{MOST_CYCLES, MOST_SETS};
+use crate::limits::{MOST_CYCLES, MOST_LAG, MOST_SETS};
 use crate::netlist::Design;
 use crate::pins::PinSet;
 use sdcv_base::Kind;
@@ -14,6 +14,15 @@ fn is_kind_fit(kind: Kind) -> bool
     match kind {
         Kind::False => true,
         Kind::Multi(cycles) => cycles >= 1 && cycles <= MOST_CYCLES,
+    }
+}
+
+fn is_lag_fit(kind: Kind, lag: u8) -> bool
+    ensures { IsTrue result ↔ IsLagFit kind lag }
+{
+    match kind {
+        Kind::False => lag <= MOST_LAG,
+        Kind::Multi(_) => lag == 0,
     }
 }
 
@@ -60,11 +69,13 @@ fn are_pins_in(design: &Design, set: &PinSet) -> bool
 }
 
 impl Claim {
-    /// Whether all places of the claim are in range, its multiplier is from 1 to 16, and it has at most 4 through sets.
+    /// Whether all places of the claim are in range, its multiplier is from 1 to 16, its lag is at most 8 and that of a
+    /// multicycle path 0, and it has at most 4 through sets.
     pub fn fits(&self, design: &Design) -> bool
         ensures { IsTrue result ↔ Fits design.now self.now }
     {
         is_kind_fit(self.kind)
+            && is_lag_fit(self.kind, self.lag)
             && is_start_in(design, self.start)
             && is_end_in(design, self.end)
             && self.through.len() <= MOST_SETS

@@ -1,14 +1,14 @@
 //! Laws of the model. Each is the contract of a call that does nothing, for callers that cite it.
 ghost use Rattle.std.specs.Prelude.{◌≡◌, ◌≤◌, ℕ, Bool, List};
-ghost use Rattle.sdcv_base.specs.Kinds.{judged_count};
 ghost use Rattle.net_model.specs.Netlist.{IsSound};
 ghost use Rattle.net_model.specs.Fits.{Fits};
 ghost use Rattle.net_model.specs.Cycles.{IsRun};
 ghost use Rattle.net_model.specs.Stimuli.{IsLawful, HasOneRun, HasStimulus};
-ghost use Rattle.net_model.specs.Judge.{Toggles, IsViolatedAt, Holds};
+ghost use Rattle.net_model.specs.Judge.{judged_count, Toggles, IsViolatedAt, Holds};
 ghost use Rattle.net_model.specs.Held.{IsHeldStart};
 ghost use Rattle.net_model.specs.Moved.{IsMovedByPaths};
 ghost use Rattle.net_model.specs.declared.cycles.Cycle.{Cycle as CycleRecord};
+ghost use Rattle.sdcv_base.specs.declared.kinds.Edge.{Edge};
 
 use crate::claims::Claim;
 use crate::cycles::Stimulus;
@@ -34,14 +34,15 @@ pub fn some_stimulus(design: &Design)
 /// A start that is a fixed or a reset input never toggles after the reset's end, so a claim with such a start holds.
 pub fn held_start(design: &Design, claim: &Claim)
     requires { IsHeldStart design.now claim.now.start }
-    ensures never { (run : List CycleRecord) (t : ℕ) (stale : Bool) → IsRun design.now run → ¬ Toggles design.now.reset_len claim.now.start run t stale }
+    ensures never { (edge : Edge) (run : List CycleRecord) (t : ℕ) (stale : Bool) → IsRun design.now run
+        → ¬ Toggles design.now.reset_len edge claim.now.start run t stale }
     ensures holds { Holds design.now claim.now }
 {}
 
 /// A claim that judges no capture, as of a multicycle path with multiplier 1, is violated nowhere: not in stretches
 /// either. So it holds, whatever the design.
 pub fn unjudged(design: &Design, claim: &Claim)
-    requires { judged_count claim.now.kind ≡ 0 }
+    requires { judged_count claim.now ≡ 0 }
     ensures never { (live : ℕ) (run : List CycleRecord) (t : ℕ) → ¬ IsViolatedAt live design.now claim.now run t }
     ensures holds { Holds design.now claim.now }
 {}

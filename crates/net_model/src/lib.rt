@@ -46,13 +46,13 @@ pub use late_starts::make_layers;
 pub use laws::{held_start, moved_where_path, one_run, some_stimulus, unjudged};
 pub use layers::{late_reg_args, layer_pin};
 pub use limits::{
-    LAYERS, MOST_CYCLES, MOST_DEPTH, MOST_INPUTS, MOST_NETS, MOST_OUTPUTS, MOST_PINS,
+    LAYERS, MOST_CYCLES, MOST_DEPTH, MOST_INPUTS, MOST_LAG, MOST_NETS, MOST_OUTPUTS, MOST_PINS,
     MOST_REGISTERS, MOST_RESET_CYCLES, MOST_SETS,
 };
 pub use netlist::{Design, Fixed, Gate, Reg, RegOut};
 pub use pins::{PinSet, is_held};
 pub use queries::Phase;
 pub use rows::{pin_args, settle_gates};
-pub use sdcv_base::Kind;
+pub use sdcv_base::{Edge, Kind};
 pub use terns::Tern;
 pub use values::Value;

@@ -21,6 +21,9 @@ pub const MOST_RESET_CYCLES: usize = 64;
 /// The largest multiplier of a multicycle path.
 pub const MOST_CYCLES: u8 = 16;
 
+/// The most cycles of lag of a false path.
+pub const MOST_LAG: u8 = 8;
+
 /// The most through sets of a claim.
 pub const MOST_SETS: usize = 4;
 

@@ -2,7 +2,7 @@
 ghost use Rattle.std.specs.Prelude.{◌≤◌, ◌<◌, All, IfOk};
 ghost use Rattle.net_model.specs.Netlist.{IsSound};
 ghost use Rattle.net_model.specs.Fits.{Fits};
-ghost use Rattle.query_model.specs.Laws.{NamesRegs};
+ghost use Rattle.net_model.specs.Fits.{NamesRegs};
 ghost use Rattle.verdicts.specs.Inductive.{AreAlwaysMet};
 ghost use Rattle.verdicts.specs.Verdicts.{IsRight};
 ghost use Rattle.verdicts.specs.Forms.{IsVerdictInForm};
@@ -56,7 +56,7 @@ fn verdict_of(
     ensures right { IfOk result (IsRight design.now claim.now inv.now.kept limits.now) }
     ensures in_form { IfOk result IsVerdictInForm }
 {
-    if claim.kind.judged_count() == 0 {
+    if claim.judged_count() == 0 {
         return Ok(Verdict::Justified(Proof::Single));
     }
     if is_held_start(design.bare(), &claim.start) {

@@ -9,7 +9,7 @@ use Rattle.net_model.specs.declared.cycles.Cycle.{Cycle}
 use Rattle.net_model.specs.declared.claims.Claim.{Claim}
 use Rattle.net_model.specs.declared.invariants.InvClause.{InvClause}
 use Rattle.net_model.specs.declared.queries.Phase.{Phase}
-use Rattle.query_model.specs.Laws.{NamesRegs}
+use Rattle.net_model.specs.Fits.{NamesRegs}
 use Rattle.proof_log.specs.NewClauses.{IsSpentLog}
 use Rattle.proof_log.specs.declared.derivations.Derivation.{Derivation}
 use Rattle.sat_solver.specs.Answers.{IsRefutation}

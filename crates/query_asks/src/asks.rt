@@ -4,7 +4,7 @@ ghost use Rattle.net_model.specs.Netlist.{IsSound};
 ghost use Rattle.net_model.specs.Fits.{Fits};
 ghost use Rattle.net_model.specs.Queries.{claim_query, clause_query};
 ghost use Rattle.net_model.specs.declared.invariants.InvClause.{InvClause as Clause};
-ghost use Rattle.query_model.specs.Laws.{NamesRegs};
+ghost use Rattle.net_model.specs.Fits.{NamesRegs};
 ghost use Rattle.proof_log.specs.Formulas.{IsFormula};
 ghost use Rattle.cnf_encode.specs.Problems.{IsMadeFor};
 ghost use Rattle.query_asks.specs.Asks.{IsRightOf, IsRightFor};

@@ -9,7 +9,7 @@ use Rattle.net_model.specs.FormLaws.{value_agrees}
 use Rattle.net_model.specs.Netlist.{IsSound}
 use Rattle.net_model.specs.Fits.{Fits, IsKindFit}
 use Rattle.net_model.specs.Cycles.{bit_at, shown, IsSettled, IsLinked}
-use Rattle.sdcv_base.specs.Kinds.{judged_count}
+use Rattle.net_model.specs.Judge.{judged_count}
 use Rattle.net_model.specs.Judge.{start_bit}
 use Rattle.net_model.specs.Layers.{AreLayers}
 use Rattle.net_model.specs.Pins.{late_value}
@@ -36,7 +36,7 @@ use Rattle.query_model.specs.Reads.{bit_key, read_base, AreMoved}
 use Rattle.net_model.specs.Queries.{Query, only_in_step, claim_query, clause_query, AreCyclesOf, IsAnswer}
 use Rattle.query_model.specs.Formula.{definitions, asked_clauses, AreNeeded, IsFormulaOf}
 use Rattle.query_model.specs.Laws.{HasFreeBits, AgreesWith, ModelsAnswer, AnswersHaveModels}
-use Rattle.query_model.specs.Laws.{NamesRegs as Names}
+use Rattle.net_model.specs.Fits.{NamesRegs as Names}
 use Rattle.query_model.proofs.Runs.{AnyKey, rows_coding, Told, now_bits, next_bits}
 use Rattle.query_model.proofs.Told.{LitTells}
 use Rattle.query_model.proofs.NetKeys.{needed_own}

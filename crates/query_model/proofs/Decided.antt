@@ -2,7 +2,7 @@
 use Rattle.std.proofs.Common.{◌≡◌, ◌≢◌, ℕ, ◌+◌, ◌-◌, ◌<◌, ◌≤◌, Bool, true, false, not, List, length, Some, refl, sym, ◌∙◌, arith, inl, inr, ◌⊎◌, subst}
 use Rattle.std.specs.Prelude.{slice_get}
 use Rattle.net_model.specs.Form.{xor}
-use Rattle.sdcv_base.specs.Kinds.{judged_count}
+use Rattle.net_model.specs.Judge.{judged_count}
 use Rattle.net_model.specs.Judge.{start_bit, IsBadFor, IsViolatedAt}
 use Rattle.net_model.specs.declared.netlist.Design.{Design}
 use Rattle.net_model.specs.declared.cycles.Cycle.{Cycle}
@@ -53,7 +53,7 @@ pub record Moment (claim : Claim) (run : List Cycle) (t r : ℕ) (a b before c :
   pub at_before : slice_get run (t + r - 1) ≡ Some before
   pub at_c : slice_get run (t + r) ≡ Some c
   pub low : 1 ≤ t
-  pub judged : r < judged_count claim.kind
+  pub judged : r < judged_count claim
 
 abbrev pub KindOfAll : (Key → Type 0) → List (List KeyLit) → Type 0
 KindOfAll kind alts = (alt : List KeyLit) (l : KeyLit) → In alt alts → In l alt → kind l.key
@@ -68,20 +68,20 @@ pub record IsDecided (kind : Key → Type 0) (d : Design) (claim : Claim) (run :
       × ((v : Key → Bool) → ExtrasTold kind v d claim run differs → AllHold v alt)
   pub some : (t r : ℕ) → (alt : List KeyLit) × In alt (alternatives_at d claim t r)
 
-kinds_at : (kind : Key → Type 0) (d : Design) (claim : Claim) (t r : ℕ) → r < judged_count claim.kind → KindOfAll kind (alternatives d claim t)
+kinds_at : (kind : Key → Type 0) (d : Design) (claim : Claim) (t r : ℕ) → r < judged_count claim → KindOfAll kind (alternatives d claim t)
     → KindOfAll kind (alternatives_at d claim t r)
 kinds_at kind d claim t r lt kinds alt l in_alt in_l =
-    kinds alt l (In-flat (alternatives_at d claim t) alt r (below (judged_count claim.kind)) (In-below (judged_count claim.kind) r lt) in_alt) in_l
+    kinds alt l (In-flat (alternatives_at d claim t) alt r (below (judged_count claim)) (In-below (judged_count claim) r lt) in_alt) in_l
 
 -- a toggle and an alternative that holds are a violation
 pub holds_violated : (kind : Key → Type 0) (v : Key → Bool) (d : Design) (claim : Claim) (run : List Cycle) (differs : ℕ → Bool) (live t : ℕ)
     (alt : List KeyLit) → IsDecided kind d claim run differs → ExtrasTold kind v d claim run differs → live + 1 ≤ t
-    → t + judged_count claim.kind ≤ length run → kind (toggle_key d t) → KindOfAll kind (alternatives d claim t) → v (toggle_key d t) ≡ true
+    → t + judged_count claim ≤ length run → kind (toggle_key d t) → KindOfAll kind (alternatives d claim t) → v (toggle_key d t) ≡ true
     → In alt (alternatives d claim t) → AllHold v alt → IsViolatedAt live d claim run t
 holds_violated kind v d claim run differs live t alt is extras low fits toggle_kind kinds toggle in_alts hold =
-    let of = from_flat (alternatives_at d claim t) alt (below (judged_count claim.kind)) in_alts in
+    let of = from_flat (alternatives_at d claim t) alt (below (judged_count claim)) in_alts in
     let r = of.0 in
-    let lt = below_less (judged_count claim.kind) r of.1 in
+    let lt = below_less (judged_count claim) r of.1 in
     let a = get_within run (t - 1) (omega arith) in
     let b = get_within run t (omega arith) in
     let before = get_within run (t + r - 1) (omega arith) in
@@ -117,7 +117,7 @@ violated_holds kind d claim run differs live t is toggle_kind kinds bad =
           (start_bit claim.start tog.before) ne,
       (
         found.0,
-        In-flat (alternatives_at d claim t) found.0 r (below (judged_count claim.kind)) (In-below (judged_count claim.kind) r bad.judged)
+        In-flat (alternatives_at d claim t) found.0 r (below (judged_count claim)) (In-below (judged_count claim) r bad.judged)
             found.1,
         found.2,
       ),

@@ -6,7 +6,7 @@ use Rattle.net_model.specs.Form.{xor}
 use Rattle.net_model.specs.Netlist.{IsSound}
 use Rattle.net_model.specs.Fits.{IsStartIn, IsEndIn}
 use Rattle.net_model.specs.Cycles.{capture, IsSettled, IsLinked}
-use Rattle.sdcv_base.specs.Kinds.{judged_count}
+use Rattle.net_model.specs.Judge.{judged_count}
 use Rattle.net_model.specs.Judge.{start_bit}
 use Rattle.net_model.proofs.Settling.{All-at}
 use Rattle.net_model.specs.declared.netlist.Design.{Design}
@@ -85,7 +85,7 @@ pub record ExtrasTold (kind : Key → Type 0) (v : Key → Bool) (d : Design) (c
   pub change : (t : ℕ) (a b : Cycle) → slice_get run (t - 1) ≡ Some a → slice_get run t ≡ Some b → kind (change_key d t) → v (change_key d t) ≡ xor
       (capture d claim.end b) (capture d claim.end a)
   pub differ : (t : ℕ) (c : Cycle) → slice_get run t ≡ Some c → kind (differ_key d t) → v (differ_key d t) ≡ differs t
-  pub stale : (t r : ℕ) (a b : Cycle) → r + 1 < judged_count claim.kind → slice_get run (t - r - 2) ≡ Some a → slice_get run t ≡ Some b
+  pub stale : (t r : ℕ) (a b : Cycle) → r + 1 < judged_count claim → slice_get run (t - r - 2) ≡ Some a → slice_get run t ≡ Some b
       → kind (stale_key d t (r + 1)) → v (stale_key d t (r + 1)) ≡ xor (start_bit claim.start b) (start_bit claim.start a)
 
 pub both_same : (v : Key → Bool) (x y : KeyLit) (a b : Bool) → lit_value v x ≡ a → lit_value v y ≡ b → xor (lit_value v x) (lit_value v y) ≡ xor a b
@@ -120,8 +120,8 @@ extras_told kind v d claim moved run differs lits differ forces =
       stale = λ t r a b lt at_a at_b.
           exclusive_told kind v (extra_definitions d claim moved t) (stale_key d t (r + 1)) (start_lit d claim.start t)
           (start_lit d claim.start (t - r - 2)) _ _ (forces t (slice_get_within run t b at_b))
-          (inr (inr (inr (In-map (stale_definition d claim t) r (below (judged_count claim.kind - 1))
-          (In-below (judged_count claim.kind - 1) r (omega arith))))))
+          (inr (inr (inr (In-map (stale_definition d claim t) r (below (judged_count claim - 1))
+          (In-below (judged_count claim - 1) r (omega arith))))))
           (lits.starts t b at_b) (lits.starts (t - r - 2) a at_a);
     }
 
@@ -147,8 +147,8 @@ extras_true v d claim moved run differs lits extras t lt differ def has = by_pla
       (lits.captures t b.0 b.1) (lits.captures (t - 1) a.0 a.1) same
   by_place (inr (inr (inl same))) = subst (λ (k : Definition). AllTrue v k.clauses) same differ
   by_place (inr (inr (inr later))) =
-      let of = from_map (stale_definition d claim t) def (below (judged_count claim.kind - 1)) later in
-      let less = below_less (judged_count claim.kind - 1) of.0 of.1 in
+      let of = from_map (stale_definition d claim t) def (below (judged_count claim - 1)) later in
+      let less = below_less (judged_count claim - 1) of.0 of.1 in
       let b = get_within run t lt in
       let a = get_within run (t - of.0 - 2) (omega arith) in
       made (stale_key d t (of.0 + 1)) (start_lit d claim.start t) (start_lit d claim.start (t - of.0 - 2)) _ _

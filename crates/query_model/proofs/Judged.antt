@@ -10,7 +10,7 @@ use Rattle.net_model.specs.Fits.{IsStartIn, IsEndIn}
 use Rattle.net_model.specs.Cycles.{bit_at, gate_pins, reg_pins, shown, capture, reg_capture_in, IsSettled, IsLinked}
 use Rattle.net_model.specs.Pins.{start_nets, start_outs}
 use Rattle.net_model.specs.Layers.{net_at, pin_reads, AreLayers, IsLateCapture, capture_over, late_reg_capture, late_reg_pins}
-use Rattle.sdcv_base.specs.Kinds.{judged_count}
+use Rattle.net_model.specs.Judge.{judged_count}
 use Rattle.net_model.specs.Judge.{start_bit, DiffersLate, IsBadPlain, IsBadFor}
 use Rattle.net_model.proofs.Settling.{All-at}
 use Rattle.net_model.proofs.LateOnce.{late_capture_once}
@@ -134,7 +134,7 @@ differs_late d claim run late differs t c stale is at other ne =
 -- the start's bit differs from the stale one, r cycles after the toggle
 stale_holds : (kind : Key → Type 0) (v : Key → Bool) (d : Design) (claim : Claim) (run : List Cycle) (late differs : ℕ → Bool) (t r : ℕ)
     (a b c : Cycle) → ExtrasTold kind v d claim run differs → slice_get run (t - 1) ≡ Some a → slice_get run t ≡ Some b
-    → slice_get run (t + r) ≡ Some c → r < judged_count claim.kind → 1 ≤ t → start_bit claim.start b ≢ start_bit claim.start a
+    → slice_get run (t + r) ≡ Some c → r < judged_count claim → 1 ≤ t → start_bit claim.start b ≢ start_bit claim.start a
     → ((l : KeyLit) → In l (stale_if_later d (t + r) r) → kind l.key) → AllHold v (stale_if_later d (t + r) r)
     → start_bit claim.start c ≢ start_bit claim.start a
 stale_holds kind v d claim run late differs t zero a b c extras at_a at_b at_c lt low ne kinds hold =
@@ -152,7 +152,7 @@ stale_holds kind v d claim run late differs t (suc r) a b c extras at_a at_b at_
     xor_ne (start_bit claim.start c) (start_bit claim.start a) (sym says ∙ hold (lit true z) (inl refl))
 
 holds_stale : (kind : Key → Type 0) (v : Key → Bool) (d : Design) (claim : Claim) (run : List Cycle) (late differs : ℕ → Bool) (t r : ℕ) (a c : Cycle)
-    → ExtrasTold kind v d claim run differs → slice_get run (t - 1) ≡ Some a → slice_get run (t + r) ≡ Some c → r < judged_count claim.kind → 1 ≤ t
+    → ExtrasTold kind v d claim run differs → slice_get run (t - 1) ≡ Some a → slice_get run (t + r) ≡ Some c → r < judged_count claim → 1 ≤ t
     → ((l : KeyLit) → In l (stale_if_later d (t + r) r) → kind l.key) → start_bit claim.start c ≢ start_bit claim.start a
     → AllHold v (stale_if_later d (t + r) r)
 holds_stale kind v d claim run late differs t zero a c extras at_a at_c lt low kinds ne l has = absurd has

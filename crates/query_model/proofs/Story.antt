@@ -4,7 +4,7 @@ use Rattle.std.specs.Prelude.{slice_get, if◌then◌else◌, nat_lt}
 use Rattle.std.proofs.lemmas.Bool.{cond-true, cond-false, lt-ltb, le-ltb}
 use Rattle.net_model.specs.Form.{xor}
 use Rattle.net_model.specs.Cycles.{capture, IsSettled, IsLinked}
-use Rattle.sdcv_base.specs.Kinds.{judged_count}
+use Rattle.net_model.specs.Judge.{judged_count}
 use Rattle.net_model.specs.Judge.{start_bit}
 use Rattle.net_model.proofs.Settling.{All-at}
 use Rattle.net_model.specs.declared.netlist.Design.{Design}
@@ -59,7 +59,7 @@ pub story_differ : (d : Design) (claim : Claim) (run : List Cycle) (layer : Key 
     → story d claim run layer differs bad (differ_key d t) ≡ differs t
 story_differ d claim run layer differs bad t = story_extra d claim run layer differs bad t 2 2 refl
 
-pub story_extras : (d : Design) (claim : Claim) (run : List Cycle) (layer : Key → ℕ → Bool) (differs bad : ℕ → Bool) → judged_count claim.kind ≤ 15
+pub story_extras : (d : Design) (claim : Claim) (run : List Cycle) (layer : Key → ℕ → Bool) (differs bad : ℕ → Bool) → judged_count claim ≤ 15
     → ExtrasTold AnyKey (story d claim run layer differs bad) d claim run differs
 story_extras d claim run layer differs bad few =
     record {

@@ -7,7 +7,7 @@ use Rattle.std.proofs.lemmas.Option.{slice_get_within}
 use Rattle.net_model.specs.Netlist.{IsSound}
 use Rattle.net_model.specs.Fits.{IsStartIn, IsEndIn}
 use Rattle.net_model.specs.Cycles.{IsLinked}
-use Rattle.sdcv_base.specs.Kinds.{judged_count}
+use Rattle.net_model.specs.Judge.{judged_count}
 use Rattle.net_model.specs.declared.netlist.Design.{Design}
 use Rattle.net_model.specs.declared.cycles.Cycle.{Cycle}
 use Rattle.net_model.specs.declared.claims.Claim.{Claim}
@@ -86,10 +86,10 @@ fails_holds v (m ∷ ms) e l (inr later) =
 
 -- there is an alternative where a capture is judged
 one_alternative : (kind : Key → Type 0) (d : Design) (claim : Claim) (run : List Cycle) (differs : ℕ → Bool) (t r : ℕ)
-    → IsDecided kind d claim run differs → r < judged_count claim.kind → (alt : List KeyLit) × In alt (alternatives d claim t)
+    → IsDecided kind d claim run differs → r < judged_count claim → (alt : List KeyLit) × In alt (alternatives d claim t)
 one_alternative kind d claim run differs t r decided lt =
     let one = decided.some t r in
-    (one.0, In-flat (alternatives_at d claim t) one.0 r (below (judged_count claim.kind)) (In-below (judged_count claim.kind) r lt) one.1)
+    (one.0, In-flat (alternatives_at d claim t) one.0 r (below (judged_count claim)) (In-below (judged_count claim) r lt) one.1)
 
 -- the query, where it is asked whether the claim is violated at an offset, and at none of the first ones
 abbrev pub violated : Query → Claim → ℕ → ℕ → Query
@@ -162,7 +162,7 @@ pub record ModelOfClaim : Type 0 where
   pub is : IsAskedOf base.design claim run
   pub decided : IsDecided (Needed coding (violated base claim offset clean) moved) base.design claim run differs
   pub tells : TellsDiffer coding (Needed coding (violated base claim offset clean) moved) v base.design claim moved run differs
-  pub fits : base.live + 1 + offset + judged_count claim.kind ≤ base.cycles
+  pub fits : base.live + 1 + offset + judged_count claim ≤ base.cycles
   pub less : clean ≤ offset
 
 -- the query that it is a model of
@@ -332,9 +332,9 @@ pub record AnswerOfClaim : Type 0 where
   pub is : IsAskedOf base.design claim run
   pub decided : IsDecided AnyKey base.design claim run differs
   pub late : SaysLate coding base.design claim moved run layer differs
-  pub few : judged_count claim.kind ≤ 15
+  pub few : judged_count claim ≤ 15
   pub short : base.kept_below ≤ base.cycles
-  pub fits : base.live + 1 + offset + judged_count claim.kind ≤ base.cycles
+  pub fits : base.live + 1 + offset + judged_count claim ≤ base.cycles
   pub less : clean ≤ offset
   pub answer : IsAnswer (violated base claim offset clean) run
 

@@ -10,7 +10,9 @@ use Rattle.std.specs.List.{list_any}
 use Rattle.net_model.specs.Form.{value}
 use Rattle.net_model.specs.Mentions.{reads_own}
 use Rattle.net_model.specs.Cycles.{reg_capture}
-use Rattle.sdcv_base.specs.Kinds.{judged_count}
+use Rattle.net_model.specs.Judge.{judged_count}
+use Rattle.sdcv_base.specs.declared.kinds.Edge.{Edge}
+use Rattle.sdcv_base.specs.declared.kinds.Edge.TheVariants.{Any, Rise, Fall}
 use Rattle.net_model.specs.Layers.{net_at, held_set}
 use Rattle.net_model.specs.Pins.{is_in}
 use Rattle.net_model.specs.declared.netlist.Design.{Design}
@@ -228,7 +230,7 @@ late_capture_lit d claim moved c rail (OutputEnd o) = read_pin d claim moved c (
 abbrev pub extra : Design → ℕ → ℕ → Key
 extra d c i = key c 0 0 (d.nets + length d.regs + i)
 
--- the start's bit differs from the one in the cycle before
+-- the start's bit has changed from the cycle before, with the claim's edge
 abbrev pub toggle_key : Design → ℕ → Key
 toggle_key d c = extra d c 0
 
@@ -259,9 +261,15 @@ differ_definition d claim moved c =
     if claim.hazard then both (differ_key d c) (late_capture_lit d claim moved c 0 claim.end) (late_capture_lit d claim moved c 1 claim.end)
     else exclusive (differ_key d c) (late_capture_lit d claim moved c 0 claim.end) (capture_lit d claim.end c)
 
--- whether the start toggles
-abbrev pub toggle_definition : Design → Start → ℕ → Definition
-toggle_definition d start c = exclusive (toggle_key d c) (start_lit d start c) (start_lit d start (c - 1))
+-- z says that y changes to x with this edge
+abbrev pub edge_definition : Edge → Key → KeyLit → KeyLit → Definition
+edge_definition Any z x y = exclusive z x y
+edge_definition Rise z x y = both z x (opposite y)
+edge_definition Fall z x y = both z (opposite x) y
+
+-- whether the start toggles with this edge
+abbrev pub toggle_definition : Design → Edge → Start → ℕ → Definition
+toggle_definition d edge start c = edge_definition edge (toggle_key d c) (start_lit d start c) (start_lit d start (c - 1))
 
 -- whether the capture changes
 abbrev pub change_definition : Design → End → ℕ → Definition
@@ -273,12 +281,12 @@ stale_definition d start c r = exclusive (stale_key d c (r + 1)) (start_lit d st
 
 -- those of a claim's later captures
 abbrev pub stale_definitions : Design → Claim → ℕ → List Definition
-stale_definitions d claim c = map (stale_definition d claim.start c) (below (judged_count claim.kind - 1))
+stale_definitions d claim c = map (stale_definition d claim.start c) (below (judged_count claim - 1))
 
 -- the definitions of the further points of a cycle, but for those of alternatives, which are free
 abbrev pub extra_definitions : Design → Claim → List (List Bool) → ℕ → List Definition
 extra_definitions d claim moved c =
-    toggle_definition d claim.start c
+    toggle_definition d claim.edge claim.start c
     ∷ change_definition d claim.end c
     ∷ differ_definition d claim moved c
     ∷ stale_definitions d claim c

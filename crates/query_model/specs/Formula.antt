@@ -1,7 +1,7 @@
 -- The formula of a query: its clauses over keys, the keys that are needed, and their numbers.
 use Rattle.std.specs.Prelude.{◌≡◌, ℕ, zero, suc, ◌+◌, ◌-◌, ◌==◌, ◌&&◌, Bool, true, false, List, [], ◌∷◌, ◌++◌, map, flat_map, Contains, if◌then◌else◌}
 use Rattle.std.specs.List.{list_any}
-use Rattle.sdcv_base.specs.Kinds.{judged_count}
+use Rattle.net_model.specs.Judge.{judged_count}
 use Rattle.net_model.specs.declared.netlist.Design.{Design}
 use Rattle.net_model.specs.declared.claims.Claim.{Claim}
 use Rattle.net_model.specs.declared.claims.PinRef.{PinRef}
@@ -62,7 +62,7 @@ alternatives_at d claim t r =
 
 -- the ways in which a toggle at t is a violation: those of each judged cycle, in the order of the cycles
 abbrev pub alternatives : Design → Claim → ℕ → List (List KeyLit)
-alternatives d claim t = flat_map (alternatives_at d claim t) (below (judged_count claim.kind))
+alternatives d claim t = flat_map (alternatives_at d claim t) (below (judged_count claim))
 
 -- the start doesn't toggle, or a condition fails
 abbrev pub clean_clauses : Design → Claim → ℕ → List (List KeyLit)

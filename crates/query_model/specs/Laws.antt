@@ -5,8 +5,6 @@ use Rattle.net_model.specs.Layers.{net_at}
 use Rattle.net_model.specs.Ternary.{AreTernaryLayers, IsTernaryCapture}
 use Rattle.net_model.specs.declared.netlist.Design.{Design}
 use Rattle.net_model.specs.declared.cycles.Cycle.{Cycle}
-use Rattle.net_model.specs.declared.invariants.StateLit.{StateLit}
-use Rattle.net_model.specs.declared.invariants.InvClause.{InvClause}
 use Rattle.net_model.specs.declared.claims.Claim.{Claim}
 use Rattle.net_model.specs.declared.claims.End.TheVariants.{Reg as RegEnd}
 use Rattle.net_model.specs.declared.terns.Tern.{Tern}
@@ -20,10 +18,6 @@ use Rattle.query_model.specs.Variables.{IsProblemOf, AllCodesTrue, by_number}
 use Rattle.query_model.specs.declared.keys.Key.{Key}
 use Rattle.query_model.specs.declared.keys.KeyLit.{KeyLit}
 use Rattle.query_model.specs.declared.keys.Coding.{Coding}
-
--- each literal of the clause is about a register of the design
-abbrev pub NamesRegs : Design → InvClause → Type 0
-NamesRegs d clause = All (λ (l : StateLit). l.reg < length d.regs) clause.lits
 
 -- the register bits of the first cycle, and the bits of inputs that are neither fixed nor reset, are those of the model
 -- wherever it has a value for them

@@ -1,9 +1,9 @@
 //! Laws of queries. Each is the contract of a call that does nothing, for callers that cite it.
 ghost use Rattle.std.specs.Prelude.{◌≡◌, true, All};
 ghost use Rattle.net_model.specs.Netlist.{IsSound};
-ghost use Rattle.net_model.specs.Fits.{Fits};
+ghost use Rattle.net_model.specs.Fits.{Fits, NamesRegs};
 ghost use Rattle.net_model.specs.Queries.{claim_query, clause_query};
-ghost use Rattle.query_model.specs.Laws.{NamesRegs, ModelsAnswer, AnswersHaveModels, NumberedModelsAnswer, AnswersHaveNumberedModels};
+ghost use Rattle.query_model.specs.Laws.{ModelsAnswer, AnswersHaveModels, NumberedModelsAnswer, AnswersHaveNumberedModels};
 ghost use Rattle.query_model.specs.Laws.{ModelsHaveRails, NumberedHaveRails, HasOneProblem};
 ghost use Rattle.query_model.specs.declared.keys.Coding.{Coding};
 

@@ -13,7 +13,7 @@ use Rattle.sdc_text.specs.declared.options.ClockOption.TheVariants as option
 use Rattle.sdc_text.specs.declared.clocks.ClockReading.{ClockReading}
 use Rattle.sdc_text.specs.Heads.{bad_option, surplus, wanted_text, option_of}
 use Rattle.sdc_text.specs.Options.{clock_option}
-use Rattle.sdc_values.specs.Folds.{after_all}
+use Rattle.sdcv_base.specs.Steps.{after_all}
 
 -- before the first word
 abbrev pub bare : Head → ClockReading

@@ -19,7 +19,7 @@ use Rattle.sdc_text.specs.declared.exceptions.Reading.{Reading}
 use Rattle.sdc_text.specs.Heads.{bad_option, bad_number, lacking, surplus, wanted_text, option_of}
 use Rattle.sdc_text.specs.Options.{path_option}
 use Rattle.sdc_text.specs.Numbers.{is_whole, multiplier}
-use Rattle.sdc_values.specs.Folds.{after_all}
+use Rattle.sdcv_base.specs.Steps.{after_all}
 
 -- before the first word
 abbrev pub bare : PathCommand → Head → Reading

@@ -1,4 +1,3 @@
-pub mod FoldLemmas
 pub mod LineLemmas
 pub mod ListLemmas
 pub mod GetLemmas

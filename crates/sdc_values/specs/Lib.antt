@@ -1,4 +1,3 @@
-pub mod Folds
 pub mod Gets
 pub mod Lines
 pub mod Lists

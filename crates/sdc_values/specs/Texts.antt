@@ -9,7 +9,7 @@ use Rattle.sdc_values.specs.declared.values.Said.{Said}
 use Rattle.sdc_values.specs.declared.values.Value.{Value}
 use Rattle.sdc_values.specs.declared.values.Value.TheVariants.{Text, Objects}
 use Rattle.sdc_values.specs.Variables.{Vars, value_of}
-use Rattle.sdc_values.specs.Folds.{after_all}
+use Rattle.sdcv_base.specs.Steps.{after_all}
 
 -- the value of a variable, for a command on this line
 unfoldable pub variable_of : Vars → ℕ → List ℕ → Result Value SdcFault

@@ -4,7 +4,7 @@ ghost use Rattle.std.specs.Option.{option_map};
 ghost use Rattle.texts.specs.Rules.{Gives};
 ghost use Rattle.sdc_values.specs.Told.{Fails};
 ghost use Rattle.sdc_values.specs.Texts as spec;
-ghost use Rattle.sdc_values.specs.Folds.{after_all};
+ghost use Rattle.sdcv_base.specs.Steps.{after_all};
 
 use crate::faults::SdcFault;
 use crate::values::{Said, Value};

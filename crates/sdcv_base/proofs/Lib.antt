@@ -1,2 +1,3 @@
 pub mod DecimalTexts
 pub mod Filling
+pub mod StepLemmas

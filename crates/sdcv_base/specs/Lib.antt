@@ -1,9 +1,9 @@
 pub mod Cursors
 pub mod Decimals
 pub mod Hosts
-pub mod Kinds
 pub mod Limits
 pub mod MemHosts
 pub mod MemHostFields
 pub mod Seqs
 pub mod Shown
+pub mod Steps

@@ -1,5 +1,5 @@
 //! What every other crate stands on: lists and names as contracts see them, a cursor over a text, numbers in decimal
-//! digits, the kinds of exceptions, values set for ports, and the host through which a run reads, prints and saves.
+//! digits, the kinds and edges of exceptions, values set for ports, and the host through which a run reads, prints and saves.
 //!
 //! Read `hosts.rt` first: what a run may do outside, and what is known of it afterwards.
 #![tactic(auto)]
@@ -17,7 +17,7 @@ mod settings;
 pub use cursors::Cursor;
 pub use decimals::{push_decimal, read_decimal};
 pub use hosts::{Host, HostFault, ReadFault};
-pub use kinds::Kind;
+pub use kinds::{Edge, Kind};
 pub use limits::LimitName;
 pub use mem_hosts::{Fail, FileRec, MemHost};
 pub use names::Name;

@@ -16,6 +16,7 @@ pub enum LimitName {
     Through,
     Pairs,
     Judged,
+    Hierarchy,
 }
 
 impl fmt::Display for LimitName {
@@ -32,6 +33,7 @@ impl fmt::Display for LimitName {
             LimitName::Through => "through",
             LimitName::Pairs => "pairs",
             LimitName::Judged => "judged",
+            LimitName::Hierarchy => "hierarchy",
         })
     }
 }

@@ -6,7 +6,7 @@ use Rattle.std.proofs.lemmas.Bool.Decides.{same_from_decides}
 use Rattle.std.proofs.lemmas.List.Folds.{list_any-append, list_all-append}
 use Rattle.std.proofs.lemmas.List.Sums.{fold-append, prefix_len-le-length}
 use Rattle.std.proofs.lemmas.Slice.Eq.{bytes_eq-Decides}
-use Rattle.std.specs.List.{list_all, position_or_len}
+use Rattle.std.specs.List.{list_all, position_or_len, IsDistinct, AllByRecursion}
 use Rattle.std.specs.Str.{bytes_eq}
 use Rattle.texts.specs.Names.{is_among, place_of, are_distinct, are_new, with_name, with_names, each_once}
 
@@ -201,3 +201,15 @@ same_test names (x ∷ xs) = rw (is_among-with_names x [] names, same_test names
 -- each of the names is among them, each taken once
 pub all_among-each_once : (front xs back : List (List ℕ)) → list_all (λ n. is_among n (each_once (front ++ (xs ++ back)))) xs ≡ true
 all_among-each_once front xs back = same_test (front ++ (xs ++ back)) xs ∙ all_among front xs back
+
+all_differ : (x : List ℕ) (xs : List (List ℕ)) → is_among x xs ≡ false → AllByRecursion (λ y. bytes_eq x y ≡ false) xs
+all_differ x [] e = tt
+all_differ x (y ∷ ys) e = let (here, there) = or_parts (bytes_eq x y) (is_among x ys) e in (here, all_differ x ys there)
+
+-- names that differ by the test
+pub distinct_by_test : (xs : List (List ℕ)) → are_distinct xs ≡ true → IsDistinct bytes_eq xs
+unfolding are_distinct IsDistinct
+distinct_by_test [] e = tt
+distinct_by_test (x ∷ xs) e =
+    let (new, rest) = and_parts (not (is_among x xs)) (are_distinct xs) e in
+    (all_differ x xs (not-true (is_among x xs) new), distinct_by_test xs rest)

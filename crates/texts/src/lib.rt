@@ -8,8 +8,10 @@
 
 mod bytes;
 mod fronts;
+mod nesting;
 mod tables;
 
 pub use bytes::{is_letter, is_word, word_len};
 pub use fronts::{after, byte_at, closed_by, has_two, upto};
+pub use nesting::MOST_NESTED;
 pub use tables::{NameTable, Named};

@@ -6,7 +6,7 @@ use Rattle.std.proofs.lemmas.Option.{slice_get_within}
 use Rattle.net_model.proofs.Settling.{All-at}
 use Rattle.net_model.specs.Netlist.{IsSound}
 use Rattle.net_model.specs.Cycles.{IsRun, HasResets}
-use Rattle.sdcv_base.specs.Kinds.{judged_count}
+use Rattle.net_model.specs.Judge.{judged_count}
 use Rattle.net_model.specs.Judge.{IsViolatedAt}
 use Rattle.net_model.proofs.Stretches.{window, slice_get-window, length-window, IsLinked-window}
 use Rattle.net_model.specs.declared.netlist.Design.{Design}
@@ -42,7 +42,7 @@ pub base_answer : (d : Design) (claim : Claim) (kept : List InvClause) (offset :
     → IsViolatedAt d.reset_len d claim run (d.reset_len + 1 + offset) → (answer : List Cycle) × IsAnswer (claim_query d claim Base offset kept) answer
 base_answer d claim kept offset run sound is v =
     let n = d.reset_len in
-    let e = judged_count claim.kind in
+    let e = judged_count claim in
     let count = n + offset + 1 + e in
     let within = slice_get_within run (n + 1 + offset) v.toggles.now v.toggles.now_at in
     let longer = goes_on d run e sound is (omega (arith, within)) in

@@ -6,7 +6,7 @@ use Rattle.std.proofs.lemmas.Bool.{cases_lt}
 use Rattle.std.proofs.lemmas.Option.{slice_get_within}
 use Rattle.net_model.specs.Netlist.{IsSound}
 use Rattle.net_model.specs.Cycles.{IsRun, IsStretch}
-use Rattle.sdcv_base.specs.Kinds.{judged_count}
+use Rattle.net_model.specs.Judge.{judged_count}
 use Rattle.net_model.specs.Judge.{IsViolatedAt, Holds}
 use Rattle.net_model.proofs.Stretches.{window, slice_get-window, length-window, IsStretch-window}
 use Rattle.net_model.specs.declared.netlist.Design.{Design}
@@ -34,7 +34,7 @@ pub step_answer : (d : Design) (claim : Claim) (kept : List InvClause) (depth of
     → (stretch : List Cycle) × IsAnswer (claim_query d claim Step depth kept) stretch
 step_answer d claim kept depth offset run sound met deep is clean v =
     let n = d.reset_len in
-    let e = judged_count claim.kind in
+    let e = judged_count claim in
     let within = slice_get_within run (n + 1 + offset) v.toggles.now v.toggles.now_at in
     let longer = goes_on d run e sound is (omega (arith, within)) in
     let more = longer.0 in

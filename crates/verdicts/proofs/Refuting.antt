@@ -15,7 +15,8 @@ use Rattle.net_model.specs.Queries.{Query, IsAnswer, claim_query, clause_query}
 use Rattle.query_model.specs.Variables.{code_true, AllCodesTrue, IsProblemOf}
 use Rattle.query_model.specs.declared.keys.Key.{Key}
 use Rattle.net_model.specs.declared.queries.Phase.TheVariants.{Base}
-use Rattle.query_model.specs.Laws.{NamesRegs, AnswersHaveNumberedModels}
+use Rattle.net_model.specs.Fits.{NamesRegs}
+use Rattle.query_model.specs.Laws.{AnswersHaveNumberedModels}
 use Rattle.query_model.proofs.Claims.{claim_answers, clause_answers}
 use Rattle.query_model.proofs.Problems.{numbered_answers}
 use Rattle.query_model.specs.declared.keys.Coding.{Coding}

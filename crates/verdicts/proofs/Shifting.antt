@@ -1,7 +1,7 @@
 -- A violation goes along with the cycles from before the toggle to the last judged capture.
 use Rattle.std.proofs.Common.{◌≡◌, ℕ, ◌+◌, ◌-◌, ◌<◌, ◌≤◌, List, Some, subst, arith}
 use Rattle.std.specs.Prelude.{slice_get}
-use Rattle.sdcv_base.specs.Kinds.{judged_count}
+use Rattle.net_model.specs.Judge.{judged_count}
 use Rattle.net_model.specs.Judge.{IsViolatedAt}
 use Rattle.net_model.specs.declared.netlist.Design.{Design}
 use Rattle.net_model.specs.declared.cycles.Cycle.{Cycle}
@@ -11,10 +11,10 @@ use Rattle.net_model.specs.declared.claims.Claim.{Claim}
 abbrev pub GoesAlong : ℕ → ℕ → ℕ → List Cycle → List Cycle → Type 0
 GoesAlong s u count a b = (i : ℕ) (c : Cycle) → i < count → slice_get a (s + i) ≡ Some c → slice_get b (u + i) ≡ Some c
 
-pub violated_along : (d : Design) (claim : Claim) (a b : List Cycle) (live other s u : ℕ) → other ≤ u → GoesAlong s u (1 + judged_count claim.kind) a b
+pub violated_along : (d : Design) (claim : Claim) (a b : List Cycle) (live other s u : ℕ) → other ≤ u → GoesAlong s u (1 + judged_count claim) a b
     → IsViolatedAt live d claim a (s + 1) → IsViolatedAt other d claim b (u + 1)
 violated_along d claim a b live other s u low along v =
-    let at : (i j k : ℕ) (c : Cycle) → i < 1 + judged_count claim.kind → j ≡ s + i → k ≡ u + i → slice_get a j ≡ Some c → slice_get b k ≡ Some c =
+    let at : (i j k : ℕ) (c : Cycle) → i < 1 + judged_count claim → j ≡ s + i → k ≡ u + i → slice_get a j ≡ Some c → slice_get b k ≡ Some c =
     λ i j k c less there here found.
     subst (λ (p : ℕ). slice_get b p ≡ Some c) (let e : u + i ≡ k = omega (arith, here) in e)
     (along i c less (subst (λ (p : ℕ). slice_get a p ≡ Some c) there found)) in

@@ -1,6 +1,6 @@
 -- Derivations that show kept clauses and claims to hold, in either coding, without a word of how they were found.
 use Rattle.std.specs.Prelude.{◌≡◌, ◌≢◌, ℕ, ◌<◌, List, length, Contains, Some, slice_get}
-use Rattle.sdcv_base.specs.Kinds.{judged_count}
+use Rattle.net_model.specs.Judge.{judged_count}
 use Rattle.net_model.specs.Held.{IsHeldStart}
 use Rattle.net_model.specs.Queries.{claim_query, clause_query}
 use Rattle.net_model.specs.declared.netlist.Design.{Design}
@@ -28,8 +28,8 @@ pub record ProveKept (coding : Coding) (d : Design) (kept : List InvClause) (dep
 -- the claim judges nothing; or it does, and its start never toggles, or the derivations refute the base queries below a depth and
 -- the step query of that depth
 abbrev pub ProvesPair : Coding → Design → List InvClause → Claim → Proof → Type 0
-ProvesPair coding d kept claim Single = judged_count claim.kind ≡ 0
-ProvesPair coding d kept claim Fixed = (judged_count claim.kind ≢ 0) × IsHeldStart d claim.start
+ProvesPair coding d kept claim Single = judged_count claim ≡ 0
+ProvesPair coding d kept claim Fixed = (judged_count claim ≢ 0) × IsHeldStart d claim.start
 ProvesPair coding d kept claim (Depth depth base step) =
-    (judged_count claim.kind ≢ 0) × RefuteEach coding (λ offset. claim_query d claim Base offset kept) depth base
+    (judged_count claim ≢ 0) × RefuteEach coding (λ offset. claim_query d claim Base offset kept) depth base
     × RefutesQuery coding (claim_query d claim Step depth kept) step

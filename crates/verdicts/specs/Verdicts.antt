@@ -1,6 +1,6 @@
 -- What a verdict says of a claim.
 use Rattle.std.specs.Prelude.{◌≡◌, ◌≢◌, ℕ, ◌+◌, ◌≤◌, List, length}
-use Rattle.sdcv_base.specs.Kinds.{judged_count}
+use Rattle.net_model.specs.Judge.{judged_count}
 use Rattle.net_model.specs.Cycles.{IsRun}
 use Rattle.net_model.specs.Held.{IsHeldStart}
 use Rattle.net_model.specs.Judge.{IsViolatedAt}
@@ -26,7 +26,7 @@ use Rattle.verdicts.specs.declared.outcomes.Verdict.TheVariants.{Justified, Refu
 
 -- a claim about which queries are asked: it judges a capture, and its start is neither a fixed nor a reset input
 pub record IsJudged (d : Design) (claim : Claim) : Type 0 where
-  pub captures : judged_count claim.kind ≢ 0
+  pub captures : judged_count claim ≢ 0
   pub free : ¬ IsHeldStart d claim.start
 
 -- the queries of the smaller depths leave the claim open, and this depth is allowed
@@ -43,8 +43,8 @@ pub record IsDepthProof (d : Design) (claim : Claim) (kept : List InvClause) (de
 
 -- the claim judges nothing; or it does and its start never toggles; or it is justified at this depth
 abbrev pub IsRightProof : Design → Claim → List InvClause → Limits → Proof → Type 0
-IsRightProof d claim kept limits Single = judged_count claim.kind ≡ 0
-IsRightProof d claim kept limits Fixed = (judged_count claim.kind ≢ 0) × IsHeldStart d claim.start
+IsRightProof d claim kept limits Single = judged_count claim ≡ 0
+IsRightProof d claim kept limits Fixed = (judged_count claim ≢ 0) × IsHeldStart d claim.start
 IsRightProof d claim kept limits (Depth depth base step) =
     IsReached d claim kept limits.depth depth × IsDepthProof d claim kept depth base step
 
@@ -53,7 +53,7 @@ pub record IsWitness (d : Design) (claim : Claim) (offset : ℕ) (stimulus : Sti
   pub run : List Cycle
   pub from_reset : IsRun d run
   pub stands : StandsFor stimulus run
-  pub long : length run ≡ d.reset_len + offset + 1 + judged_count claim.kind
+  pub long : length run ≡ d.reset_len + offset + 1 + judged_count claim
   pub violated : IsViolatedAt d.reset_len d claim run (d.reset_len + 1 + offset)
 
 -- what is known of the offset whose query spends the budget: in the step phase no run is violated there

@@ -11,7 +11,7 @@ use sdcv_base::Seq;
 pub fn is_judged(design: &Design, claim: &Claim) -> bool
     ensures { IsTrue result ↔ IsJudged design.now claim.now }
 {
-    claim.kind.judged_count() != 0 && !is_held_start(design, &claim.start)
+    claim.judged_count() != 0 && !is_held_start(design, &claim.start)
 }
 
 /// Whether the start is a fixed or a reset input, which never toggles after the reset's end.

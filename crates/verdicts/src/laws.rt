@@ -6,7 +6,7 @@ ghost use Rattle.net_model.specs.Judge.{Holds};
 ghost use Rattle.net_model.specs.Queries.{IsAnswer, claim_query};
 ghost use Rattle.net_model.specs.declared.cycles.Cycle.{Cycle};
 ghost use Rattle.net_model.specs.declared.queries.Phase.TheVariants.{Base, Step};
-ghost use Rattle.query_model.specs.Laws.{NamesRegs};
+ghost use Rattle.net_model.specs.Fits.{NamesRegs};
 ghost use Rattle.verdicts.specs.Offsets.{HoldsAtOffset};
 ghost use Rattle.verdicts.specs.Inductive.{AreAlwaysMet, IsInductive};
 ghost use Rattle.verdicts.specs.Verdicts.{IsRightProof};

@@ -14,7 +14,8 @@ use Rattle.verilog_scope.specs.Folds.{fold_ok, fold_both, pushing}
 use Rattle.verilog_scope.specs.Ranges.{width}
 use Rattle.verilog_scope.specs.Scopes.{scope_of, net_names, decl_of, all_bits}
 use Rattle.verilog_scope.proofs.KeepLemmas.{step_gave}
-use Rattle.verilog_scope.proofs.NewLemmas.{new_distinct, distinct_by_test}
+use Rattle.texts.proofs.NameLemmas.{distinct_by_test}
+use Rattle.verilog_scope.proofs.NewLemmas.{new_distinct}
 use Rattle.verilog_net.specs.declared.sources.Wire.{Wire}
 use Rattle.verilog_net.specs.declared.sources.Port.{Port}
 use Rattle.verilog_net.specs.declared.sources.Conn.{Conn}

@@ -1,9 +1,6 @@
 -- Names that all are new.
 use Rattle.std.proofs.Common.{◌≡◌, ℕ, Bool, true, false, not, ◌&&◌, if◌then◌else◌, List, [], ◌∷◌, ◌++◌, Result, Ok, Err, refl, sym, ap, ◌∙◌}
 use Rattle.std.proofs.Common.{append_assoc, append-nil, subst}
-use Rattle.std.proofs.lemmas.Bool.{and_parts, or_parts, not-true}
-use Rattle.std.specs.List.{IsDistinct, AllByRecursion}
-use Rattle.std.specs.Str.{bytes_eq}
 use Rattle.texts.specs.Names.{is_among, are_distinct}
 use Rattle.texts.proofs.NameLemmas.{are_distinct-push}
 use Rattle.verilog_scope.specs.declared.faults.VerFault.{VerFault}
@@ -37,15 +34,3 @@ unfolding are_distinct
 new_distinct names last e =
     let (is, differ) = grown [] names last refl e in
     (is, subst (λ (l : List (List ℕ)). are_distinct l ≡ true) is differ)
-
-all_differ : (x : List ℕ) (xs : List (List ℕ)) → is_among x xs ≡ false → AllByRecursion (λ y. bytes_eq x y ≡ false) xs
-all_differ x [] e = tt
-all_differ x (y ∷ ys) e = let (here, there) = or_parts (bytes_eq x y) (is_among x ys) e in (here, all_differ x ys there)
-
--- names that differ by the test
-pub distinct_by_test : (xs : List (List ℕ)) → are_distinct xs ≡ true → IsDistinct bytes_eq xs
-unfolding are_distinct IsDistinct
-distinct_by_test [] e = tt
-distinct_by_test (x ∷ xs) e =
-    let (new, rest) = and_parts (not (is_among x xs)) (are_distinct xs) e in
-    (all_differ x xs (not-true (is_among x xs) new), distinct_by_test xs rest)

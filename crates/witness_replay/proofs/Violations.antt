@@ -2,7 +2,7 @@
 use Rattle.std.proofs.Common.{◌≡◌, ◌≢◌, ℕ, ◌+◌, ◌-◌, ◌<◌, ◌≤◌, Bool, List, length, min, Some, ap, sym, ◌∙◌, subst, arith}
 use Rattle.std.specs.Prelude.{slice_get}
 use Rattle.std.proofs.lemmas.Option.{slice_get_within, same_Some}
-use Rattle.sdcv_base.specs.Kinds.{judged_count}
+use Rattle.net_model.specs.Judge.{judged_count}
 use Rattle.net_model.specs.Judge.{start_bit, IsBadFor, IsViolatedAt}
 use Rattle.net_model.specs.declared.netlist.Design.{Design}
 use Rattle.net_model.specs.declared.cycles.Cycle.{Cycle}
@@ -49,7 +49,7 @@ not_toggled d claim run t live before now before_at now_at same v =
 
 pub violated_from : (d : Design) (claim : Claim) (run : List Cycle) (t live : ℕ) (before now : Cycle) (stale : Bool) (r : ℕ) → live < t
     → slice_get run (t - 1) ≡ Some before → slice_get run t ≡ Some now → stale ≡ start_bit claim.start before → start_bit claim.start now ≢ stale
-    → r < judged_count claim.kind → IsBadAt d claim run t stale r → IsViolatedAt live d claim run t
+    → r < judged_count claim → IsBadAt d claim run t stale r → IsViolatedAt live d claim run t
 violated_from d claim run t live before now stale r is_live before_at now_at stale_is differs judged bad =
     record {
       stale = stale;
@@ -73,7 +73,7 @@ violated_from d claim run t live before now stale r is_live before_at now_at sta
     }
 
 pub none_bad : (d : Design) (claim : Claim) (run : List Cycle) (t live : ℕ) (before : Cycle) (stale : Bool) (count : ℕ)
-    → count ≡ min (judged_count claim.kind) (length run - t) → slice_get run (t - 1) ≡ Some before → stale ≡ start_bit claim.start before
+    → count ≡ min (judged_count claim) (length run - t) → slice_get run (t - 1) ≡ Some before → stale ≡ start_bit claim.start before
     → ((q : ℕ) → q < count → ¬ IsBadAt d claim run t stale q) → ¬ IsViolatedAt live d claim run t
 none_bad d claim run t live before stale count is before_at stale_is none v =
     let same : v.stale ≡ stale = sym (stale_of d claim run t live before v before_at) ∙ sym stale_is in

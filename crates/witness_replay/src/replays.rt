@@ -40,7 +40,7 @@ fn is_violated_at(
     if run.item(t).start_bit(design, &claim.start) == stale {
         return false;
     }
-    let judged = claim.kind.judged_count().min(run.len() - t);
+    let judged = claim.judged_count().min(run.len() - t);
     for r in 0..judged {
         let before = run.item(t + r - 1);
         let cycle = run.item(t + r);

@@ -1,6 +1,6 @@
 use Rattle.std.proofs.Common.{ℕ}
 use Rattle.net_model.specs.declared.invariants.InvClause.{InvClause}
-use Rattle.query_model.specs.Laws.{NamesRegs}
+use Rattle.net_model.specs.Fits.{NamesRegs}
 use Rattle.cert_check.proofs.Below.{EachBelow}
 use Rattle.cert_check.proofs.listing.unknown_register.Given as goal
 

@@ -4,7 +4,7 @@ use Rattle.net_model.specs.Netlist.{IsSound}
 use Rattle.net_model.specs.declared.netlist.Design.{Design}
 use Rattle.net_model.specs.Queries.{Query, Breaks, clause_query}
 use Rattle.query_model.specs.Keys.{below}
-use Rattle.query_model.specs.Laws.{NamesRegs}
+use Rattle.net_model.specs.Fits.{NamesRegs}
 use Rattle.query_model.specs.Formula.{definitions}
 use Rattle.query_model.specs.declared.keys.Coding.TheVariants.{Rows}
 use Rattle.cnf_encode.specs.Listed.{IsClosed, clause_cycle}

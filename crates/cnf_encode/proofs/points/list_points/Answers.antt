@@ -1,5 +1,5 @@
 use Rattle.std.proofs.Common.{List, [], ◌∷◌, ◌-◌, map}
-use Rattle.sdcv_base.specs.Kinds.{judged_count}
+use Rattle.net_model.specs.Judge.{judged_count}
 use Rattle.query_model.specs.Keys.{below}
 use Rattle.query_model.specs.Defined.{Definition, differ_definition}
 use Rattle.query_model.specs.Defined.{toggle_definition, change_definition, stale_definition}
@@ -12,7 +12,7 @@ list_differ-requires-clause-closed c =
     let change = change_definition c.args.subject.now.design.now c.args.subject.now.claim.now.end c.args.cycle in
     let differ = differ_definition c.args.subject.now.design.now c.args.subject.now.claim.now c.args.subject.now.moved c.args.cycle in
     let stales : List Definition = map (stale_definition c.args.subject.now.design.now c.args.subject.now.claim.now.start c.args.cycle)
-    (below (judged_count c.args.subject.now.claim.now.kind - 1)) in
+    (below (judged_count c.args.subject.now.claim.now - 1)) in
     Closed-left (differ ∷ []) stales (Closed-right (toggle ∷ change ∷ []) (differ ∷ stales) c.requires.closed)
 
 pub list_stales-requires-clause-closed : goal.list_stales-requires-clause-closed
@@ -21,5 +21,5 @@ list_stales-requires-clause-closed c =
     let change = change_definition c.args.subject.now.design.now c.args.subject.now.claim.now.end c.args.cycle in
     let differ = differ_definition c.args.subject.now.design.now c.args.subject.now.claim.now c.args.subject.now.moved c.args.cycle in
     let stales : List Definition = map (stale_definition c.args.subject.now.design.now c.args.subject.now.claim.now.start c.args.cycle)
-    (below (judged_count c.args.subject.now.claim.now.kind - 1)) in
+    (below (judged_count c.args.subject.now.claim.now - 1)) in
     Closed-right (toggle ∷ change ∷ differ ∷ []) stales c.requires.closed

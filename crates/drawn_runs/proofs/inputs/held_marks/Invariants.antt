@@ -1,6 +1,6 @@
 use Rattle.std.proofs.Common.{◌≡◌, ℕ, ◌<◌, length}
 use Rattle.net_model.specs.Cycles.{bit_at}
-use Rattle.drawn_runs.specs.Drawn.{is_held}
+use Rattle.net_model.specs.Held.{is_held}
 use Rattle.drawn_runs.proofs.inputs.held_marks.Given as goal
 
 abbrev pub invariant-loop-input : goal.invariant-loop-input

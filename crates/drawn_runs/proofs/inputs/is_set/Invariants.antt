@@ -1,6 +1,6 @@
 use Rattle.std.proofs.Common.{◌≡◌, false, take}
 use Rattle.std.specs.List.{list_any}
-use Rattle.drawn_runs.specs.Drawn.{sets}
+use Rattle.net_model.specs.Held.{sets}
 use Rattle.drawn_runs.proofs.inputs.is_set.Given as goal
 
 abbrev pub invariant-loop-setting : goal.invariant-loop-setting

@@ -2,7 +2,7 @@ use Rattle.std.proofs.Common.{◌≡◌, ◌+◌, ◌∙◌, ap, arith, false, l
 use Rattle.std.proofs.lemmas.Option.{get_or_from_slice_get}
 use Rattle.rand_pcg.specs.Lcg.{Lcg}
 use Rattle.net_model.specs.declared.lane_words.Lanes.{Lanes}
-use Rattle.drawn_runs.specs.Drawn.{is_held, free_below}
+use Rattle.net_model.specs.Held.{is_held, free_below}
 use Rattle.drawn_runs.specs.Inputs.{AreDrawnTo}
 use Rattle.drawn_runs.proofs.Filling.{drawn_none, drawn_more, drawn_passed}
 use Rattle.drawn_runs.proofs.inputs.put_free.Goals as goal

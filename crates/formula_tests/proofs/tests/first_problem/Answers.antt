@@ -1,7 +1,7 @@
 use Rattle.std.proofs.Common.{refl, inr}
 use Rattle.std.proofs.lemmas.Result.{IfOk-weaker}
 use Rattle.net_model.proofs.Settling.{All-at}
-use Rattle.query_model.specs.Laws.{NamesRegs}
+use Rattle.net_model.specs.Fits.{NamesRegs}
 use Rattle.net_model.specs.Queries.{clause_query}
 use Rattle.query_model.proofs.Based.{get_within}
 use Rattle.cnf_encode.specs.Problems.{IsMadeFor}

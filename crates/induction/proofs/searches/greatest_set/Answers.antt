@@ -1,6 +1,6 @@
 use Rattle.std.proofs.Common.{◌≡◌, ◌^◌, ◌<◌, List, All, length, map, ap, subst, sym, arith}
 use Rattle.net_model.specs.declared.invariants.InvClause.{InvClause}
-use Rattle.query_model.specs.Laws.{NamesRegs}
+use Rattle.net_model.specs.Fits.{NamesRegs}
 use Rattle.verdicts.specs.Kept.{IsKeptSet}
 use Rattle.verdicts.specs.Forms.{IsSetInForm}
 use Rattle.verdicts.specs.declared.kept.InvProof.{InvProof}

@@ -1,5 +1,5 @@
 use Rattle.std.proofs.Common.{arith, refl}
-use Rattle.query_model.specs.Laws.{NamesRegs}
+use Rattle.net_model.specs.Fits.{NamesRegs}
 use Rattle.inv_candidates.specs.Clauses.{group_clauses}
 use Rattle.inv_candidates.specs.Candidates.{Adds_group, Adds_none, Is_full}
 use Rattle.inv_candidates.proofs.Adding.{adds_all}

@@ -2,7 +2,7 @@ use Rattle.std.proofs.Common.{arith, All, sym, subst}
 use Rattle.std.proofs.lemmas.List.Elements.{All-nil, All-take}
 use Rattle.net_model.specs.Fits.{Fits}
 use Rattle.net_model.proofs.Settling.{All-at}
-use Rattle.query_model.specs.Laws.{NamesRegs}
+use Rattle.net_model.specs.Fits.{NamesRegs}
 use Rattle.verdicts.specs.Inductive.{StandOnce}
 use Rattle.inv_candidates.specs.Candidates.{IsListedTo}
 use Rattle.inv_candidates.proofs.Claiming.{listed_first, listed_next, candidates_from, once_from}

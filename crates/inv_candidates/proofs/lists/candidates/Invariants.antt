@@ -1,5 +1,5 @@
 use Rattle.std.proofs.Common.{All}
-use Rattle.query_model.specs.Laws.{NamesRegs}
+use Rattle.net_model.specs.Fits.{NamesRegs}
 use Rattle.inv_candidates.specs.Candidates.{IsListedTo}
 use Rattle.inv_candidates.proofs.lists.candidates.Given as goal
 

@@ -1,7 +1,7 @@
 use Rattle.std.proofs.Common.{ℕ, sym, subst}
 use Rattle.std.specs.Prelude.{All}
 use Rattle.net_model.specs.declared.netlist.Design.{Design}
-use Rattle.query_model.specs.Laws.{NamesRegs}
+use Rattle.net_model.specs.Fits.{NamesRegs}
 use Rattle.drawn_runs.specs.Drawn.{HoldsDrawn, FailsDrawn}
 use Rattle.verdicts.specs.Kept.{IsKeptSet}
 use Rattle.verdicts.specs.Logs.{own_coding}

@@ -1,4 +1,4 @@
-use Rattle.verilog_scope.proofs.NewLemmas.{distinct_by_test}
+use Rattle.texts.proofs.NameLemmas.{distinct_by_test}
 use Rattle.link_clashes.specs.Clashes.{leaf_names}
 use Rattle.link_clashes.proofs.Clashing.{all_distinct, apart}
 use Rattle.link_clashes.proofs.names.check_cells.Goals as goal

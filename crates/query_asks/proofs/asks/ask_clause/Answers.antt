@@ -2,7 +2,7 @@ use Rattle.std.proofs.Common.{inr}
 use Rattle.net_model.specs.Queries.{clause_query}
 use Rattle.net_model.proofs.Existence.{item_at}
 use Rattle.net_model.proofs.Settling.{All-at}
-use Rattle.query_model.specs.Laws.{NamesRegs}
+use Rattle.net_model.specs.Fits.{NamesRegs}
 use Rattle.query_asks.proofs.Asking.{clause_asks, made_for}
 use Rattle.query_asks.proofs.asks.ask_clause.Goals as goal
 

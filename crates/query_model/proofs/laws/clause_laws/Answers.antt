@@ -1,5 +1,5 @@
 use Rattle.std.proofs.lemmas.List.Elements.{All-contains}
-use Rattle.query_model.specs.Laws.{NamesRegs}
+use Rattle.net_model.specs.Fits.{NamesRegs}
 use Rattle.query_model.proofs.Claims.{clause_models, clause_answers}
 use Rattle.net_model.specs.Queries.{clause_query}
 use Rattle.query_model.proofs.Problems.{numbered_models, numbered_answers}

@@ -1,5 +1,5 @@
 use Rattle.std.proofs.Common.{◌≡◌, drop}
-use Rattle.sdc_values.specs.Folds.{after_all}
+use Rattle.sdcv_base.specs.Steps.{after_all}
 use Rattle.sdc_text.proofs.gathers.take_all.Given as goal
 
 abbrev pub invariant-loop-word : goal.invariant-loop-word

@@ -2,8 +2,8 @@ use Rattle.std.proofs.Common.{◌∙◌, arith}
 use Rattle.std.proofs.lemmas.Result.{err_from_is_err_and}
 use Rattle.std.proofs.lemmas.List.{at_drop_all}
 use Rattle.sdc_values.specs.Texts.{adds_piece}
-use Rattle.sdc_values.specs.Folds.{after_all}
-use Rattle.sdc_values.proofs.FoldLemmas.{after_all_more, after_all_bad, after_all_none}
+use Rattle.sdcv_base.specs.Steps.{after_all}
+use Rattle.sdcv_base.proofs.StepLemmas.{after_all_more, after_all_bad, after_all_none}
 use Rattle.sdc_values.proofs.word_texts.joined.Goals as goal
 
 pub loop-piece-preserved : goal.loop-piece-preserved

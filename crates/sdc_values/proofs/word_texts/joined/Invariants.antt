@@ -1,6 +1,6 @@
 use Rattle.std.proofs.Common.{◌≡◌, [], drop}
 use Rattle.sdc_values.specs.Texts.{adds_piece}
-use Rattle.sdc_values.specs.Folds.{after_all}
+use Rattle.sdcv_base.specs.Steps.{after_all}
 use Rattle.sdc_values.proofs.word_texts.joined.Given as goal
 
 abbrev pub invariant-loop-piece : goal.invariant-loop-piece

@@ -1,5 +1,5 @@
 use Rattle.net_model.proofs.Settling.{All-at}
-use Rattle.query_model.specs.Laws.{NamesRegs}
+use Rattle.net_model.specs.Fits.{NamesRegs}
 use Rattle.induction.proofs.Basing.{pool_first, pool_more}
 use Rattle.induction.proofs.pools.Pool.of.Goals as goal
 

@@ -1,7 +1,7 @@
 -- What is gathered item by item, one item on.
 use Rattle.std.proofs.Common.{◌≡◌, ℕ, ◌+◌, ◌<◌, List, [], ◌∷◌, length, get_or, drop, Ok, Err, Result, refl, ap, ◌∙◌, sym}
 use Rattle.std.proofs.lemmas.List.{drop_more}
-use Rattle.sdc_values.specs.Folds.{after_all}
+use Rattle.sdcv_base.specs.Steps.{after_all}
 
 module _ {A B F : Type 0} (adds : A → B → Result A F) (found : A) (xs : List B) (i : ℕ) (x : B) (here : i < length xs) (is : x ≡ get_or xs i x) where
   from_here : drop i xs ≡ x ∷ drop (i + 1) xs
