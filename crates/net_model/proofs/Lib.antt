@@ -21,6 +21,7 @@ pub mod NetOrder
 pub mod LayersExist
 pub mod Members
 pub mod Still
+pub mod Flipped
 pub mod TernaryOnce
 pub mod Holding
 pub mod Stimulating

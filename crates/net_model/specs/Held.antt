@@ -1,5 +1,5 @@
 -- Inputs and starts whose bit the environment holds.
-use Rattle.std.specs.Prelude.{ℕ, zero, suc, ◌+◌, Bool, ◌||◌, ◌==◌, if◌then◌else◌, List, Contains}
+use Rattle.std.specs.Prelude.{ℕ, zero, suc, ◌+◌, Bool, ◌||◌, ◌==◌, if◌then◌else◌, Contains}
 use Rattle.std.specs.List.{list_any}
 use Rattle.net_model.specs.Netlist.{held_inputs}
 use Rattle.net_model.specs.declared.netlist.Design.{Design}

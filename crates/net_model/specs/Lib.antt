@@ -21,6 +21,7 @@ pub mod Held
 pub mod LaneBits
 pub mod LaneLaws
 pub mod Moved
+pub mod Flipped
 pub mod Fits
 pub mod Mentions
 pub mod Markings

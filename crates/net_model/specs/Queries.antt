@@ -1,5 +1,5 @@
 -- What a query asks of runs and stretches, and those that answer it.
-use Rattle.std.specs.Prelude.{◌≡◌, ℕ, ◌+◌, ◌-◌, ◌<◌, Bool, true, false, not, List, [], length, Contains, Some, slice_get, nat_lt, if◌then◌else◌}
+use Rattle.std.specs.Prelude.{◌≡◌, ℕ, ◌+◌, ◌-◌, ◌<◌, Bool, true, false, not, List, length, Contains, Some, slice_get, nat_lt, if◌then◌else◌}
 use Rattle.std.specs.List.{list_any}
 use Rattle.net_model.specs.Cycles.{bit_at, IsLinked, HasResets}
 use Rattle.net_model.specs.Judge.{judged_count, IsViolatedAt}

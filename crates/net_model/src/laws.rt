@@ -6,6 +6,7 @@ ghost use Rattle.net_model.specs.Cycles.{IsRun};
 ghost use Rattle.net_model.specs.Stimuli.{IsLawful, HasOneRun, HasStimulus};
 ghost use Rattle.net_model.specs.Judge.{judged_count, Toggles, IsViolatedAt, Holds};
 ghost use Rattle.net_model.specs.Held.{IsHeldStart};
+ghost use Rattle.net_model.specs.Flipped.{IsLateByFlip};
 ghost use Rattle.net_model.specs.Moved.{IsMovedByPaths};
 ghost use Rattle.net_model.specs.declared.cycles.Cycle.{Cycle as CycleRecord};
 ghost use Rattle.sdcv_base.specs.declared.kinds.Edge.{Edge};
@@ -53,4 +54,12 @@ pub fn moved_where_path(design: &Design, claim: &Claim)
     requires sound { IsSound design.now }
     requires fits { Fits design.now claim.now }
     ensures { IsMovedByPaths design.now claim.now }
+{}
+
+/// The late capture differs exactly where the start's bit is no longer the stale one, and the capture with the start flipped
+/// differs. So one late capture of a cycle tells of each toggle before it.
+pub fn late_by_flip(design: &Design, claim: &Claim)
+    requires sound { IsSound design.now }
+    requires fits { Fits design.now claim.now }
+    ensures { IsLateByFlip design.now claim.now }
 {}

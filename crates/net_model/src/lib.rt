@@ -43,7 +43,7 @@ pub use functions::{Func, Node};
 pub use invariants::{InvClause, StateLit};
 pub use lane_words::Lanes;
 pub use late_starts::make_layers;
-pub use laws::{held_start, moved_where_path, one_run, some_stimulus, unjudged};
+pub use laws::{held_start, late_by_flip, moved_where_path, one_run, some_stimulus, unjudged};
 pub use layers::{late_reg_args, layer_pin};
 pub use limits::{
     LAYERS, MOST_CYCLES, MOST_DEPTH, MOST_INPUTS, MOST_LAG, MOST_NETS, MOST_OUTPUTS, MOST_PINS,
