@@ -8,7 +8,7 @@ use Rattle.net_model.specs.declared.claims.Claim.{Claim}
 use Rattle.net_model.specs.declared.invariants.InvClause.{InvClause}
 use Rattle.net_model.specs.declared.queries.Phase.TheVariants.{Base, Step}
 use Rattle.net_model.specs.Fits.{NamesRegs}
-use Rattle.query_model.proofs.OneProblem.{one_problem}
+use Rattle.query_laws.proofs.OneProblem.{one_problem}
 use Rattle.query_model.specs.declared.keys.Coding.{Coding}
 use Rattle.proof_log.specs.Derivations.{AllFollow}
 use Rattle.proof_log.specs.declared.derivations.Derivation.{Derivation}

@@ -11,9 +11,9 @@ use Rattle.net_model.specs.Queries.{Query, AreCyclesOf, IsAnswer, claim_query, c
 use Rattle.query_model.specs.Variables.{AllCodesTrue, code_true, by_number}
 use Rattle.net_model.specs.Fits.{NamesRegs}
 use Rattle.query_model.specs.Laws.{HasFreeBits, AgreesWith, NumberedModelsAnswer, HasRails, NumberedHaveRails}
-use Rattle.query_model.proofs.Railed.{claim_rails, numbered_rails}
-use Rattle.query_model.proofs.Claims.{claim_models, clause_models}
-use Rattle.query_model.proofs.Problems.{numbered_models}
+use Rattle.query_laws.proofs.Railed.{claim_rails, numbered_rails}
+use Rattle.query_laws.proofs.Claims.{claim_models, clause_models}
+use Rattle.query_laws.proofs.Problems.{numbered_models}
 use Rattle.query_model.specs.declared.keys.Coding.TheVariants.{Rows}
 use Rattle.proof_log.specs.Literals.{lit_true}
 use Rattle.proof_log.specs.Clauses.{clause_true}

@@ -19,8 +19,8 @@ use Rattle.query_model.specs.Formula.{definitions, asked_clauses, AreMovedFor, A
 use Rattle.query_model.specs.Variables.{number_of, by_number}
 use Rattle.net_model.specs.Fits.{NamesRegs}
 use Rattle.query_model.specs.Laws.{AgreesWith, AnswersHaveNumberedModels}
-use Rattle.query_model.proofs.Claims.{claim_answers, clause_answers}
-use Rattle.query_model.proofs.Problems.{numbered_answers}
+use Rattle.query_laws.proofs.Claims.{claim_answers, clause_answers}
+use Rattle.query_laws.proofs.Problems.{numbered_answers}
 use Rattle.query_model.specs.declared.keys.Key.{Key}
 use Rattle.query_model.specs.declared.keys.KeyLit.{KeyLit}
 use Rattle.query_model.specs.declared.keys.Coding.TheVariants.{Rows}

@@ -1,5 +1,5 @@
 -- What the models of a query's formula are: its answers, in both directions; and what rails the layers have in them.
-use Rattle.std.specs.Prelude.{◌≡◌, ℕ, zero, suc, ◌+◌, ◌<◌, ◌≤◌, Bool, true, false, List, length, All, Contains, None, Some, slice_get}
+use Rattle.std.specs.Prelude.{◌≡◌, ℕ, zero, suc, ◌+◌, ◌<◌, ◌≤◌, Bool, true, false, List, length, Contains, None, Some, slice_get}
 use Rattle.net_model.specs.Cycles.{bit_at, capture}
 use Rattle.net_model.specs.Layers.{net_at}
 use Rattle.net_model.specs.Ternary.{AreTernaryLayers, IsTernaryCapture}

@@ -17,8 +17,8 @@ use Rattle.query_model.specs.declared.keys.Key.{Key}
 use Rattle.net_model.specs.declared.queries.Phase.TheVariants.{Base}
 use Rattle.net_model.specs.Fits.{NamesRegs}
 use Rattle.query_model.specs.Laws.{AnswersHaveNumberedModels}
-use Rattle.query_model.proofs.Claims.{claim_answers, clause_answers}
-use Rattle.query_model.proofs.Problems.{numbered_answers}
+use Rattle.query_laws.proofs.Claims.{claim_answers, clause_answers}
+use Rattle.query_laws.proofs.Problems.{numbered_answers}
 use Rattle.query_model.specs.declared.keys.Coding.{Coding}
 use Rattle.proof_log.specs.Literals.{lit_true}
 use Rattle.proof_log.specs.Clauses.{clause_true}

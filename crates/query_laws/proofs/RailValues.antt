@@ -14,7 +14,7 @@ use Rattle.query_model.proofs.Runs.{AnyKey}
 use Rattle.query_model.specs.Laws.{may_one, may_zero}
 use Rattle.query_model.proofs.Hazard.{RailsTell, Settles, hazard_may, hazard_must}
 use Rattle.query_model.proofs.Codings.{constant_right, constant_value}
-use Rattle.query_model.proofs.Rails.{some_bits, hazard_true}
+use Rattle.query_laws.proofs.Rails.{some_bits, hazard_true}
 use Rattle.query_model.specs.declared.keys.Key.{Key}
 use Rattle.query_model.specs.declared.keys.KeyLit.{KeyLit}
 use Rattle.query_model.specs.declared.keys.Cube.{Cube}

@@ -23,11 +23,11 @@ use Rattle.query_model.proofs.Tabled.{value_opposite}
 use Rattle.query_model.proofs.Runs.{Told, CodingCovers, Forces, AnyKey, unit_true, unit_says}
 use Rattle.query_model.proofs.Based.{Says, base_true, get_within, in_place, placed, from_numbered, in_numbered}
 use Rattle.query_model.proofs.Needs.{forces, forces_some, formula_true, mentioned}
-use Rattle.query_model.proofs.Meaning.{meaning_says}
-use Rattle.query_model.proofs.Clauses.{Needed, NamesKept, IsModelBeside, kept_told, kept_said, model_told, asked_true}
-use Rattle.query_model.proofs.Extras.{LitsTold, start_told, capture_told, ExtrasTold, extras_told, extras_true}
-use Rattle.query_model.proofs.Decided.{IsDecided, AllHold, KindOfAll, holds_violated, violated_holds}
-use Rattle.query_model.proofs.Story.{others, story, story_extras, story_bad, said_told}
+use Rattle.query_laws.proofs.Meaning.{meaning_says}
+use Rattle.query_laws.proofs.Clauses.{Needed, NamesKept, IsModelBeside, kept_told, kept_said, model_told, asked_true}
+use Rattle.query_laws.proofs.Extras.{LitsTold, start_told, capture_told, ExtrasTold, extras_told, extras_true}
+use Rattle.query_laws.proofs.Decided.{IsDecided, AllHold, KindOfAll, holds_violated, violated_holds}
+use Rattle.query_laws.proofs.Story.{others, story, story_extras, story_bad, said_told}
 use Rattle.query_model.specs.declared.keys.Key.{Key}
 use Rattle.query_model.specs.declared.keys.KeyLit.{KeyLit}
 use Rattle.query_model.specs.declared.keys.Coding.{Coding}

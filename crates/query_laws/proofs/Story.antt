@@ -13,8 +13,8 @@ use Rattle.net_model.specs.declared.claims.Claim.{Claim}
 use Rattle.query_model.specs.Defined.{bad_key, differ_key, extra}
 use Rattle.query_model.proofs.Runs.{Told, AnyKey}
 use Rattle.query_model.proofs.Based.{Says, reads_said}
-use Rattle.query_model.proofs.Meaning.{meaning, meaning_extra}
-use Rattle.query_model.proofs.Extras.{ExtrasTold}
+use Rattle.query_laws.proofs.Meaning.{meaning, meaning_extra}
+use Rattle.query_laws.proofs.Extras.{ExtrasTold}
 use Rattle.query_model.specs.declared.keys.Key.{Key}
 
 -- the further keys, read off a run

@@ -14,7 +14,7 @@ use Rattle.query_model.specs.Reads.{bit_key, shown_in, bit_or, read_from, read_b
 use Rattle.net_model.specs.Queries.{Query, Question, Violates, Breaks}
 use Rattle.query_model.specs.Formula.{asked_clauses, definitions, IsNeeded}
 use Rattle.query_model.proofs.Told.{found_shown}
-use Rattle.query_model.proofs.Mentioned.{QuestionHas, needed_has}
+use Rattle.query_laws.proofs.Mentioned.{QuestionHas, needed_has}
 use Rattle.query_model.proofs.Based.{placed, from_numbered}
 use Rattle.query_model.specs.declared.keys.Key.{Key}
 use Rattle.query_model.specs.declared.keys.KeyLit.{KeyLit}

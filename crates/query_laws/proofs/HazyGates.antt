@@ -35,9 +35,9 @@ use Rattle.query_model.proofs.Lists.{length-numbered}
 use Rattle.query_model.proofs.Prime.{in_filter}
 use Rattle.query_model.specs.Laws.{may_one, may_zero}
 use Rattle.query_model.proofs.Hazard.{RailsTell, Settles}
-use Rattle.query_model.proofs.RailValues.{RailTells, AreRails, on_terns, rails_give, rails_true}
-use Rattle.query_model.proofs.TernCells.{on_gate_terns}
-use Rattle.query_model.proofs.Hazy.{IsHazy, LayerMay, OwnMay, layer_may, pin_may}
+use Rattle.query_laws.proofs.RailValues.{RailTells, AreRails, on_terns, rails_give, rails_true}
+use Rattle.query_laws.proofs.TernCells.{on_gate_terns}
+use Rattle.query_laws.proofs.Hazy.{IsHazy, LayerMay, OwnMay, layer_may, pin_may}
 use Rattle.query_model.specs.declared.keys.Key.{Key}
 use Rattle.query_model.specs.declared.keys.KeyLit.{KeyLit}
 use Rattle.query_model.specs.declared.keys.Coding.{Coding}

@@ -31,20 +31,20 @@ use Rattle.net_model.specs.Queries.{Query, claim_query, only_in_step}
 use Rattle.query_model.specs.Defined.{has_own, late_key, claim_definitions}
 use Rattle.query_model.specs.Formula.{definitions, asked_clauses, IsNeeded, AreNeeded}
 use Rattle.query_model.specs.Laws.{rail_value, HasRails, ModelsHaveRails, NumberedHaveRails}
-use Rattle.query_model.proofs.Late.{start_net_in}
+use Rattle.query_laws.proofs.Late.{start_net_in}
 use Rattle.query_model.proofs.Runs.{Told, Forces, now_bits}
 use Rattle.query_model.proofs.Needs.{forces, forces_some}
-use Rattle.query_model.proofs.Numbered.{normals_true, model_by_number}
-use Rattle.query_model.proofs.Clauses.{Needed, IsModelBeside, model_told}
-use Rattle.query_model.proofs.RailValues.{RailTells}
-use Rattle.query_model.proofs.Hazy.{IsHazy, LayerMay, read_own}
-use Rattle.query_model.proofs.HazyGates.{IsCoding, layers_may}
-use Rattle.query_model.proofs.HazyEnds.{EndMay, end_may}
-use Rattle.query_model.proofs.Violated.{IsAskedOf, claim_in}
-use Rattle.query_model.proofs.PlainClaims.{layers_of, ends_of}
-use Rattle.query_model.proofs.Mentioned.{BaseHas, LayersHave, needed_has}
-use Rattle.query_model.proofs.NetKeys.{read_is}
-use Rattle.query_model.proofs.Claims.{beside, coded, asked_of}
+use Rattle.query_laws.proofs.Numbered.{normals_true, model_by_number}
+use Rattle.query_laws.proofs.Clauses.{Needed, IsModelBeside, model_told}
+use Rattle.query_laws.proofs.RailValues.{RailTells}
+use Rattle.query_laws.proofs.Hazy.{IsHazy, LayerMay, read_own}
+use Rattle.query_laws.proofs.HazyGates.{IsCoding, layers_may}
+use Rattle.query_laws.proofs.HazyEnds.{EndMay, end_may}
+use Rattle.query_laws.proofs.Violated.{IsAskedOf, claim_in}
+use Rattle.query_laws.proofs.PlainClaims.{layers_of, ends_of}
+use Rattle.query_laws.proofs.Mentioned.{BaseHas, LayersHave, needed_has}
+use Rattle.query_laws.proofs.NetKeys.{read_is}
+use Rattle.query_laws.proofs.Claims.{beside, coded, asked_of}
 use Rattle.query_model.specs.declared.keys.Key.{Key}
 use Rattle.query_model.specs.declared.keys.KeyLit.{KeyLit}
 use Rattle.query_model.specs.declared.keys.Coding.{Coding}

@@ -34,7 +34,7 @@ use Rattle.query_model.proofs.Celled.{own_bits, tell_own}
 use Rattle.query_model.proofs.Runs.{CodingCovers, AnyKey, Forces, capture_reads}
 use Rattle.query_model.proofs.Based.{placed, in_place, from_numbered, in_numbered}
 use Rattle.net_model.proofs.Members.{in_or}
-use Rattle.query_model.proofs.Late.{IsFlipped, LayerTells, OwnTells, layer_tells, pin_tells}
+use Rattle.query_laws.proofs.Late.{IsFlipped, LayerTells, OwnTells, layer_tells, pin_tells}
 use Rattle.query_model.proofs.Lists.{length-numbered, numbered_tell, numbered_only, on_pins}
 use Rattle.query_model.specs.declared.keys.Key.{Key}
 use Rattle.query_model.specs.declared.keys.KeyLit.{KeyLit}

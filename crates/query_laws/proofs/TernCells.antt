@@ -15,8 +15,8 @@ use Rattle.net_model.specs.declared.terns.Tern.TheVariants.{Zero, One, Unknown}
 use Rattle.net_model.specs.Mentions.{reads_own}
 use Rattle.query_model.specs.Defined.{numbered}
 use Rattle.query_model.proofs.Celled.{capture_but_last}
-use Rattle.query_model.proofs.Rails.{any_bit}
-use Rattle.query_model.proofs.RailValues.{on_terns}
+use Rattle.query_laws.proofs.Rails.{any_bit}
+use Rattle.query_laws.proofs.RailValues.{on_terns}
 use Rattle.query_model.proofs.Runs.{capture_reads}
 
 -- a cell whose value depends on some places alone

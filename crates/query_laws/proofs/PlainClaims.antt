@@ -23,13 +23,13 @@ use Rattle.query_model.proofs.Members.{In-below}
 use Rattle.query_model.proofs.Told.{LitTells}
 use Rattle.query_model.proofs.Runs.{now_bits, Told, CodingCovers, Forces, AnyKey}
 use Rattle.query_model.proofs.Needs.{forces_some}
-use Rattle.query_model.proofs.Meaning.{meaning_says}
-use Rattle.query_model.proofs.Late.{IsFlipped, LayerTells, pin_tells}
-use Rattle.query_model.proofs.LateGates.{SaysLayers, layers_told, layers_said, layer_true, end_told, end_true}
-use Rattle.query_model.proofs.Extras.{capture_told, exclusive_told, exclusive_true, both_same}
-use Rattle.query_model.proofs.Judged.{IsJudged}
-use Rattle.query_model.proofs.Story.{others, story, story_differ, said_told, capture_in_option}
-use Rattle.query_model.proofs.Violated.{IsAskedOf, TellsDiffer, SaysLate}
+use Rattle.query_laws.proofs.Meaning.{meaning_says}
+use Rattle.query_laws.proofs.Late.{IsFlipped, LayerTells, pin_tells}
+use Rattle.query_laws.proofs.LateGates.{SaysLayers, layers_told, layers_said, layer_true, end_told, end_true}
+use Rattle.query_laws.proofs.Extras.{capture_told, exclusive_told, exclusive_true, both_same}
+use Rattle.query_laws.proofs.Judged.{IsJudged}
+use Rattle.query_laws.proofs.Story.{others, story, story_differ, said_told, capture_in_option}
+use Rattle.query_laws.proofs.Violated.{IsAskedOf, TellsDiffer, SaysLate}
 use Rattle.query_model.specs.declared.keys.Key.{Key}
 use Rattle.query_model.specs.declared.keys.Coding.{Coding}
 

@@ -22,7 +22,7 @@ use Rattle.query_model.proofs.Tabled.{value_opposite}
 use Rattle.query_model.proofs.Runs.{now_bits, Told, CodingCovers}
 use Rattle.query_model.proofs.Based.{Says, IsFree, base_true, base_told, get_within}
 use Rattle.query_model.proofs.Needs.{forces, forces_some, formula_true, base_in, mentioned}
-use Rattle.query_model.proofs.Meaning.{meaning, meaning_says}
+use Rattle.query_laws.proofs.Meaning.{meaning, meaning_says}
 use Rattle.query_model.specs.declared.keys.Key.{Key}
 use Rattle.query_model.specs.declared.keys.KeyLit.{KeyLit}
 use Rattle.query_model.specs.declared.keys.Coding.{Coding}

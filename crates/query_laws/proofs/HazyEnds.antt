@@ -35,14 +35,14 @@ use Rattle.query_model.proofs.Runs.{AnyKey, Forces, unit_true, capture_reads}
 use Rattle.query_model.proofs.Based.{get_within, from_numbered}
 use Rattle.query_model.proofs.Lists.{length-numbered}
 use Rattle.query_model.proofs.Prime.{from_filter}
-use Rattle.query_model.proofs.Late.{start_net_in}
+use Rattle.query_laws.proofs.Late.{start_net_in}
 use Rattle.query_model.specs.Laws.{may_one, may_zero}
 use Rattle.query_model.proofs.Hazard.{RailsTell}
-use Rattle.query_model.proofs.RailValues.{RailTells, AreRails, on_terns}
-use Rattle.query_model.proofs.TernCells.{on_gate_terns, own_terns, on_reg_terns}
-use Rattle.query_model.proofs.Hazy.{IsHazy, LayerMay, pin_may, known_rails}
-use Rattle.query_model.proofs.HazyGates.{IsCoding, given_rails, true_rails, numbered_rails, pin_rails, hazy_gate, hazy_gate_is, layer_terns}
-use Rattle.query_model.proofs.HazyGates.{gate_may_tell, gate_reads_few, start_unknown, net_units, units_are, SaysRails, layers_may_said}
+use Rattle.query_laws.proofs.RailValues.{RailTells, AreRails, on_terns}
+use Rattle.query_laws.proofs.TernCells.{on_gate_terns, own_terns, on_reg_terns}
+use Rattle.query_laws.proofs.Hazy.{IsHazy, LayerMay, pin_may, known_rails}
+use Rattle.query_laws.proofs.HazyGates.{IsCoding, given_rails, true_rails, numbered_rails, pin_rails, hazy_gate, hazy_gate_is, layer_terns}
+use Rattle.query_laws.proofs.HazyGates.{gate_may_tell, gate_reads_few, start_unknown, net_units, units_are, SaysRails, layers_may_said}
 use Rattle.query_model.specs.declared.keys.Key.{Key}
 use Rattle.query_model.specs.declared.keys.KeyLit.{KeyLit}
 use Rattle.query_model.specs.declared.keys.Coding.{Coding}

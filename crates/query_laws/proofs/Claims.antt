@@ -39,17 +39,17 @@ use Rattle.query_model.specs.Laws.{HasFreeBits, AgreesWith, ModelsAnswer, Answer
 use Rattle.net_model.specs.Fits.{NamesRegs as Names}
 use Rattle.query_model.proofs.Runs.{AnyKey, rows_coding, Told, now_bits, next_bits}
 use Rattle.query_model.proofs.Told.{LitTells}
-use Rattle.query_model.proofs.NetKeys.{needed_own}
+use Rattle.query_laws.proofs.NetKeys.{needed_own}
 use Rattle.query_model.proofs.Based.{IsFree, Says, get_within, placed}
-use Rattle.query_model.proofs.Clauses.{NamesRegs, Needed, IsModelBeside, model_told, clause_model_answers, clause_answer_models}
+use Rattle.query_laws.proofs.Clauses.{NamesRegs, Needed, IsModelBeside, model_told, clause_model_answers, clause_answer_models}
 use Rattle.query_model.proofs.Codings.{primes_coding, rows_settle, primes_settle}
-use Rattle.query_model.proofs.Meaning.{meaning, meaning_says}
-use Rattle.query_model.proofs.HazyGates.{IsCoding}
-use Rattle.query_model.proofs.Judged.{plain_decided}
-use Rattle.query_model.proofs.Violated.{IsAskedOf, TellsDiffer, SaysLate, SayingModel, claim_model_answers, claim_answer_models}
-use Rattle.query_model.proofs.Decided.{IsDecided}
-use Rattle.query_model.proofs.PlainClaims.{AreFlipped, differs_late_at, late_at, are_judged, plain_tells, plain_says, flipped_layer}
-use Rattle.query_model.proofs.HazyClaims.{AreHazy, unknown_at, are_hazy_judged, hazy_decided, hazy_tells, hazy_says, hazy_layer}
+use Rattle.query_laws.proofs.Meaning.{meaning, meaning_says}
+use Rattle.query_laws.proofs.HazyGates.{IsCoding}
+use Rattle.query_laws.proofs.Judged.{plain_decided}
+use Rattle.query_laws.proofs.Violated.{IsAskedOf, TellsDiffer, SaysLate, SayingModel, claim_model_answers, claim_answer_models}
+use Rattle.query_laws.proofs.Decided.{IsDecided}
+use Rattle.query_laws.proofs.PlainClaims.{AreFlipped, differs_late_at, late_at, are_judged, plain_tells, plain_says, flipped_layer}
+use Rattle.query_laws.proofs.HazyClaims.{AreHazy, unknown_at, are_hazy_judged, hazy_decided, hazy_tells, hazy_says, hazy_layer}
 use Rattle.query_model.specs.declared.keys.Key.{Key}
 use Rattle.query_model.specs.declared.keys.KeyLit.{KeyLit}
 use Rattle.query_model.specs.declared.keys.Coding.{Coding}

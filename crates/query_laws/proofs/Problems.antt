@@ -14,7 +14,7 @@ use Rattle.query_model.specs.Formula.{definitions, asked_clauses, same_key, has_
 use Rattle.query_model.specs.Variables.{code_of, code_true, IsProblemOf, AllCodesTrue, by_number}
 use Rattle.query_model.specs.Laws.{HasFreeBits, AgreesWith, ModelsAnswer, AnswersHaveModels, NumberedModelsAnswer, AnswersHaveNumberedModels}
 use Rattle.query_model.proofs.Needs.{mentioned}
-use Rattle.query_model.proofs.Numbered.{coded_same, normals_true, true_normals, model_by_number}
+use Rattle.query_laws.proofs.Numbered.{coded_same, normals_true, true_normals, model_by_number}
 use Rattle.query_model.proofs.Places.{same_key-true, by_key, by_key_number}
 use Rattle.query_model.specs.declared.keys.Key.{Key}
 use Rattle.query_model.specs.declared.keys.KeyLit.{KeyLit}

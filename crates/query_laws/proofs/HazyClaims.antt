@@ -25,16 +25,16 @@ use Rattle.net_model.proofs.Members.{In}
 use Rattle.query_model.proofs.Tabled.{value_opposite}
 use Rattle.query_model.proofs.Told.{LitTells}
 use Rattle.query_model.proofs.Runs.{now_bits, Told, Forces, AnyKey}
-use Rattle.query_model.proofs.Meaning.{meaning_says}
-use Rattle.query_model.proofs.Extras.{ExtrasTold}
-use Rattle.query_model.proofs.Decided.{xor_ne, ne_xor, AllHold, Moment, KindOfAll, IsDecided}
+use Rattle.query_laws.proofs.Meaning.{meaning_says}
+use Rattle.query_laws.proofs.Extras.{ExtrasTold}
+use Rattle.query_laws.proofs.Decided.{xor_ne, ne_xor, AllHold, Moment, KindOfAll, IsDecided}
 use Rattle.query_model.specs.Laws.{may_one, may_zero, rail_value}
-use Rattle.query_model.proofs.Hazy.{IsHazy, LayerMay}
-use Rattle.query_model.proofs.HazyGates.{IsCoding, SaysRails, layers_may, layers_may_said}
-use Rattle.query_model.proofs.HazyEnds.{end_may, end_may_said, SaysEnd, layer_hazy_true, end_hazy_true}
-use Rattle.query_model.proofs.Story.{others, story, story_differ, said_told}
-use Rattle.query_model.proofs.Violated.{IsAskedOf, TellsDiffer, SaysLate}
-use Rattle.query_model.proofs.PlainClaims.{layers_of, ends_of, extras_of}
+use Rattle.query_laws.proofs.Hazy.{IsHazy, LayerMay}
+use Rattle.query_laws.proofs.HazyGates.{IsCoding, SaysRails, layers_may, layers_may_said}
+use Rattle.query_laws.proofs.HazyEnds.{end_may, end_may_said, SaysEnd, layer_hazy_true, end_hazy_true}
+use Rattle.query_laws.proofs.Story.{others, story, story_differ, said_told}
+use Rattle.query_laws.proofs.Violated.{IsAskedOf, TellsDiffer, SaysLate}
+use Rattle.query_laws.proofs.PlainClaims.{layers_of, ends_of, extras_of}
 use Rattle.query_model.specs.declared.keys.Key.{Key}
 use Rattle.query_model.specs.declared.keys.KeyLit.{KeyLit}
 use Rattle.query_model.specs.declared.keys.Coding.{Coding}

@@ -13,7 +13,7 @@ use Rattle.query_model.specs.Formula.{alternatives_at, alternatives}
 use Rattle.net_model.proofs.Members.{In, In-flat, from_flat}
 use Rattle.query_model.proofs.Members.{In-below, below_less}
 use Rattle.query_model.proofs.Based.{get_within}
-use Rattle.query_model.proofs.Extras.{ExtrasTold}
+use Rattle.query_laws.proofs.Extras.{ExtrasTold}
 use Rattle.query_model.specs.declared.keys.Key.{Key}
 use Rattle.query_model.specs.declared.keys.KeyLit.{KeyLit}
 

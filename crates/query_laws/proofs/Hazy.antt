@@ -25,9 +25,9 @@ use Rattle.query_model.specs.Keys.{key, lit, opposite, lit_value}
 use Rattle.query_model.specs.Reads.{read, read_base, read_late, read_pin, is_start_net, AreMoved}
 use Rattle.query_model.proofs.Tabled.{value_opposite}
 use Rattle.query_model.proofs.Told.{ReadTells}
-use Rattle.query_model.proofs.Late.{IsUnmoved, IsUnmovedPin, moved_still, false_true}
+use Rattle.query_laws.proofs.Late.{IsUnmoved, IsUnmovedPin, moved_still, false_true}
 use Rattle.query_model.specs.Laws.{may_one, may_zero}
-use Rattle.query_model.proofs.RailValues.{RailTells}
+use Rattle.query_laws.proofs.RailValues.{RailTells}
 use Rattle.query_model.specs.declared.keys.Key.{Key}
 use Rattle.query_model.specs.declared.keys.KeyLit.{KeyLit}
 

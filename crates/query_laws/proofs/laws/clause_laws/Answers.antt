@@ -1,10 +1,10 @@
 use Rattle.std.proofs.lemmas.List.Elements.{All-contains}
 use Rattle.net_model.specs.Fits.{NamesRegs}
-use Rattle.query_model.proofs.Claims.{clause_models, clause_answers}
+use Rattle.query_laws.proofs.Claims.{clause_models, clause_answers}
 use Rattle.net_model.specs.Queries.{clause_query}
-use Rattle.query_model.proofs.Problems.{numbered_models, numbered_answers}
-use Rattle.query_model.proofs.OneProblem.{one_problem}
-use Rattle.query_model.proofs.laws.clause_laws.Goals as goal
+use Rattle.query_laws.proofs.Problems.{numbered_models, numbered_answers}
+use Rattle.query_laws.proofs.OneProblem.{one_problem}
+use Rattle.query_laws.proofs.laws.clause_laws.Goals as goal
 
 pub returns-clause-models : goal.returns-clause-models
 returns-clause-models c coding =

@@ -395,7 +395,7 @@ extras_have P d base claim moved layers c def (inr (inr (inl here))) = subst (λ
     (differ_have P d base claim moved layers c)
 extras_have P d base claim moved layers c def (inr (inr (inr later))) =
     let stale : ℕ → Definition = λ r. exclusive (stale_key d c (r + 1)) (start_lit d claim.start c) (start_lit d claim.start (c - r - 2)) in
-    let of = from_map stale def (below (Rattle.sdcv_base.specs.Kinds.judged_count claim - 1)) later in
+    let of = from_map stale def (below (Rattle.net_model.specs.Judge.judged_count claim - 1)) later in
     subst (λ (x : Definition). ClausesHave P x.clauses) of.2 (exclusive_have P (stale_key d c (of.0 + 1)) (start_lit d claim.start c)
     (start_lit d claim.start (c - of.0 - 2)) (extra_has P d base c (2 + (of.0 + 1))) (start_lit_has P d base claim.start c)
     (start_lit_has P d base claim.start (c - of.0 - 2)))
@@ -464,7 +464,7 @@ hazard_alternatives_have P d base (Multi k) [] c alt (inr later) = one_alternati
 
 alternatives_have : (P : Key → Type 0) (d : Design) (base : BaseHas P d) (claim : Claim) (t : ℕ) → ClausesHave P (alternatives d claim t)
 alternatives_have P d base claim t alt has =
-    let of = from_flat (alternatives_at d claim t) alt (below (Rattle.sdcv_base.specs.Kinds.judged_count claim)) has in
+    let of = from_flat (alternatives_at d claim t) alt (below (Rattle.net_model.specs.Judge.judged_count claim)) has in
     by_mode of.0 claim.hazard alt of.2
   where
     by_mode : (r : ℕ) (h : Bool) → ClausesHave P (cond h (hazard_alternatives claim.kind claim.through d (t + r))

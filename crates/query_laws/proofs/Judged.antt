@@ -32,9 +32,9 @@ use Rattle.net_model.proofs.Members.{In, from_map, In-from_Contains}
 use Rattle.query_model.proofs.Based.{placed, get_within}
 use Rattle.query_model.proofs.Celled.{capture_but_last}
 use Rattle.net_model.proofs.Still.{IsStill, stays, pin_still}
-use Rattle.query_model.proofs.Late.{start_shows}
-use Rattle.query_model.proofs.Extras.{ExtrasTold}
-use Rattle.query_model.proofs.Decided.{xor_ne, ne_xor, ne_not, AllHold, Moment, KindOfAll, IsDecided}
+use Rattle.query_laws.proofs.Late.{start_shows}
+use Rattle.query_laws.proofs.Extras.{ExtrasTold}
+use Rattle.query_laws.proofs.Decided.{xor_ne, ne_xor, ne_not, AllHold, Moment, KindOfAll, IsDecided}
 use Rattle.query_model.specs.declared.keys.Key.{Key}
 use Rattle.query_model.specs.declared.keys.KeyLit.{KeyLit}
 
