@@ -7,10 +7,9 @@ use Rattle.std.proofs.lemmas.Option.{slice_get_within}
 use Rattle.net_model.specs.Form.{value}
 use Rattle.net_model.specs.FormLaws.{value_agrees}
 use Rattle.net_model.specs.Netlist.{IsSound}
-use Rattle.net_model.specs.Fits.{Fits, IsKindFit}
+use Rattle.net_model.specs.Fits.{Fits, IsKindFit, IsLagFit, NamesRegs as Names}
 use Rattle.net_model.specs.Cycles.{bit_at, shown, IsSettled, IsLinked}
-use Rattle.net_model.specs.Judge.{judged_count}
-use Rattle.net_model.specs.Judge.{start_bit}
+use Rattle.net_model.specs.Judge.{judged_by, start_bit}
 use Rattle.net_model.specs.Layers.{AreLayers}
 use Rattle.net_model.specs.Pins.{late_value}
 use Rattle.net_model.specs.Ternary.{tern_of}
@@ -36,7 +35,6 @@ use Rattle.query_model.specs.Reads.{bit_key, read_base, AreMoved}
 use Rattle.net_model.specs.Queries.{Query, only_in_step, claim_query, clause_query, AreCyclesOf, IsAnswer}
 use Rattle.query_model.specs.Formula.{definitions, asked_clauses, AreNeeded, IsFormulaOf}
 use Rattle.query_model.specs.Laws.{HasFreeBits, AgreesWith, ModelsAnswer, AnswersHaveModels}
-use Rattle.net_model.specs.Fits.{NamesRegs as Names}
 use Rattle.query_model.proofs.Runs.{AnyKey, rows_coding, Told, now_bits, next_bits}
 use Rattle.query_model.proofs.Told.{LitTells}
 use Rattle.query_laws.proofs.NetKeys.{needed_own}
@@ -66,9 +64,9 @@ names_all d inv names i has l in_l =
     let place = placed l i.lits in_l in
     All-at (λ (s : StateLit). s.reg < length d.regs) i.lits place.0 l place.1 (names i (Contains-from_In inv i has))
 
-few_judged : (k : Kind) → IsKindFit k → judged_count k ≤ 15
-few_judged False fit = omega arith
-few_judged (Multi k) fit = omega (arith, fit.0, fit.1)
+few_judged : (k : Kind) (lag : ℕ) → IsKindFit k → IsLagFit k lag → judged_by k lag ≤ 15
+few_judged False lag fit low = omega arith
+few_judged (Multi k) lag fit low = omega (arith, fit.0, fit.1)
 
 short : (phase : Phase) (n : ℕ) → only_in_step phase n ≤ n
 short Base n = omega arith
@@ -305,7 +303,7 @@ claim_answers coding d claim phase depth inv sound fits names keys clauses run f
           is = asked;
           decided = decided;
           late = late;
-          few = few_judged claim.kind fits.kind;
+          few = few_judged claim.kind claim.lag fits.kind fits.lag;
           short = short phase q.cycles;
           fits = omega arith;
           less = short phase depth;

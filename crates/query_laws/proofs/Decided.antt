@@ -1,19 +1,20 @@
 -- Violations by toggles and alternatives, in either mode.
-use Rattle.std.proofs.Common.{◌≡◌, ◌≢◌, ℕ, ◌+◌, ◌-◌, ◌<◌, ◌≤◌, Bool, true, false, not, List, length, Some, refl, sym, ◌∙◌, arith, inl, inr, ◌⊎◌, subst}
+use Rattle.std.proofs.Common.{◌≡◌, ◌≢◌, ℕ, ◌+◌, ◌-◌, ◌<◌, ◌≤◌, Bool, true, false, List, length, Some, refl, sym, ◌∙◌, arith, inl, inr, ◌⊎◌, subst}
 use Rattle.std.specs.Prelude.{slice_get}
 use Rattle.net_model.specs.Form.{xor}
-use Rattle.net_model.specs.Judge.{judged_count}
-use Rattle.net_model.specs.Judge.{start_bit, IsBadFor, IsViolatedAt}
+use Rattle.net_model.specs.Judge.{judged_count, start_bit, IsEdge, IsBadFor, IsViolatedAt}
 use Rattle.net_model.specs.declared.netlist.Design.{Design}
 use Rattle.net_model.specs.declared.cycles.Cycle.{Cycle}
 use Rattle.net_model.specs.declared.claims.Claim.{Claim}
+use Rattle.sdcv_base.specs.declared.kinds.Edge.{Edge}
+use Rattle.sdcv_base.specs.declared.kinds.Edge.TheVariants.{Any, Rise, Fall}
 use Rattle.query_model.specs.Keys.{lit_value, below}
 use Rattle.query_model.specs.Defined.{toggle_key}
 use Rattle.query_model.specs.Formula.{alternatives_at, alternatives}
 use Rattle.net_model.proofs.Members.{In, In-flat, from_flat}
 use Rattle.query_model.proofs.Members.{In-below, below_less}
 use Rattle.query_model.proofs.Based.{get_within}
-use Rattle.query_laws.proofs.Extras.{ExtrasTold}
+use Rattle.query_laws.proofs.Extras.{ExtrasTold, is_edge}
 use Rattle.query_model.specs.declared.keys.Key.{Key}
 use Rattle.query_model.specs.declared.keys.KeyLit.{KeyLit}
 
@@ -30,11 +31,26 @@ ne_xor true false f = refl
 ne_xor false true f = refl
 ne_xor false false f = absurd (f refl)
 
-pub ne_not : (a b : Bool) → a ≢ b → not a ≡ b
-ne_not true true f = absurd (f refl)
-ne_not true false f = refl
-ne_not false true f = refl
-ne_not false false f = absurd (f refl)
+-- a toggle with an edge
+pub edge_ne : (edge : Edge) (now before : Bool) → is_edge edge now before ≡ true → (now ≢ before) × IsEdge edge before
+edge_ne Any now before e = (xor_ne now before e, tt)
+edge_ne Rise true true e = absurd cc
+edge_ne Rise true false e = (λ f. absurd cc, refl)
+edge_ne Rise false before e = absurd cc
+edge_ne Fall true before e = absurd cc
+edge_ne Fall false true e = (λ f. absurd cc, refl)
+edge_ne Fall false false e = absurd cc
+
+pub ne_edge : (edge : Edge) (now before : Bool) → now ≢ before → IsEdge edge before → is_edge edge now before ≡ true
+ne_edge Any now before ne is = ne_xor now before ne
+ne_edge Rise true true ne is = absurd (ne refl)
+ne_edge Rise true false ne is = refl
+ne_edge Rise false true ne is = absurd cc
+ne_edge Rise false false ne is = absurd (ne refl)
+ne_edge Fall true true ne is = absurd (ne refl)
+ne_edge Fall true false ne is = absurd cc
+ne_edge Fall false true ne is = refl
+ne_edge Fall false false ne is = absurd (ne refl)
 
 pub same_or_not : (a b : Bool) → (a ≡ b) ⊎ (a ≢ b)
 same_or_not true true = inl refl
@@ -86,11 +102,13 @@ holds_violated kind v d claim run differs live t alt is extras low fits toggle_k
     let b = get_within run t (omega arith) in
     let before = get_within run (t + r - 1) (omega arith) in
     let c = get_within run (t + r) (omega arith) in
-    let ne = xor_ne (start_bit claim.start b.0) (start_bit claim.start a.0) (sym (extras.toggle t a.0 b.0 a.1 b.1 toggle_kind) ∙ toggle) in
+    let change = edge_ne claim.edge (start_bit claim.start b.0) (start_bit claim.start a.0)
+    (sym (extras.toggle t a.0 b.0 a.1 b.1 toggle_kind) ∙ toggle) in
+    let ne = change.0 in
     let at : Moment claim run t r a.0 b.0 before.0 c.0 = record { at_a = a.1; at_b = b.1; at_before = before.1; at_c = c.1; low = omega arith; judged = lt } in
     record {
       stale = start_bit claim.start a.0;
-      toggles = record { before = a.0; now = b.0; before_at = a.1; now_at = b.1; is_live = low; stale_is = refl; differs = ne };
+      toggles = record { before = a.0; now = b.0; before_at = a.1; now_at = b.1; is_live = low; stale_is = refl; differs = ne; edge_is = change.1 };
       r = r;
       judged = lt;
       before = before.0;
@@ -113,8 +131,8 @@ violated_holds kind d claim run differs live t is toggle_kind kinds bad =
     record { at_a = tog.before_at; at_b = tog.now_at; at_before = bad.before_at; at_c = bad.c_at; low = omega (arith, tog.is_live); judged = bad.judged } in
     let found = is.good t r tog.before tog.now bad.before bad.c at (kinds_at kind d claim t r bad.judged kinds)
     (subst (λ (s : Bool). IsBadFor claim.hazard d claim s bad.before bad.c) (sym tog.stale_is) bad.bad) in (
-      λ v extras. extras.toggle t tog.before tog.now tog.before_at tog.now_at toggle_kind ∙ ne_xor (start_bit claim.start tog.now)
-          (start_bit claim.start tog.before) ne,
+      λ v extras. extras.toggle t tog.before tog.now tog.before_at tog.now_at toggle_kind ∙ ne_edge claim.edge (start_bit claim.start tog.now)
+          (start_bit claim.start tog.before) ne (subst (IsEdge claim.edge) (sym tog.stale_is) tog.edge_is),
       (
         found.0,
         In-flat (alternatives_at d claim t) found.0 r (below (judged_count claim)) (In-below (judged_count claim) r bad.judged)

@@ -1,7 +1,7 @@
 -- Claims where hazards count: the layers in which the start is unknown.
-use Rattle.std.proofs.Common.{◌≡◌, ℕ, ◌+◌, ◌<◌, ◌≤◌, Bool, true, false, cond, not, List, [], ◌∷◌, length, Option, Some, None, refl, ap, sym, ◌∙◌}
+use Rattle.std.proofs.Common.{◌≡◌, ℕ, ◌+◌, ◌<◌, ◌≤◌, Bool, true, false, cond, List, [], ◌∷◌, length, Option, Some, None, refl, ap, sym, ◌∙◌}
 use Rattle.std.proofs.Common.{arith, inl, inr, subst, add-one}
-use Rattle.std.specs.Prelude.{slice_get, if◌then◌else◌, nat_lt, ◌&&◌, ◌||◌}
+use Rattle.std.specs.Prelude.{slice_get, if◌then◌else◌, nat_lt, ◌&&◌}
 use Rattle.std.proofs.lemmas.Bool.{cond-true, cond-false, lt-ltb, le-ltb}
 use Rattle.std.proofs.lemmas.Option.{slice_get_within}
 use Rattle.net_model.specs.Cycles.{capture}
@@ -18,15 +18,13 @@ use Rattle.sdcv_base.specs.declared.kinds.Kind.{Kind}
 use Rattle.sdcv_base.specs.declared.kinds.Kind.TheVariants.{False, Multi}
 use Rattle.net_model.specs.declared.terns.Tern.{Tern}
 use Rattle.net_model.specs.declared.terns.Tern.TheVariants.{Zero, One, Unknown}
-use Rattle.query_model.specs.Keys.{key, lit, opposite, lit_value, AllTrue}
+use Rattle.query_model.specs.Keys.{key, lit, lit_value, AllTrue}
 use Rattle.query_model.specs.Defined.{Definition, both, extra_definitions, differ_definition, differ_key, change_key, late_capture_lit}
 use Rattle.query_model.specs.Formula.{alternatives_at, hazard_alternatives}
 use Rattle.net_model.proofs.Members.{In}
-use Rattle.query_model.proofs.Tabled.{value_opposite}
-use Rattle.query_model.proofs.Told.{LitTells}
-use Rattle.query_model.proofs.Runs.{now_bits, Told, Forces, AnyKey}
+use Rattle.query_model.proofs.Runs.{now_bits, Told, AnyKey}
 use Rattle.query_laws.proofs.Meaning.{meaning_says}
-use Rattle.query_laws.proofs.Extras.{ExtrasTold}
+use Rattle.query_laws.proofs.Extras.{ExtrasTold, both_told, both_true}
 use Rattle.query_laws.proofs.Decided.{xor_ne, ne_xor, AllHold, Moment, KindOfAll, IsDecided}
 use Rattle.query_model.specs.Laws.{may_one, may_zero, rail_value}
 use Rattle.query_laws.proofs.Hazy.{IsHazy, LayerMay}
@@ -212,40 +210,6 @@ hazy_differ d claim moved t mode = by_mode _ claim.hazard mode
         (late_capture_lit d claim moved t 1 claim.end)
     by_mode x true e = refl
     by_mode x false e = absurd cc
-
-and_says : (z x y nx ny : Bool) → nx ≡ not x → ny ≡ not y → (not z || (x || false)) ≡ true → (not z || (y || false)) ≡ true
-    → (z || (nx || (ny || false))) ≡ true → z ≡ x && y
-and_says true true true nx ny e f a b c = refl
-and_says true true false nx ny e f a b c = sym b
-and_says true false y nx ny e f a b c = sym a
-and_says false true true nx ny e f a b c = let no : (nx || (ny || false)) ≡ false = rw (e, f) refl in sym no ∙ c
-and_says false true false nx ny e f a b c = refl
-and_says false false y nx ny e f a b c = refl
-
-and_true : (z x y nx ny : Bool) → nx ≡ not x → ny ≡ not y → z ≡ x && y → ((not z || (x || false)) ≡ true) × ((not z || (y || false)) ≡ true)
-    × ((z || (nx || (ny || false))) ≡ true)
-and_true z true true nx ny e f g = rw (e, f, g) (refl, refl, refl)
-and_true z true false nx ny e f g = rw (e, f, g) (refl, refl, refl)
-and_true z false true nx ny e f g = rw (e, g) (refl, refl, refl)
-and_true z false false nx ny e f g = rw (e, g) (refl, refl, refl)
-
--- a definition by both of two literals, of a key of the kind
-both_told : (kind : Key → Type 0) (v : Key → Bool) (defs : List Definition) (z : Key) (x y : KeyLit) (a b : Bool) → Forces kind v defs
-    → In (both z x y) defs → LitTells kind v x a → LitTells kind v y b → kind z → v z ≡ a && b
-both_told kind v defs z x y a b forces there tx ty has =
-    let keyed = forces.closed (both z x y) z there (inl refl) has in
-    let all = forces.clauses (both z x y) z there (inl refl) has in
-    let first = tx (keyed (lit false z ∷ x ∷ []) x (inl refl) (inr (inl refl))) in
-    let second = ty (keyed (lit false z ∷ y ∷ []) y (inr (inl refl)) (inr (inl refl))) in
-    and_says (v z) (lit_value v x) (lit_value v y) (lit_value v (opposite x)) (lit_value v (opposite y)) (value_opposite v x)
-    (value_opposite v y) all.0 all.1.0 all.1.1.0
-    ∙ (ap (λ (p : Bool). p && lit_value v y) first ∙ ap (λ (p : Bool). a && p) second)
-
-both_true : (v : Key → Bool) (z : Key) (x y : KeyLit) (a b : Bool) → lit_value v x ≡ a → lit_value v y ≡ b → v z ≡ a && b → AllTrue v (both z x y).clauses
-both_true v z x y a b first second e =
-    let all = and_true (v z) (lit_value v x) (lit_value v y) (lit_value v (opposite x)) (lit_value v (opposite y)) (value_opposite v x) (value_opposite v y)
-    (e ∙ (ap (λ (p : Bool). p && b) (sym first) ∙ ap (λ (p : Bool). lit_value v x && p) (sym second))) in
-    (all.0, (all.1, (all.2, tt)))
 
 -- the definitions of a claim where hazards count tell in which cycles the ternary capture is unknown
 pub hazy_tells : (coding : Coding) (kind : Key → Type 0) (v : Key → Bool) (d : Design) (claim : Claim) (moved : List (List Bool)) (run : List Cycle)

@@ -1,104 +1,29 @@
 -- Alternatives whose conditions are true, and violations.
-use Rattle.std.proofs.Common.{◌≡◌, ◌≢◌, ℕ, zero, suc, ◌+◌, ◌-◌, ◌<◌, ◌≤◌, Bool, true, false, not, cond, List, [], ◌∷◌, length, Option, Some, refl, ap}
+use Rattle.std.proofs.Common.{◌≡◌, ◌≢◌, ℕ, zero, suc, ◌+◌, ◌-◌, ◌<◌, ◌≤◌, Bool, true, false, not, cond, List, [], ◌∷◌, Some, refl}
 use Rattle.std.proofs.Common.{sym, ◌∙◌, arith, inl, inr, subst, add-one}
-use Rattle.std.specs.Prelude.{slice_get, slice_index}
-use Rattle.std.proofs.lemmas.Bool.{cond_below, cond_above}
-use Rattle.net_model.specs.Form.{xor, value}
-use Rattle.net_model.specs.FormLaws.{value_agrees}
-use Rattle.net_model.specs.Netlist.{IsSound, IsRegInRange}
+use Rattle.std.specs.Prelude.{slice_get, ◌↔◌}
+use Rattle.net_model.specs.Form.{xor}
+use Rattle.net_model.specs.Netlist.{IsSound}
 use Rattle.net_model.specs.Fits.{IsStartIn, IsEndIn}
-use Rattle.net_model.specs.Cycles.{bit_at, gate_pins, reg_pins, shown, capture, reg_capture_in, IsSettled, IsLinked}
-use Rattle.net_model.specs.Pins.{start_nets, start_outs}
-use Rattle.net_model.specs.Layers.{net_at, pin_reads, AreLayers, IsLateCapture, capture_over, late_reg_capture, late_reg_pins}
-use Rattle.net_model.specs.Judge.{judged_count}
-use Rattle.net_model.specs.Judge.{start_bit, DiffersLate, IsBadPlain, IsBadFor}
+use Rattle.net_model.specs.Cycles.{capture, IsSettled, IsLinked}
+use Rattle.net_model.specs.Layers.{IsLateCapture}
+use Rattle.net_model.specs.Judge.{judged_count, start_bit, DiffersLate, IsBadPlain, IsBadFor}
 use Rattle.net_model.proofs.Settling.{All-at}
-use Rattle.net_model.proofs.LateOnce.{late_capture_once}
+use Rattle.net_model.proofs.Flipped.{late_by_flip}
 use Rattle.net_model.specs.declared.netlist.Design.{Design}
-use Rattle.net_model.specs.declared.netlist.Reg.{Reg}
-use Rattle.net_model.specs.declared.netlist.RegOut.{RegOut}
 use Rattle.net_model.specs.declared.cycles.Cycle.{Cycle}
 use Rattle.net_model.specs.declared.claims.Claim.{Claim}
 use Rattle.net_model.specs.declared.claims.PinRef.{PinRef}
-use Rattle.net_model.specs.declared.claims.PinRef.TheVariants.{RegIn, OutPort}
 use Rattle.sdcv_base.specs.declared.kinds.Kind.{Kind}
 use Rattle.sdcv_base.specs.declared.kinds.Kind.TheVariants.{False, Multi}
-use Rattle.net_model.specs.declared.claims.End.{End}
-use Rattle.net_model.specs.declared.claims.End.TheVariants.{Reg as RegEnd, Output as OutputEnd}
 use Rattle.query_model.specs.Keys.{lit, lit_value}
 use Rattle.query_model.specs.Defined.{change_key, differ_key, stale_key}
 use Rattle.query_model.specs.Formula.{stale_if_later, plain_alternatives, alternatives_at}
-use Rattle.net_model.proofs.Members.{In, from_map, In-from_Contains}
-use Rattle.query_model.proofs.Based.{placed, get_within}
-use Rattle.query_model.proofs.Celled.{capture_but_last}
-use Rattle.net_model.proofs.Still.{IsStill, stays, pin_still}
-use Rattle.query_laws.proofs.Late.{start_shows}
+use Rattle.net_model.proofs.Members.{In}
 use Rattle.query_laws.proofs.Extras.{ExtrasTold}
-use Rattle.query_laws.proofs.Decided.{xor_ne, ne_xor, ne_not, AllHold, Moment, KindOfAll, IsDecided}
+use Rattle.query_laws.proofs.Decided.{xor_ne, ne_xor, AllHold, Moment, KindOfAll, IsDecided}
 use Rattle.query_model.specs.declared.keys.Key.{Key}
 use Rattle.query_model.specs.declared.keys.KeyLit.{KeyLit}
-
--- where the late start shows what it shows in the cycle, nothing is late
-all_still : (d : Design) (sets : List (List PinRef)) → IsStill d sets (λ l n. Unit {0}) (λ l pin n. Unit {0})
-all_still d sets =
-    record {
-      held = λ l n lt low u is. tt;
-      gates = λ l k g le at free u i lt. tt;
-      first = λ pin n p. tt;
-      later = λ l pin n p is. tt;
-      own = λ l pin n p is. tt;
-    }
-
-start_kept : (d : Design) (claim : Claim) (c : Cycle) (rows : List (List Bool)) → IsSettled d c → IsStartIn d claim.start
-    → AreLayers value false d claim.start claim.through (λ o. shown o (start_bit claim.start c)) c.nets rows → (n : ℕ)
-    → In n (start_nets d claim.start) → net_at false rows 0 n ≡ bit_at c.nets n
-start_kept d claim c rows settled is layers n has =
-    let of = from_map (λ (o : RegOut). o.net) n (start_outs d claim.start) has in
-    let at = placed of.0 (start_outs d claim.start) of.1 in
-    let late = All-at (λ (o : RegOut). net_at false rows 0 o.net ≡ shown o (start_bit claim.start c)) (start_outs d claim.start) at.0 of.0 at.1
-    layers.late_nets in
-    let shows = All-at (λ (o : RegOut). bit_at c.nets o.net ≡ shown o (start_bit claim.start c)) (start_outs d claim.start) at.0 of.0 at.1
-    (start_shows d claim.start c settled is) in
-    subst (λ m. net_at false rows 0 m ≡ bit_at c.nets m) of.2 (late ∙ sym shows)
-
-kept_pin : (d : Design) (claim : Claim) (c : Cycle) (rows : List (List Bool)) → IsSound d → IsSettled d c → IsStartIn d claim.start
-    → AreLayers value false d claim.start claim.through (λ o. shown o (start_bit claim.start c)) c.nets rows → (pin : PinRef) (n : ℕ) → n < d.nets
-    → pin_reads false claim.through rows (length claim.through) pin n ≡ bit_at c.nets n
-kept_pin d claim c rows sound settled is layers pin n low =
-    pin_still false d claim.through (λ l m. Unit {0}) (λ l p m. Unit {0}) rows c.nets (all_still d claim.through) (length claim.through) pin n
-    (λ j le. stays value false d claim.start claim.through (λ o. shown o (start_bit claim.start c)) c.nets rows (λ l m. Unit {0}) (λ l p m. Unit {0})
-    (record {
-      reads = value_agrees;
-      sound = sound;
-      settled = settled.gates;
-      layers = layers;
-      still = all_still d claim.through;
-      start_same = λ m has u. start_kept d claim c rows settled is layers m (In-from_Contains (start_nets d claim.start) m has);
-    })
-    j le n low)
-    tt
-
-kept_end : (d : Design) (claim : Claim) (c : Cycle) (rows : List (List Bool)) → IsSound d → IsSettled d c → IsStartIn d claim.start
-    → AreLayers value false d claim.start claim.through (λ o. shown o (start_bit claim.start c)) c.nets rows → (e : End) → IsEndIn d e
-    → capture_over d claim.through rows e c ≡ capture d e c
-kept_end d claim c rows sound settled is layers (OutputEnd o) lt = kept_pin d claim c rows sound settled is layers (OutPort o)
-    (slice_index d.outputs o) (sound.in_range.outputs o 0 lt)
-kept_end d claim c rows sound settled is layers (RegEnd r) lt =
-    let reg = get_within d.regs r lt in
-    let range = All-at (IsRegInRange d) d.regs r reg.0 reg.1 sound.in_range.regs in
-    let own = bit_at c.bits r in
-    let ins = reg.0.ins in
-    ap (λ (o : Option Reg). late_reg_capture claim.through rows r o own) reg.1
-    ∙ capture_but_last d reg.0 (late_reg_pins false claim.through rows r reg.0 own) (reg_pins ins c.nets own) range
-    (λ i small.
-    sym (cond_below i (length ins) (pin_reads false claim.through rows (length claim.through) (RegIn r i) (slice_index ins i)) own small)
-    ∙ kept_pin d claim c rows sound settled is layers (RegIn r i) (slice_index ins i) (range.ins i 0 small)
-    ∙ cond_below i (length ins) (gate_pins ins c.nets i) own small)
-    (λ m.
-    sym (cond_above (length ins) (length ins) (pin_reads false claim.through rows (length claim.through) (RegIn r (length ins))
-    (slice_index ins (length ins))) own own (omega arith) refl)
-    ∙ cond_above (length ins) (length ins) (gate_pins ins c.nets (length ins)) own own (omega arith) refl)
-    ∙ sym (ap (λ (o : Option Reg). reg_capture_in c r o) reg.1)
 
 -- the premises on a claim in a run, with the late capture of each cycle
 pub record IsJudged (d : Design) (claim : Claim) (run : List Cycle) (late differs : ℕ → Bool) : Type 0 where
@@ -110,26 +35,21 @@ pub record IsJudged (d : Design) (claim : Claim) (run : List Cycle) (late differ
   pub lates : (t : ℕ) (c : Cycle) → slice_get run t ≡ Some c → IsLateCapture d claim c (not (start_bit claim.start c)) (late t)
   pub differs_are : (t : ℕ) (c : Cycle) → slice_get run t ≡ Some c → differs t ≡ xor (late t) (capture d claim.end c)
 
+flip_tells : (d : Design) (claim : Claim) (run : List Cycle) (late differs : ℕ → Bool) (t : ℕ) (c : Cycle) (stale : Bool)
+    → IsJudged d claim run late differs → slice_get run t ≡ Some c
+    → (DiffersLate d claim c stale ↔ ((start_bit claim.start c ≢ stale) × (late t ≢ capture d claim.end c)))
+flip_tells d claim run late differs t c stale is at =
+    late_by_flip d claim is.sound is.start_in is.end_in c stale (late t) (All-at (IsSettled d) run t c at is.linked.settled) (is.lates t c at)
+
 pub late_differs : (d : Design) (claim : Claim) (run : List Cycle) (late differs : ℕ → Bool) (t : ℕ) (c : Cycle) (stale : Bool)
     → IsJudged d claim run late differs → slice_get run t ≡ Some c → DiffersLate d claim c stale → (start_bit claim.start c ≢ stale)
     × (late t ≢ capture d claim.end c)
-late_differs d claim run late differs t c stale is at apart =
-    let settled = All-at (IsSettled d) run t c at is.linked.settled in
-    let other : start_bit claim.start c ≢ stale =
-    λ e.
-    let kept = subst (λ (b : Bool). IsLateCapture d claim c b apart.0) (sym e) apart.1 in
-    apart.2 (sym kept.capture ∙ kept_end d claim c kept.rows is.sound settled is.start_in kept.layers claim.end is.end_in) in
-    let flip = ne_not (start_bit claim.start c) stale other in
-    let same = late_capture_once d claim c stale (late t) apart.0 is.sound is.end_in
-    (subst (λ (b : Bool). IsLateCapture d claim c b (late t)) flip (is.lates t c at)) apart.1 in
-    (other, λ e. apart.2 (sym same ∙ e))
+late_differs d claim run late differs t c stale is at apart = (flip_tells d claim run late differs t c stale is at).0 apart
 
 pub differs_late : (d : Design) (claim : Claim) (run : List Cycle) (late differs : ℕ → Bool) (t : ℕ) (c : Cycle) (stale : Bool)
     → IsJudged d claim run late differs → slice_get run t ≡ Some c → start_bit claim.start c ≢ stale → late t ≢ capture d claim.end c
     → DiffersLate d claim c stale
-differs_late d claim run late differs t c stale is at other ne =
-    let flip = ne_not (start_bit claim.start c) stale other in
-    (late t, subst (λ (b : Bool). IsLateCapture d claim c b (late t)) flip (is.lates t c at), ne)
+differs_late d claim run late differs t c stale is at other ne = (flip_tells d claim run late differs t c stale is at).1 (other, ne)
 
 -- the start's bit differs from the stale one, r cycles after the toggle
 stale_holds : (kind : Key → Type 0) (v : Key → Bool) (d : Design) (claim : Claim) (run : List Cycle) (late differs : ℕ → Bool) (t r : ℕ)

@@ -1,6 +1,6 @@
 -- What the literals of the layers tell, in plain mode.
-use Rattle.std.proofs.Common.{◌≡◌, ◌≢◌, ℕ, zero, suc, ◌+◌, ◌<◌, ◌≤◌, Bool, true, false, not, cond, List, [], ◌∷◌, map, length, Some, refl, ap, sym}
-use Rattle.std.proofs.Common.{◌∙◌, arith, inl, inr, ◌⊎◌, subst, add-one, below_more}
+use Rattle.std.proofs.Common.{◌≡◌, ℕ, zero, suc, ◌<◌, ◌≤◌, Bool, true, false, not, cond, List, [], ◌∷◌, length, refl, ap, sym}
+use Rattle.std.proofs.Common.{◌∙◌, arith, inl, inr, subst, add-one, below_more}
 use Rattle.std.specs.Prelude.{All, Contains, slice_get, slice_index, slice_index_or, if◌then◌else◌, ◌||◌, ◌&&◌}
 use Rattle.std.proofs.lemmas.Bool.{cases_Bool, cases_eq, cases_lt, or_parts, eq-eqb}
 use Rattle.net_model.specs.Form.{value}
@@ -9,16 +9,13 @@ use Rattle.net_model.specs.Netlist.{IsSound}
 use Rattle.net_model.specs.Fits.{IsStartIn, IsEndIn}
 use Rattle.net_model.specs.Cycles.{bit_at, shown, IsSettled}
 use Rattle.net_model.specs.Judge.{start_bit}
-use Rattle.net_model.specs.Pins.{is_in, start_nets, start_outs, outs_of_reg}
+use Rattle.net_model.specs.Pins.{is_in, start_nets, start_outs}
 use Rattle.net_model.specs.Layers.{net_at, held_set, pin_reads, layer_pins, AreLayers}
 use Rattle.net_model.proofs.Settling.{All-at}
 use Rattle.net_model.specs.declared.netlist.Design.{Design}
-use Rattle.net_model.specs.declared.netlist.Reg.{Reg}
 use Rattle.net_model.specs.declared.netlist.RegOut.{RegOut}
 use Rattle.net_model.specs.declared.cycles.Cycle.{Cycle}
 use Rattle.net_model.specs.declared.claims.Claim.{Claim}
-use Rattle.net_model.specs.declared.claims.Start.{Start}
-use Rattle.net_model.specs.declared.claims.Start.TheVariants.{Reg as RegStart, Input as InputStart}
 use Rattle.net_model.specs.declared.claims.PinRef.{PinRef}
 use Rattle.net_model.specs.declared.claims.PinRef.TheVariants.{Net}
 use Rattle.query_model.specs.Keys.{key, lit, opposite}
@@ -28,6 +25,7 @@ use Rattle.query_model.proofs.Tabled.{value_opposite}
 use Rattle.query_model.proofs.Told.{LitTells, ReadTells}
 use Rattle.query_model.proofs.Based.{placed}
 use Rattle.net_model.proofs.Still.{IsStill, stays}
+use Rattle.net_model.proofs.Flipped.{start_shows}
 use Rattle.query_model.specs.declared.keys.Key.{Key}
 
 -- the layers of a cycle in which the start shows the other bit
@@ -81,20 +79,6 @@ unmoved_same d claim moved c rows flip l le n low =
       start_same = λ m has u. false_true (net_at false moved 0 m) (flip.are_moved.late m has) u;
     })
     l le n low
-
--- a net of the start shows the start's bit
-reg_shows : (d : Design) (r : ℕ) (c : Cycle) → IsSettled d c → r < length d.regs → (o : Rattle.std.proofs.Common.Option Reg) → slice_get d.regs r ≡ o
-    → All (λ (x : RegOut). bit_at c.nets x.net ≡ shown x (bit_at c.bits r)) (outs_of_reg o)
-reg_shows d r c settled lt Rattle.std.proofs.Common.None e = λ k x within. absurd (omega (arith, within))
-reg_shows d r c settled lt (Some reg) e = settled.regs r reg e
-
-pub start_shows : (d : Design) (start : Start) (c : Cycle) → IsSettled d c → IsStartIn d start
-    → All (λ (x : RegOut). bit_at c.nets x.net ≡ shown x (start_bit start c)) (start_outs d start)
-start_shows d (RegStart r) c settled is = reg_shows d r c settled is (slice_get d.regs r) refl
-start_shows d (InputStart i) c settled is =
-    let out : RegOut = record { net = slice_index d.inputs i; inverted = false } in
-    Rattle.std.proofs.lemmas.List.Elements.All-cons (λ (x : RegOut). bit_at c.nets x.net ≡ shown x (bit_at c.ins i)) out [] (settled.inputs i is)
-    (Rattle.std.proofs.lemmas.List.Elements.All-nil (λ (x : RegOut). bit_at c.nets x.net ≡ shown x (bit_at c.ins i)))
 
 shown_not : (o : RegOut) (b : Bool) → shown o (not b) ≡ not (shown o b)
 shown_not o b = by_sign o.inverted b where

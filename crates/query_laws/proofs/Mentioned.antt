@@ -8,10 +8,13 @@ use Rattle.net_model.specs.Cycles.{reg_capture}
 use Rattle.net_model.specs.Layers.{net_at, held_set}
 use Rattle.net_model.specs.Pins.{is_in}
 use Rattle.net_model.proofs.Members.{In, In-cases, In-from_Contains, from_map, from_flat}
+use Rattle.net_model.specs.Judge.{judged_count}
 use Rattle.net_model.specs.declared.netlist.Design.{Design}
 use Rattle.net_model.specs.declared.netlist.Gate.{Gate}
 use Rattle.net_model.specs.declared.netlist.Reg.{Reg}
 use Rattle.net_model.specs.declared.claims.Claim.{Claim}
+use Rattle.sdcv_base.specs.declared.kinds.Edge.{Edge}
+use Rattle.sdcv_base.specs.declared.kinds.Edge.TheVariants.{Any, Rise, Fall}
 use Rattle.net_model.specs.declared.claims.Start.{Start}
 use Rattle.net_model.specs.declared.claims.Start.TheVariants.{Reg as RegStart, Input as InputStart}
 use Rattle.net_model.specs.declared.claims.End.{End}
@@ -31,7 +34,7 @@ use Rattle.net_model.specs.Mentions.{reads_own}
 use Rattle.query_model.specs.Defined.{Definition, numbered, plain, rails, unit, exclusive, both, covering, settling, set_in, unit_if}
 use Rattle.query_model.specs.Defined.{input_definition, gate_definition, bit_definition, base_definitions, has_own, layer_gate, start_units}
 use Rattle.query_model.specs.Defined.{layer_definitions, with_own, late_key, late_reg, end_definition, start_lit, capture_lit, late_capture_lit}
-use Rattle.query_model.specs.Defined.{extra, toggle_key, change_key, differ_key, stale_key, bad_key, differ_definition, extra_definitions}
+use Rattle.query_model.specs.Defined.{extra, toggle_key, change_key, differ_key, stale_key, bad_key, differ_definition, edge_definition, extra_definitions}
 use Rattle.query_model.specs.Defined.{claim_definitions}
 use Rattle.query_model.specs.Formula.{state_lit, clause_in, kept_clauses, alternatives, alternatives_at, plain_alternatives, hazard_alternatives}
 use Rattle.query_model.specs.Formula.{stale_if_later, clean_clauses, bad_clauses, question_clauses, asked_clauses, question_definitions}
@@ -213,6 +216,11 @@ both_have P z x y own_z own_x own_y c (inr (inl e)) = subst (AllHave P) e (pair_
 both_have P z x y own_z own_x own_y c (inr (inr (inl e))) = subst (AllHave P) e (triple_have P (lit true z) (opposite x) (opposite y) own_z own_x own_y)
 both_have P z x y own_z own_x own_y c (inr (inr (inr none))) = absurd none
 
+edge_have : (P : Key → Type 0) (edge : Edge) (z : Key) (x y : KeyLit) → P z → P x.key → P y.key → ClausesHave P (edge_definition edge z x y).clauses
+edge_have P Any z x y own_z own_x own_y = exclusive_have P z x y own_z own_x own_y
+edge_have P Rise z x y own_z own_x own_y = both_have P z x (opposite y) own_z own_x own_y
+edge_have P Fall z x y own_z own_x own_y = both_have P z (opposite x) y own_z own_x own_y
+
 -- what pins read
 reads_have : (P : Key → Type 0) (d : Design) (base : BaseHas P d) (c : ℕ) (ins : List ℕ) → AllHave P (map (read_base d c) ins)
 reads_have P d base c ins l has = let of = from_map (read_base d c) l ins has in subst (λ (x : KeyLit). P x.key) of.2 (base.reads c of.0)
@@ -386,7 +394,7 @@ differ_have P d base claim moved layers c = by_mode claim.hazard
 extras_have : (P : Key → Type 0) (d : Design) (base : BaseHas P d) (claim : Claim) (moved : List (List Bool)) (layers : LayersHave P d claim moved)
     (c : ℕ) → DefinitionsHave P (extra_definitions d claim moved c)
 extras_have P d base claim moved layers c def (inl here) = subst (λ (x : Definition). ClausesHave P x.clauses) here
-    (exclusive_have P (toggle_key d c) (start_lit d claim.start c) (start_lit d claim.start (c - 1)) (extra_has P d base c 0)
+    (edge_have P claim.edge (toggle_key d c) (start_lit d claim.start c) (start_lit d claim.start (c - 1)) (extra_has P d base c 0)
     (start_lit_has P d base claim.start c) (start_lit_has P d base claim.start (c - 1)))
 extras_have P d base claim moved layers c def (inr (inl here)) = subst (λ (x : Definition). ClausesHave P x.clauses) here
     (exclusive_have P (change_key d c) (capture_lit d claim.end c) (capture_lit d claim.end (c - 1)) (extra_has P d base c 1)
@@ -395,7 +403,7 @@ extras_have P d base claim moved layers c def (inr (inr (inl here))) = subst (λ
     (differ_have P d base claim moved layers c)
 extras_have P d base claim moved layers c def (inr (inr (inr later))) =
     let stale : ℕ → Definition = λ r. exclusive (stale_key d c (r + 1)) (start_lit d claim.start c) (start_lit d claim.start (c - r - 2)) in
-    let of = from_map stale def (below (Rattle.net_model.specs.Judge.judged_count claim - 1)) later in
+    let of = from_map stale def (below (judged_count claim - 1)) later in
     subst (λ (x : Definition). ClausesHave P x.clauses) of.2 (exclusive_have P (stale_key d c (of.0 + 1)) (start_lit d claim.start c)
     (start_lit d claim.start (c - of.0 - 2)) (extra_has P d base c (2 + (of.0 + 1))) (start_lit_has P d base claim.start c)
     (start_lit_has P d base claim.start (c - of.0 - 2)))
@@ -464,7 +472,7 @@ hazard_alternatives_have P d base (Multi k) [] c alt (inr later) = one_alternati
 
 alternatives_have : (P : Key → Type 0) (d : Design) (base : BaseHas P d) (claim : Claim) (t : ℕ) → ClausesHave P (alternatives d claim t)
 alternatives_have P d base claim t alt has =
-    let of = from_flat (alternatives_at d claim t) alt (below (Rattle.net_model.specs.Judge.judged_count claim)) has in
+    let of = from_flat (alternatives_at d claim t) alt (below (judged_count claim)) has in
     by_mode of.0 claim.hazard alt of.2
   where
     by_mode : (r : ℕ) (h : Bool) → ClausesHave P (cond h (hazard_alternatives claim.kind claim.through d (t + r))

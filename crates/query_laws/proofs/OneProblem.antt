@@ -1,8 +1,7 @@
 -- A query has one problem: one table of moved nets, one list of needed keys, and one list of clauses in normal form.
 use Rattle.std.proofs.Common.{◌≡◌, ℕ, zero, suc, ◌+◌, ◌*◌, ◌/◌, ◌<◌, ◌≤◌, Bool, true, false, List, [], ◌∷◌, map, length, get_or, Some, refl, ap, sym}
 use Rattle.std.proofs.Common.{◌∙◌, subst, arith, add-one, inl, inr, ◌⊎◌}
-use Rattle.std.specs.Prelude.{Contains, slice_get, slice_index, slice_index_or, All, ◌||◌, ◌==◌}
-use Rattle.std.specs.List.{list_any}
+use Rattle.std.specs.Prelude.{Contains, slice_get, slice_index, All, ◌||◌, ◌==◌}
 use Rattle.std.proofs.lemmas.Bool.{cases_Bool, cases_eq, eq-eqb, eqb-true, or_left, or_right, or_cases}
 use Rattle.std.proofs.lemmas.List.{same_lists, get_or_default}
 use Rattle.std.proofs.lemmas.Option.{slice_get_within, get_or_from_slice_get}
@@ -19,10 +18,10 @@ use Rattle.net_model.specs.declared.netlist.Design.{Design}
 use Rattle.net_model.specs.declared.netlist.Gate.{Gate}
 use Rattle.net_model.specs.declared.claims.Claim.{Claim}
 use Rattle.net_model.specs.declared.claims.PinRef.TheVariants.{Net, GateIn}
-use Rattle.query_model.specs.Keys.{IsBelow, ByCycle, ByLayer, ByRail, ByPoint, Ascend}
+use Rattle.query_model.specs.Keys.{IsBelow, ByCycle, ByLayer, ByRail, ByPoint}
 use Rattle.query_model.specs.Reads.{any_below, AreMoved}
 use Rattle.query_model.specs.Formula.{definitions, asked_clauses, formula_over, AreMovedFor, AreNeeded, IsFormulaOf}
-use Rattle.query_model.specs.Variables.{code_of, is_code, IsNormalOf, HasOpposites, AreNormalsOf, IsProblemOf}
+use Rattle.query_model.specs.Variables.{code_of, is_code, IsNormalOf, HasOpposites, AreNormalsOf}
 use Rattle.query_model.specs.Laws.{HasOneProblem}
 use Rattle.query_model.specs.declared.keys.Key.{Key}
 use Rattle.query_model.specs.declared.keys.KeyLit.{KeyLit}

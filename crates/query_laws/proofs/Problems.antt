@@ -7,12 +7,12 @@ use Rattle.net_model.proofs.Members.{In, In-cases, from_flat, In-from_Contains, 
 use Rattle.net_model.specs.declared.netlist.Design.{Design}
 use Rattle.net_model.specs.declared.cycles.Cycle.{Cycle}
 use Rattle.query_model.specs.Keys.{key, lit_value, is_true, AllTrue}
-use Rattle.net_model.specs.Queries.{Query, IsAnswer}
+use Rattle.net_model.specs.Queries.{Query}
 use Rattle.query_model.specs.Reads.{bit_key}
 use Rattle.query_model.specs.Defined.{Definition}
-use Rattle.query_model.specs.Formula.{definitions, asked_clauses, same_key, has_key, listed, formula_over, IsNeeded, Asked, Used, AreNeeded, IsFormulaOf}
-use Rattle.query_model.specs.Variables.{code_of, code_true, IsProblemOf, AllCodesTrue, by_number}
-use Rattle.query_model.specs.Laws.{HasFreeBits, AgreesWith, ModelsAnswer, AnswersHaveModels, NumberedModelsAnswer, AnswersHaveNumberedModels}
+use Rattle.query_model.specs.Formula.{definitions, asked_clauses, same_key, has_key, listed, formula_over, Asked, Used, AreNeeded}
+use Rattle.query_model.specs.Variables.{code_of, AllCodesTrue, by_number}
+use Rattle.query_model.specs.Laws.{AgreesWith, ModelsAnswer, AnswersHaveModels, NumberedModelsAnswer, AnswersHaveNumberedModels}
 use Rattle.query_model.proofs.Needs.{mentioned}
 use Rattle.query_laws.proofs.Numbered.{coded_same, normals_true, true_normals, model_by_number}
 use Rattle.query_model.proofs.Places.{same_key-true, by_key, by_key_number}

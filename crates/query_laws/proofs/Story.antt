@@ -10,11 +10,12 @@ use Rattle.net_model.proofs.Settling.{All-at}
 use Rattle.net_model.specs.declared.netlist.Design.{Design}
 use Rattle.net_model.specs.declared.cycles.Cycle.{Cycle}
 use Rattle.net_model.specs.declared.claims.Claim.{Claim}
+use Rattle.sdcv_base.specs.declared.kinds.Edge.{Edge}
 use Rattle.query_model.specs.Defined.{bad_key, differ_key, extra}
 use Rattle.query_model.proofs.Runs.{Told, AnyKey}
 use Rattle.query_model.proofs.Based.{Says, reads_said}
 use Rattle.query_laws.proofs.Meaning.{meaning, meaning_extra}
-use Rattle.query_laws.proofs.Extras.{ExtrasTold}
+use Rattle.query_laws.proofs.Extras.{ExtrasTold, is_edge}
 use Rattle.query_model.specs.declared.keys.Key.{Key}
 
 -- the further keys, read off a run
@@ -26,15 +27,15 @@ abbrev pub capture_in_option : Design → Claim → Option Cycle → Bool
 capture_in_option d claim None = false
 capture_in_option d claim (Some c) = capture d claim.end c
 
-abbrev pub extra_bit : (ℕ → Bool) → (ℕ → Bool) → (ℕ → Bool) → (ℕ → Bool) → ℕ → ℕ → Bool
-extra_bit starts captures differs bad t zero = xor (starts t) (starts (t - 1))
-extra_bit starts captures differs bad t (suc zero) = xor (captures t) (captures (t - 1))
-extra_bit starts captures differs bad t (suc (suc zero)) = differs t
-extra_bit starts captures differs bad t (suc (suc (suc r))) = if nat_lt r 17 then xor (starts t) (starts (t - r - 2)) else bad (r - 17)
+abbrev pub extra_bit : Edge → (ℕ → Bool) → (ℕ → Bool) → (ℕ → Bool) → (ℕ → Bool) → ℕ → ℕ → Bool
+extra_bit edge starts captures differs bad t zero = is_edge edge (starts t) (starts (t - 1))
+extra_bit edge starts captures differs bad t (suc zero) = xor (captures t) (captures (t - 1))
+extra_bit edge starts captures differs bad t (suc (suc zero)) = differs t
+extra_bit edge starts captures differs bad t (suc (suc (suc r))) = if nat_lt r 17 then xor (starts t) (starts (t - r - 2)) else bad (r - 17)
 
 abbrev pub others_by : Design → Claim → List Cycle → (Key → ℕ → Bool) → (ℕ → Bool) → (ℕ → Bool) → Key → ℕ → Bool
 others_by d claim run layer differs bad k zero =
-    extra_bit (λ t. start_in_option claim (slice_get run t)) (λ t. capture_in_option d claim (slice_get run t)) differs bad k.cycle
+    extra_bit claim.edge (λ t. start_in_option claim (slice_get run t)) (λ t. capture_in_option d claim (slice_get run t)) differs bad k.cycle
     (k.point - (d.nets + length d.regs))
 others_by d claim run layer differs bad k (suc l) = layer k l
 
@@ -45,12 +46,12 @@ abbrev pub story : Design → Claim → List Cycle → (Key → ℕ → Bool) �
 story d claim run layer differs bad = meaning d run (others d claim run layer differs bad)
 
 story_extra : (d : Design) (claim : Claim) (run : List Cycle) (layer : Key → ℕ → Bool) (differs bad : ℕ → Bool) (t i j : ℕ) → i ≡ j
-    → story d claim run layer differs bad (extra d t i) ≡ extra_bit (λ u. start_in_option claim (slice_get run u))
+    → story d claim run layer differs bad (extra d t i) ≡ extra_bit claim.edge (λ u. start_in_option claim (slice_get run u))
     (λ u. capture_in_option d claim (slice_get run u)) differs bad t j
 story_extra d claim run layer differs bad t i j e =
     let back : d.nets + length d.regs + i - (d.nets + length d.regs) ≡ j = omega arith in
     meaning_extra d run (others d claim run layer differs bad) t i
-    ∙ ap (λ n. extra_bit (λ u. start_in_option claim (slice_get run u)) (λ u. capture_in_option d claim (slice_get run u)) differs bad t n) back
+    ∙ ap (λ n. extra_bit claim.edge (λ u. start_in_option claim (slice_get run u)) (λ u. capture_in_option d claim (slice_get run u)) differs bad t n) back
 
 two : (f : Bool → Bool → Bool) (a b x y : Bool) → a ≡ x → b ≡ y → f a b ≡ f x y
 two f a b x y e g = ap (λ p. f p b) e ∙ ap (f x) g
@@ -65,7 +66,7 @@ story_extras d claim run layer differs bad few =
     record {
       toggle = λ t a b at_a at_b any.
           story_extra d claim run layer differs bad t 0 0 refl
-          ∙ two xor (start_in_option claim (slice_get run t)) (start_in_option claim (slice_get run (t - 1))) (start_bit claim.start b)
+          ∙ two (is_edge claim.edge) (start_in_option claim (slice_get run t)) (start_in_option claim (slice_get run (t - 1))) (start_bit claim.start b)
           (start_bit claim.start a) (ap (start_in_option claim) at_b) (ap (start_in_option claim) at_a);
       change = λ t a b at_a at_b any.
           story_extra d claim run layer differs bad t 1 1 refl

@@ -4,18 +4,20 @@ use Rattle.net_model.specs.Form.{PinForm, AndForm, OrForm, NotForm, value}
 use Rattle.net_model.specs.declared.netlist.Design.{Design}
 use Rattle.net_model.specs.declared.claims.Claim.{Claim}
 use Rattle.sdcv_base.specs.declared.kinds.Kind.TheVariants.{False}
+use Rattle.sdcv_base.specs.declared.kinds.Edge.TheVariants.{Any, Rise, Fall}
 use Rattle.net_model.specs.declared.claims.Start.TheVariants.{Reg as RegStart}
 use Rattle.net_model.specs.declared.claims.End.TheVariants.{Reg as RegEnd}
 use Rattle.net_model.specs.declared.terns.Tern.{Tern}
 use Rattle.net_model.specs.declared.terns.Tern.TheVariants.{Zero, One, Unknown}
 use Rattle.net_model.specs.declared.queries.Phase.TheVariants.{Step}
 use Rattle.query_model.specs.Keys.{key, lit}
-use Rattle.query_model.specs.Tables.{Cube, constant_cubes}
+use Rattle.query_model.specs.Tables.{constant_cubes}
 use Rattle.net_model.specs.Queries.{claim_query}
-use Rattle.query_model.specs.Defined.{prime_cubes}
+use Rattle.query_model.specs.Defined.{prime_cubes, edge_definition}
 use Rattle.query_model.specs.Formula.{definitions, asked_clauses, formula_over}
 use Rattle.query_model.specs.declared.keys.Key.{Key}
 use Rattle.query_model.specs.declared.keys.KeyLit.{KeyLit}
+use Rattle.query_model.specs.declared.keys.Cube.{Cube}
 use Rattle.query_model.specs.declared.keys.Coding.TheVariants.{Rows}
 
 -- the number of a cube in base 3
@@ -72,7 +74,7 @@ design =
     }
 
 abbrev claim : Claim
-claim = record { kind = False; hazard = false; start = RegStart 0; end = RegEnd 1; through = [] }
+claim = record { kind = False; edge = Any; lag = 0; hazard = false; start = RegStart 0; end = RegEnd 1; through = [] }
 
 abbrev moved : List (List Bool)
 moved = (false ∷ true ∷ false ∷ []) ∷ []
@@ -92,3 +94,11 @@ step_clauses : formula_over (definitions Rows (claim_query design claim Step 0 [
     ∷ (n 4 ∷ n 3 ∷ n 2 ∷ []) ∷ (p 4 ∷ n 3 ∷ p 2 ∷ []) ∷ (p 4 ∷ p 3 ∷ n 2 ∷ []) ∷ (n 5 ∷ p 7 ∷ p 8 ∷ []) ∷ (n 5 ∷ n 7 ∷ n 8 ∷ [])
     ∷ (p 5 ∷ n 7 ∷ p 8 ∷ []) ∷ (p 5 ∷ p 7 ∷ n 8 ∷ []) ∷ (p 4 ∷ []) ∷ (p 6 ∷ []) ∷ (n 6 ∷ p 5 ∷ []) ∷ []
 step_clauses = refl
+
+-- those of a toggle that rises: it is there where the start is 1 and was 0
+rising_clauses : (edge_definition Rise (key 1 0 0 5) (p 3) (p 2)).clauses ≡ (n 4 ∷ p 3 ∷ []) ∷ (n 4 ∷ n 2 ∷ []) ∷ (p 4 ∷ n 3 ∷ p 2 ∷ []) ∷ []
+rising_clauses = refl
+
+-- and of one that falls
+falling_clauses : (edge_definition Fall (key 1 0 0 5) (p 3) (p 2)).clauses ≡ (n 4 ∷ n 3 ∷ []) ∷ (n 4 ∷ p 2 ∷ []) ∷ (p 4 ∷ p 3 ∷ n 2 ∷ []) ∷ []
+falling_clauses = refl
