@@ -5,7 +5,7 @@ ghost use Rattle.net_model.specs.Fits.{Fits};
 ghost use Rattle.net_model.specs.Fits.{NamesRegs};
 ghost use Rattle.verdicts.specs.Logs.{own_coding};
 ghost use Rattle.verdicts.specs.Certified.{ProveKept};
-ghost use Rattle.verdicts.specs.Forms.{IsSetInForm, IsVerdictInForm};
+ghost use Rattle.verdict_types.specs.Forms.{IsSetInForm, IsVerdictInForm};
 ghost use Rattle.cert_values.specs.Certs.{cert_of};
 ghost use Rattle.cert_defs.specs.Accepted.{HoldEach, AreRightVerdicts, justified_numbers};
 ghost use Rattle.cert_check.specs.Checking.{IsAnswerFor};

@@ -14,7 +14,7 @@ use Rattle.rup_check.specs.declared.faults.CheckFault.{CheckFault}
 use Rattle.rup_check.specs.declared.faults.CheckFault.TheVariants.{HintMissing, HintNotUnit, NoConflict, NotEmpty, Memory as NoRoom}
 use Rattle.verdicts.specs.Logs.{own_coding}
 use Rattle.verdicts.specs.Certified.{ProvesClause, ProveKept}
-use Rattle.verdicts.specs.declared.kept.InvProof.{InvProof}
+use Rattle.verdict_types.specs.declared.kept.InvProof.{InvProof}
 use Rattle.cert_values.specs.Certs.{IsComplete}
 use Rattle.cert_values.specs.declared.certs.Cert.{Cert}
 use Rattle.cert_values.specs.declared.faults.CertFault.{CertFault}

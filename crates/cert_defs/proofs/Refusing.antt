@@ -16,9 +16,9 @@ use Rattle.rup_check.proofs.NoFault.{not_refuted}
 use Rattle.rup_check.specs.declared.faults.CheckFault.{CheckFault}
 use Rattle.verdicts.specs.Logs.{RefutesQuery, RefuteEach}
 use Rattle.verdicts.specs.Certified.{ProvesClause, ProveKept, ProvesPair}
-use Rattle.verdicts.specs.declared.kept.InvProof.{InvProof}
-use Rattle.verdicts.specs.declared.outcomes.Proof.{Proof}
-use Rattle.verdicts.specs.declared.outcomes.Proof.TheVariants.{Single, Fixed, Depth}
+use Rattle.verdict_types.specs.declared.kept.InvProof.{InvProof}
+use Rattle.verdict_types.specs.declared.outcomes.Proof.{Proof}
+use Rattle.verdict_types.specs.declared.outcomes.Proof.TheVariants.{Single, Fixed, Depth}
 use Rattle.cert_values.specs.Certs.{listed_numbers}
 use Rattle.cert_values.specs.declared.certs.Cert.{Cert}
 use Rattle.cert_values.specs.declared.faults.CertFault.{CertFault}

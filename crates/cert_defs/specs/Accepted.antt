@@ -7,8 +7,8 @@ use Rattle.net_model.specs.declared.invariants.InvClause.{InvClause}
 use Rattle.query_model.specs.declared.keys.Coding.{Coding}
 use Rattle.verdicts.specs.Verdicts.{IsRight}
 use Rattle.verdicts.specs.Certified.{ProveKept, ProvesPair}
-use Rattle.verdicts.specs.declared.outcomes.Limits.{Limits}
-use Rattle.verdicts.specs.declared.outcomes.Verdict.{Verdict}
+use Rattle.verdict_types.specs.declared.outcomes.Limits.{Limits}
+use Rattle.verdict_types.specs.declared.outcomes.Verdict.{Verdict}
 use Rattle.cert_values.specs.Certs.{listed_numbers, justified_from}
 use Rattle.cert_values.specs.declared.certs.PairProof.{PairProof}
 use Rattle.cert_values.specs.declared.certs.Cert.{Cert}

@@ -6,8 +6,8 @@ use Rattle.net_model.specs.Held.{IsHeldStart}
 use Rattle.net_model.specs.declared.netlist.Design.{Design}
 use Rattle.net_model.specs.declared.claims.Claim.{Claim}
 use Rattle.net_model.specs.Fits.{NamesRegs}
-use Rattle.verdicts.specs.declared.outcomes.Proof.{Proof}
-use Rattle.verdicts.specs.declared.outcomes.Proof.TheVariants.{Single, Fixed, Depth}
+use Rattle.verdict_types.specs.declared.outcomes.Proof.{Proof}
+use Rattle.verdict_types.specs.declared.outcomes.Proof.TheVariants.{Single, Fixed, Depth}
 use Rattle.cert_values.specs.Certs.{listed_numbers}
 use Rattle.cert_values.specs.declared.certs.PairProof.{PairProof}
 use Rattle.cert_values.specs.declared.certs.Cert.{Cert}

@@ -14,9 +14,9 @@ use Rattle.rup_check.specs.Faults.{IsFirstFault}
 use Rattle.rup_check.specs.declared.faults.CheckFault.{CheckFault}
 use Rattle.verdicts.specs.Logs.{IsFormulaFor}
 use Rattle.verdicts.specs.Certified.{ProveKept}
-use Rattle.verdicts.specs.declared.kept.InvProof.{InvProof}
-use Rattle.verdicts.specs.declared.outcomes.Proof.{Proof}
-use Rattle.verdicts.specs.declared.outcomes.Proof.TheVariants.{Single, Fixed, Depth}
+use Rattle.verdict_types.specs.declared.kept.InvProof.{InvProof}
+use Rattle.verdict_types.specs.declared.outcomes.Proof.{Proof}
+use Rattle.verdict_types.specs.declared.outcomes.Proof.TheVariants.{Single, Fixed, Depth}
 use Rattle.cert_values.specs.Certs.{listed_numbers}
 use Rattle.cert_values.specs.declared.certs.PairProof.{PairProof}
 use Rattle.cert_values.specs.declared.certs.Cert.{Cert}

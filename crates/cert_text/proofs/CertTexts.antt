@@ -7,7 +7,7 @@ use Rattle.std.proofs.lemmas.Fmt.{decimal_injective}
 use Rattle.cert_words.proofs.Tokens.{number_token}
 use Rattle.cert_words.proofs.LineLemmas.{IsKind}
 use Rattle.net_model.specs.declared.invariants.InvClause.{InvClause}
-use Rattle.verdicts.specs.declared.kept.InvProof.{InvProof}
+use Rattle.verdict_types.specs.declared.kept.InvProof.{InvProof}
 use Rattle.cert_values.specs.declared.certs.PairProof.{PairProof}
 use Rattle.cert_values.specs.declared.certs.Cert.{Cert}
 use Rattle.cert_lines.specs.declared.heads.InvHead.{InvHead}

@@ -11,11 +11,11 @@ use Rattle.proof_log.specs.Literals.{lit_var, InVars}
 use Rattle.proof_log.specs.Clauses.{IsNormal}
 use Rattle.proof_log.specs.declared.derivations.DerivStep.{DerivStep}
 use Rattle.proof_log.specs.declared.derivations.Derivation.{Derivation}
-use Rattle.verdicts.specs.declared.kept.InvProof.{InvProof}
-use Rattle.verdicts.specs.declared.kept.InvSet.{InvSet}
-use Rattle.verdicts.specs.declared.outcomes.Verdict.{Verdict}
-use Rattle.verdicts.specs.declared.outcomes.Verdict.TheVariants.{Justified, Refuted, Undecided}
-use Rattle.verdicts.specs.Forms.{IsStepInForm, IsInForm, AreInForm, AreOneOrTwo, IsKeptClause, IsSetInForm}
+use Rattle.verdict_types.specs.declared.kept.InvProof.{InvProof}
+use Rattle.verdict_types.specs.declared.kept.InvSet.{InvSet}
+use Rattle.verdict_types.specs.declared.outcomes.Verdict.{Verdict}
+use Rattle.verdict_types.specs.declared.outcomes.Verdict.TheVariants.{Justified, Refuted, Undecided}
+use Rattle.verdict_types.specs.Forms.{IsStepInForm, IsInForm, AreInForm, AreOneOrTwo, IsKeptClause, IsSetInForm}
 use Rattle.cert_words.specs.Numbers.{IsLitAbove, IsHint}
 use Rattle.cert_words.specs.Growth.{Chain}
 use Rattle.cert_values.specs.declared.certs.PairProof.{PairProof}

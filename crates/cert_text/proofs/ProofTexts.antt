@@ -5,7 +5,7 @@ use Rattle.std.proofs.lemmas.List.{append_cancel_left}
 use Rattle.proof_log.specs.declared.derivations.Derivation.{Derivation}
 use Rattle.net_model.specs.declared.invariants.InvClause.{InvClause}
 use Rattle.net_model.specs.declared.queries.Phase.TheVariants.{Base, Step}
-use Rattle.verdicts.specs.declared.kept.InvProof.{InvProof}
+use Rattle.verdict_types.specs.declared.kept.InvProof.{InvProof}
 use Rattle.cert_lines.specs.Kinds.{text_of, kept_words, IsKept}
 use Rattle.cert_lines.proofs.KindLemmas.{kept_kind}
 use Rattle.cert_parts.specs.declared.faults.Fault.{Fault}

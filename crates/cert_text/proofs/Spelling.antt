@@ -4,13 +4,13 @@ use Rattle.std.specs.Prelude.{All}
 use Rattle.std.specs.List.{AllByRecursion}
 use Rattle.std.proofs.lemmas.List.Elements.{All-head, All-tail}
 use Rattle.proof_log.specs.declared.derivations.Derivation.{Derivation}
-use Rattle.verdicts.specs.declared.kept.InvProof.{InvProof}
-use Rattle.verdicts.specs.declared.kept.InvSet.{InvSet}
-use Rattle.verdicts.specs.declared.outcomes.Proof.{Proof}
-use Rattle.verdicts.specs.declared.outcomes.Proof.TheVariants.{Single, Fixed, Depth}
-use Rattle.verdicts.specs.declared.outcomes.Verdict.{Verdict}
-use Rattle.verdicts.specs.declared.outcomes.Verdict.TheVariants.{Justified, Refuted, Undecided}
-use Rattle.verdicts.specs.Forms.{IsInForm, AreInForm, IsProofInForm, IsVerdictInForm, IsSetInForm}
+use Rattle.verdict_types.specs.declared.kept.InvProof.{InvProof}
+use Rattle.verdict_types.specs.declared.kept.InvSet.{InvSet}
+use Rattle.verdict_types.specs.declared.outcomes.Proof.{Proof}
+use Rattle.verdict_types.specs.declared.outcomes.Proof.TheVariants.{Single, Fixed, Depth}
+use Rattle.verdict_types.specs.declared.outcomes.Verdict.{Verdict}
+use Rattle.verdict_types.specs.declared.outcomes.Verdict.TheVariants.{Justified, Refuted, Undecided}
+use Rattle.verdict_types.specs.Forms.{IsInForm, AreInForm, IsProofInForm, IsVerdictInForm, IsSetInForm}
 use Rattle.cert_values.specs.declared.certs.PairProof.{PairProof}
 use Rattle.cert_values.specs.Certs.{justified_from, cert_of}
 use Rattle.cert_parts.specs.Derivations.{IsWritable}

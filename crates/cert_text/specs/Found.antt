@@ -2,10 +2,10 @@
 use Rattle.std.specs.Prelude.{◌<◌, ◌^◌, List, All}
 use Rattle.proof_log.specs.declared.derivations.DerivStep.{DerivStep}
 use Rattle.proof_log.specs.declared.derivations.Derivation.{Derivation}
-use Rattle.verdicts.specs.Forms.{IsInForm}
-use Rattle.verdicts.specs.declared.kept.InvProof.{InvProof}
-use Rattle.verdicts.specs.declared.outcomes.Proof.{Proof}
-use Rattle.verdicts.specs.declared.outcomes.Proof.TheVariants.{Single, Fixed, Depth}
+use Rattle.verdict_types.specs.Forms.{IsInForm}
+use Rattle.verdict_types.specs.declared.kept.InvProof.{InvProof}
+use Rattle.verdict_types.specs.declared.outcomes.Proof.{Proof}
+use Rattle.verdict_types.specs.declared.outcomes.Proof.TheVariants.{Single, Fixed, Depth}
 use Rattle.cert_values.specs.declared.certs.PairProof.{PairProof}
 use Rattle.cert_values.specs.declared.certs.Cert.{Cert}
 use Rattle.cert_parts.specs.Derivations.{IsWritable}

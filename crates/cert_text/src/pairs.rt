@@ -11,7 +11,7 @@ use cert_parts::{Fault, take_section};
 use cert_values::PairProof;
 use sdcv_base::{Cursor, Seq};
 use std::alloc::Global;
-use verdicts::{InvProof, Proof};
+use verdict_types::{InvProof, Proof};
 
 /// Passes a pair; or the last line, which is `None`.
 fn take_pair(alloc: Global, cursor: &mut Cursor<'_>) -> Result<Option<PairProof>, Fault>

@@ -12,7 +12,7 @@ use net_model::{InvClause, Phase};
 use proof_log::Derivation;
 use sdcv_base::{Cursor, Seq};
 use std::alloc::Global;
-use verdicts::InvProof;
+use verdict_types::InvProof;
 
 /// Passes so many kept clauses.
 pub fn take_clauses(

@@ -2,7 +2,7 @@
 ghost use Rattle.std.specs.Prelude.{◌≡◌, ◌++◌, ◌∷◌, [], ◌<◌, ◌^◌, IfOk, OnOk, All};
 ghost use Rattle.std.specs.List.{AllByRecursion};
 ghost use Rattle.net_model.specs.declared.queries.Phase.TheVariants.{Base, Step};
-ghost use Rattle.verdicts.specs.Forms.{IsInForm, IsKeptClause, IsProofInForm, IsVerdictInForm, IsSetInForm};
+ghost use Rattle.verdict_types.specs.Forms.{IsInForm, IsKeptClause, IsProofInForm, IsVerdictInForm, IsSetInForm};
 ghost use Rattle.cert_values.specs.Certs.{justified_from, cert_of};
 ghost use Rattle.cert_lines.specs.Kinds.{text_of, kept_words};
 ghost use Rattle.cert_parts.specs.Texts.{many_text};
@@ -15,7 +15,7 @@ use cert_parts::push_derivation;
 use net_model::{InvClause, Phase};
 use proof_log::{DerivStep, Derivation};
 use std::alloc::{AllocError, Global};
-use verdicts::{InvProof, InvSet, Proof, Verdict};
+use verdict_types::{InvProof, InvSet, Proof, Verdict};
 
 /// The greatest hint that is written.
 const MOST: u64 = 9_223_372_036_854_775_807;

@@ -1,11 +1,11 @@
 -- Certificates that have all their derivations, and the one that is made of what was found.
 use Rattle.std.specs.Prelude.{◌≡◌, ℕ, ◌+◌, ◌≤◌, List, [], ◌∷◌, length, map, All}
-use Rattle.verdicts.specs.declared.kept.InvProof.{InvProof}
-use Rattle.verdicts.specs.declared.kept.InvSet.{InvSet}
-use Rattle.verdicts.specs.declared.outcomes.Proof.{Proof}
-use Rattle.verdicts.specs.declared.outcomes.Proof.TheVariants.{Single, Fixed, Depth}
-use Rattle.verdicts.specs.declared.outcomes.Verdict.{Verdict}
-use Rattle.verdicts.specs.declared.outcomes.Verdict.TheVariants.{Justified, Refuted, Undecided}
+use Rattle.verdict_types.specs.declared.kept.InvProof.{InvProof}
+use Rattle.verdict_types.specs.declared.kept.InvSet.{InvSet}
+use Rattle.verdict_types.specs.declared.outcomes.Proof.{Proof}
+use Rattle.verdict_types.specs.declared.outcomes.Proof.TheVariants.{Single, Fixed, Depth}
+use Rattle.verdict_types.specs.declared.outcomes.Verdict.{Verdict}
+use Rattle.verdict_types.specs.declared.outcomes.Verdict.TheVariants.{Justified, Refuted, Undecided}
 use Rattle.cert_values.specs.declared.certs.PairProof.{PairProof}
 use Rattle.cert_values.specs.declared.certs.Cert.{Cert}
 

@@ -1,7 +1,7 @@
 //! What a certificate tells.
 use net_model::InvClause;
 use sdcv_base::Seq;
-use verdicts::{InvProof, Proof};
+use verdict_types::{InvProof, Proof};
 
 /// Why the claim of that number holds. Claims count from 1.
 #[derive(Drop)]

@@ -14,7 +14,7 @@ use proof_log::{Clause, DerivStep, Derivation};
 use sdcv_base::Seq;
 use std::alloc::{AllocError, Global};
 use std::process::Abort;
-use verdicts::{InvProof, Proof};
+use verdict_types::{InvProof, Proof};
 
 // A clear by pin 1.
 const CLEARED: Controls = Controls(Some(Pin(1)), None, true);

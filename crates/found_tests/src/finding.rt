@@ -4,7 +4,7 @@ ghost use Rattle.net_model.specs.Netlist.{IsSound};
 ghost use Rattle.net_model.specs.Fits.{Fits};
 ghost use Rattle.net_model.specs.Fits.{NamesRegs};
 ghost use Rattle.verdicts.specs.Inductive.{AreAlwaysMet};
-ghost use Rattle.verdicts.specs.Forms.{IsVerdictInForm};
+ghost use Rattle.verdict_types.specs.Forms.{IsVerdictInForm};
 ghost use Rattle.cert_defs.specs.Accepted.{AreRightVerdicts, justified_numbers};
 ghost use Rattle.cert_call.specs.Texts.{IsAcceptedText};
 

@@ -19,7 +19,7 @@ use Rattle.proof_log.specs.declared.derivations.Derivation.{Derivation}
 use Rattle.verdicts.specs.Inductive.{StandOnce}
 use Rattle.verdicts.specs.Kept.{IsEntry}
 use Rattle.verdicts.specs.Logs.{own_coding, RefutesQuery, RefuteEach, IsSpentOn}
-use Rattle.verdicts.specs.Forms.{IsInForm}
+use Rattle.verdict_types.specs.Forms.{IsInForm}
 use Rattle.verdicts.proofs.Extending.{push_cases}
 use Rattle.verdicts.proofs.Keeping.{met_first}
 use Rattle.induction.specs.Members.{clause_of}

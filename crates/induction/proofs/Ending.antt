@@ -15,10 +15,10 @@ use Rattle.verdicts.specs.Inductive.{IsInductive, IsMetFirst, IsGreatest, StandO
 use Rattle.verdicts.specs.Logs.{own_coding, RefuteEach}
 use Rattle.verdicts.specs.Certified.{ProvesClause, ProveKept}
 use Rattle.verdicts.specs.Kept.{IsEntry, IsUnspent, IsKeptSet}
-use Rattle.verdicts.specs.Forms.{IsInForm, AreInForm, IsKeptClause, IsSetInForm}
-use Rattle.verdicts.specs.declared.kept.InvProof.{InvProof}
-use Rattle.verdicts.specs.declared.kept.InvSpent.{InvSpent}
-use Rattle.verdicts.specs.declared.kept.InvSet.{InvSet}
+use Rattle.verdict_types.specs.Forms.{IsInForm, AreInForm, IsKeptClause, IsSetInForm}
+use Rattle.verdict_types.specs.declared.kept.InvProof.{InvProof}
+use Rattle.verdict_types.specs.declared.kept.InvSpent.{InvSpent}
+use Rattle.verdict_types.specs.declared.kept.InvSet.{InvSet}
 use Rattle.verdicts.proofs.Greatest.{greatest_of, empty_greatest}
 use Rattle.verdicts.proofs.Keeping.{always_met}
 use Rattle.verdicts.proofs.Refuting.{base_refuted_same}

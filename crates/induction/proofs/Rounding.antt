@@ -15,7 +15,7 @@ use Rattle.proof_log.specs.declared.derivations.Derivation.{Derivation}
 use Rattle.verdicts.specs.Logs.{own_coding, IsSpentOn}
 use Rattle.verdicts.specs.Kept.{IsEntry}
 use Rattle.verdicts.specs.Inductive.{IsWithin, StandOnce}
-use Rattle.verdicts.specs.declared.kept.InvSpent.{InvSpent}
+use Rattle.verdict_types.specs.declared.kept.InvSpent.{InvSpent}
 use Rattle.verdicts.proofs.Extending.{push_cases}
 use Rattle.verdicts.proofs.Keeping.{met_next}
 use Rattle.query_asks.specs.Asks.{IsRefutedBy, IsRightOf}

@@ -11,7 +11,7 @@ use Rattle.net_model.specs.declared.queries.Phase.{Phase}
 use Rattle.net_model.specs.declared.queries.Phase.TheVariants.{Base, Step}
 use Rattle.verdicts.specs.Inductive.{IsWithin, StandOnce, CoversInductive}
 use Rattle.verdicts.specs.Kept.{IsEntry, IsUnspent, IsAskedAgainst}
-use Rattle.verdicts.specs.declared.kept.InvSpent.{InvSpent}
+use Rattle.verdict_types.specs.declared.kept.InvSpent.{InvSpent}
 use Rattle.verdicts.proofs.Greatest.{covers_without_failing, covers_without_answer, covers_allowed}
 use Rattle.induction.specs.Bases.{FailsInRun}
 use Rattle.induction.specs.Pools.{IsSearch}

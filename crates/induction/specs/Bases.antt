@@ -9,7 +9,7 @@ use Rattle.net_model.specs.declared.queries.Phase.TheVariants.{Base}
 use Rattle.proof_log.specs.declared.derivations.Derivation.{Derivation}
 use Rattle.verdicts.specs.Inductive.{IsMetFirst}
 use Rattle.verdicts.specs.Logs.{own_coding, RefuteEach, IsSpentOn}
-use Rattle.verdicts.specs.Forms.{IsInForm}
+use Rattle.verdict_types.specs.Forms.{IsInForm}
 use Rattle.induction.specs.declared.bases.Based.{Based}
 use Rattle.induction.specs.declared.bases.Based.TheVariants.{Refuted, Failing, Spent}
 

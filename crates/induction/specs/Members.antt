@@ -4,7 +4,7 @@ use Rattle.net_model.specs.Queries.{clause_holds}
 use Rattle.net_model.specs.declared.cycles.Cycle.{Cycle}
 use Rattle.net_model.specs.declared.invariants.InvClause.{InvClause}
 use Rattle.proof_log.specs.declared.derivations.Derivation.{Derivation}
-use Rattle.verdicts.specs.declared.kept.InvProof.{InvProof}
+use Rattle.verdict_types.specs.declared.kept.InvProof.{InvProof}
 use Rattle.induction.specs.declared.members.Member.{Member}
 
 -- the clause of a member

@@ -9,8 +9,8 @@ use Rattle.proof_log.specs.declared.derivations.Derivation.{Derivation}
 use Rattle.verdicts.specs.Inductive.{StandOnce, CoversInductive}
 use Rattle.verdicts.specs.Kept.{IsEntry, IsUnspent}
 use Rattle.verdicts.specs.Logs.{own_coding, IsSpentOn}
-use Rattle.verdicts.specs.declared.kept.InvSpent.{InvSpent}
-use Rattle.verdicts.specs.declared.kept.InvSet.{InvSet}
+use Rattle.verdict_types.specs.declared.kept.InvSpent.{InvSpent}
+use Rattle.verdict_types.specs.declared.kept.InvSet.{InvSet}
 use Rattle.induction.specs.Members.{clause_of}
 use Rattle.induction.specs.Bases.{FailsInRun, IsBased}
 use Rattle.induction.specs.declared.members.Member.{Member}

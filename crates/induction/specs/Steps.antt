@@ -8,7 +8,7 @@ use Rattle.net_model.specs.declared.queries.Phase.TheVariants.{Step}
 use Rattle.proof_log.specs.declared.derivations.Derivation.{Derivation}
 use Rattle.verdicts.specs.Inductive.{IsMetNext}
 use Rattle.verdicts.specs.Logs.{own_coding, RefutesQuery, IsSpentOn}
-use Rattle.verdicts.specs.Forms.{IsInForm}
+use Rattle.verdict_types.specs.Forms.{IsInForm}
 use Rattle.induction.specs.declared.steps.Round.{Round}
 use Rattle.induction.specs.declared.steps.Round.TheVariants.{Refuted, Broken, Spent}
 

@@ -4,7 +4,7 @@ ghost use Rattle.net_model.specs.Netlist.{IsSound};
 ghost use Rattle.net_model.specs.Fits.{NamesRegs};
 ghost use Rattle.verdicts.specs.Inductive.{StandOnce};
 ghost use Rattle.verdicts.specs.Kept.{IsKeptSet};
-ghost use Rattle.verdicts.specs.Forms.{IsKeptClause, IsSetInForm};
+ghost use Rattle.verdict_types.specs.Forms.{IsKeptClause, IsSetInForm};
 ghost use Rattle.induction.specs.Pools.{IsEmptySet};
 
 use crate::members::{clauses_of, holding_in, proofs_of, take_out};

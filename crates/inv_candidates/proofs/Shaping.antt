@@ -9,7 +9,7 @@ use Rattle.net_model.specs.declared.netlist.Design.{Design}
 use Rattle.net_model.specs.declared.claims.Claim.{Claim}
 use Rattle.net_model.specs.declared.invariants.InvClause.{InvClause}
 use Rattle.net_model.specs.Fits.{NamesRegs}
-use Rattle.verdicts.specs.Forms.{AreOneOrTwo, IsKeptClause}
+use Rattle.verdict_types.specs.Forms.{AreOneOrTwo, IsKeptClause}
 use Rattle.reg_groups.specs.Near.{Differ}
 use Rattle.reg_groups.proofs.Grouping.{differ_in_order}
 use Rattle.inv_candidates.specs.Clauses.{lit, one_of, two_of, single_clauses, pair_clauses, all_pairs, group_clauses}

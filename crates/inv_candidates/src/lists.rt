@@ -4,7 +4,7 @@ ghost use Rattle.net_model.specs.Netlist.{IsSound};
 ghost use Rattle.net_model.specs.Fits.{Fits};
 ghost use Rattle.net_model.specs.Fits.{NamesRegs};
 ghost use Rattle.verdicts.specs.Inductive.{StandOnce};
-ghost use Rattle.verdicts.specs.Forms.{IsKeptClause};
+ghost use Rattle.verdict_types.specs.Forms.{IsKeptClause};
 ghost use Rattle.inv_candidates.specs.Candidates.{AddsClaim, AreCandidates};
 
 use crate::listings::Listing;

@@ -11,8 +11,8 @@ use Rattle.net_model.specs.declared.queries.Phase.TheVariants.{Base, Step}
 use Rattle.net_model.proofs.Members.{In, In-from_Contains, Contains-from_In}
 use Rattle.verdicts.specs.Inductive.{IsWithin, IsInductive, IsGreatest, StandOnce}
 use Rattle.verdicts.specs.Kept.{IsAskedAgainst, IsEntry, IsUnspent, IsKeptSet}
-use Rattle.verdicts.specs.declared.kept.InvSpent.{InvSpent}
-use Rattle.verdicts.specs.declared.kept.InvSet.{InvSet}
+use Rattle.verdict_types.specs.declared.kept.InvSpent.{InvSpent}
+use Rattle.verdict_types.specs.declared.kept.InvSet.{InvSet}
 use Rattle.verdicts.proofs.Keeping.{always_met}
 use Rattle.drawn_runs.specs.Drawn.{HoldsDrawn, FailsDrawn}
 use Rattle.drawn_runs.specs.Survivors.{IsSifted, No_more, Is_left, Is_out, AreSurvivors}

@@ -4,8 +4,8 @@ use Rattle.net_model.specs.declared.netlist.Design.{Design}
 use Rattle.net_model.specs.declared.claims.Claim.{Claim}
 use Rattle.net_model.specs.declared.invariants.InvClause.{InvClause}
 use Rattle.verdicts.specs.Kept.{IsKeptSet}
-use Rattle.verdicts.specs.declared.kept.InvSpent.{InvSpent}
-use Rattle.verdicts.specs.declared.kept.InvSet.{InvSet}
+use Rattle.verdict_types.specs.declared.kept.InvSpent.{InvSpent}
+use Rattle.verdict_types.specs.declared.kept.InvSet.{InvSet}
 use Rattle.drawn_runs.specs.Drawn.{HoldsDrawn}
 use Rattle.inv_candidates.specs.Candidates.{AreCandidates}
 

@@ -6,7 +6,7 @@ ghost use Rattle.net_model.specs.Fits.{NamesRegs};
 ghost use Rattle.verdicts.specs.Inductive.{AreAlwaysMet};
 ghost use Rattle.verdicts.specs.Logs.{own_coding};
 ghost use Rattle.verdicts.specs.Certified.{ProveKept};
-ghost use Rattle.verdicts.specs.Forms.{IsSetInForm};
+ghost use Rattle.verdict_types.specs.Forms.{IsSetInForm};
 ghost use Rattle.invariants.specs.Invariants.{AreInvariants};
 
 use cnf_encode::Prepared;

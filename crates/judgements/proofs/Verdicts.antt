@@ -9,11 +9,11 @@ use Rattle.net_model.specs.declared.invariants.InvClause.{InvClause}
 use Rattle.net_model.specs.Fits.{NamesRegs}
 use Rattle.verdicts.specs.Logs.{own_coding}
 use Rattle.verdicts.specs.Certified.{ProveKept}
-use Rattle.verdicts.specs.Forms.{IsVerdictInForm}
-use Rattle.verdicts.specs.declared.kept.InvSet.{InvSet}
-use Rattle.verdicts.specs.declared.outcomes.Limits.{Limits}
-use Rattle.verdicts.specs.declared.outcomes.Verdict.{Verdict}
-use Rattle.verdicts.specs.declared.outcomes.Verdict.TheVariants.{Justified, Refuted}
+use Rattle.verdict_types.specs.Forms.{IsVerdictInForm}
+use Rattle.verdict_types.specs.declared.kept.InvSet.{InvSet}
+use Rattle.verdict_types.specs.declared.outcomes.Limits.{Limits}
+use Rattle.verdict_types.specs.declared.outcomes.Verdict.{Verdict}
+use Rattle.verdict_types.specs.declared.outcomes.Verdict.TheVariants.{Justified, Refuted}
 use Rattle.invariants.specs.Invariants.{AreInvariants}
 use Rattle.judgements.specs.declared.judged.Judged.{Judged}
 use Rattle.judgements.specs.Judgements.{AreFound, AreFoundFirst, AreJudged, IsFound}

@@ -8,11 +8,11 @@ use Rattle.net_model.specs.declared.invariants.InvClause.{InvClause}
 use Rattle.net_model.specs.Fits.{NamesRegs}
 use Rattle.verdicts.specs.Inductive.{AreAlwaysMet}
 use Rattle.verdicts.specs.Verdicts.{IsRight}
-use Rattle.verdicts.specs.Forms.{IsSetInForm, IsVerdictInForm}
-use Rattle.verdicts.specs.declared.outcomes.Limits.{Limits}
-use Rattle.verdicts.specs.declared.outcomes.Proof.{Proof}
-use Rattle.verdicts.specs.declared.outcomes.Verdict.{Verdict}
-use Rattle.verdicts.specs.declared.outcomes.Verdict.TheVariants.{Justified, Refuted}
+use Rattle.verdict_types.specs.Forms.{IsSetInForm, IsVerdictInForm}
+use Rattle.verdict_types.specs.declared.outcomes.Limits.{Limits}
+use Rattle.verdict_types.specs.declared.outcomes.Proof.{Proof}
+use Rattle.verdict_types.specs.declared.outcomes.Verdict.{Verdict}
+use Rattle.verdict_types.specs.declared.outcomes.Verdict.TheVariants.{Justified, Refuted}
 use Rattle.pair_prove.specs.Proving.{HoldsWhereJustified, IsLeastWitness, IsLeastWhereRefuted}
 use Rattle.invariants.specs.Invariants.{AreInvariants}
 use Rattle.cert_defs.specs.Accepted.{AreRightVerdicts}

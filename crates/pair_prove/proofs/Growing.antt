@@ -17,11 +17,11 @@ use Rattle.verdicts.specs.Offsets.{HoldsAtOffset, IsOpenAt}
 use Rattle.verdicts.specs.Logs.{own_coding, RefutesQuery, RefuteEach}
 use Rattle.verdicts.specs.Verdicts.{IsJudged, IsReached, IsWitness, IsRight, IsRightProof}
 use Rattle.verdicts.specs.Inductive.{AreAlwaysMet}
-use Rattle.verdicts.specs.Forms.{IsInForm, AreInForm}
-use Rattle.verdicts.specs.declared.outcomes.Limits.{Limits}
-use Rattle.verdicts.specs.declared.outcomes.Cause.TheVariants.{Depth as Stays}
-use Rattle.verdicts.specs.declared.outcomes.Verdict.{Verdict}
-use Rattle.verdicts.specs.declared.outcomes.Verdict.TheVariants.{Justified, Refuted, Undecided}
+use Rattle.verdict_types.specs.Forms.{IsInForm, AreInForm}
+use Rattle.verdict_types.specs.declared.outcomes.Limits.{Limits}
+use Rattle.verdict_types.specs.declared.outcomes.Cause.TheVariants.{Depth as Stays}
+use Rattle.verdict_types.specs.declared.outcomes.Verdict.{Verdict}
+use Rattle.verdict_types.specs.declared.outcomes.Verdict.TheVariants.{Justified, Refuted, Undecided}
 use Rattle.verdicts.proofs.Cutting.{holds_at}
 use Rattle.verdicts.proofs.Certifying.{justified_holds}
 use Rattle.verdicts.proofs.Extending.{push_cases}

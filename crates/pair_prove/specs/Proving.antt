@@ -6,9 +6,9 @@ use Rattle.net_model.specs.declared.cycles.Stimulus.{Stimulus}
 use Rattle.net_model.specs.declared.claims.Claim.{Claim}
 use Rattle.verdicts.specs.Offsets.{HoldsAtOffset}
 use Rattle.verdicts.specs.Verdicts.{IsWitness}
-use Rattle.verdicts.specs.declared.outcomes.Proof.{Proof}
-use Rattle.verdicts.specs.declared.outcomes.Verdict.{Verdict}
-use Rattle.verdicts.specs.declared.outcomes.Verdict.TheVariants.{Justified, Refuted}
+use Rattle.verdict_types.specs.declared.outcomes.Proof.{Proof}
+use Rattle.verdict_types.specs.declared.outcomes.Verdict.{Verdict}
+use Rattle.verdict_types.specs.declared.outcomes.Verdict.TheVariants.{Justified, Refuted}
 
 -- a claim that is justified holds in every run from reset
 abbrev pub HoldsWhereJustified : Design → Claim → Verdict → Type 0

@@ -5,7 +5,7 @@ ghost use Rattle.net_model.specs.Fits.{Fits};
 ghost use Rattle.net_model.specs.Stimuli.{StandsFor};
 ghost use Rattle.net_model.specs.Fits.{NamesRegs};
 ghost use Rattle.verdicts.specs.Verdicts.{IsJudged, IsRight};
-ghost use Rattle.verdicts.specs.Forms.{IsVerdictInForm};
+ghost use Rattle.verdict_types.specs.Forms.{IsVerdictInForm};
 
 use cnf_encode::Prepared;
 use net_model::{Claim, Cycle, InvClause, Phase, Stimulus};

@@ -5,7 +5,7 @@ ghost use Rattle.net_model.specs.Fits.{Fits};
 ghost use Rattle.net_model.specs.Fits.{NamesRegs};
 ghost use Rattle.verdicts.specs.Inductive.{AreAlwaysMet};
 ghost use Rattle.verdicts.specs.Verdicts.{IsRight};
-ghost use Rattle.verdicts.specs.Forms.{IsVerdictInForm};
+ghost use Rattle.verdict_types.specs.Forms.{IsVerdictInForm};
 ghost use Rattle.pair_prove.specs.Proving.{HoldsWhereJustified, IsLeastWhereRefuted};
 
 use crate::deciding::decide;

@@ -17,7 +17,7 @@ use Rattle.cnf_encode.specs.Problems.{IsProblemFor, IsMadeFor, IsClaimQuery, IsC
 use Rattle.cnf_encode.specs.declared.problems.Problem.{Problem}
 use Rattle.verdicts.specs.Logs.{own_coding, IsFormulaFor, RefutesQuery, IsSpentOn}
 use Rattle.verdicts.proofs.Refuting.{claim_refuted, clause_refuted}
-use Rattle.verdicts.specs.Forms.{IsInForm}
+use Rattle.verdict_types.specs.Forms.{IsInForm}
 use Rattle.query_asks.specs.Asks.{IsRefutedBy, IsRightOf}
 use Rattle.query_asks.specs.declared.asks.Asked.{Asked}
 use Rattle.query_asks.specs.declared.asks.Asked.TheVariants.{Refuted, Answered, Spent}

@@ -7,7 +7,7 @@ use Rattle.proof_log.specs.declared.formulas.Formula.{Formula}
 use Rattle.proof_log.specs.declared.derivations.DerivStep.{DerivStep}
 use Rattle.proof_log.specs.declared.derivations.Derivation.{Derivation}
 use Rattle.sat_solver.specs.Answers.{IsRefutation}
-use Rattle.verdicts.specs.Forms.{IsInForm}
+use Rattle.verdict_types.specs.Forms.{IsInForm}
 
 -- the number of a known clause is not 0
 counts_from_1 : (known : List (List ℕ)) (h : ℕ) (clause : List ℕ) → clause_named known h ≡ Some clause → 1 ≤ h

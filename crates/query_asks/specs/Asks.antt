@@ -7,7 +7,7 @@ use Rattle.cnf_encode.specs.Problems.{IsClaimQuery, IsClauseQuery, IsProblemFor}
 use Rattle.cnf_encode.specs.declared.problems.Problem.{Problem}
 use Rattle.proof_log.specs.declared.derivations.Derivation.{Derivation}
 use Rattle.verdicts.specs.Logs.{own_coding, RefutesQuery, IsSpentOn}
-use Rattle.verdicts.specs.Forms.{IsInForm}
+use Rattle.verdict_types.specs.Forms.{IsInForm}
 use Rattle.query_asks.specs.declared.asks.Asked.{Asked}
 use Rattle.query_asks.specs.declared.asks.Asked.TheVariants.{Refuted, Answered, Spent}
 

@@ -13,8 +13,8 @@ use Rattle.witness_replay.specs.declared.faults.StimFault.TheVariants as stimulu
 use Rattle.witness_replay.specs.declared.faults.ReplayFault.{ReplayFault}
 use Rattle.witness_replay.specs.declared.faults.ReplayFault.TheVariants as replay
 use Rattle.witness_replay.proofs.WrittenLemmas.{written_first}
-use Rattle.verdicts.specs.declared.outcomes.Verdict.{Verdict}
-use Rattle.verdicts.specs.declared.outcomes.Verdict.TheVariants.{Refuted}
+use Rattle.verdict_types.specs.declared.outcomes.Verdict.{Verdict}
+use Rattle.verdict_types.specs.declared.outcomes.Verdict.TheVariants.{Refuted}
 use Rattle.pair_prove.specs.Proving.{IsLeastWitness}
 use Rattle.cert_defs.specs.Listed.{item_numbered}
 use Rattle.report_text.specs.declared.options.RunOptions.{RunOptions}

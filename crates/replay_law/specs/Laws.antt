@@ -2,7 +2,7 @@
 use Rattle.std.specs.Prelude.{◌≡◌, ℕ, ◌+◌, ◌<◌, ◌^◌, false, List, [], ◌∷◌, length, Option, Some, Ok}
 use Rattle.net_model.specs.declared.cycles.Stimulus.{Stimulus}
 use Rattle.witness_replay.specs.declared.outcomes.Replay.TheVariants.{Violated}
-use Rattle.verdicts.specs.declared.outcomes.Verdict.TheVariants.{Refuted}
+use Rattle.verdict_types.specs.declared.outcomes.Verdict.TheVariants.{Refuted}
 use Rattle.cert_defs.specs.Listed.{item_numbered}
 use Rattle.design_stages.specs.declared.designs.ReadTexts.{ReadTexts}
 use Rattle.design_stages.specs.declared.designs.Designed.{Designed}

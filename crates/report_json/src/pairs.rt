@@ -16,7 +16,7 @@ use report_text::{PairRow, kind_text, row_at, verdict_word, why_text};
 use sdcv_base::{Kind, Name};
 use serde_json::Value;
 use std::alloc::{AllocError, Global};
-use verdicts::Verdict;
+use verdict_types::Verdict;
 
 fn put_name(alloc: Global, object: &mut Object, key: &str, name: &Name) -> Result<(), AllocError>
     ensures { OnOk result (made object.new ≡ with_member key.now (string (shown name.now)) (made object.old)) }

@@ -13,7 +13,7 @@ use exception_expand::Selected;
 use report_text::{RunOptions, mode_text, tally_of};
 use serde_json::Value;
 use std::alloc::{AllocError, Global};
-use verdicts::Verdict;
+use verdict_types::Verdict;
 
 fn total_value(alloc: Global, verdicts: &[Verdict]) -> Result<Value, AllocError>
     ensures { IfOk result (λ v. view v ≡ total_data verdicts.now) }

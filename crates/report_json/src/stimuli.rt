@@ -13,7 +13,7 @@ use report_text::bits_text;
 use sdcv_base::Seq;
 use serde_json::Value;
 use std::alloc::{AllocError, Global};
-use verdicts::Verdict;
+use verdict_types::Verdict;
 
 fn inputs_value(alloc: Global, inputs: &Seq<Seq<bool>>) -> Result<Value, AllocError>
     ensures { IfOk result (λ v. view v ≡ inputs_data inputs.now) }

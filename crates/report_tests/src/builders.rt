@@ -9,7 +9,7 @@ use sdc_objects::Warning;
 use sdcv_base::{Kind, Name, Seq};
 use std::alloc::{AllocError, Global};
 use std::process::Abort;
-use verdicts::{Cause, Proof, Verdict};
+use verdict_types::{Cause, Proof, Verdict};
 
 #[derive(Clone, Copy)]
 pub enum Does {

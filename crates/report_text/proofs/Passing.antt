@@ -18,12 +18,12 @@ use Rattle.exception_expand.specs.declared.selections.Listing.{Listing}
 use Rattle.exception_expand.specs.declared.selections.Listing.TheVariants.{Claiming, Hold, Aside}
 use Rattle.exception_expand.specs.declared.selections.CommandLine.{CommandLine}
 use Rattle.exception_expand.specs.declared.selections.PairLine.{PairLine}
-use Rattle.verdicts.specs.declared.outcomes.Proof.{Proof}
-use Rattle.verdicts.specs.declared.outcomes.Proof.TheVariants.{Single, Fixed, Depth}
-use Rattle.verdicts.specs.declared.outcomes.Cause.{Cause}
-use Rattle.verdicts.specs.declared.outcomes.Cause.TheVariants.{Depth as Stays, Budget}
-use Rattle.verdicts.specs.declared.outcomes.Verdict.{Verdict}
-use Rattle.verdicts.specs.declared.outcomes.Verdict.TheVariants.{Justified, Refuted, Undecided}
+use Rattle.verdict_types.specs.declared.outcomes.Proof.{Proof}
+use Rattle.verdict_types.specs.declared.outcomes.Proof.TheVariants.{Single, Fixed, Depth}
+use Rattle.verdict_types.specs.declared.outcomes.Cause.{Cause}
+use Rattle.verdict_types.specs.declared.outcomes.Cause.TheVariants.{Depth as Stays, Budget}
+use Rattle.verdict_types.specs.declared.outcomes.Verdict.{Verdict}
+use Rattle.verdict_types.specs.declared.outcomes.Verdict.TheVariants.{Justified, Refuted, Undecided}
 use Rattle.witness_replay.specs.StimulusTexts.{title_of}
 use Rattle.witness_replay.proofs.LineLemmas.{is_inline}
 use Rattle.witness_replay.proofs.WrittenLemmas.{inline_decimal}

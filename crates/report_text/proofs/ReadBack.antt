@@ -14,8 +14,8 @@ use Rattle.sdc_objects.specs.Places.{each_at}
 use Rattle.exception_expand.specs.declared.selections.CommandLine.{CommandLine}
 use Rattle.exception_expand.specs.declared.selections.PairLine.{PairLine}
 use Rattle.exception_expand.specs.declared.selections.Selected.{Selected}
-use Rattle.verdicts.specs.declared.outcomes.Verdict.{Verdict}
-use Rattle.verdicts.specs.declared.outcomes.Verdict.TheVariants.{Refuted}
+use Rattle.verdict_types.specs.declared.outcomes.Verdict.{Verdict}
+use Rattle.verdict_types.specs.declared.outcomes.Verdict.TheVariants.{Refuted}
 use Rattle.witness_replay.specs.StimulusTexts.{line_of, title_of, block_lines, block_text}
 use Rattle.witness_replay.specs.Blocks.{HasFirstBlock, IsWritten}
 use Rattle.witness_replay.specs.declared.faults.StimFault.TheVariants.{NoBlock, Form, Memory}

@@ -3,7 +3,7 @@ use Rattle.std.specs.Prelude.{◌≡◌, ℕ, ◌+◌, List, [], ◌∷◌, ◌+
 use Rattle.net_model.specs.declared.claims.Claim.{Claim}
 use Rattle.exception_expand.specs.declared.selections.PairLine.{PairLine}
 use Rattle.exception_expand.specs.declared.selections.Selected.{Selected}
-use Rattle.verdicts.specs.declared.outcomes.Verdict.{Verdict}
+use Rattle.verdict_types.specs.declared.outcomes.Verdict.{Verdict}
 
 -- each pair has one claim and one verdict
 pub record HasRows (selected : Selected) (verdicts : List Verdict) : Type 0 where

@@ -5,7 +5,7 @@ ghost use Rattle.report_text.specs.Rows.{HasRows};
 
 use crate::options::RunOptions;
 use exception_expand::Selected;
-use verdicts::Verdict;
+use verdict_types::Verdict;
 
 /// The stimulus of each refuted pair is the first block of the pair's number in the report, so a reader of stimuli gives it
 /// back.

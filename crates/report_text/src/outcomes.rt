@@ -4,7 +4,7 @@ ghost use Rattle.report_text.specs.Words.{verdict_word, proof_text, phase_text, 
 
 use net_model::Phase;
 use std::alloc::{AllocError, Global};
-use verdicts::{Cause, Proof, Verdict};
+use verdict_types::{Cause, Proof, Verdict};
 
 /// What a verdict is.
 pub fn verdict_word(verdict: &Verdict) -> &'static str

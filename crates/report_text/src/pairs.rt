@@ -11,7 +11,7 @@ use crate::rows::{PairRow, row_at};
 use crate::words::kind_text;
 use exception_expand::{PairLine, Selected};
 use std::alloc::{AllocError, Global};
-use verdicts::Verdict;
+use verdict_types::Verdict;
 
 fn ends_text(alloc: Global, pair: &PairLine) -> Result<String, AllocError>
     ensures { IfOk result (λ text. string_bytes text ≡ ends_text pair.now) }

@@ -12,7 +12,7 @@ use crate::tallies::total_text;
 use crate::words::mode_text;
 use exception_expand::Selected;
 use std::alloc::{AllocError, Global};
-use verdicts::Verdict;
+use verdict_types::Verdict;
 
 fn header_text(alloc: Global, options: &RunOptions) -> Result<String, AllocError>
     ensures { IfOk result (λ text. string_bytes text ≡ header_text options.now) }

@@ -4,7 +4,7 @@ ghost use Rattle.report_text.specs.Rows.{HasRows};
 
 use exception_expand::{PairLine, Selected};
 use net_model::Claim;
-use verdicts::Verdict;
+use verdict_types::Verdict;
 
 /// A selected pair, its number from 1, what is claimed of it, and what is found out about that.
 #[derive(Clone, Copy)]

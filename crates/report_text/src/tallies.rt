@@ -3,7 +3,7 @@ ghost use Rattle.std.specs.Prelude.{◌≡◌, IfOk, string_bytes};
 ghost use Rattle.report_text.specs.Words.{tally_of, total_text};
 
 use std::alloc::{AllocError, Global};
-use verdicts::Verdict;
+use verdict_types::Verdict;
 
 /// How many of some pairs are justified, refuted and undecided.
 #[derive(Clone, Copy, Debug, PartialEq, Eq)]

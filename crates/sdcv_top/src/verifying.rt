@@ -12,7 +12,7 @@ use design_stages::Designed;
 use judgements::{Judged, certificate, judge, report};
 use report_text::{RunOptions, Tally, tally_of};
 use std::alloc::{AllocError, Global};
-use verdicts::Limits;
+use verdict_types::Limits;
 
 /// Judges all selected pairs. A certificate of the verdicts is saved where it has a name.
 pub fn verified<'a>(

@@ -22,10 +22,10 @@ use Rattle.verdicts.proofs.Refuting.{claim_refuted, clause_refuted, at_each}
 use Rattle.verdicts.proofs.Cutting.{holds_at}
 use Rattle.verdicts.proofs.Inducting.{holds_by_induction}
 use Rattle.verdicts.proofs.Keeping.{met_first, met_next, always_met}
-use Rattle.verdicts.specs.declared.kept.InvProof.{InvProof}
-use Rattle.verdicts.specs.declared.outcomes.Limits.{Limits}
-use Rattle.verdicts.specs.declared.outcomes.Proof.{Proof}
-use Rattle.verdicts.specs.declared.outcomes.Proof.TheVariants.{Single, Fixed, Depth}
+use Rattle.verdict_types.specs.declared.kept.InvProof.{InvProof}
+use Rattle.verdict_types.specs.declared.outcomes.Limits.{Limits}
+use Rattle.verdict_types.specs.declared.outcomes.Proof.{Proof}
+use Rattle.verdict_types.specs.declared.outcomes.Proof.TheVariants.{Single, Fixed, Depth}
 
 -- a clause that is kept has a proof
 proof_of : (coding : Coding) (d : Design) (kept : List InvClause) (depth : ℕ) (proofs : List InvProof) (clause : InvClause)

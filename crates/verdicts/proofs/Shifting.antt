@@ -29,6 +29,7 @@ violated_along d claim a b live other s u low along v =
             is_live = omega (arith, low);
             stale_is = v.toggles.stale_is;
             differs = v.toggles.differs;
+            edge_is = v.toggles.edge_is;
           };
       r = v.r;
       judged = v.judged;

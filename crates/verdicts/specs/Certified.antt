@@ -9,9 +9,9 @@ use Rattle.net_model.specs.declared.invariants.InvClause.{InvClause}
 use Rattle.net_model.specs.declared.queries.Phase.TheVariants.{Base, Step}
 use Rattle.query_model.specs.declared.keys.Coding.{Coding}
 use Rattle.verdicts.specs.Logs.{RefutesQuery, RefuteEach}
-use Rattle.verdicts.specs.declared.kept.InvProof.{InvProof}
-use Rattle.verdicts.specs.declared.outcomes.Proof.{Proof}
-use Rattle.verdicts.specs.declared.outcomes.Proof.TheVariants.{Single, Fixed, Depth}
+use Rattle.verdict_types.specs.declared.kept.InvProof.{InvProof}
+use Rattle.verdict_types.specs.declared.outcomes.Proof.{Proof}
+use Rattle.verdict_types.specs.declared.outcomes.Proof.TheVariants.{Single, Fixed, Depth}
 
 -- the derivations refute the base queries of a kept clause below the depth, and its step query against all kept clauses
 pub record ProvesClause (coding : Coding) (d : Design) (kept : List InvClause) (depth : ℕ) (clause : InvClause) (proof : InvProof) : Type 0 where

@@ -8,8 +8,8 @@ use Rattle.net_model.specs.declared.queries.Phase.TheVariants.{Base, Step}
 use Rattle.verdicts.specs.Inductive.{IsWithin, IsGreatest, StandOnce, AreAlwaysMet}
 use Rattle.verdicts.specs.Logs.{own_coding, IsSpentOn}
 use Rattle.verdicts.specs.Certified.{ProveKept}
-use Rattle.verdicts.specs.declared.kept.InvSpent.{InvSpent}
-use Rattle.verdicts.specs.declared.kept.InvSet.{InvSet}
+use Rattle.verdict_types.specs.declared.kept.InvSpent.{InvSpent}
+use Rattle.verdict_types.specs.declared.kept.InvSet.{InvSet}
 
 -- what an entry's query is asked against: in the base phase nothing but the clause, at an offset below the depth; in the step
 -- phase candidates, all kept clauses among them, at the depth

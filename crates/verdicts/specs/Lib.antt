@@ -4,4 +4,3 @@ pub mod Logs
 pub mod Verdicts
 pub mod Certified
 pub mod Kept
-pub mod Forms

@@ -16,13 +16,13 @@ use Rattle.net_model.specs.declared.queries.Phase.TheVariants.{Base, Step}
 use Rattle.proof_log.specs.declared.derivations.Derivation.{Derivation}
 use Rattle.verdicts.specs.Offsets.{HoldsAtOffset, IsOpenBelow}
 use Rattle.verdicts.specs.Logs.{own_coding, RefutesQuery, RefuteEach, IsSpentOn}
-use Rattle.verdicts.specs.declared.outcomes.Limits.{Limits}
-use Rattle.verdicts.specs.declared.outcomes.Proof.{Proof}
-use Rattle.verdicts.specs.declared.outcomes.Proof.TheVariants.{Single, Fixed, Depth}
-use Rattle.verdicts.specs.declared.outcomes.Cause.{Cause}
-use Rattle.verdicts.specs.declared.outcomes.Cause.TheVariants.{Depth as Stays, Budget}
-use Rattle.verdicts.specs.declared.outcomes.Verdict.{Verdict}
-use Rattle.verdicts.specs.declared.outcomes.Verdict.TheVariants.{Justified, Refuted, Undecided}
+use Rattle.verdict_types.specs.declared.outcomes.Limits.{Limits}
+use Rattle.verdict_types.specs.declared.outcomes.Proof.{Proof}
+use Rattle.verdict_types.specs.declared.outcomes.Proof.TheVariants.{Single, Fixed, Depth}
+use Rattle.verdict_types.specs.declared.outcomes.Cause.{Cause}
+use Rattle.verdict_types.specs.declared.outcomes.Cause.TheVariants.{Depth as Stays, Budget}
+use Rattle.verdict_types.specs.declared.outcomes.Verdict.{Verdict}
+use Rattle.verdict_types.specs.declared.outcomes.Verdict.TheVariants.{Justified, Refuted, Undecided}
 
 -- a claim about which queries are asked: it judges a capture, and its start is neither a fixed nor a reset input
 pub record IsJudged (d : Design) (claim : Claim) : Type 0 where

@@ -12,10 +12,9 @@ ghost use Rattle.verdicts.specs.Inductive.{AreAlwaysMet, IsInductive};
 ghost use Rattle.verdicts.specs.Verdicts.{IsRightProof};
 ghost use Rattle.verdicts.specs.Certified.{ProveKept, ProvesPair};
 
-use crate::kept::InvProof;
-use crate::outcomes::{Limits, Proof};
 use net_model::{Claim, Design, InvClause};
 use query_model::Coding;
+use verdict_types::{InvProof, Limits, Proof};
 
 /// Where the base query of a depth has no answer, no run of any length is violated at its offset: a shorter run that is
 /// violated there goes on to the query's length.

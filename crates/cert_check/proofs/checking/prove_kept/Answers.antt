@@ -4,7 +4,7 @@ use Rattle.net_model.proofs.Existence.{item_at}
 use Rattle.net_model.specs.declared.invariants.InvClause.{InvClause}
 use Rattle.verdicts.specs.Logs.{own_coding}
 use Rattle.verdicts.specs.Certified.{ProvesClause}
-use Rattle.verdicts.specs.declared.kept.InvProof.{InvProof}
+use Rattle.verdict_types.specs.declared.kept.InvProof.{InvProof}
 use Rattle.cert_defs.specs.Refused.{IsCause}
 use Rattle.cert_check.proofs.Below.{each_more}
 use Rattle.cert_check.proofs.Causes.{clause_cause, fault_at, proved_at, kept_proved}

@@ -3,7 +3,7 @@ use Rattle.std.specs.Prelude.{slice_get}
 use Rattle.net_model.specs.declared.invariants.InvClause.{InvClause}
 use Rattle.verdicts.specs.Logs.{own_coding}
 use Rattle.verdicts.specs.Certified.{ProvesClause}
-use Rattle.verdicts.specs.declared.kept.InvProof.{InvProof}
+use Rattle.verdict_types.specs.declared.kept.InvProof.{InvProof}
 use Rattle.cert_check.proofs.Below.{EachBelow}
 use Rattle.cert_check.proofs.checking.prove_kept.Given as goal
 

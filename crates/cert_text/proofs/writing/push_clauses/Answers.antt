@@ -1,6 +1,6 @@
 use Rattle.std.proofs.Common.{sym, subst, arith}
 use Rattle.net_model.specs.declared.invariants.InvClause.{InvClause}
-use Rattle.verdicts.specs.Forms.{IsKeptClause}
+use Rattle.verdict_types.specs.Forms.{IsKeptClause}
 use Rattle.cert_text.proofs.FoundLemmas.{clause_kept}
 use Rattle.cert_text.proofs.writing.push_clauses.Goals as goal
 

@@ -2,7 +2,7 @@ use Rattle.std.proofs.Common.{◌++◌, ◌∙◌, ap, subst, List, arith}
 use Rattle.std.specs.List.{All}
 use Rattle.std.proofs.lemmas.List.Elements.{All-more}
 use Rattle.proof_log.specs.declared.derivations.Derivation.{Derivation}
-use Rattle.verdicts.specs.declared.kept.InvProof.{InvProof}
+use Rattle.verdict_types.specs.declared.kept.InvProof.{InvProof}
 use Rattle.net_model.specs.declared.queries.Phase.TheVariants.{Base, Step}
 use Rattle.cert_parts.specs.Texts.{many_text}
 use Rattle.cert_parts.specs.Derivations.{derivation_text, IsWritable}

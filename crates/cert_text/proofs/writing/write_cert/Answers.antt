@@ -1,7 +1,7 @@
 use Rattle.std.proofs.Common.{◌++◌, ◌∙◌, ℕ, List, ap, subst}
 use Rattle.std.specs.List.{All}
 use Rattle.net_model.specs.declared.invariants.InvClause.{InvClause}
-use Rattle.verdicts.specs.declared.kept.InvProof.{InvProof}
+use Rattle.verdict_types.specs.declared.kept.InvProof.{InvProof}
 use Rattle.cert_lines.specs.declared.heads.InvHead.{InvHead}
 use Rattle.cert_lines.specs.Kinds.{text_of, first_words, inv_words, kept_words}
 use Rattle.cert_parts.specs.Texts.{many_text}

@@ -1,5 +1,5 @@
 use Rattle.std.proofs.lemmas.List.Elements.{All-nil, All-push}
-use Rattle.verdicts.specs.Forms.{IsVerdictInForm}
+use Rattle.verdict_types.specs.Forms.{IsVerdictInForm}
 use Rattle.cert_defs.proofs.Gathering.{right_none, right_more}
 use Rattle.found_tests.proofs.finding.verdicts_on.Goals as goal
 

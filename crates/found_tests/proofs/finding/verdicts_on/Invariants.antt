@@ -1,5 +1,5 @@
 use Rattle.std.proofs.Common.{All, take}
-use Rattle.verdicts.specs.Forms.{IsVerdictInForm}
+use Rattle.verdict_types.specs.Forms.{IsVerdictInForm}
 use Rattle.cert_defs.specs.Accepted.{AreRightVerdicts}
 use Rattle.found_tests.proofs.finding.verdicts_on.Given as goal
 

@@ -2,10 +2,10 @@ use Rattle.std.proofs.Common.{◌≡◌, ◌^◌, ◌<◌, List, All, length, ma
 use Rattle.net_model.specs.declared.invariants.InvClause.{InvClause}
 use Rattle.net_model.specs.Fits.{NamesRegs}
 use Rattle.verdicts.specs.Kept.{IsKeptSet}
-use Rattle.verdicts.specs.Forms.{IsSetInForm}
-use Rattle.verdicts.specs.declared.kept.InvProof.{InvProof}
-use Rattle.verdicts.specs.declared.kept.InvSet.{InvSet}
-use Rattle.verdicts.specs.declared.kept.InvSpent.{InvSpent}
+use Rattle.verdict_types.specs.Forms.{IsSetInForm}
+use Rattle.verdict_types.specs.declared.kept.InvProof.{InvProof}
+use Rattle.verdict_types.specs.declared.kept.InvSet.{InvSet}
+use Rattle.verdict_types.specs.declared.kept.InvSpent.{InvSpent}
 use Rattle.induction.specs.Members.{clause_of}
 use Rattle.induction.specs.Pools.{IsSearch, AreBased}
 use Rattle.induction.specs.Steps.{AreStepsRefuted}

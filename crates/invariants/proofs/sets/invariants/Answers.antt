@@ -6,7 +6,7 @@ use Rattle.drawn_runs.specs.Drawn.{HoldsDrawn, FailsDrawn}
 use Rattle.verdicts.specs.Kept.{IsKeptSet}
 use Rattle.verdicts.specs.Logs.{own_coding}
 use Rattle.verdicts.specs.Certified.{ProveKept}
-use Rattle.verdicts.specs.Forms.{IsKeptClause}
+use Rattle.verdict_types.specs.Forms.{IsKeptClause}
 use Rattle.invariants.proofs.Surviving.{All-sifted, StandOnce-sifted, kept_all, entries_hold}
 use Rattle.invariants.proofs.sets.invariants.Goals as goal
 

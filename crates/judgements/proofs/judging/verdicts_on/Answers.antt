@@ -1,5 +1,5 @@
 use Rattle.std.proofs.Common.{◌+◌, List, sym, subst}
-use Rattle.verdicts.specs.declared.outcomes.Verdict.{Verdict}
+use Rattle.verdict_types.specs.declared.outcomes.Verdict.{Verdict}
 use Rattle.judgements.specs.Judgements.{IsFound, AreFoundFirst}
 use Rattle.judgements.proofs.Verdicts.{found_none, found_more}
 use Rattle.judgements.proofs.judging.verdicts_on.Goals as goal

@@ -1,6 +1,6 @@
 use Rattle.std.proofs.Common.{◌+◌, arith}
 use Rattle.std.proofs.lemmas.Option.{slice_get_within}
-use Rattle.verdicts.specs.declared.outcomes.Verdict.TheVariants.{Refuted}
+use Rattle.verdict_types.specs.declared.outcomes.Verdict.TheVariants.{Refuted}
 use Rattle.witness_replay.proofs.WrittenLemmas.{written_first}
 use Rattle.report_text.specs.Reports.{report_bytes}
 use Rattle.report_text.proofs.ReadBack.{read_back, stimulus_written}

@@ -6,12 +6,12 @@ use Rattle.proof_log.specs.Literals.{InVars}
 use Rattle.proof_log.specs.Clauses.{IsNormal}
 use Rattle.proof_log.specs.declared.derivations.DerivStep.{DerivStep}
 use Rattle.proof_log.specs.declared.derivations.Derivation.{Derivation}
-use Rattle.verdicts.specs.declared.kept.InvProof.{InvProof}
-use Rattle.verdicts.specs.declared.kept.InvSet.{InvSet}
-use Rattle.verdicts.specs.declared.outcomes.Proof.{Proof}
-use Rattle.verdicts.specs.declared.outcomes.Proof.TheVariants.{Single, Fixed, Depth}
-use Rattle.verdicts.specs.declared.outcomes.Verdict.{Verdict}
-use Rattle.verdicts.specs.declared.outcomes.Verdict.TheVariants.{Justified, Refuted, Undecided}
+use Rattle.verdict_types.specs.declared.kept.InvProof.{InvProof}
+use Rattle.verdict_types.specs.declared.kept.InvSet.{InvSet}
+use Rattle.verdict_types.specs.declared.outcomes.Proof.{Proof}
+use Rattle.verdict_types.specs.declared.outcomes.Proof.TheVariants.{Single, Fixed, Depth}
+use Rattle.verdict_types.specs.declared.outcomes.Verdict.{Verdict}
+use Rattle.verdict_types.specs.declared.outcomes.Verdict.TheVariants.{Justified, Refuted, Undecided}
 
 -- the clause of a step is in normal form, over variables from 1 and below 2^31, and its hints count from 1
 pub record IsStepInForm (step : DerivStep) : Type 0 where
