@@ -134,6 +134,7 @@ size_is c tree order h d what.Pins number is perm made above = absurd above
 size_is c tree order h d what.Through number is perm made above = absurd above
 size_is c tree order h d what.Pairs number is perm made above = absurd above
 size_is c tree order h d what.Judged number is perm made above = absurd above
+size_is c tree order h d what.Hierarchy number is perm made above = absurd above
 
 pub size_cause : (c : Circuit) (tree : List Bool) (order : List Gate) (h : Held) (d : Design) (e : CircuitFault) → IsTree c tree
     → IsPermutation (equations tree c) order → IsNetlist c (drivers_by c order) order h d

@@ -1,6 +1,6 @@
 -- What texts stand for, and how they are refused.
 use Rattle.std.specs.Prelude.{◌≡◌, ℕ, List}
-use Rattle.verilog_net.specs.declared.sources.Source.{Source}
+use Rattle.netlist_types.specs.declared.sources.Source.{Source}
 use Rattle.verilog_net.specs.Sources.{source_of}
 use Rattle.cell_types.specs.declared.libraries.Library.{Library}
 use Rattle.cell_lib.specs.Texts.{Reads as ReadsLibrary}

@@ -1,6 +1,6 @@
 //! The stages from texts that were read to the pairs of their design.
 ghost use Rattle.std.specs.Prelude.{◌≡◌, ◌≤◌, IfOk};
-ghost use Rattle.verilog_net.specs.Lawful.{IsLawful};
+ghost use Rattle.netlist_types.specs.Lawful.{IsLawful};
 ghost use Rattle.cell_types.specs.Libraries.{IsLawful as IsLawfulLibrary};
 ghost use Rattle.exception_expand.specs.Selections.{HasMultipliers};
 ghost use Rattle.link_defs.specs.Usable.{IsUsable};
@@ -14,11 +14,11 @@ use cell_types::Library;
 use exception_expand::{Selected, expand};
 use fault_lines::{expand_line, link_line};
 use net_link::{LinkOptions, Linked, PortName, link, top_inputs};
+use netlist_types::Source;
 use sdc_settings::{Settings, settings};
 use sdc_text::Script;
 use sdcv_base::{Seq, Setting};
 use std::alloc::Global;
-use verilog_net::Source;
 
 /// Links the netlist with its cells, as the constraints and the reset set its inputs, and selects the pairs that the constraints
 /// make exceptions of. With `hazard` their claims allow no glitch either.

@@ -2,9 +2,9 @@
 use cell_types::Library;
 use exception_expand::Selected;
 use net_link::Linked;
+use netlist_types::Source;
 use sdc_text::Script;
 use sdcv_base::{Seq, Setting};
-use verilog_net::Source;
 
 /// Texts that were read: a netlist, its cells and its constraints.
 #[derive(Drop)]

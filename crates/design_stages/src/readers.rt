@@ -1,6 +1,6 @@
 //! The stages that read a text.
 ghost use Rattle.std.specs.Prelude.{IfOk};
-ghost use Rattle.verilog_net.specs.Lawful.{IsLawful};
+ghost use Rattle.netlist_types.specs.Lawful.{IsLawful};
 ghost use Rattle.cell_types.specs.Libraries.{IsLawful as IsLawfulLibrary};
 ghost use Rattle.exception_expand.specs.Selections.{HasMultipliers};
 ghost use Rattle.design_stages.specs.Stages.{Finds};
@@ -10,9 +10,10 @@ use crate::refusals::Refusal;
 use cell_lib::read_lib;
 use cell_types::Library;
 use fault_lines::{liberty_line, sdc_line, verilog_line};
+use netlist_types::Source;
 use sdc_text::{Script, read_sdc};
 use std::alloc::Global;
-use verilog_net::{Source, read_verilog};
+use verilog_net::read_verilog;
 
 /// What a netlist's text stands for.
 pub fn netlist(alloc: Global, text: &[u8]) -> Result<Source, Refusal>

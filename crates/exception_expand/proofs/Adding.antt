@@ -99,6 +99,7 @@ choice_cause l script hazard k c e old here claiming before (Limit limit.Outputs
 choice_cause l script hazard k c e old here claiming before (Limit limit.Instances number) cause = absurd cause
 choice_cause l script hazard k c e old here claiming before (Limit limit.Pins number) cause = absurd cause
 choice_cause l script hazard k c e old here claiming before (Limit limit.Judged number) cause = absurd cause
+choice_cause l script hazard k c e old here claiming before (Limit limit.Hierarchy number) cause = absurd cause
 choice_cause l script hazard k c e old here claiming before Memory cause = tt
 choice_cause l script hazard k c e old here claiming before (TwoClocks first second) cause = absurd cause
 choice_cause l script hazard k c e old here claiming before (ClockNotPort line) cause = absurd cause

@@ -13,7 +13,7 @@ use Rattle.link_defs.specs.Flatten.{Flat}
 use Rattle.link_defs.specs.Links.{source_count}
 use Rattle.link_defs.specs.Parts.{parts_of}
 use Rattle.cell_types.specs.declared.libraries.Library.{Library}
-use Rattle.verilog_net.specs.declared.sources.Source.{Source}
+use Rattle.netlist_types.specs.declared.sources.Source.{Source}
 use Rattle.circuit_link.specs.declared.designs.Held.{Held}
 use Rattle.circuit_link.specs.declared.designs.CircuitDesign.{CircuitDesign}
 use Rattle.circuit_link.specs.Lawful.{IsLawfulCircuit}

@@ -1,6 +1,6 @@
 //! The cells of a design by name.
 ghost use Rattle.std.specs.Prelude.{◌≡◌, ◌+◌, ◌<◌, ◌^◌, ◌++◌, [], ℕ, List, Option, All, length, map, flat_map, IfOk, OnOk};
-ghost use Rattle.verilog_net.specs.declared.sources.Source.{Source as SourceRecord};
+ghost use Rattle.netlist_types.specs.declared.sources.Source.{Source as SourceRecord};
 ghost use Rattle.link_defs.specs.declared.names.CellName.{CellName as CellNameRecord};
 ghost use Rattle.link_defs.specs.CellNames.{Leaf, leaves as leaves_of_flat, cell_names as spec_names, cell_name as spec_name, reg_of as spec_reg};
 ghost use Rattle.link_defs.specs.Circuits.{part_regs};

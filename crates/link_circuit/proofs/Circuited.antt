@@ -3,10 +3,10 @@ use Rattle.std.proofs.Common.{ℕ, ◌<◌, not, List, get_or, All, arith, ◌�
 use Rattle.std.specs.Prelude.{Option, filter, flat_map}
 use Rattle.std.proofs.lemmas.List.Elements.{All-filter, All-map}
 use Rattle.net_model.specs.Netlist.{AllBelow}
-use Rattle.verilog_net.specs.declared.sources.Source.{Source}
-use Rattle.verilog_net.specs.declared.sources.Module.{Module}
-use Rattle.verilog_net.specs.declared.sources.Port.{Port}
-use Rattle.verilog_net.specs.Lawful.{IsLawful, IsLawfulModule}
+use Rattle.netlist_types.specs.declared.sources.Source.{Source}
+use Rattle.netlist_types.specs.declared.sources.Module.{Module}
+use Rattle.netlist_types.specs.declared.sources.Port.{Port}
+use Rattle.netlist_types.specs.Lawful.{IsLawful, IsLawfulModule}
 use Rattle.cell_types.specs.declared.libraries.Library.{Library}
 use Rattle.cell_types.specs.Libraries.{IsLawful as IsLawfulLibrary}
 use Rattle.link_defs.specs.declared.circuits.Circuit.{Circuit}

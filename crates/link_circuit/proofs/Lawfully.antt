@@ -6,12 +6,12 @@ use Rattle.std.proofs.lemmas.List.Elements.{All-cons, All-head, All-tail, All-ap
 use Rattle.net_model.specs.Form.{Form, ZeroForm, OneForm, PinForm, NotForm, AndForm, OrForm, XorForm, IsOver}
 use Rattle.net_model.specs.Netlist.{AllBelow, IsOptionOver}
 use Rattle.net_model.specs.declared.netlist.RegOut.{RegOut}
-use Rattle.verilog_net.specs.declared.sources.Conn.{Conn}
-use Rattle.verilog_net.specs.declared.sources.Wire.{Wire}
-use Rattle.verilog_net.specs.declared.sources.Wire.TheVariants as wire
-use Rattle.verilog_net.specs.Lawful.{IsWireBelow, AreWiresBelow, HasWidths}
-use Rattle.verilog_words.specs.declared.gates.PrimKind.{PrimKind}
-use Rattle.verilog_words.specs.declared.gates.PrimKind.TheVariants as prim
+use Rattle.netlist_types.specs.declared.sources.Conn.{Conn}
+use Rattle.netlist_types.specs.declared.sources.Wire.{Wire}
+use Rattle.netlist_types.specs.declared.sources.Wire.TheVariants as wire
+use Rattle.netlist_types.specs.Lawful.{IsWireBelow, AreWiresBelow, HasWidths}
+use Rattle.netlist_types.specs.declared.gates.PrimKind.{PrimKind}
+use Rattle.netlist_types.specs.declared.gates.PrimKind.TheVariants as prim
 use Rattle.cell_types.specs.declared.libraries.CombOut.{CombOut}
 use Rattle.cell_types.specs.declared.libraries.FlopOut.{FlopOut}
 use Rattle.link_defs.specs.Hierarchy.{wires_of}

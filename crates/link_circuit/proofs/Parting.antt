@@ -10,16 +10,16 @@ use Rattle.sdcv_base.specs.declared.limits.LimitName.TheVariants as what
 use Rattle.net_model.specs.Form.{IsOver}
 use Rattle.net_model.specs.Netlist.{AllBelow}
 use Rattle.net_model.specs.declared.netlist.Gate.{Gate}
-use Rattle.verilog_net.specs.declared.sources.Source.{Source}
-use Rattle.verilog_net.specs.declared.sources.Module.{Module}
-use Rattle.verilog_net.specs.declared.sources.Port.{Port}
-use Rattle.verilog_net.specs.declared.sources.Conn.{Conn}
-use Rattle.verilog_net.specs.declared.sources.Wire.{Wire}
-use Rattle.verilog_net.specs.declared.sources.Item.{Item}
-use Rattle.verilog_net.specs.declared.sources.Item.TheVariants as item
-use Rattle.verilog_net.specs.Lawful.{module_of, IsLawful, IsLawfulItem, IsLawfulModule, IsBelow, IsWireBelow, AreWiresBelow, HasWidths, HasTerminals}
-use Rattle.verilog_words.specs.declared.gates.PrimKind.{PrimKind}
-use Rattle.verilog_words.specs.declared.gates.PrimKind.TheVariants as prim
+use Rattle.netlist_types.specs.declared.sources.Source.{Source}
+use Rattle.netlist_types.specs.declared.sources.Module.{Module}
+use Rattle.netlist_types.specs.declared.sources.Port.{Port}
+use Rattle.netlist_types.specs.declared.sources.Conn.{Conn}
+use Rattle.netlist_types.specs.declared.sources.Wire.{Wire}
+use Rattle.netlist_types.specs.declared.sources.Item.{Item}
+use Rattle.netlist_types.specs.declared.sources.Item.TheVariants as item
+use Rattle.netlist_types.specs.Lawful.{module_of, IsLawful, IsLawfulItem, IsLawfulModule, IsBelow, IsWireBelow, AreWiresBelow, HasWidths, HasTerminals}
+use Rattle.netlist_types.specs.declared.gates.PrimKind.{PrimKind}
+use Rattle.netlist_types.specs.declared.gates.PrimKind.TheVariants as prim
 use Rattle.cell_types.specs.declared.libraries.Library.{Library}
 use Rattle.cell_types.specs.declared.libraries.Cell.{Cell}
 use Rattle.cell_types.specs.declared.libraries.CellKind.{CellKind}

@@ -3,15 +3,15 @@ use Rattle.std.proofs.Common.{◌≡◌, ℕ, zero, suc, ◌+◌, ◌<◌, ◌�
 use Rattle.std.specs.Prelude.{Option, slice_index, fold}
 use Rattle.std.proofs.lemmas.List.Elements.{All-cons, All-head, All-tail, All-push, All-set}
 use Rattle.net_model.specs.Netlist.{AllBelow}
-use Rattle.verilog_net.specs.declared.sources.Source.{Source}
-use Rattle.verilog_net.specs.declared.sources.Module.{Module}
-use Rattle.verilog_net.specs.declared.sources.Port.{Port}
-use Rattle.verilog_net.specs.declared.sources.Conn.{Conn}
-use Rattle.verilog_net.specs.declared.sources.Wire.{Wire}
-use Rattle.verilog_net.specs.declared.sources.Wire.TheVariants as wire
-use Rattle.verilog_net.specs.declared.sources.Item.{Item}
-use Rattle.verilog_net.specs.declared.sources.Item.TheVariants as item
-use Rattle.verilog_net.specs.Lawful.{module_of, IsLawful, IsLawfulItem, IsLawfulModule, IsWireBelow, AreWiresBelow}
+use Rattle.netlist_types.specs.declared.sources.Source.{Source}
+use Rattle.netlist_types.specs.declared.sources.Module.{Module}
+use Rattle.netlist_types.specs.declared.sources.Port.{Port}
+use Rattle.netlist_types.specs.declared.sources.Conn.{Conn}
+use Rattle.netlist_types.specs.declared.sources.Wire.{Wire}
+use Rattle.netlist_types.specs.declared.sources.Wire.TheVariants as wire
+use Rattle.netlist_types.specs.declared.sources.Item.{Item}
+use Rattle.netlist_types.specs.declared.sources.Item.TheVariants as item
+use Rattle.netlist_types.specs.Lawful.{module_of, IsLawful, IsLawfulItem, IsLawfulModule, IsWireBelow, AreWiresBelow}
 use Rattle.cell_types.specs.declared.libraries.Library.{Library}
 use Rattle.cell_types.specs.declared.libraries.Cell.{Cell}
 use Rattle.link_defs.specs.Hierarchy.{cell_of, wires_of}

@@ -1,7 +1,7 @@
 //! The law that joins flattening and the making of a design. It is the contract of a call that does nothing, for callers
 //! that cite it.
 ghost use Rattle.std.specs.Prelude.{ℕ, List, Option};
-ghost use Rattle.verilog_net.specs.Lawful.{IsLawful, IsLawfulModule};
+ghost use Rattle.netlist_types.specs.Lawful.{IsLawful, IsLawfulModule};
 ghost use Rattle.cell_types.specs.Libraries.{IsLawful as IsLawfulLibrary};
 ghost use Rattle.circuit_link.specs.Lawful.{IsLawfulCircuit};
 ghost use Rattle.link_defs.specs.Circuits.{circuit_of};
@@ -9,7 +9,7 @@ ghost use Rattle.link_defs.specs.Flatten.{flat_of};
 ghost use Rattle.link_flat.specs.Flats.{AreFine};
 
 use cell_types::Library;
-use verilog_net::{Module, Source};
+use netlist_types::{Module, Source};
 
 /// The circuit below a module is one that a design can be made of, where the source and the library are lawful and no item
 /// of the flat netlist is refused.

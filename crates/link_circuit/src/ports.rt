@@ -1,14 +1,13 @@
 //! The nets of the top module's ports.
 ghost use Rattle.std.specs.Prelude.{◌≡◌, ◌<◌, ◌++◌, All, length, IfOk, OnOk};
 ghost use Rattle.net_model.specs.Netlist.{AllBelow};
-ghost use Rattle.verilog_net.specs.declared.sources.Port.{Port as PortRecord};
+ghost use Rattle.netlist_types.specs.declared.sources.Port.{Port as PortRecord};
 ghost use Rattle.link_defs.specs.Circuits.{bit_nets, clock_bits, data_bits, output_bits};
 ghost use Rattle.link_circuit.specs.Ports.{is_clock_net, HasNet, HasPort, HasInputs};
 
+use netlist_types::{Dir, Module, Port};
 use sdcv_base::{Name, Seq};
 use std::alloc::{AllocError, Global};
-use verilog_net::{Module, Port};
-use verilog_syntax::Dir;
 
 /// The net of the clock's bit, if it has one, and the nets of the other bits of input ports and of output ports.
 #[derive(Drop)]

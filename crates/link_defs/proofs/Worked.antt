@@ -2,15 +2,15 @@
 -- tied clock pin, as the definitions link them.
 use Rattle.std.proofs.Common.{◌≡◌, ℕ, Bool, true, false, List, [], ◌∷◌, Some, None, refl}
 use Rattle.std.specs.Prelude.{codes}
-use Rattle.verilog_net.specs.declared.sources.Source.{Source}
-use Rattle.verilog_net.specs.declared.sources.Module.{Module}
-use Rattle.verilog_net.specs.declared.sources.Port.{Port}
-use Rattle.verilog_net.specs.declared.sources.Item.TheVariants as item
-use Rattle.verilog_words.specs.declared.gates.PrimKind.TheVariants as prim
-use Rattle.verilog_net.specs.declared.sources.Conn.{Conn}
-use Rattle.verilog_net.specs.declared.sources.Wire.TheVariants as wire
-use Rattle.verilog_syntax.specs.declared.declarations.Dir.{Dir}
-use Rattle.verilog_syntax.specs.declared.declarations.Dir.TheVariants as dir
+use Rattle.netlist_types.specs.declared.sources.Source.{Source}
+use Rattle.netlist_types.specs.declared.sources.Module.{Module}
+use Rattle.netlist_types.specs.declared.sources.Port.{Port}
+use Rattle.netlist_types.specs.declared.sources.Item.TheVariants as item
+use Rattle.netlist_types.specs.declared.gates.PrimKind.TheVariants as prim
+use Rattle.netlist_types.specs.declared.sources.Conn.{Conn}
+use Rattle.netlist_types.specs.declared.sources.Wire.TheVariants as wire
+use Rattle.netlist_types.specs.declared.sources.Dir.{Dir}
+use Rattle.netlist_types.specs.declared.sources.Dir.TheVariants as dir
 use Rattle.cell_types.specs.declared.libraries.Library.{Library}
 use Rattle.cell_types.specs.declared.libraries.Cell.{Cell}
 use Rattle.cell_types.specs.declared.libraries.CellKind.TheVariants as kind
@@ -23,7 +23,7 @@ use Rattle.link_defs.specs.declared.circuits.Circuit.{Circuit}
 use Rattle.link_defs.specs.declared.names.PinName.{PinName}
 use Rattle.link_defs.specs.declared.names.PinRole.TheVariants as role
 use Rattle.link_defs.specs.Hierarchy.{cell_of, wires_of, module_needs, tops}
-use Rattle.verilog_net.specs.Lawful.{module_of}
+use Rattle.netlist_types.specs.Lawful.{module_of}
 use Rattle.link_defs.specs.Flatten.{flat_of, full_names, add_scope, add_item, inst_nets, inner_nets, join_bits}
 use Rattle.link_defs.specs.Parts.{inst_parts}
 use Rattle.link_defs.specs.Circuits.{circuit_of}

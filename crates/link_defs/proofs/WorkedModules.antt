@@ -2,10 +2,10 @@
 -- the top, as the definitions see them.
 use Rattle.std.proofs.Common.{◌≡◌, ℕ, true, false, arith, List, [], ◌∷◌, map, Some, None, refl}
 use Rattle.std.specs.Prelude.{codes}
-use Rattle.verilog_net.specs.declared.sources.Source.{Source}
-use Rattle.verilog_net.specs.declared.sources.Module.{Module}
-use Rattle.verilog_net.specs.declared.sources.Item.TheVariants as item
-use Rattle.verilog_syntax.specs.declared.declarations.Dir.TheVariants as dir
+use Rattle.netlist_types.specs.declared.sources.Source.{Source}
+use Rattle.netlist_types.specs.declared.sources.Module.{Module}
+use Rattle.netlist_types.specs.declared.sources.Item.TheVariants as item
+use Rattle.netlist_types.specs.declared.sources.Dir.TheVariants as dir
 use Rattle.cell_types.specs.declared.libraries.Library.{Library}
 use Rattle.net_model.specs.Form.{PinForm}
 use Rattle.net_model.specs.declared.netlist.Gate.{Gate}
@@ -16,7 +16,7 @@ use Rattle.link_defs.specs.declared.options.LinkOptions.{LinkOptions}
 use Rattle.link_defs.specs.declared.names.PortName.{PortName}
 use Rattle.graph_order.specs.Needs.{Stay}
 use Rattle.link_defs.specs.Hierarchy.{cell_of, wires_of, tops}
-use Rattle.verilog_net.specs.Lawful.{module_of}
+use Rattle.netlist_types.specs.Lawful.{module_of}
 use Rattle.link_defs.specs.Flatten.{flat_of, full_names, add_scope, add_item, inst_nets, inner_nets, join_bits}
 use Rattle.link_defs.specs.Parts.{inst_parts}
 use Rattle.link_defs.specs.Circuits.{circuit_of, input_bits}

@@ -1,17 +1,17 @@
 -- Four netlists that are refused, each with its cause as the definitions say it.
 use Rattle.std.proofs.Common.{◌≡◌, ℕ, ◌==◌, false, arith, List, [], ◌∷◌, None, refl}
 use Rattle.std.specs.Prelude.{codes, count_by}
-use Rattle.verilog_net.specs.declared.sources.Source.{Source}
-use Rattle.verilog_net.specs.declared.sources.Module.{Module}
-use Rattle.verilog_net.specs.declared.sources.Item.{Item}
-use Rattle.verilog_net.specs.declared.sources.Item.TheVariants as item
-use Rattle.verilog_net.specs.declared.sources.Conn.{Conn}
-use Rattle.verilog_syntax.specs.declared.declarations.Dir.TheVariants as dir
+use Rattle.netlist_types.specs.declared.sources.Source.{Source}
+use Rattle.netlist_types.specs.declared.sources.Module.{Module}
+use Rattle.netlist_types.specs.declared.sources.Item.{Item}
+use Rattle.netlist_types.specs.declared.sources.Item.TheVariants as item
+use Rattle.netlist_types.specs.declared.sources.Conn.{Conn}
+use Rattle.netlist_types.specs.declared.sources.Dir.TheVariants as dir
 use Rattle.net_model.specs.Form.{NotForm, AndForm}
 use Rattle.net_model.specs.declared.netlist.Gate.{Gate}
 use Rattle.link_defs.specs.declared.faults.LinkFault.TheVariants as fault
 use Rattle.link_defs.specs.Hierarchy.{cell_of, wires_of}
-use Rattle.verilog_net.specs.Lawful.{module_of}
+use Rattle.netlist_types.specs.Lawful.{module_of}
 use Rattle.link_defs.specs.Flatten.{add_scope, add_item, inst_nets, inner_nets, join_bits, top_scope}
 use Rattle.link_defs.specs.Parts.{inst_parts}
 use Rattle.link_defs.specs.Circuits.{circuit_of, all_drivers, Stay, Go_on}

@@ -6,11 +6,11 @@ use Rattle.net_model.specs.Form.{xor}
 use Rattle.net_model.specs.Netlist.{reg_nets, gate_nets}
 use Rattle.net_model.specs.declared.netlist.Gate.{Gate}
 use Rattle.net_model.specs.declared.netlist.Reg.{Reg}
-use Rattle.verilog_net.specs.declared.sources.Source.{Source}
-use Rattle.verilog_net.specs.declared.sources.Module.{Module}
-use Rattle.verilog_net.specs.declared.sources.Port.{Port}
-use Rattle.verilog_syntax.specs.declared.declarations.Dir.{Dir}
-use Rattle.verilog_syntax.specs.declared.declarations.Dir.TheVariants as dir
+use Rattle.netlist_types.specs.declared.sources.Source.{Source}
+use Rattle.netlist_types.specs.declared.sources.Module.{Module}
+use Rattle.netlist_types.specs.declared.sources.Port.{Port}
+use Rattle.netlist_types.specs.declared.sources.Dir.{Dir}
+use Rattle.netlist_types.specs.declared.sources.Dir.TheVariants as dir
 use Rattle.cell_types.specs.declared.libraries.Library.{Library}
 use Rattle.link_defs.specs.declared.circuits.Part.{Part}
 use Rattle.link_defs.specs.declared.circuits.Part.TheVariants as part

@@ -3,19 +3,19 @@
 -- Nets of the flat netlist are numbers. An instance's nets are its own, but for the bits of its connected ports, which
 -- are the nets outside.
 use Rattle.std.specs.Prelude.{ℕ, zero, suc, ◌+◌, List, [], ◌∷◌, ◌++◌, length, map, fold, flat_map, zip, Option, Some, None, slice_index, slice_set}
-use Rattle.verilog_net.specs.declared.sources.Source.{Source}
-use Rattle.verilog_net.specs.declared.sources.Module.{Module}
-use Rattle.verilog_net.specs.declared.sources.Port.{Port}
-use Rattle.verilog_net.specs.declared.sources.Item.{Item}
-use Rattle.verilog_net.specs.declared.sources.Item.TheVariants as item
-use Rattle.verilog_net.specs.declared.sources.Conn.{Conn}
-use Rattle.verilog_net.specs.declared.sources.Wire.{Wire}
-use Rattle.verilog_net.specs.declared.sources.Wire.TheVariants as wire
+use Rattle.netlist_types.specs.declared.sources.Source.{Source}
+use Rattle.netlist_types.specs.declared.sources.Module.{Module}
+use Rattle.netlist_types.specs.declared.sources.Port.{Port}
+use Rattle.netlist_types.specs.declared.sources.Item.{Item}
+use Rattle.netlist_types.specs.declared.sources.Item.TheVariants as item
+use Rattle.netlist_types.specs.declared.sources.Conn.{Conn}
+use Rattle.netlist_types.specs.declared.sources.Wire.{Wire}
+use Rattle.netlist_types.specs.declared.sources.Wire.TheVariants as wire
 use Rattle.cell_types.specs.declared.libraries.Library.{Library}
 use Rattle.cell_types.specs.declared.libraries.Cell.{Cell}
 use Rattle.cell_types.specs.declared.libraries.CellKind.TheVariants as kind
 use Rattle.link_defs.specs.Hierarchy.{cell_of, wires_of}
-use Rattle.verilog_net.specs.Lawful.{module_of}
+use Rattle.netlist_types.specs.Lawful.{module_of}
 
 -- an instance of a module: what its names begin with, and the flat net of each of its nets
 pub record Scope : Type 0 where

@@ -4,8 +4,8 @@ use Rattle.std.specs.List.{AllZip}
 use Rattle.net_model.specs.Netlist.{IsSound, reg_nets}
 use Rattle.net_model.specs.declared.netlist.Fixed.{Fixed}
 use Rattle.net_model.specs.declared.netlist.Gate.{Gate}
-use Rattle.verilog_net.specs.declared.sources.Source.{Source}
-use Rattle.verilog_net.specs.declared.sources.Module.{Module}
+use Rattle.netlist_types.specs.declared.sources.Source.{Source}
+use Rattle.netlist_types.specs.declared.sources.Module.{Module}
 use Rattle.cell_types.specs.declared.libraries.Library.{Library}
 use Rattle.link_defs.specs.declared.circuits.Circuit.{Circuit}
 use Rattle.link_defs.specs.declared.names.Linked.{Linked}

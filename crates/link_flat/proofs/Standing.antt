@@ -5,9 +5,9 @@ use Rattle.std.specs.Prelude.{Contains, slice_get, flat_map}
 use Rattle.std.proofs.lemmas.List.{map-append, length-map}
 use Rattle.std.proofs.lemmas.List.Elements.{Contains-append_left, Contains-append_right, All-head, All-tail}
 use Rattle.std.proofs.lemmas.Option.{get_or_from_slice_get, slice_get-get_or, slice_get_within}
-use Rattle.verilog_net.specs.declared.sources.Source.{Source}
-use Rattle.verilog_net.specs.declared.sources.Module.{Module}
-use Rattle.verilog_net.specs.declared.sources.Item.{Item}
+use Rattle.netlist_types.specs.declared.sources.Source.{Source}
+use Rattle.netlist_types.specs.declared.sources.Module.{Module}
+use Rattle.netlist_types.specs.declared.sources.Item.{Item}
 use Rattle.graph_order.specs.Needs.{needs_of}
 use Rattle.graph_order.specs.Orders.{IsRightOrder}
 use Rattle.link_defs.specs.Hierarchy.{refs, place_of_module, module_needs}

@@ -1,7 +1,7 @@
 -- The beginning and the end of flattening.
 use Rattle.std.proofs.Common.{◌≡◌, ℕ, suc, ◌<◌, ◌≤◌, List, [], ◌∷◌, length, map, All, ap, subst, sym, ◌∙◌, arith}
 use Rattle.std.proofs.lemmas.List.Elements.{All-cons}
-use Rattle.verilog_net.specs.declared.sources.Source.{Source}
+use Rattle.netlist_types.specs.declared.sources.Source.{Source}
 use Rattle.cell_types.specs.declared.libraries.Library.{Library}
 use Rattle.link_defs.specs.Flatten.{Flat, add_scope, flat_of, numbers, top_scope, with_scope}
 use Rattle.link_items.specs.declared.made.Instance.{Instance}

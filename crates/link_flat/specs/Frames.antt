@@ -1,6 +1,6 @@
 -- The stack of the code as what is left of flattening.
 use Rattle.std.specs.Prelude.{ℕ, suc, ◌<◌, ◌≤◌, ◌-◌, List, [], ◌∷◌, length, map, drop, Contains, slice_index_or}
-use Rattle.verilog_net.specs.declared.sources.Source.{Source}
+use Rattle.netlist_types.specs.declared.sources.Source.{Source}
 use Rattle.graph_order.specs.Needs.{needs_of}
 use Rattle.link_defs.specs.Flatten.{Scope}
 use Rattle.link_defs.specs.Hierarchy.{module_needs}

@@ -1,8 +1,8 @@
 -- What one step does.
 use Rattle.std.specs.Prelude.{◌≡◌, ℕ, ◌+◌, ◌≤◌, true, cond, List, [], ◌∷◌, ◌++◌, length, Option, Some, None}
 use Rattle.sdcv_base.specs.declared.limits.LimitName.TheVariants as what
-use Rattle.verilog_net.specs.declared.sources.Source.{Source}
-use Rattle.verilog_net.specs.declared.sources.Item.{Item}
+use Rattle.netlist_types.specs.declared.sources.Source.{Source}
+use Rattle.netlist_types.specs.declared.sources.Item.{Item}
 use Rattle.cell_types.specs.declared.libraries.Library.{Library}
 use Rattle.link_defs.specs.declared.faults.LinkFault.{LinkFault}
 use Rattle.link_defs.specs.declared.faults.LinkFault.TheVariants as fault

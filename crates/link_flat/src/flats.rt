@@ -1,6 +1,6 @@
 //! The flat netlist of a source.
 ghost use Rattle.std.specs.Prelude.{◌≡◌, ◌<◌, length, IfOk, IfErr, OnOk};
-ghost use Rattle.verilog_net.specs.Lawful.{IsLawful};
+ghost use Rattle.netlist_types.specs.Lawful.{IsLawful};
 ghost use Rattle.cell_types.specs.Libraries.{IsLawful as IsLawfulLibrary};
 ghost use Rattle.link_defs.specs.Flatten.{flat_of, numbers as spec_numbers};
 ghost use Rattle.link_items.specs.Items.{module_at};

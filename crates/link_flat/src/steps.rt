@@ -2,7 +2,7 @@
 ghost use Rattle.std.specs.Prelude.{◌≡◌, ◌<◌, ◌≤◌, ◌+◌, length, cond, true, slice_get, IfSome, IfOk, IfErr, OnOk};
 ghost use Rattle.std.specs.Option.{option_copied};
 ghost use Rattle.sdcv_base.specs.declared.limits.LimitName.TheVariants as what;
-ghost use Rattle.verilog_net.specs.Lawful.{IsLawful, IsLawfulItem};
+ghost use Rattle.netlist_types.specs.Lawful.{IsLawful, IsLawfulItem};
 ghost use Rattle.cell_types.specs.Libraries.{IsLawful as IsLawfulLibrary};
 ghost use Rattle.link_defs.specs.declared.faults.LinkFault.TheVariants as fault;
 ghost use Rattle.link_defs.specs.Faults.{is_instance as counts};
@@ -18,9 +18,9 @@ use crate::frames::Frame;
 use graph_order::Stack;
 use link_defs::LinkFault;
 use link_items::{Instance, Netlist, add_item};
+use netlist_types::Item;
 use sdcv_base::LimitName;
 use std::alloc::{AllocError, Global};
-use verilog_net::Item;
 
 /// How many modules, cells and primitives may stand in a flat netlist.
 const MOST_INSTANCES: usize = 1_000_000;

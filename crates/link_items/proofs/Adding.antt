@@ -3,15 +3,15 @@ use Rattle.std.proofs.Common.{◌≡◌, ◌≢◌, ℕ, ◌+◌, ◌-◌, ◌<�
 use Rattle.std.proofs.Common.{arith, append_assoc, length-append}
 use Rattle.std.specs.Prelude.{Option, slice_get, flat_map, Contains}
 use Rattle.std.proofs.lemmas.Option.{slice_get_within, get_or_from_slice_get}
-use Rattle.verilog_net.specs.declared.sources.Source.{Source}
-use Rattle.verilog_net.specs.declared.sources.Module.{Module}
-use Rattle.verilog_net.specs.declared.sources.Port.{Port}
-use Rattle.verilog_net.specs.declared.sources.Item.{Item}
-use Rattle.verilog_net.specs.declared.sources.Item.TheVariants as item
-use Rattle.verilog_net.specs.declared.sources.Conn.{Conn}
-use Rattle.verilog_net.specs.declared.sources.Wire.{Wire}
-use Rattle.verilog_words.specs.declared.gates.PrimKind.{PrimKind}
-use Rattle.verilog_net.specs.Lawful.{module_of, IsLawfulItem, AreWiresBelow, HasWidths}
+use Rattle.netlist_types.specs.declared.sources.Source.{Source}
+use Rattle.netlist_types.specs.declared.sources.Module.{Module}
+use Rattle.netlist_types.specs.declared.sources.Port.{Port}
+use Rattle.netlist_types.specs.declared.sources.Item.{Item}
+use Rattle.netlist_types.specs.declared.sources.Item.TheVariants as item
+use Rattle.netlist_types.specs.declared.sources.Conn.{Conn}
+use Rattle.netlist_types.specs.declared.sources.Wire.{Wire}
+use Rattle.netlist_types.specs.declared.gates.PrimKind.{PrimKind}
+use Rattle.netlist_types.specs.Lawful.{module_of, IsLawfulItem, AreWiresBelow, HasWidths}
 use Rattle.cell_types.specs.declared.libraries.Library.{Library}
 use Rattle.cell_types.specs.declared.libraries.Cell.{Cell}
 use Rattle.cell_types.specs.declared.libraries.CellKind.{CellKind}

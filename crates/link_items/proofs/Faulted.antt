@@ -4,17 +4,17 @@ use Rattle.std.specs.Prelude.{Option, Contains, slice_get}
 use Rattle.std.proofs.lemmas.List.Elements.{All-contains, All-append}
 use Rattle.sdcv_base.specs.declared.limits.LimitName.{LimitName}
 use Rattle.sdcv_base.specs.declared.limits.LimitName.TheVariants as what
-use Rattle.verilog_net.specs.declared.sources.Source.{Source}
-use Rattle.verilog_net.specs.declared.sources.Module.{Module}
-use Rattle.verilog_net.specs.declared.sources.Port.{Port}
-use Rattle.verilog_net.specs.declared.sources.Item.{Item}
-use Rattle.verilog_net.specs.declared.sources.Item.TheVariants as item
-use Rattle.verilog_net.specs.declared.sources.Conn.{Conn}
-use Rattle.verilog_net.specs.declared.sources.Wire.{Wire}
-use Rattle.verilog_words.specs.declared.gates.PrimKind.{PrimKind}
-use Rattle.verilog_net.specs.Lawful.{module_of}
-use Rattle.verilog_syntax.specs.declared.declarations.Dir.{Dir}
-use Rattle.verilog_syntax.specs.declared.declarations.Dir.TheVariants as dir
+use Rattle.netlist_types.specs.declared.sources.Source.{Source}
+use Rattle.netlist_types.specs.declared.sources.Module.{Module}
+use Rattle.netlist_types.specs.declared.sources.Port.{Port}
+use Rattle.netlist_types.specs.declared.sources.Item.{Item}
+use Rattle.netlist_types.specs.declared.sources.Item.TheVariants as item
+use Rattle.netlist_types.specs.declared.sources.Conn.{Conn}
+use Rattle.netlist_types.specs.declared.sources.Wire.{Wire}
+use Rattle.netlist_types.specs.declared.gates.PrimKind.{PrimKind}
+use Rattle.netlist_types.specs.Lawful.{module_of}
+use Rattle.netlist_types.specs.declared.sources.Dir.{Dir}
+use Rattle.netlist_types.specs.declared.sources.Dir.TheVariants as dir
 use Rattle.cell_types.specs.declared.libraries.Library.{Library}
 use Rattle.cell_types.specs.declared.libraries.Cell.{Cell}
 use Rattle.cell_types.specs.declared.libraries.CellKind.TheVariants as kind
@@ -82,6 +82,7 @@ wide_not inputs what.Pins number few wide = omega (arith, wide.0)
 wide_not inputs what.Through number few wide = wide
 wide_not inputs what.Pairs number few wide = wide
 wide_not inputs what.Judged number few wide = wide
+wide_not inputs what.Hierarchy number few wide = wide
 
 -- a pin that must be connected is, in a fine instance
 connected_in : (conns : List Conn) (cell : Cell) (pin : List ℕ) → IsFineCell conns cell → Contains (in_pins cell) pin → is_open conns pin ≡ false
@@ -221,6 +222,7 @@ module _ (s : Source) (lib : Library) (o : LinkOptions) (top : Module) (flat : F
   wide_cause has inputs what.Through number wide = absurd wide
   wide_cause has inputs what.Pairs number wide = absurd wide
   wide_cause has inputs what.Judged number wide = absurd wide
+  wide_cause has inputs what.Hierarchy number wide = absurd wide
 
   many_pins : (cell : Cell) (full : List ℕ) (conns : List Conn) → IsOfModelled s lib flat cell full conns → (kind : LimitName) (number : ℕ)
       → IsWide (length cell.inputs) kind number → IsAboveLimit s lib flat circuit kind number
@@ -233,6 +235,7 @@ module _ (s : Source) (lib : Library) (o : LinkOptions) (top : Module) (flat : F
   many_pins cell full conns of what.Through number wide = absurd wide
   many_pins cell full conns of what.Pairs number wide = absurd wide
   many_pins cell full conns of what.Judged number wide = absurd wide
+  many_pins cell full conns of what.Hierarchy number wide = absurd wide
 
   pins_cause : (cell : Cell) (full : List ℕ) (conns : List Conn) → IsOfModelled s lib flat cell full conns → (e : LinkFault) → IsPinFault cell full conns e
       → IsFlatCause s lib o top flat circuit e
@@ -315,6 +318,7 @@ module _ (s : Source) (lib : Library) (o : LinkOptions) (top : Module) (flat : F
   prim_limit scope k own outs ins first has what.Through number wide = absurd wide
   prim_limit scope k own outs ins first has what.Pairs number wide = absurd wide
   prim_limit scope k own outs ins first has what.Judged number wide = absurd wide
+  prim_limit scope k own outs ins first has what.Hierarchy number wide = absurd wide
 
   prim_cause : (scope : Scope) (k : PrimKind) (own : Option (List ℕ)) (outs : List ℕ) (ins : List Wire) (first : ℕ)
       → Contains flat.items (record { scope = scope; item = item.Prim k own outs ins; first = first }) → (e : LinkFault) → IsPrimFault (length ins) e

@@ -10,9 +10,9 @@ use Rattle.std.proofs.lemmas.Map.Keys.{IsDistinct-head, IsDistinct-tail}
 use Rattle.std.proofs.lemmas.Option.{slice_get_past, slice_get-get_or}
 use Rattle.texts.specs.Names.{place_of, are_distinct, with_names}
 use Rattle.texts.proofs.NameLemmas.{with_names_new, are_new_none}
-use Rattle.verilog_net.specs.declared.sources.Source.{Source}
-use Rattle.verilog_net.specs.declared.sources.Module.{Module}
-use Rattle.verilog_net.specs.Lawful.{module_of}
+use Rattle.netlist_types.specs.declared.sources.Source.{Source}
+use Rattle.netlist_types.specs.declared.sources.Module.{Module}
+use Rattle.netlist_types.specs.Lawful.{module_of}
 use Rattle.cell_types.specs.declared.libraries.Library.{Library}
 use Rattle.cell_types.specs.declared.libraries.Cell.{Cell}
 use Rattle.link_defs.specs.Hierarchy.{cell_of}

@@ -8,12 +8,12 @@ use Rattle.std.proofs.lemmas.List.Folds.{find_at}
 use Rattle.std.proofs.lemmas.Slice.Eq.{bytes_eq-Decides}
 use Rattle.net_model.specs.Netlist.{AllBelow}
 use Rattle.net_model.proofs.Members.{In-from_Contains, Contains-from_In, In-flat}
-use Rattle.verilog_net.specs.declared.sources.Source.{Source}
-use Rattle.verilog_net.specs.declared.sources.Module.{Module}
-use Rattle.verilog_net.specs.declared.sources.Port.{Port}
-use Rattle.verilog_net.specs.declared.sources.Conn.{Conn}
-use Rattle.verilog_net.specs.declared.sources.Wire.{Wire}
-use Rattle.verilog_net.specs.Lawful.{IsLawful, IsLawfulModule, IsBelow, IsWireBelow, AreWiresBelow, HasWidths}
+use Rattle.netlist_types.specs.declared.sources.Source.{Source}
+use Rattle.netlist_types.specs.declared.sources.Module.{Module}
+use Rattle.netlist_types.specs.declared.sources.Port.{Port}
+use Rattle.netlist_types.specs.declared.sources.Conn.{Conn}
+use Rattle.netlist_types.specs.declared.sources.Wire.{Wire}
+use Rattle.netlist_types.specs.Lawful.{IsLawful, IsLawfulModule, IsBelow, IsWireBelow, AreWiresBelow, HasWidths}
 use Rattle.link_defs.specs.Hierarchy.{wires_of, wires_in}
 use Rattle.link_items.proofs.Listing.{all_at, all_by, contains_at}
 

@@ -1,6 +1,6 @@
 -- The parts of a cell by its kind.
 use Rattle.std.specs.Prelude.{ℕ, ◌+◌, List, ◌++◌, length}
-use Rattle.verilog_net.specs.declared.sources.Conn.{Conn}
+use Rattle.netlist_types.specs.declared.sources.Conn.{Conn}
 use Rattle.cell_types.specs.declared.libraries.Cell.{Cell}
 use Rattle.cell_types.specs.declared.libraries.CombOut.{CombOut}
 use Rattle.cell_types.specs.declared.libraries.Flop.{Flop}

@@ -2,15 +2,15 @@
 use Rattle.std.specs.Prelude.{◌≡◌, ◌≢◌, ℕ, ◌<◌, Bool, List, [], ◌++◌, length, Contains, Option, Some, None, slice_get}
 use Rattle.sdcv_base.specs.declared.limits.LimitName.{LimitName}
 use Rattle.sdcv_base.specs.declared.limits.LimitName.TheVariants as what
-use Rattle.verilog_net.specs.declared.sources.Source.{Source}
-use Rattle.verilog_net.specs.declared.sources.Module.{Module}
-use Rattle.verilog_net.specs.declared.sources.Port.{Port}
-use Rattle.verilog_net.specs.declared.sources.Item.{Item}
-use Rattle.verilog_net.specs.declared.sources.Item.TheVariants as item
-use Rattle.verilog_net.specs.declared.sources.Conn.{Conn}
-use Rattle.verilog_net.specs.declared.sources.Wire.TheVariants as wire
-use Rattle.verilog_net.specs.Lawful.{module_of}
-use Rattle.verilog_syntax.specs.declared.declarations.Dir.TheVariants as dir
+use Rattle.netlist_types.specs.declared.sources.Source.{Source}
+use Rattle.netlist_types.specs.declared.sources.Module.{Module}
+use Rattle.netlist_types.specs.declared.sources.Port.{Port}
+use Rattle.netlist_types.specs.declared.sources.Item.{Item}
+use Rattle.netlist_types.specs.declared.sources.Item.TheVariants as item
+use Rattle.netlist_types.specs.declared.sources.Conn.{Conn}
+use Rattle.netlist_types.specs.declared.sources.Wire.TheVariants as wire
+use Rattle.netlist_types.specs.Lawful.{module_of}
+use Rattle.netlist_types.specs.declared.sources.Dir.TheVariants as dir
 use Rattle.cell_types.specs.declared.libraries.Library.{Library}
 use Rattle.cell_types.specs.declared.libraries.Cell.{Cell}
 use Rattle.cell_types.specs.declared.libraries.CellKind.TheVariants as kind

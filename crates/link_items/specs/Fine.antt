@@ -1,10 +1,10 @@
 -- Instances that no refusal of their connections speaks of.
 use Rattle.std.specs.Prelude.{◌≡◌, ℕ, ◌≤◌, false, All, List, length, Some, slice_get}
-use Rattle.verilog_net.specs.declared.sources.Module.{Module}
-use Rattle.verilog_net.specs.declared.sources.Port.{Port}
-use Rattle.verilog_net.specs.declared.sources.Conn.{Conn}
-use Rattle.verilog_syntax.specs.declared.declarations.Dir.{Dir}
-use Rattle.verilog_syntax.specs.declared.declarations.Dir.TheVariants as dir
+use Rattle.netlist_types.specs.declared.sources.Module.{Module}
+use Rattle.netlist_types.specs.declared.sources.Port.{Port}
+use Rattle.netlist_types.specs.declared.sources.Conn.{Conn}
+use Rattle.netlist_types.specs.declared.sources.Dir.{Dir}
+use Rattle.netlist_types.specs.declared.sources.Dir.TheVariants as dir
 use Rattle.cell_types.specs.declared.libraries.Cell.{Cell}
 use Rattle.link_defs.specs.CellNames.{out_pins, clock_pins}
 use Rattle.link_defs.specs.Faults.{all_pins}

@@ -1,9 +1,9 @@
 -- The operators of the gate primitives.
 use Rattle.std.specs.Prelude.{ℕ, true, List, [], ◌∷◌, ◌++◌, map, slice_index}
 use Rattle.net_model.specs.Form.{Form, AndForm, OrForm, XorForm}
-use Rattle.verilog_words.specs.declared.gates.PrimKind.{PrimKind}
-use Rattle.verilog_words.specs.declared.gates.PrimKind.TheVariants as prim
-use Rattle.verilog_net.specs.declared.sources.Wire.{Wire}
+use Rattle.netlist_types.specs.declared.gates.PrimKind.{PrimKind}
+use Rattle.netlist_types.specs.declared.gates.PrimKind.TheVariants as prim
+use Rattle.netlist_types.specs.declared.sources.Wire.{Wire}
 use Rattle.link_defs.specs.declared.circuits.Part.{Part}
 use Rattle.link_defs.specs.declared.circuits.Part.TheVariants as part
 use Rattle.link_defs.specs.Parts.{is_buffer_prim, prim_gate, ties, wire_net}

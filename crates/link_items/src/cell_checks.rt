@@ -14,9 +14,9 @@ use crate::names::pin_name;
 use cell_types::{Cell, CellKind, CombOut, FlopOut};
 use link_defs::LinkFault;
 use net_model::MOST_PINS;
+use netlist_types::Conn;
 use sdcv_base::{LimitName, Name, Seq};
 use std::alloc::Global;
-use verilog_net::Conn;
 
 /// Whether the pin is one of these.
 fn is_listed(pins: &[Name], pin: &Name) -> bool

@@ -2,8 +2,8 @@
 ghost use Rattle.std.specs.Prelude.{◌≡◌, ◌≤◌, ◌<◌, ◌+◌, ◌^◌, ◌++◌, All, length, IfOk, OnOk, None};
 ghost use Rattle.std.specs.List.{list_all};
 ghost use Rattle.net_model.specs.Form.{IsOver};
-ghost use Rattle.verilog_net.specs.declared.sources.Conn.{Conn as ConnRecord};
-ghost use Rattle.verilog_net.specs.Lawful.{AreWiresBelow, HasWidths};
+ghost use Rattle.netlist_types.specs.declared.sources.Conn.{Conn as ConnRecord};
+ghost use Rattle.netlist_types.specs.Lawful.{AreWiresBelow, HasWidths};
 ghost use Rattle.cell_types.specs.declared.libraries.CombOut.{CombOut as OutRecord};
 ghost use Rattle.cell_types.specs.Libraries.{IsLawfulCell};
 ghost use Rattle.link_defs.specs.Flatten.{other_pins};
@@ -15,9 +15,9 @@ use crate::ties::{push_pin_tie, push_pin_ties};
 use cell_types::{Cell, CellKind, CombOut, Flop, FlopOut};
 use link_defs::Part;
 use net_model::{Args, Func, Gate, Reg, RegOut, Value};
+use netlist_types::Conn;
 use sdcv_base::Seq;
 use std::alloc::{AllocError, Global};
-use verilog_net::Conn;
 
 /// Whether a function of one place tells its two values apart.
 fn is_buffer_func(func: &Func) -> bool

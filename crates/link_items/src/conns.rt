@@ -5,8 +5,8 @@ ghost use Rattle.std.specs.Str.{bytes_eq};
 ghost use Rattle.link_defs.specs.Hierarchy.{wires_in, wires_of};
 ghost use Rattle.link_items.specs.Pins.{is_open, is_const, is_tied};
 
+use netlist_types::{Conn, Wire};
 use sdcv_base::Name;
-use verilog_net::{Conn, Wire};
 
 /// The connection of a pin, if it is named.
 fn conn_of<'a>(conns: &'a [Conn], pin: &Name) -> Option<&'a Conn>

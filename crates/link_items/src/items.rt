@@ -1,9 +1,9 @@
 //! One item of an instance.
 ghost use Rattle.std.specs.Prelude.{◌≡◌, ◌≢◌, ◌≤◌, ◌<◌, ◌+◌, All, length, IfOk, IfErr, OnOk, None, true, false};
 ghost use Rattle.net_model.specs.Netlist.{AllBelow};
-ghost use Rattle.verilog_net.specs.declared.sources.Port.{Port as PortRecord};
-ghost use Rattle.verilog_net.specs.declared.sources.Conn.{Conn as ConnRecord};
-ghost use Rattle.verilog_net.specs.Lawful.{IsLawful, IsLawfulItem, IsBelow, IsWireBelow, AreWiresBelow, HasWidths, HasTerminals};
+ghost use Rattle.netlist_types.specs.declared.sources.Port.{Port as PortRecord};
+ghost use Rattle.netlist_types.specs.declared.sources.Conn.{Conn as ConnRecord};
+ghost use Rattle.netlist_types.specs.Lawful.{IsLawful, IsLawfulItem, IsBelow, IsWireBelow, AreWiresBelow, HasWidths, HasTerminals};
 ghost use Rattle.cell_types.specs.declared.libraries.CellKind.TheVariants as kinds;
 ghost use Rattle.cell_types.specs.Libraries.{IsLawful as IsLawfulLibrary, IsLawfulCell};
 ghost use Rattle.link_defs.specs.declared.faults.LinkFault.TheVariants as fault;
@@ -27,10 +27,9 @@ use crate::prims::{Terminals, push_copy, push_prim};
 use cell_types::{Cell, CellKind};
 use link_defs::LinkFault;
 use net_model::MOST_PINS;
+use netlist_types::{Conn, Item, Module, PrimKind, Wire};
 use sdcv_base::{LimitName, Name, Seq};
 use std::alloc::{AllocError, Global};
-use verilog_net::{Conn, Item, Module, Wire};
-use verilog_words::PrimKind;
 
 /// The sum of two counts of nets. More nets than a number counts are more than any memory holds.
 fn sum(a: usize, b: usize) -> Result<usize, LinkFault>

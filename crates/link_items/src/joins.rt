@@ -1,9 +1,9 @@
 //! The flat nets of an instance of a module: its own, joined with those outside.
 ghost use Rattle.std.specs.Prelude.{◌≡◌, ◌≤◌, ◌<◌, ◌+◌, ◌^◌, ◌++◌, All, length, flat_map, IfOk, OnOk};
 ghost use Rattle.net_model.specs.Netlist.{AllBelow};
-ghost use Rattle.verilog_net.specs.declared.sources.Conn.{Conn as ConnRecord};
-ghost use Rattle.verilog_net.specs.declared.sources.Port.{Port as PortRecord};
-ghost use Rattle.verilog_net.specs.Lawful.{IsWireBelow, AreWiresBelow};
+ghost use Rattle.netlist_types.specs.declared.sources.Conn.{Conn as ConnRecord};
+ghost use Rattle.netlist_types.specs.declared.sources.Port.{Port as PortRecord};
+ghost use Rattle.netlist_types.specs.Lawful.{IsWireBelow, AreWiresBelow};
 ghost use Rattle.link_defs.specs.Hierarchy.{wires_of as wires};
 ghost use Rattle.link_defs.specs.Flatten as spec;
 ghost use Rattle.link_defs.specs.Parts.{bit_ties};
@@ -12,9 +12,9 @@ use crate::conns::{wire_at, wires_of};
 use crate::nets::net_at;
 use crate::ties::push_bit_ties;
 use link_defs::Part;
+use netlist_types::{Conn, Module, Port, Wire};
 use sdcv_base::Seq;
 use std::alloc::{AllocError, Global};
-use verilog_net::{Conn, Module, Port, Wire};
 
 /// So many numbers from a first one on.
 pub fn numbers(alloc: Global, first: usize, count: usize) -> Result<Seq<usize>, AllocError>

@@ -2,8 +2,8 @@
 ghost use Rattle.std.specs.Prelude.{◌≡◌, All, Contains, true, false, length, IfErr, OnOk, IfSome, IfNone};
 ghost use Rattle.net_model.specs.Netlist.{AllBelow};
 ghost use Rattle.texts.specs.Names.{is_among};
-ghost use Rattle.verilog_net.specs.declared.sources.Port.{Port as PortRecord};
-ghost use Rattle.verilog_syntax.specs.declared.declarations.Dir.TheVariants as dir;
+ghost use Rattle.netlist_types.specs.declared.sources.Port.{Port as PortRecord};
+ghost use Rattle.netlist_types.specs.declared.sources.Dir.TheVariants as dir;
 ghost use Rattle.link_items.specs.Faults.{IsModuleFault};
 ghost use Rattle.link_items.specs.Fine.{IsFinePort, IsFineModule};
 ghost use Rattle.link_items.specs.Pins.{port_names, is_unknown};
@@ -11,10 +11,9 @@ ghost use Rattle.link_items.specs.Pins.{port_names, is_unknown};
 use crate::conns::{is_open, is_tied};
 use crate::names::pin_name;
 use link_defs::LinkFault;
+use netlist_types::{Conn, Dir, Module, Port};
 use sdcv_base::Name;
 use std::alloc::Global;
-use verilog_net::{Conn, Module, Port};
-use verilog_syntax::Dir;
 
 /// Whether a module has a port of that name.
 fn has_port(body: &Module, pin: &Name) -> bool

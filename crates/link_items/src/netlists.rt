@@ -1,15 +1,15 @@
 //! A source and a library, with tables of their names.
 ghost use Rattle.std.specs.Prelude.{◌≡◌, [], map, IfOk};
 ghost use Rattle.texts.specs.Names.{with_names};
-ghost use Rattle.verilog_net.specs.Lawful.{IsLawful};
+ghost use Rattle.netlist_types.specs.Lawful.{IsLawful};
 ghost use Rattle.cell_types.specs.Libraries.{IsLawful as IsLawfulLibrary};
 ghost use Rattle.link_items.specs.Tables.{module_names, cell_names, IsReferent};
 
 use cell_types::{Cell, Library};
+use netlist_types::{Module, Source};
 use sdcv_base::Name;
 use std::alloc::{AllocError, Global};
 use texts::NameTable;
-use verilog_net::{Module, Source};
 
 /// A source and a library, with the names of their modules and cells.
 #[derive(Drop)]

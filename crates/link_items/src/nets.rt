@@ -1,14 +1,14 @@
 //! The flat nets of wires and pins.
 ghost use Rattle.std.specs.Prelude.{◌≡◌, ◌<◌, ◌+◌, ◌^◌, All, length, slice_index, IfOk};
-ghost use Rattle.verilog_net.specs.Lawful.{IsWireBelow, AreWiresBelow};
-ghost use Rattle.verilog_net.specs.declared.sources.Conn.{Conn as ConnRecord};
+ghost use Rattle.netlist_types.specs.Lawful.{IsWireBelow, AreWiresBelow};
+ghost use Rattle.netlist_types.specs.declared.sources.Conn.{Conn as ConnRecord};
 ghost use Rattle.link_defs.specs.Hierarchy.{wires_of as wires};
 ghost use Rattle.link_defs.specs.Parts as spec;
 
 use crate::conns::wires_of;
+use netlist_types::{Conn, Wire};
 use sdcv_base::{Name, Seq};
 use std::alloc::{AllocError, Global};
-use verilog_net::{Conn, Wire};
 
 /// The flat net of a net.
 pub(crate) fn net_at(nets: &Seq<usize>, net: usize) -> usize

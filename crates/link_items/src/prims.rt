@@ -1,6 +1,6 @@
 //! Gate primitives and assigned bits.
 ghost use Rattle.std.specs.Prelude.{◌≡◌, ◌≤◌, ◌<◌, ◌+◌, ◌^◌, ◌++◌, ◌∷◌, [], All, length, map, slice_index, IfOk, OnOk};
-ghost use Rattle.verilog_net.specs.Lawful.{IsBelow, IsWireBelow};
+ghost use Rattle.netlist_types.specs.Lawful.{IsBelow, IsWireBelow};
 ghost use Rattle.link_defs.specs.Parts as spec;
 ghost use Rattle.link_items.specs.Prims.{op_form, prim_part, copy_parts};
 
@@ -8,10 +8,9 @@ use crate::nets::{net_at, wire_net, wire_nets};
 use crate::ties::{push_tie, push_ties};
 use link_defs::Part;
 use net_model::{Func, Gate};
+use netlist_types::{PrimKind, Wire};
 use sdcv_base::Seq;
 use std::alloc::{AllocError, Global};
-use verilog_net::Wire;
-use verilog_words::PrimKind;
 
 /// The terminals of a primitive.
 #[derive(Clone, Copy)]

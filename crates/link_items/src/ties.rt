@@ -1,15 +1,15 @@
 //! Constants that pins and ports are connected to: each is a gate on a net of its own.
 ghost use Rattle.std.specs.Prelude.{◌≡◌, ◌≤◌, ◌<◌, ◌+◌, ◌^◌, ◌++◌, ◌∷◌, [], All, length, IfOk, OnOk};
-ghost use Rattle.verilog_net.specs.Lawful.{HasWidths};
+ghost use Rattle.netlist_types.specs.Lawful.{HasWidths};
 ghost use Rattle.link_defs.specs.Hierarchy.{wires_of as wires};
 ghost use Rattle.link_defs.specs.Parts as spec;
 
 use crate::conns::{wire_at, wires_of};
 use link_defs::Part;
 use net_model::{Func, Gate};
+use netlist_types::{Conn, Wire};
 use sdcv_base::{Name, Seq};
 use std::alloc::{AllocError, Global};
-use verilog_net::{Conn, Wire};
 
 /// A constant on a net.
 fn constant(alloc: Global, bit: bool, net: usize) -> Result<Part, AllocError>

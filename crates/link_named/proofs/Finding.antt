@@ -8,9 +8,9 @@ use Rattle.std.proofs.lemmas.Option.{slice_get_within, get_or_from_slice_get}
 use Rattle.sdcv_base.specs.declared.limits.LimitName.{LimitName}
 use Rattle.net_model.specs.declared.netlist.Reg.{Reg}
 use Rattle.net_model.proofs.Members.{In, In-flat, In-map, In-from_Contains, Contains-from_In, from_map}
-use Rattle.verilog_net.specs.declared.sources.Source.{Source}
-use Rattle.verilog_net.specs.declared.sources.Module.{Module}
-use Rattle.verilog_net.specs.Lawful.{IsLawful, IsLawfulModule}
+use Rattle.netlist_types.specs.declared.sources.Source.{Source}
+use Rattle.netlist_types.specs.declared.sources.Module.{Module}
+use Rattle.netlist_types.specs.Lawful.{IsLawful, IsLawfulModule}
 use Rattle.cell_types.specs.declared.libraries.Library.{Library}
 use Rattle.cell_types.specs.Libraries.{IsLawful as IsLawfulLibrary}
 use Rattle.circuit_link.specs.Faults.{IsCause, IsAboveLimit as IsAboveCircuit}

@@ -1,6 +1,6 @@
 //! The refusals of a circuit by name.
 ghost use Rattle.std.specs.Prelude.{◌≡◌, ◌<◌, ℕ, Contains, length, map, flat_map, slice_get, Some, IfOk};
-ghost use Rattle.verilog_net.specs.Lawful.{IsLawful};
+ghost use Rattle.netlist_types.specs.Lawful.{IsLawful};
 ghost use Rattle.cell_types.specs.Libraries.{IsLawful as IsLawfulLibrary};
 ghost use Rattle.net_model.specs.declared.netlist.Reg.{Reg as RegRecord};
 ghost use Rattle.circuit_link.specs.Faults.{IsCause};

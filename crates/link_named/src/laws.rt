@@ -1,6 +1,6 @@
 //! The law of names in refusals. It is the contract of a call that does nothing, for callers that cite it.
 ghost use Rattle.std.specs.Prelude.{ℕ, List, Option, Contains};
-ghost use Rattle.verilog_net.specs.Lawful.{IsLawful, IsLawfulModule};
+ghost use Rattle.netlist_types.specs.Lawful.{IsLawful, IsLawfulModule};
 ghost use Rattle.cell_types.specs.Libraries.{IsLawful as IsLawfulLibrary};
 ghost use Rattle.circuit_link.specs.declared.faults.CircuitFault.{CircuitFault};
 ghost use Rattle.circuit_link.specs.Faults.{IsCause};
@@ -10,7 +10,7 @@ ghost use Rattle.link_flat.specs.Flats.{AreFine};
 ghost use Rattle.link_named.specs.Names.{HasName};
 
 use cell_types::Library;
-use verilog_net::{Module, Source};
+use netlist_types::{Module, Source};
 
 /// What a refusal of the circuit below a module speaks of has a full name, where no item of the flat netlist is refused.
 pub fn faults_are_named(source: &Source, library: &Library, top: &Module)

@@ -5,9 +5,9 @@ use Rattle.std.specs.List.{position_or_len}
 use Rattle.std.specs.Str.{bytes_eq}
 use Rattle.std.proofs.lemmas.List.{map-append}
 use Rattle.texts.specs.Names.{place_of}
-use Rattle.verilog_net.specs.declared.sources.Source.{Source}
-use Rattle.verilog_net.specs.declared.sources.Module.{Module}
-use Rattle.verilog_net.specs.declared.sources.Item.{Item}
+use Rattle.netlist_types.specs.declared.sources.Source.{Source}
+use Rattle.netlist_types.specs.declared.sources.Module.{Module}
+use Rattle.netlist_types.specs.declared.sources.Item.{Item}
 use Rattle.link_defs.specs.Hierarchy.{refs, place_of_module}
 use Rattle.link_items.specs.Tables.{module_names}
 use Rattle.link_items.proofs.Listing.{flat_next}

@@ -1,7 +1,7 @@
 -- The modules that a module has instances of, and why modules have no order.
 use Rattle.std.specs.Prelude.{ℕ, List, map, flat_map}
-use Rattle.verilog_net.specs.declared.sources.Source.{Source}
-use Rattle.verilog_net.specs.declared.sources.Module.{Module}
+use Rattle.netlist_types.specs.declared.sources.Source.{Source}
+use Rattle.netlist_types.specs.declared.sources.Module.{Module}
 use Rattle.link_defs.specs.declared.faults.LinkFault.{LinkFault}
 use Rattle.link_defs.specs.declared.faults.LinkFault.TheVariants as fault
 use Rattle.link_defs.specs.Hierarchy.{refs, place_of_module, IsRecursive}

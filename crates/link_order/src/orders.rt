@@ -3,15 +3,15 @@ ghost use Rattle.std.specs.Prelude.{◌≡◌, ◌<◌, ◌++◌, ℕ, List, len
 ghost use Rattle.graph_order.specs.Orders.{IsRightOrder};
 ghost use Rattle.link_defs.specs.Hierarchy.{refs, place_of_module, module_needs, IsRecursive};
 ghost use Rattle.link_items.specs.Tables.{module_names};
-ghost use Rattle.verilog_net.specs.declared.sources.Module.{Module as ModuleRecord};
+ghost use Rattle.netlist_types.specs.declared.sources.Module.{Module as ModuleRecord};
 ghost use Rattle.link_order.specs.Orders.{needs_in, IsOrderCause};
 
 use graph_order::{OrderFault, order_of};
 use link_defs::LinkFault;
 use link_items::Netlist;
+use netlist_types::{Item, Module};
 use sdcv_base::{Name, Seq};
 use std::alloc::{AllocError, Global};
-use verilog_net::{Item, Module};
 
 /// The places of the modules in an order in which each comes after those that it has instances of. `Recursive` names a module
 /// that contains itself.

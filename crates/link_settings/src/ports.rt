@@ -2,7 +2,7 @@
 ghost use Rattle.std.specs.Prelude.{◌≡◌, ◌≤◌, ◌++◌, ℕ, List, Some, true, All, length, IfOk, IfErr, OnOk};
 ghost use Rattle.net_model.specs.Netlist.{AllBelow};
 ghost use Rattle.texts.specs.Names.{are_distinct};
-ghost use Rattle.verilog_net.specs.declared.sources.Port.{Port as PortRecord};
+ghost use Rattle.netlist_types.specs.declared.sources.Port.{Port as PortRecord};
 ghost use Rattle.link_defs.specs.Circuits.{input_bits, output_bits};
 ghost use Rattle.link_defs.specs.Faults.{bit_names, set_names, IsBadSetting};
 ghost use Rattle.link_clashes.specs.Clashes.{port_names, IsApart};
@@ -15,10 +15,10 @@ use circuit_link::Held;
 use link_clashes::add_ports;
 use link_defs::{LinkFault, LinkOptions, PortName};
 use link_tops::{input_names, output_names};
+use netlist_types::Module;
 use sdcv_base::{Name, Seq};
 use std::alloc::Global;
 use texts::NameTable;
-use verilog_net::Module;
 
 /// The data inputs and the outputs of a module by name, and the inputs that are given a value, by their places among the data
 /// inputs.

@@ -9,8 +9,8 @@ use Rattle.std.proofs.lemmas.List.Folds.{list_any-append}
 use Rattle.std.proofs.lemmas.Option.{slice_get_within, get_or_from_slice_get}
 use Rattle.texts.specs.Names.{is_among, with_name, with_names}
 use Rattle.texts.proofs.NameLemmas.{is_among-with_names}
-use Rattle.verilog_net.specs.declared.sources.Source.{Source}
-use Rattle.verilog_net.specs.declared.sources.Module.{Module}
+use Rattle.netlist_types.specs.declared.sources.Source.{Source}
+use Rattle.netlist_types.specs.declared.sources.Module.{Module}
 use Rattle.link_defs.specs.Hierarchy.{is_used, tops}
 use Rattle.link_items.proofs.Listing.{flat_next, with_none}
 use Rattle.link_items.proofs.Searching.{eq_flips}

@@ -2,8 +2,8 @@
 use Rattle.std.specs.Prelude.{◌≡◌, ◌≢◌, ℕ, Bool, not, List, [], ◌∷◌, length, flat_map, Some, slice_get}
 use Rattle.std.specs.List.{AllZip}
 use Rattle.texts.specs.Names.{is_among}
-use Rattle.verilog_net.specs.declared.sources.Source.{Source}
-use Rattle.verilog_net.specs.declared.sources.Module.{Module}
+use Rattle.netlist_types.specs.declared.sources.Source.{Source}
+use Rattle.netlist_types.specs.declared.sources.Module.{Module}
 use Rattle.link_defs.specs.declared.faults.LinkFault.{LinkFault}
 use Rattle.link_defs.specs.declared.faults.LinkFault.TheVariants as fault
 use Rattle.link_defs.specs.Hierarchy.{refs, tops}

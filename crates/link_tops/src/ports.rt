@@ -1,16 +1,15 @@
 //! The bits of ports by name.
 ghost use Rattle.std.specs.Prelude.{◌≡◌, ◌++◌, ◌<◌, All, length, map, IfOk, OnOk, if◌then◌else◌, Some, None};
 ghost use Rattle.net_model.specs.Netlist.{AllBelow};
-ghost use Rattle.verilog_net.specs.declared.sources.Port.{Port as PortRecord};
+ghost use Rattle.netlist_types.specs.declared.sources.Port.{Port as PortRecord};
 ghost use Rattle.link_defs.specs.Circuits.{is_input as reads, input_bits, output_bits};
 ghost use Rattle.link_defs.specs.Links.{ports_of};
 ghost use Rattle.link_tops.specs.Ports.{bit_name, bit_names_if};
 
 use link_defs::PortName;
+use netlist_types::{Dir, Module, Port};
 use sdcv_base::{Name, Seq};
 use std::alloc::{AllocError, Global};
-use verilog_net::{Module, Port};
-use verilog_syntax::Dir;
 
 /// Whether a port is an input.
 fn is_input(dir: Dir) -> bool

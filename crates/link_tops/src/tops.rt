@@ -1,8 +1,8 @@
 //! The module that no module instantiates.
 ghost use Rattle.std.specs.Prelude.{◌≡◌, ◌++◌, ◌∷◌, [], filter, if◌then◌else◌, IfOk, IfErr, OnOk};
 ghost use Rattle.texts.specs.Names.{with_names};
-ghost use Rattle.verilog_net.specs.declared.sources.Module.{Module as ModuleRecord};
-ghost use Rattle.verilog_net.specs.Lawful.{IsLawful};
+ghost use Rattle.netlist_types.specs.declared.sources.Module.{Module as ModuleRecord};
+ghost use Rattle.netlist_types.specs.Lawful.{IsLawful};
 ghost use Rattle.link_defs.specs.Circuits.{input_bits};
 ghost use Rattle.link_defs.specs.Hierarchy.{refs, tops};
 ghost use Rattle.link_defs.specs.Links.{ports_of};
@@ -10,10 +10,10 @@ ghost use Rattle.link_tops.specs.Tops.{refs_of, all_refs, is_unused, AreAt, IsTo
 
 use crate::ports::input_names;
 use link_defs::{LinkFault, PortName};
+use netlist_types::{Item, Module, Source};
 use sdcv_base::Seq;
 use std::alloc::{AllocError, Global};
 use texts::NameTable;
-use verilog_net::{Item, Module, Source};
 
 /// Adds the reference of an item, if it is an instance.
 fn add_ref(alloc: Global, names: &mut NameTable, item: &Item) -> Result<(), AllocError>

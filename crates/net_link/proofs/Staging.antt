@@ -4,9 +4,9 @@ use Rattle.std.specs.Prelude.{Option, slice_get, flat_map}
 use Rattle.std.specs.List.{IsDistinct}
 use Rattle.std.specs.Str.{bytes_eq}
 use Rattle.net_model.proofs.Members.{In, In-from_Contains}
-use Rattle.verilog_net.specs.declared.sources.Source.{Source}
-use Rattle.verilog_net.specs.declared.sources.Module.{Module}
-use Rattle.verilog_net.specs.Lawful.{IsLawful, IsLawfulModule}
+use Rattle.netlist_types.specs.declared.sources.Source.{Source}
+use Rattle.netlist_types.specs.declared.sources.Module.{Module}
+use Rattle.netlist_types.specs.Lawful.{IsLawful, IsLawfulModule}
 use Rattle.cell_types.specs.declared.libraries.Library.{Library}
 use Rattle.cell_types.specs.Libraries.{IsLawful as IsLawfulLibrary}
 use Rattle.circuit_link.specs.Faults.{IsFaultless as IsFaultlessCircuit}

@@ -22,7 +22,7 @@ use Rattle.link_names.specs.declared.faults.NameFault.{NameFault}
 use Rattle.link_names.specs.declared.faults.NameFault.TheVariants as fault
 use Rattle.link_names.specs.Scopes.{named, IsTableOf, IsOfTwo, IsTwice}
 use Rattle.link_names.proofs.Scoped.{apart}
-use Rattle.verilog_net.specs.declared.sources.Source.{Source}
+use Rattle.netlist_types.specs.declared.sources.Source.{Source}
 use Rattle.net_link.specs.Nets.{AreMarks, instance_names, names_in, IsOfTwoNets}
 use Rattle.net_link.proofs.Marking.{driven_hit, hit_driven, driven_below}
 

@@ -1,7 +1,7 @@
 -- Nets that something drives, and their names.
 use Rattle.std.specs.Prelude.{◌≡◌, ◌≢◌, ℕ, ◌<◌, Bool, true, ◌&&◌, ◌||◌, nat_lt, List, length, flat_map, Contains, slice_index_or}
 use Rattle.sdcv_base.specs.Seqs.{is_marked}
-use Rattle.verilog_net.specs.declared.sources.Source.{Source}
+use Rattle.netlist_types.specs.declared.sources.Source.{Source}
 use Rattle.circuit_link.specs.declared.designs.CircuitDesign.{CircuitDesign}
 use Rattle.link_defs.specs.declared.circuits.Circuit.{Circuit}
 use Rattle.link_defs.specs.declared.faults.LinkFault.{LinkFault}

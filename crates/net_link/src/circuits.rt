@@ -1,6 +1,6 @@
 //! From a source to the design of its circuit.
 ghost use Rattle.std.specs.Prelude.{◌≡◌, ◌<◌, length, IfOk, IfErr, OnOk};
-ghost use Rattle.verilog_net.specs.Lawful.{IsLawful};
+ghost use Rattle.netlist_types.specs.Lawful.{IsLawful};
 ghost use Rattle.cell_types.specs.Libraries.{IsLawful as IsLawfulLibrary};
 ghost use Rattle.circuit_link.specs.Faults.{IsFaultless};
 ghost use Rattle.circuit_link.specs.Made.{IsHeldBy, IsMade};

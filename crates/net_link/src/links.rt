@@ -1,6 +1,6 @@
 //! The design of a source and a library.
 ghost use Rattle.std.specs.Prelude.{◌≡◌, ◌≤◌, ℕ, List, IfOk, IfErr, OnOk};
-ghost use Rattle.verilog_net.specs.Lawful.{IsLawful};
+ghost use Rattle.netlist_types.specs.Lawful.{IsLawful};
 ghost use Rattle.cell_types.specs.Libraries.{IsLawful as IsLawfulLibrary};
 ghost use Rattle.link_defs.specs.Faults.{IsCause, IsFaultless};
 ghost use Rattle.link_defs.specs.Links.{IsLinked};
@@ -27,9 +27,9 @@ use link_defs::{CellName, LinkFault, LinkOptions, Linked, Names, NetName};
 use link_items::Netlist;
 use link_settings::{TopPorts, top_ports};
 use link_tops::one_top;
+use netlist_types::Source;
 use sdcv_base::{Name, Seq};
 use std::alloc::{AllocError, Global};
-use verilog_net::Source;
 
 /// The design of a source below its only top module, with all its names. A module may be instantiated many times; a net is
 /// named at each instance.

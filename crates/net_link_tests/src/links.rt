@@ -1,7 +1,7 @@
 //! Texts linked, row by row.
 ghost use Rattle.std.specs.Prelude.{◌≡◌, IfOk};
 ghost use Rattle.cell_types.specs.Libraries.{IsLawful as IsLawfulLibrary};
-ghost use Rattle.verilog_net.specs.Lawful.{IsLawful};
+ghost use Rattle.netlist_types.specs.Lawful.{IsLawful};
 
 use crate::rows::{ROWS, Row};
 use crate::shown::{design_text, names_text, ports_text};

@@ -1,6 +1,6 @@
 -- The stages that read a text.
 use Rattle.std.specs.Prelude.{◌≡◌, ℕ, Bool, true, false, List, Ok, Err}
-use Rattle.verilog_net.specs.declared.sources.Source.{Source}
+use Rattle.netlist_types.specs.declared.sources.Source.{Source}
 use Rattle.cell_types.specs.declared.libraries.Library.{Library}
 use Rattle.cell_types.specs.Builtin.{builtin_cells}
 use Rattle.sdc_text.specs.declared.scripts.Script.{Script}

@@ -1,6 +1,6 @@
 //! The stages that read a text.
 ghost use Rattle.std.specs.Prelude.{◌≡◌, IfOk};
-ghost use Rattle.verilog_net.specs.Lawful.{IsLawful};
+ghost use Rattle.netlist_types.specs.Lawful.{IsLawful};
 ghost use Rattle.cell_types.specs.Libraries.{IsLawful as IsLawfulLibrary};
 ghost use Rattle.exception_expand.specs.Selections.{HasMultipliers};
 ghost use Rattle.sdcv_top.specs.Reads.{text_of};
@@ -12,10 +12,10 @@ use crate::reads::{Answer, LONGEST, read};
 use cell_types::{Library, builtin};
 use design_stages::{cells as cells_of, constraints as constraints_of, netlist as netlist_of};
 use fault_lines::{Origin, too_long_line};
+use netlist_types::Source;
 use sdc_text::Script;
 use sdcv_base::Host;
 use std::alloc::Global;
-use verilog_net::Source;
 
 /// Reads a file of at most `limit` bytes, and refuses a longer one.
 pub fn text<H: Host>(

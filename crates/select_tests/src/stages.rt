@@ -1,7 +1,7 @@
 //! From texts to what a script selects.
 ghost use Rattle.std.specs.Prelude.{◌≡◌, IfOk, IsTrue};
 ghost use Rattle.cell_types.specs.Libraries.{IsLawful as IsLawfulLibrary};
-ghost use Rattle.verilog_net.specs.Lawful.{IsLawful};
+ghost use Rattle.netlist_types.specs.Lawful.{IsLawful};
 ghost use Rattle.link_defs.specs.Usable.{IsUsable};
 ghost use Rattle.exception_expand.specs.Selections.{HasMultiplier, HasMultipliers};
 

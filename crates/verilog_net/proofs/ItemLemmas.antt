@@ -7,8 +7,8 @@ use Rattle.std.proofs.lemmas.List.Elements.{All-nil, All-cons, All-append, All-p
 use Rattle.std.specs.List.{range_with_len}
 use Rattle.texts.specs.Names.{are_distinct}
 use Rattle.texts.specs.Rules.{◌>>=◌}
-use Rattle.verilog_words.specs.declared.gates.PrimKind.{PrimKind}
-use Rattle.verilog_words.specs.declared.gates.PrimKind.TheVariants as prim
+use Rattle.netlist_types.specs.declared.gates.PrimKind.{PrimKind}
+use Rattle.netlist_types.specs.declared.gates.PrimKind.TheVariants as prim
 use Rattle.verilog_syntax.specs.declared.declarations.Part.{Part}
 use Rattle.verilog_syntax.specs.declared.declarations.Part.TheVariants as part
 use Rattle.verilog_syntax.specs.declared.declarations.PartDecl.{PartDecl}
@@ -31,16 +31,16 @@ use Rattle.verilog_scope.proofs.KeepLemmas.{step_gave, fold_keeps, fold_keeps_al
 use Rattle.verilog_scope.proofs.ScopeLemmas.{IsScope}
 use Rattle.verilog_scope.proofs.RunLemmas.{HasPlace, bits_below, run_below}
 use Rattle.verilog_scope.proofs.NewLemmas.{new_distinct}
-use Rattle.verilog_net.specs.declared.sources.Wire.{Wire}
-use Rattle.verilog_net.specs.declared.sources.Wire.TheVariants as wire
-use Rattle.verilog_net.specs.declared.sources.Conn.{Conn}
-use Rattle.verilog_net.specs.declared.sources.Item.{Item}
-use Rattle.verilog_net.specs.declared.sources.Item.TheVariants as item
+use Rattle.netlist_types.specs.declared.sources.Wire.{Wire}
+use Rattle.netlist_types.specs.declared.sources.Wire.TheVariants as wire
+use Rattle.netlist_types.specs.declared.sources.Conn.{Conn}
+use Rattle.netlist_types.specs.declared.sources.Item.{Item}
+use Rattle.netlist_types.specs.declared.sources.Item.TheVariants as item
 use Rattle.verilog_net.specs.declared.hierarchies.Hierarchy.{Hierarchy}
 use Rattle.verilog_net.specs.Wires.{numbers, nets, constants, with_run, add_part, wires_of, only, driven, wire_of, net_of}
 use Rattle.verilog_net.specs.Hierarchies.{inner_of, fits}
 use Rattle.verilog_net.specs.Items.{conn_of, inst_of, has_terminals, prim_of, add_copy, add_assign, tied, supplies_of, add_nets, add_prim, add_inst, add_item}
-use Rattle.verilog_net.specs.Lawful.{IsBelow, IsWireBelow, AreWiresBelow, HasTerminals}
+use Rattle.netlist_types.specs.Lawful.{IsBelow, IsWireBelow, AreWiresBelow, HasTerminals}
 
 -- the wires of a connection fit its pin
 abbrev pub FitsPin : Option Scope → Conn → Type 0

@@ -7,7 +7,7 @@ use Rattle.std.proofs.lemmas.List.FromFn.{length-range_with_len}
 use Rattle.std.specs.Str.{bytes_eq}
 use Rattle.texts.specs.Names.{place_of}
 use Rattle.texts.proofs.NameLemmas.{bytes_eq-comm}
-use Rattle.verilog_syntax.specs.declared.declarations.Dir.{Dir}
+use Rattle.netlist_types.specs.declared.sources.Dir.{Dir}
 use Rattle.verilog_syntax.specs.declared.declarations.ModuleDecl.{ModuleDecl}
 use Rattle.verilog_scope.specs.declared.scopes.Scope.{Scope}
 use Rattle.verilog_scope.specs.Folds.{fold_ok, fold_both, pushing}
@@ -16,17 +16,17 @@ use Rattle.verilog_scope.specs.Scopes.{scope_of, net_names, decl_of, all_bits}
 use Rattle.verilog_scope.proofs.KeepLemmas.{step_gave}
 use Rattle.texts.proofs.NameLemmas.{distinct_by_test}
 use Rattle.verilog_scope.proofs.NewLemmas.{new_distinct}
-use Rattle.verilog_net.specs.declared.sources.Wire.{Wire}
-use Rattle.verilog_net.specs.declared.sources.Port.{Port}
-use Rattle.verilog_net.specs.declared.sources.Conn.{Conn}
-use Rattle.verilog_net.specs.declared.sources.Item.{Item}
-use Rattle.verilog_net.specs.declared.sources.Item.TheVariants as item
-use Rattle.verilog_net.specs.declared.sources.Module.{Module}
-use Rattle.verilog_net.specs.declared.sources.Source.{Source}
+use Rattle.netlist_types.specs.declared.sources.Wire.{Wire}
+use Rattle.netlist_types.specs.declared.sources.Port.{Port}
+use Rattle.netlist_types.specs.declared.sources.Conn.{Conn}
+use Rattle.netlist_types.specs.declared.sources.Item.{Item}
+use Rattle.netlist_types.specs.declared.sources.Item.TheVariants as item
+use Rattle.netlist_types.specs.declared.sources.Module.{Module}
+use Rattle.netlist_types.specs.declared.sources.Source.{Source}
 use Rattle.verilog_net.specs.declared.hierarchies.Hierarchy.{Hierarchy}
 use Rattle.verilog_net.specs.Hierarchies.{inner_of, fits, hierarchy_of}
 use Rattle.verilog_net.specs.Modules.{module_made, add_module, modules_made}
-use Rattle.verilog_net.specs.Lawful.{module_of, HasWidths, IsLawfulItem, IsLawfulModule, IsLawful}
+use Rattle.netlist_types.specs.Lawful.{module_of, HasWidths, IsLawfulItem, IsLawfulModule, IsLawful}
 use Rattle.verilog_net.proofs.SourceLemmas.{hierarchy_parts}
 use Rattle.verilog_net.proofs.ItemLemmas.{FitsPin, IsGood}
 use Rattle.verilog_net.proofs.PortLemmas.{IsPortOf, ports_below, ports_apart, port_name}

@@ -22,7 +22,7 @@ use Rattle.verilog_scope.proofs.KeepLemmas.{step_gave}
 use Rattle.verilog_scope.proofs.NewLemmas.{new_distinct}
 use Rattle.verilog_scope.proofs.ScopeLemmas.{IsScope, scope_is}
 use Rattle.verilog_scope.proofs.RunLemmas.{HasPlace, place_among}
-use Rattle.verilog_net.specs.declared.sources.Module.{Module}
+use Rattle.netlist_types.specs.declared.sources.Module.{Module}
 use Rattle.verilog_net.specs.declared.hierarchies.Hierarchy.{Hierarchy}
 use Rattle.verilog_net.specs.Modules.{spelled, ports_of, module_made}
 use Rattle.verilog_net.specs.Items.{add_item}

@@ -9,7 +9,7 @@ use Rattle.std.specs.Str.{bytes_eq}
 use Rattle.std.proofs.lemmas.Slice.Eq.{bytes_eq-Decides}
 use Rattle.texts.specs.Names.{is_among, are_distinct, place_of}
 use Rattle.texts.proofs.NameLemmas.{slice_get-place_of}
-use Rattle.verilog_syntax.specs.declared.declarations.Dir.{Dir}
+use Rattle.netlist_types.specs.declared.sources.Dir.{Dir}
 use Rattle.verilog_syntax.specs.declared.declarations.Spelled.{Spelled}
 use Rattle.verilog_syntax.specs.declared.declarations.ModuleDecl.{ModuleDecl}
 use Rattle.verilog_scope.specs.declared.scopes.Scope.{Scope}
@@ -18,10 +18,10 @@ use Rattle.verilog_scope.specs.Scopes.{net_names, decl_of, all_bits}
 use Rattle.verilog_scope.proofs.KeepLemmas.{step_gave}
 use Rattle.verilog_scope.proofs.ScopeLemmas.{IsScope}
 use Rattle.verilog_scope.proofs.RunLemmas.{HasPlace, place_among, bits_below, bits_apart}
-use Rattle.verilog_net.specs.declared.sources.Port.{Port}
+use Rattle.netlist_types.specs.declared.sources.Port.{Port}
 use Rattle.verilog_net.specs.Wires.{numbers}
 use Rattle.verilog_net.specs.Modules.{port_as, port_of, add_port}
-use Rattle.verilog_net.specs.Lawful.{IsBelow}
+use Rattle.netlist_types.specs.Lawful.{IsBelow}
 use Rattle.verilog_net.proofs.ItemLemmas.{numbers_below}
 
 -- a port has the nets of its name, of which its direction is declared

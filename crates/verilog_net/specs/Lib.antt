@@ -4,4 +4,3 @@ pub mod Pins
 pub mod Items
 pub mod Modules
 pub mod Sources
-pub mod Lawful

@@ -1,7 +1,7 @@
 -- Modules, with nets in place of names.
 use Rattle.std.specs.Prelude.{ℕ, List, [], ◌∷◌, ◌++◌, map, Option, Some, None, is_some, Result, Ok, Err}
 use Rattle.texts.specs.Rules.{◌>>=◌}
-use Rattle.verilog_syntax.specs.declared.declarations.Dir.{Dir}
+use Rattle.netlist_types.specs.declared.sources.Dir.{Dir}
 use Rattle.verilog_syntax.specs.declared.declarations.Spelled.{Spelled}
 use Rattle.verilog_syntax.specs.declared.declarations.PortDecl.{PortDecl}
 use Rattle.verilog_syntax.specs.declared.declarations.Head.{Head}
@@ -12,8 +12,8 @@ use Rattle.verilog_scope.specs.declared.faults.VerFault.TheVariants as fault
 use Rattle.verilog_scope.specs.declared.scopes.Scope.{Scope}
 use Rattle.verilog_scope.specs.Folds.{fold_ok, fold_both}
 use Rattle.verilog_scope.specs.Scopes.{decl_of, all_bits, net_names}
-use Rattle.verilog_net.specs.declared.sources.Port.{Port}
-use Rattle.verilog_net.specs.declared.sources.Module.{Module}
+use Rattle.netlist_types.specs.declared.sources.Port.{Port}
+use Rattle.netlist_types.specs.declared.sources.Module.{Module}
 use Rattle.verilog_net.specs.declared.hierarchies.Hierarchy.{Hierarchy}
 use Rattle.verilog_net.specs.Wires.{numbers}
 use Rattle.verilog_net.specs.Items.{add_item}

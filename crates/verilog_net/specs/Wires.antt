@@ -11,8 +11,8 @@ use Rattle.verilog_scope.specs.declared.ranges.Run.{Run}
 use Rattle.verilog_scope.specs.declared.scopes.Scope.{Scope}
 use Rattle.verilog_scope.specs.Folds.{fold_ok}
 use Rattle.verilog_scope.specs.Scopes.{run_of}
-use Rattle.verilog_net.specs.declared.sources.Wire.{Wire}
-use Rattle.verilog_net.specs.declared.sources.Wire.TheVariants as wire
+use Rattle.netlist_types.specs.declared.sources.Wire.{Wire}
+use Rattle.netlist_types.specs.declared.sources.Wire.TheVariants as wire
 
 -- the nets of a run
 abbrev pub numbers : Run → List ℕ

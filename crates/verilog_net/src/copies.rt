@@ -6,8 +6,8 @@ ghost use Rattle.verilog_scope.specs.Fails.{Fails};
 ghost use Rattle.verilog_scope.specs.Folds.{fold_ok, fold_both};
 ghost use Rattle.verilog_net.specs.Items as spec;
 
-use crate::sources::{Item, Wire};
 use crate::wires::{driven, wires_of};
+use netlist_types::{Item, Wire};
 use sdcv_base::{Name, Seq};
 use std::alloc::{AllocError, Global};
 use verilog_scope::{Scope, VerFault};

@@ -10,8 +10,8 @@ ghost use Rattle.verilog_net.specs.Items as spec;
 ghost use Rattle.verilog_net.specs.Pins.{pins_of};
 
 use crate::hierarchies::Hierarchy;
-use crate::sources::{Conn, Item};
 use crate::wires::wires_of;
+use netlist_types::{Conn, Item};
 use sdcv_base::{Name, Seq};
 use std::alloc::Global;
 use texts::NameTable;

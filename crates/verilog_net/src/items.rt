@@ -9,7 +9,7 @@ use crate::copies::{add_assigns, add_nets};
 use crate::hierarchies::Hierarchy;
 use crate::insts::add_insts;
 use crate::prims::add_prims;
-use crate::sources::Item;
+use netlist_types::Item;
 use sdcv_base::Seq;
 use std::alloc::Global;
 use verilog_scope::{Scope, VerFault};

@@ -14,7 +14,6 @@ mod prims;
 mod sources;
 mod wires;
 
-pub use sources::{Conn, Item, Module, Port, Source, Wire, read_verilog};
+pub use netlist_types::{Conn, Dir, Item, Module, Port, PrimKind, Source, Wire};
+pub use sources::read_verilog;
 pub use verilog_scope::VerFault;
-pub use verilog_syntax::Dir;
-pub use verilog_words::PrimKind;

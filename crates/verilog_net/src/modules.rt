@@ -9,7 +9,7 @@ ghost use Rattle.verilog_net.specs.Modules as spec;
 
 use crate::hierarchies::Hierarchy;
 use crate::items::items_of;
-use crate::sources::{Module, Port};
+use netlist_types::{Module, Port};
 use sdcv_base::Seq;
 use std::alloc::{AllocError, Global};
 use verilog_scope::{Run, Scope, VerFault};

@@ -6,13 +6,12 @@ ghost use Rattle.verilog_scope.specs.Folds.{fold_ok, each};
 ghost use Rattle.verilog_net.specs.Wires as wires;
 ghost use Rattle.verilog_net.specs.Items as spec;
 
-use crate::sources::{Item, Wire};
 use crate::wires::{net_of, wire_of};
+use netlist_types::{Item, PrimKind, Wire};
 use sdcv_base::{Name, Seq};
 use std::alloc::{AllocError, Global};
 use verilog_scope::{Scope, VerFault};
 use verilog_syntax::{PrimDecl, TermDecl};
-use verilog_words::PrimKind;
 
 /// Appends the instances of a primitive.
 pub fn add_prims(

@@ -3,10 +3,10 @@ ghost use Rattle.std.specs.Prelude.{◌≡◌, ◌++◌, ℕ, map, OnOk};
 ghost use Rattle.std.specs.List.{range_with_len};
 ghost use Rattle.texts.specs.Rules.{Gives};
 ghost use Rattle.verilog_scope.specs.Fails.{Fails};
-ghost use Rattle.verilog_net.specs.declared.sources.Wire.TheVariants as wire;
+ghost use Rattle.netlist_types.specs.declared.sources.Wire.TheVariants as wire;
 ghost use Rattle.verilog_net.specs.Wires as spec;
 
-use crate::sources::Wire;
+use netlist_types::Wire;
 use sdcv_base::Seq;
 use std::alloc::{AllocError, Global};
 use verilog_scope::{Run, Scope, VerFault};

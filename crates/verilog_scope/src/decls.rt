@@ -7,10 +7,11 @@ ghost use Rattle.verilog_scope.specs.Decls as spec;
 
 use crate::faults::VerFault;
 use crate::ranges::same_range;
+use netlist_types::Dir;
 use sdcv_base::{Name, Seq};
 use std::alloc::Global;
 use texts::{NameTable, Named};
-use verilog_syntax::{Dir, Head, ItemDecl, ModuleDecl, NetKind, PortDecl, PrimDecl, Range};
+use verilog_syntax::{Head, ItemDecl, ModuleDecl, NetKind, PortDecl, PrimDecl, Range};
 
 /// What is declared of a name: a port's direction, a net's kind, and the range of either.
 #[derive(Clone, Copy, Debug, PartialEq, Eq)]

@@ -3,8 +3,8 @@ use Rattle.std.specs.Prelude.{ℕ, true, false, Bool, ◌&&◌, if◌then◌else
 use Rattle.std.specs.List.{list_any}
 use Rattle.texts.specs.Rules.{◌>>=◌, offset_of}
 use Rattle.verilog_words.specs.declared.faults.SyntaxFault.TheVariants as fault
-use Rattle.verilog_words.specs.declared.gates.PrimKind.{PrimKind}
-use Rattle.verilog_words.specs.declared.gates.PrimKind.TheVariants as prim
+use Rattle.netlist_types.specs.declared.gates.PrimKind.{PrimKind}
+use Rattle.netlist_types.specs.declared.gates.PrimKind.TheVariants as prim
 use Rattle.verilog_words.specs.declared.words.Word.{Word}
 use Rattle.verilog_words.specs.declared.words.Word.TheVariants as word
 use Rattle.verilog_words.specs.Codes.{comma, dot, equals, left_paren, right_paren, semicolon}

@@ -7,8 +7,8 @@ use Rattle.verilog_words.specs.Codes.{right_paren, semicolon}
 use Rattle.verilog_words.specs.Marks.{is_next, after_mark, opens_list}
 use Rattle.verilog_words.specs.Names.{next_word, has_word, after_identifier, name_at}
 use Rattle.verilog_words.specs.Reads.{Rule, refused}
-use Rattle.verilog_syntax.specs.declared.declarations.Dir.{Dir}
-use Rattle.verilog_syntax.specs.declared.declarations.Dir.TheVariants as dir
+use Rattle.netlist_types.specs.declared.sources.Dir.{Dir}
+use Rattle.netlist_types.specs.declared.sources.Dir.TheVariants as dir
 use Rattle.verilog_syntax.specs.declared.declarations.Head.{Head}
 use Rattle.verilog_syntax.specs.declared.declarations.Head.TheVariants as head
 use Rattle.verilog_syntax.specs.declared.declarations.PortDecl.{PortDecl}

@@ -1,15 +1,8 @@
 //! What a text declares, in the names that stand in it. Offsets count bytes of the whole text from 0.
 
+use netlist_types::{Dir, PrimKind};
 use sdcv_base::{Name, Seq};
 use texts::Named;
-use verilog_words::PrimKind;
-
-/// The direction of a port.
-#[derive(Clone, Copy, Debug, PartialEq, Eq)]
-pub enum Dir {
-    Input,
-    Output,
-}
 
 /// The numbers of a bus's first and last bit. They rise or fall, or are one number.
 #[derive(Clone, Copy, Debug, PartialEq, Eq)]

@@ -18,7 +18,8 @@ mod ports;
 mod prims;
 
 pub use declarations::{
-    AssignDecl, ConnDecl, Dir, Head, InstDecl, ItemDecl, ModuleDecl, NetKind, Part, PartDecl,
-    PortDecl, PrimDecl, Range, Select, Spelled, TermDecl,
+    AssignDecl, ConnDecl, Head, InstDecl, ItemDecl, ModuleDecl, NetKind, Part, PartDecl, PortDecl,
+    PrimDecl, Range, Select, Spelled, TermDecl,
 };
 pub use modules::read_modules;
+pub use netlist_types::Dir;

@@ -6,9 +6,10 @@ ghost use Rattle.verilog_words.specs.Names.{identifier_len};
 ghost use Rattle.verilog_words.specs.Reads.{Fails};
 ghost use Rattle.verilog_syntax.specs.Ports as spec;
 
-use crate::declarations::{Dir, Head, PortDecl, Range, Spelled};
+use crate::declarations::{Head, PortDecl, Range, Spelled};
 use crate::lists::{Gather, take_list};
 use crate::parts::range_or_none;
+use netlist_types::Dir;
 use sdcv_base::{Cursor, Name, Seq};
 use std::alloc::{AllocError, Global};
 use verilog_words::{

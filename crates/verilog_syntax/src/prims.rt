@@ -9,9 +9,10 @@ ghost use Rattle.verilog_syntax.specs.Items as spec;
 use crate::declarations::{ItemDecl, Part, PartDecl, PrimDecl, TermDecl};
 use crate::exprs::take_expr;
 use crate::lists::{Gather, take_list};
+use netlist_types::PrimKind;
 use sdcv_base::{Cursor, Name, Seq};
 use std::alloc::Global;
-use verilog_words::{PrimKind, SyntaxFault, expect_mark, expect_open, is_next, refused, take_name};
+use verilog_words::{SyntaxFault, expect_mark, expect_open, is_next, refused, take_name};
 
 /// The terminals of a primitive so far.
 #[derive(Drop)]

@@ -6,8 +6,8 @@ use Rattle.std.specs.Str.{bytes_eq}
 use Rattle.texts.specs.Lookups.{in_table}
 use Rattle.verilog_words.specs.declared.words.Word.{Word}
 use Rattle.verilog_words.specs.declared.words.Word.TheVariants as word
-use Rattle.verilog_words.specs.declared.gates.PrimKind.{PrimKind}
-use Rattle.verilog_words.specs.declared.gates.PrimKind.TheVariants as gate
+use Rattle.netlist_types.specs.declared.gates.PrimKind.{PrimKind}
+use Rattle.netlist_types.specs.declared.gates.PrimKind.TheVariants as gate
 
 -- words of modules, ports, nets and assignments
 unfoldable pub module_word : List ℕ → Option Word

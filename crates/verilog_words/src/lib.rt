@@ -8,7 +8,6 @@
 mod blanks;
 mod constants;
 mod faults;
-mod gates;
 mod marks;
 mod names;
 mod numbers;
@@ -17,10 +16,10 @@ mod words;
 pub use blanks::skip_blanks;
 pub use constants::take_constant;
 pub use faults::SyntaxFault;
-pub use gates::PrimKind;
 pub use marks::{bump, expect_mark, expect_open, is_next, opens_list, refused, try_pass};
 pub use names::{
     begins_name, expect_word, has_word, identifier, next_word, skip_identifier, take_name, try_word,
 };
+pub use netlist_types::PrimKind;
 pub use numbers::{begins_number, take_number};
 pub use words::{Word, word_of};

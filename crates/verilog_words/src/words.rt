@@ -3,7 +3,7 @@ ghost use Rattle.std.specs.Prelude.{◌≡◌};
 ghost use Rattle.std.specs.Str.{bytes_eq};
 ghost use Rattle.verilog_words.specs.Words as spec;
 
-use crate::gates::PrimKind;
+use netlist_types::PrimKind;
 
 /// A word of the subset.
 #[derive(Clone, Copy, Debug, PartialEq, Eq)]

@@ -1,6 +1,6 @@
 use Rattle.std.proofs.Common.{ap, sym, ◌∙◌}
 use Rattle.std.proofs.lemmas.Option.{get_or_from_slice_get}
-use Rattle.verilog_net.specs.declared.sources.Module.{Module}
+use Rattle.netlist_types.specs.declared.sources.Module.{Module}
 use Rattle.link_defs.specs.Circuits.{bit_nets, clock_bits, data_bits, output_bits}
 use Rattle.link_items.proofs.Pinned.{port_bits, lawful_at}
 use Rattle.link_circuit.proofs.Circuited.{circuit_made}

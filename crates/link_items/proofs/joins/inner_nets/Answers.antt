@@ -2,7 +2,7 @@ use Rattle.std.proofs.Common.{◌≤◌, ℕ, List, length, ap, sym, subst, ◌�
 use Rattle.std.specs.Prelude.{fold}
 use Rattle.std.proofs.lemmas.List.{take_all}
 use Rattle.net_model.specs.Netlist.{AllBelow}
-use Rattle.verilog_net.specs.declared.sources.Port.{Port}
+use Rattle.netlist_types.specs.declared.sources.Port.{Port}
 use Rattle.link_defs.specs.Hierarchy.{wires_of}
 use Rattle.link_defs.specs.Flatten.{numbers, join_bits, inner_nets}
 use Rattle.link_items.proofs.Along.{length_numbers}

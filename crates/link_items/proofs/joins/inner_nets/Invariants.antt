@@ -1,6 +1,6 @@
 use Rattle.std.proofs.Common.{◌≡◌, ℕ, List, length, take}
 use Rattle.std.specs.Prelude.{fold}
-use Rattle.verilog_net.specs.declared.sources.Port.{Port}
+use Rattle.netlist_types.specs.declared.sources.Port.{Port}
 use Rattle.link_defs.specs.Hierarchy.{wires_of}
 use Rattle.link_defs.specs.Flatten.{numbers, join_bits}
 use Rattle.link_items.proofs.joins.inner_nets.Given as goal

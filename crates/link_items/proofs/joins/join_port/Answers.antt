@@ -1,6 +1,6 @@
 use Rattle.std.proofs.Common.{List, All, length, subst, sym}
-use Rattle.verilog_net.specs.declared.sources.Wire.{Wire}
-use Rattle.verilog_net.specs.Lawful.{IsWireBelow}
+use Rattle.netlist_types.specs.declared.sources.Wire.{Wire}
+use Rattle.netlist_types.specs.Lawful.{IsWireBelow}
 use Rattle.link_items.proofs.Pinned.{wires_below}
 use Rattle.link_items.proofs.joins.join_port.Goals as goal
 

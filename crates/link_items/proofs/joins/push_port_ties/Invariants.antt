@@ -1,6 +1,6 @@
 use Rattle.std.proofs.Common.{◌≡◌, ◌++◌, take}
 use Rattle.std.specs.Prelude.{flat_map}
-use Rattle.verilog_net.specs.declared.sources.Port.{Port}
+use Rattle.netlist_types.specs.declared.sources.Port.{Port}
 use Rattle.link_defs.specs.Hierarchy.{wires_of}
 use Rattle.link_defs.specs.Parts.{bit_ties}
 use Rattle.link_items.proofs.joins.push_port_ties.Given as goal

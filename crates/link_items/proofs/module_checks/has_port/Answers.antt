@@ -2,7 +2,7 @@ use Rattle.std.proofs.Common.{rules, tests, ◌∙◌}
 use Rattle.std.proofs.lemmas.Iterator.Search.{any_from_yields_List}
 use Rattle.std.proofs.lemmas.Iterator.{YieldsList-from_slice}
 use Rattle.std.specs.Str.{bytes_eq}
-use Rattle.verilog_net.specs.declared.sources.Port.{Port}
+use Rattle.netlist_types.specs.declared.sources.Port.{Port}
 use Rattle.link_items.proofs.Searching.{is_among_by}
 use Rattle.link_items.proofs.module_checks.has_port.Goals as goal
 

@@ -1,5 +1,5 @@
 use Rattle.std.proofs.Common.{List, length, ap, arith}
-use Rattle.verilog_net.specs.declared.sources.Wire.{Wire}
+use Rattle.netlist_types.specs.declared.sources.Wire.{Wire}
 use Rattle.link_items.proofs.Pinned.{narrow}
 use Rattle.link_items.proofs.ties.push_pin_tie.Goals as goal
 

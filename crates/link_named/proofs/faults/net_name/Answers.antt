@@ -1,7 +1,7 @@
 use Rattle.std.proofs.Common.{◌≡◌, ℕ, List, length, ap, subst, sym, ◌∙◌, arith}
 use Rattle.std.specs.Prelude.{Option, Some, Contains, ◌==◌, IsSome, flat_map, map, slice_get}
 use Rattle.std.specs.List.{position}
-use Rattle.verilog_net.specs.declared.sources.Module.{Module}
+use Rattle.netlist_types.specs.declared.sources.Module.{Module}
 use Rattle.link_defs.specs.Flatten.{scope_names}
 use Rattle.link_items.specs.declared.made.Instance.{Instance}
 use Rattle.link_items.specs.Items.{scope_of}

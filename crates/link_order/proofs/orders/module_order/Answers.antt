@@ -1,6 +1,6 @@
 use Rattle.std.proofs.Common.{List, ℕ, subst, sym, ◌∙◌, arith}
 use Rattle.std.proofs.lemmas.List.{length-map}
-use Rattle.verilog_net.specs.declared.sources.Module.{Module}
+use Rattle.netlist_types.specs.declared.sources.Module.{Module}
 use Rattle.graph_order.specs.Needs.{IsOnCycle}
 use Rattle.graph_order.proofs.Acyclic.{cycle_within}
 use Rattle.link_defs.specs.Hierarchy.{module_needs}

@@ -1,6 +1,6 @@
 use Rattle.std.proofs.Common.{◌≡◌, take, not}
 use Rattle.std.specs.Prelude.{flat_map}
-use Rattle.verilog_net.specs.declared.sources.Port.{Port}
+use Rattle.netlist_types.specs.declared.sources.Port.{Port}
 use Rattle.link_defs.specs.Circuits.{is_input}
 use Rattle.link_tops.specs.Ports.{bit_names_if}
 use Rattle.link_tops.proofs.ports.output_names.Given as goal

@@ -1,5 +1,5 @@
 use Rattle.std.proofs.Common.{List, length, ap, arith}
-use Rattle.verilog_net.specs.declared.sources.Module.{Module}
+use Rattle.netlist_types.specs.declared.sources.Module.{Module}
 use Rattle.link_tops.proofs.Topping.{top_at, places_len, unused_are}
 use Rattle.link_tops.proofs.tops.one_top.Goals as goal
 

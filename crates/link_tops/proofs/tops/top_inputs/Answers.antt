@@ -1,6 +1,6 @@
 use Rattle.std.proofs.Common.{◌≡◌, ap, sym, ◌∙◌}
 use Rattle.std.proofs.lemmas.Option.{slice_get_within}
-use Rattle.verilog_net.specs.declared.sources.Module.{Module}
+use Rattle.netlist_types.specs.declared.sources.Module.{Module}
 use Rattle.link_defs.specs.Circuits.{input_bits}
 use Rattle.link_defs.specs.Links.{ports_of}
 use Rattle.link_items.proofs.Pinned.{port_bits, lawful_at}

@@ -1,7 +1,7 @@
 use Rattle.std.proofs.Common.{List, subst, arith}
 use Rattle.std.specs.Prelude.{filter}
 use Rattle.std.proofs.lemmas.List.{take_all}
-use Rattle.verilog_net.specs.declared.sources.Module.{Module}
+use Rattle.netlist_types.specs.declared.sources.Module.{Module}
 use Rattle.link_tops.specs.Tops.{AreAt, is_unused}
 use Rattle.link_tops.proofs.Topping.{places_more}
 use Rattle.link_tops.proofs.tops.unused_places.Goals as goal

@@ -1,6 +1,6 @@
 use Rattle.std.proofs.Common.{subst}
 use Rattle.std.proofs.lemmas.Result.{err_from_is_err_and}
-use Rattle.verilog_net.specs.declared.sources.Module.{Module}
+use Rattle.netlist_types.specs.declared.sources.Module.{Module}
 use Rattle.link_defs.specs.Circuits.{circuit_of}
 use Rattle.link_defs.specs.Flatten.{flat_of}
 use Rattle.link_items.specs.Items.{module_at}

@@ -1,7 +1,7 @@
 use Rattle.std.proofs.Common.{◌∙◌, false, get_or, sym, arith}
 use Rattle.std.proofs.lemmas.List.{get_or_default}
 use Rattle.std.proofs.lemmas.Result.{err_from_is_err_and}
-use Rattle.verilog_net.specs.declared.sources.Wire.TheVariants as wire
+use Rattle.netlist_types.specs.declared.sources.Wire.TheVariants as wire
 use Rattle.verilog_net.specs.Items.{add_copy}
 use Rattle.verilog_scope.proofs.FailLemmas.{fails_through}
 use Rattle.verilog_scope.proofs.FoldLemmas.{both_more, both_bad, both_end}

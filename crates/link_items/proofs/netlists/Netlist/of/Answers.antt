@@ -1,6 +1,6 @@
 use Rattle.std.proofs.Common.{List, [], map, ap, ◌∙◌}
 use Rattle.texts.specs.Names.{with_names}
-use Rattle.verilog_net.specs.declared.sources.Module.{Module}
+use Rattle.netlist_types.specs.declared.sources.Module.{Module}
 use Rattle.cell_types.specs.declared.libraries.Cell.{Cell}
 use Rattle.link_items.specs.Tables.{module_names, cell_names}
 use Rattle.link_items.proofs.Naming.{table_all}

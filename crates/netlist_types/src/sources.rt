@@ -1,0 +1,70 @@
+//! Netlists as callers see them.
+
+use crate::gates::PrimKind;
+use sdcv_base::{Name, Seq};
+
+/// The direction of a port.
+#[derive(Clone, Copy, Debug, PartialEq, Eq)]
+pub enum Dir {
+    Input,
+    Output,
+}
+
+/// What a pin or an assignment reads: a constant, or a net of the module by its number.
+#[derive(Clone, Copy, Debug, PartialEq, Eq)]
+pub enum Wire {
+    Const(bool),
+    Net(usize),
+}
+
+/// A port and the numbers of its nets, the most significant bit first. A `bus` was declared with a range.
+#[derive(Debug, Drop)]
+pub struct Port {
+    pub name: Name,
+    pub dir: Dir,
+    pub bits: Seq<usize>,
+    pub bus: bool,
+}
+
+/// The connection of a pin, the most significant bit first. An open one has no wires.
+#[derive(Debug, Drop)]
+pub struct Conn {
+    pub pin: Name,
+    pub wires: Option<Seq<Wire>>,
+}
+
+/// What stands in a module: an instance of a cell or module, a gate primitive, or one bit of an assignment.
+#[derive(Debug, Drop)]
+pub enum Item {
+    Inst {
+        cell: Name,
+        name: Name,
+        conns: Seq<Conn>,
+    },
+    Prim {
+        kind: PrimKind,
+        name: Option<Name>,
+        outs: Seq<usize>,
+        ins: Seq<Wire>,
+    },
+    Copy {
+        to: usize,
+        from: Wire,
+    },
+}
+
+/// A module. Its nets are single bits, and the place of a name in `nets` is the number of the net: they are numbered
+/// in the order in which their names first stand in the module's text.
+#[derive(Debug, Drop)]
+pub struct Module {
+    pub name: Name,
+    pub ports: Seq<Port>,
+    pub nets: Seq<Name>,
+    pub items: Seq<Item>,
+}
+
+/// The modules of a text in their order.
+#[derive(Debug, Drop)]
+pub struct Source {
+    pub modules: Seq<Module>,
+}
