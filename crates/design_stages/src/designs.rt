@@ -2,7 +2,7 @@
 use cell_types::Library;
 use exception_expand::Selected;
 use net_link::Linked;
-use sdc_text::Script;
+use script_types::Script;
 use sdcv_base::{Seq, Setting};
 use verilog_net::Source;
 

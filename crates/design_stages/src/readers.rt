@@ -10,7 +10,8 @@ use crate::refusals::Refusal;
 use cell_lib::read_lib;
 use cell_types::Library;
 use fault_lines::{liberty_line, sdc_line, verilog_line};
-use sdc_text::{Script, read_sdc};
+use script_types::Script;
+use sdc_text::read_sdc;
 use std::alloc::Global;
 use verilog_net::{Source, read_verilog};
 

@@ -12,7 +12,7 @@ use crate::reads::{Answer, LONGEST, read};
 use cell_types::{Library, builtin};
 use design_stages::{cells as cells_of, constraints as constraints_of, netlist as netlist_of};
 use fault_lines::{Origin, too_long_line};
-use sdc_text::Script;
+use script_types::Script;
 use sdcv_base::Host;
 use std::alloc::Global;
 use verilog_net::Source;
