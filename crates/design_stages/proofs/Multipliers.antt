@@ -21,10 +21,10 @@ use Rattle.sdcv_base.specs.Steps.{after_all}
 use Rattle.sdc_values.specs.Lists.{objects_of}
 use Rattle.sdc_values.specs.Variables.{with_value}
 use Rattle.sdc_values.specs.Lines.{said_words, command_name}
-use Rattle.sdc_text.specs.declared.scripts.What.{What}
-use Rattle.sdc_text.specs.declared.scripts.What.TheVariants as what
-use Rattle.sdc_text.specs.declared.scripts.Command.{Command}
-use Rattle.sdc_text.specs.declared.scripts.Script.{Script}
+use Rattle.script_types.specs.declared.scripts.What.{What}
+use Rattle.script_types.specs.declared.scripts.What.TheVariants as what
+use Rattle.script_types.specs.declared.scripts.Command.{Command}
+use Rattle.script_types.specs.declared.scripts.Script.{Script}
 use Rattle.sdc_text.specs.declared.heads.Head.{Head}
 use Rattle.sdc_text.specs.declared.kinds.CommandKind.{CommandKind}
 use Rattle.sdc_text.specs.declared.kinds.CommandKind.TheVariants as kind

@@ -18,7 +18,7 @@ use Rattle.link_defs.specs.Hierarchy.{tops}
 use Rattle.link_defs.specs.Links.{IsLinked, ports_of}
 use Rattle.link_defs.specs.Usable.{IsUsable}
 use Rattle.link_tops.specs.Tops.{IsTopCause}
-use Rattle.sdc_text.specs.declared.scripts.Script.{Script}
+use Rattle.script_types.specs.declared.scripts.Script.{Script}
 use Rattle.sdc_settings.specs.declared.values.Settings.{Settings}
 use Rattle.sdc_settings.specs.declared.faults.ExpandFault.{ExpandFault}
 use Rattle.sdc_settings.specs.Settings.{AreSettings}

@@ -4,7 +4,7 @@ use Rattle.netlist_types.specs.declared.sources.Source.{Source}
 use Rattle.verilog_net.specs.Sources.{source_of}
 use Rattle.cell_types.specs.declared.libraries.Library.{Library}
 use Rattle.cell_lib.specs.Texts.{Reads as ReadsLibrary}
-use Rattle.sdc_text.specs.declared.scripts.Script.{Script}
+use Rattle.script_types.specs.declared.scripts.Script.{Script}
 use Rattle.sdc_text.specs.Scripts.{script_of}
 use Rattle.fault_lines.specs.Sources.{verilog_line, liberty_line, sdc_line}
 use Rattle.design_stages.specs.Stages.{Found, Staged}

@@ -15,8 +15,8 @@ use exception_expand::{Selected, expand};
 use fault_lines::{expand_line, link_line};
 use net_link::{LinkOptions, Linked, PortName, link, top_inputs};
 use netlist_types::Source;
+use script_types::Script;
 use sdc_settings::{Settings, settings};
-use sdc_text::Script;
 use sdcv_base::{Seq, Setting};
 use std::alloc::Global;
 

@@ -3,7 +3,7 @@ use cell_types::Library;
 use exception_expand::Selected;
 use net_link::Linked;
 use netlist_types::Source;
-use sdc_text::Script;
+use script_types::Script;
 use sdcv_base::{Seq, Setting};
 
 /// Texts that were read: a netlist, its cells and its constraints.

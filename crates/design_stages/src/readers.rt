@@ -11,7 +11,8 @@ use cell_lib::read_lib;
 use cell_types::Library;
 use fault_lines::{liberty_line, sdc_line, verilog_line};
 use netlist_types::Source;
-use sdc_text::{Script, read_sdc};
+use script_types::Script;
+use sdc_text::read_sdc;
 use std::alloc::Global;
 use verilog_net::read_verilog;
 

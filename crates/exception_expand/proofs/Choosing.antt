@@ -4,8 +4,8 @@ use Rattle.link_defs.specs.declared.names.Linked.{Linked}
 use Rattle.net_model.specs.declared.claims.PinRef.{PinRef}
 use Rattle.net_paths.specs.Those.{AreThose}
 use Rattle.net_paths.proofs.Sifting.{those_within}
-use Rattle.sdc_text.specs.declared.scripts.Exception.{Exception}
-use Rattle.sdc_text.specs.declared.scripts.Script.{Script}
+use Rattle.script_types.specs.declared.scripts.Exception.{Exception}
+use Rattle.script_types.specs.declared.scripts.Script.{Script}
 use Rattle.exception_expand.specs.declared.lists.Lists.{Lists}
 use Rattle.exception_expand.specs.declared.pairs.Pair.{Pair}
 use Rattle.exception_expand.specs.Points.{all_starts, all_ends, IsFrom, IsTo}

@@ -19,15 +19,15 @@ use Rattle.link_defs.specs.declared.names.PinRole.TheVariants.{Clock as ClockRol
 use Rattle.link_defs.specs.declared.names.PortName.{PortName}
 use Rattle.link_defs.specs.declared.names.NetName.{NetName}
 use Rattle.link_defs.specs.Usable.{IsUsable, IsCellOf, IsRoleOf}
-use Rattle.sdc_values.specs.declared.values.Class.{Class}
-use Rattle.sdc_values.specs.declared.values.Class.TheVariants as class
-use Rattle.sdc_values.specs.declared.values.Query.{Query}
-use Rattle.sdc_values.specs.declared.values.Object.{Object}
-use Rattle.sdc_values.specs.declared.values.Object.TheVariants.{Named, AllInputs, AllOutputs, AllRegisters, AllClocks}
-use Rattle.sdc_text.specs.declared.scripts.What.{What}
-use Rattle.sdc_text.specs.declared.scripts.What.TheVariants.{Clock as ClockCommand, Case, Claiming, Hold, Aside, Passed}
-use Rattle.sdc_text.specs.declared.scripts.Command.{Command}
-use Rattle.sdc_text.specs.declared.scripts.Script.{Script}
+use Rattle.script_types.specs.declared.objects.Class.{Class}
+use Rattle.script_types.specs.declared.objects.Class.TheVariants as class
+use Rattle.script_types.specs.declared.objects.Query.{Query}
+use Rattle.script_types.specs.declared.objects.Object.{Object}
+use Rattle.script_types.specs.declared.objects.Object.TheVariants.{Named, AllInputs, AllOutputs, AllRegisters, AllClocks}
+use Rattle.script_types.specs.declared.scripts.What.{What}
+use Rattle.script_types.specs.declared.scripts.What.TheVariants.{Clock as ClockCommand, Case, Claiming, Hold, Aside, Passed}
+use Rattle.script_types.specs.declared.scripts.Command.{Command}
+use Rattle.script_types.specs.declared.scripts.Script.{Script}
 use Rattle.sdc_objects.specs.declared.things.Thing.{Thing}
 use Rattle.sdc_objects.specs.declared.things.Thing.TheVariants as thing
 use Rattle.sdc_objects.specs.declared.things.Place.TheVariants.{Through}

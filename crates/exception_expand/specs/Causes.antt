@@ -5,10 +5,10 @@ use Rattle.sdcv_base.specs.declared.limits.LimitName.TheVariants as limit
 use Rattle.net_model.specs.declared.claims.Claim.{Claim}
 use Rattle.net_paths.specs.Those.{AreThose}
 use Rattle.link_defs.specs.declared.names.Linked.{Linked}
-use Rattle.sdc_text.specs.declared.scripts.Exception.{Exception}
-use Rattle.sdc_text.specs.declared.scripts.What.TheVariants.{Claiming}
-use Rattle.sdc_text.specs.declared.scripts.Command.{Command}
-use Rattle.sdc_text.specs.declared.scripts.Script.{Script}
+use Rattle.script_types.specs.declared.scripts.Exception.{Exception}
+use Rattle.script_types.specs.declared.scripts.What.TheVariants.{Claiming}
+use Rattle.script_types.specs.declared.scripts.Command.{Command}
+use Rattle.script_types.specs.declared.scripts.Script.{Script}
 use Rattle.sdc_settings.specs.declared.faults.ExpandFault.{ExpandFault}
 use Rattle.sdc_settings.specs.declared.faults.ExpandFault.TheVariants.{Limit, Memory}
 use Rattle.exception_expand.specs.Selections.{Chosen, IsSelected, script_pairs, claim_of}

@@ -5,8 +5,8 @@ use Rattle.sdcv_base.specs.declared.limits.LimitName.TheVariants as limit
 use Rattle.net_paths.specs.Those.{AreThose}
 use Rattle.net_model.specs.declared.netlist.Design.{Design}
 use Rattle.link_defs.specs.declared.names.Linked.{Linked}
-use Rattle.sdc_text.specs.declared.scripts.Exception.{Exception}
-use Rattle.sdc_text.specs.declared.scripts.Script.{Script}
+use Rattle.script_types.specs.declared.scripts.Exception.{Exception}
+use Rattle.script_types.specs.declared.scripts.Script.{Script}
 use Rattle.sdc_settings.specs.declared.faults.ExpandFault.{ExpandFault}
 use Rattle.sdc_settings.specs.declared.faults.ExpandFault.TheVariants.{Limit, Memory}
 use Rattle.exception_expand.specs.declared.choices.Choice.{Choice}

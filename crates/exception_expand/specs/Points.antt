@@ -7,8 +7,8 @@ use Rattle.net_model.specs.declared.claims.Start.TheVariants.{Input as InputStar
 use Rattle.net_model.specs.declared.claims.End.{End}
 use Rattle.net_model.specs.declared.claims.End.TheVariants.{Output as OutputEnd}
 use Rattle.link_defs.specs.declared.names.Linked.{Linked}
-use Rattle.sdc_values.specs.declared.values.Object.{Object}
-use Rattle.sdc_text.specs.declared.scripts.Script.{Script}
+use Rattle.script_types.specs.declared.objects.Object.{Object}
+use Rattle.script_types.specs.declared.scripts.Script.{Script}
 use Rattle.sdc_objects.specs.Places.{each_at, where_true}
 use Rattle.sdc_objects.specs.Standing.{all_reg_starts, all_reg_ends, starts_of, ends_of}
 

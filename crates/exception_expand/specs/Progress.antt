@@ -5,10 +5,10 @@ use Rattle.net_paths.specs.Those.{AreThose}
 use Rattle.link_defs.specs.declared.names.Linked.{Linked}
 use Rattle.sdc_settings.specs.declared.faults.ExpandFault.{ExpandFault}
 use Rattle.sdc_settings.specs.declared.faults.ExpandFault.TheVariants.{Memory}
-use Rattle.sdc_text.specs.declared.scripts.What.{What}
-use Rattle.sdc_text.specs.declared.scripts.What.TheVariants.{Claiming}
-use Rattle.sdc_text.specs.declared.scripts.Command.{Command}
-use Rattle.sdc_text.specs.declared.scripts.Script.{Script}
+use Rattle.script_types.specs.declared.scripts.What.{What}
+use Rattle.script_types.specs.declared.scripts.What.TheVariants.{Claiming}
+use Rattle.script_types.specs.declared.scripts.Command.{Command}
+use Rattle.script_types.specs.declared.scripts.Script.{Script}
 use Rattle.sdc_objects.specs.Places.{each_at}
 use Rattle.sdc_objects.specs.Tables.{IsTablesOf}
 use Rattle.exception_expand.specs.declared.pairs.Pair.{Pair}

@@ -8,11 +8,11 @@ use Rattle.net_model.specs.declared.claims.PinRef.{PinRef}
 use Rattle.net_model.specs.declared.claims.Claim.{Claim}
 use Rattle.net_paths.specs.Those.{AreThose}
 use Rattle.link_defs.specs.declared.names.Linked.{Linked}
-use Rattle.sdc_text.specs.declared.scripts.Exception.{Exception}
-use Rattle.sdc_text.specs.declared.scripts.What.{What}
-use Rattle.sdc_text.specs.declared.scripts.What.TheVariants.{Claiming, Hold, Aside}
-use Rattle.sdc_text.specs.declared.scripts.Command.{Command}
-use Rattle.sdc_text.specs.declared.scripts.Script.{Script}
+use Rattle.script_types.specs.declared.scripts.Exception.{Exception}
+use Rattle.script_types.specs.declared.scripts.What.{What}
+use Rattle.script_types.specs.declared.scripts.What.TheVariants.{Claiming, Hold, Aside}
+use Rattle.script_types.specs.declared.scripts.Command.{Command}
+use Rattle.script_types.specs.declared.scripts.Script.{Script}
 use Rattle.sdc_objects.specs.declared.warnings.Warning.{Warning}
 use Rattle.sdc_objects.specs.declared.things.Place.TheVariants.{From, To, Through}
 use Rattle.sdc_objects.specs.Places.{each_at}

@@ -10,9 +10,9 @@ use crate::pairs::{Pair, connected};
 use crate::points::Points;
 use net_model::{MOST_SETS, PinSet};
 use net_paths::Search;
+use script_types::Exception;
 use sdc_objects::{Scope, Warning};
 use sdc_settings::ExpandFault;
-use sdc_text::Exception;
 use sdcv_base::{LimitName, Seq};
 use std::alloc::Global;
 

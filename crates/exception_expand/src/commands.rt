@@ -7,7 +7,7 @@ ghost use Rattle.exception_expand.specs.Causes.{IsExpandCause};
 ghost use Rattle.exception_expand.specs.Pairs.{IsPairIn, claim_with};
 ghost use Rattle.exception_expand.specs.Selections as spec;
 ghost use Rattle.exception_expand.specs.declared.selections.Listing.TheVariants as listings;
-ghost use Rattle.sdc_text.specs.declared.scripts.What.TheVariants as whats;
+ghost use Rattle.script_types.specs.declared.scripts.What.TheVariants as whats;
 
 use crate::choices::{Choice, choose};
 use crate::claims::{Terms, push_claims};
@@ -17,8 +17,8 @@ use crate::selections::{CommandLine, Listing, Selected};
 use crate::tasks::Task;
 use net_model::Design;
 use net_paths::Search;
+use script_types::{Command, Exception, What};
 use sdc_settings::ExpandFault;
-use sdc_text::{Command, Exception, What};
 use sdcv_base::{Kind, Seq};
 use std::alloc::{AllocError, Global};
 

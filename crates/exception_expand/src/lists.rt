@@ -9,8 +9,8 @@ use crate::marks::wanted;
 use crate::points::Points;
 use crate::sets::pin_sets;
 use net_model::{End, PinSet, Start};
+use script_types::Exception;
 use sdc_objects::{Scope, Warning};
-use sdc_text::Exception;
 use sdcv_base::Seq;
 use std::alloc::{AllocError, Global};
 

@@ -8,8 +8,8 @@ ghost use Rattle.exception_expand.specs.Points as spec;
 
 use crate::points::Listed;
 use net_model::Design;
+use script_types::Object;
 use sdc_objects::{Scope, Warning, meant};
-use sdc_values::Object;
 use sdcv_base::Seq;
 use std::alloc::{AllocError, Global};
 

@@ -11,9 +11,9 @@ use crate::points::Points;
 use crate::selections::Selected;
 use crate::tasks::Task;
 use link_defs::Linked;
+use script_types::Script;
 use sdc_objects::{Scope, Tables};
 use sdc_settings::ExpandFault;
-use sdc_text::Script;
 use sdcv_base::LimitName;
 use std::alloc::Global;
 

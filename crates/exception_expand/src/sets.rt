@@ -5,8 +5,8 @@ ghost use Rattle.sdc_objects.specs.Standing.{pins_of, through_column, warnings a
 ghost use Rattle.sdc_objects.specs.declared.things.Place.TheVariants as places;
 
 use net_model::{PinRef, PinSet};
+use script_types::Object;
 use sdc_objects::{Scope, Warning, meant};
-use sdc_values::Object;
 use sdcv_base::Seq;
 use std::alloc::{AllocError, Global};
 

@@ -12,7 +12,7 @@ use Rattle.texts.proofs.NameLemmas.{is_among-with_names}
 use Rattle.name_index.specs.Indexes.{IsExact}
 use Rattle.link_defs.specs.declared.names.Names.{Names}
 use Rattle.link_defs.specs.declared.names.PortName.{PortName}
-use Rattle.sdc_values.specs.declared.values.Query.{Query}
+use Rattle.script_types.specs.declared.objects.Query.{Query}
 use Rattle.sdc_settings.specs.Inputs.{names_bit, names_bus}
 use Rattle.sdc_objects.specs.Places.{each_at, option_list}
 use Rattle.sdc_objects.specs.Tables.{bit_names, port_names}

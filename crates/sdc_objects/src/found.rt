@@ -1,7 +1,7 @@
 //! What the objects of a script name.
 ghost use Rattle.std.specs.Prelude.{◌≡◌, ◌++◌, ◌∷◌, [], ℕ, IfOk, OnOk, map};
 ghost use Rattle.std.specs.Option.{option_copied};
-ghost use Rattle.sdc_values.specs.declared.values.Class.TheVariants as class;
+ghost use Rattle.script_types.specs.declared.objects.Class.TheVariants as class;
 ghost use Rattle.link_defs.specs.declared.names.CellName.{CellName as CellRecord};
 ghost use Rattle.link_defs.specs.declared.names.PortName.{PortName as PortRecord};
 ghost use Rattle.sdc_objects.specs.Places.{each_at};
@@ -14,9 +14,8 @@ use crate::things::{Place, Side, Thing, add_where};
 use glob::matches;
 use link_defs::{CellName, Names, NetName, PortName};
 use name_index::{Look, is_exact};
+use script_types::{Class, Command, Object, Query, What};
 use sdc_settings::names_bit;
-use sdc_text::{Command, What};
-use sdc_values::{Class, Object, Query};
 use sdcv_base::{Name, Seq};
 use std::alloc::{AllocError, Global};
 

@@ -10,7 +10,7 @@ use crate::scopes::Scope;
 use crate::things::Thing;
 use crate::warnings::{Warning, warn};
 use link_defs::Linked;
-use sdc_values::Object;
+use script_types::Object;
 use sdcv_base::Seq;
 use std::alloc::{AllocError, Global};
 

@@ -9,7 +9,7 @@ use crate::things::{Thing, add_where};
 use glob::matches;
 use link_defs::CellName;
 use name_index::Owner;
-use sdc_values::Query;
+use script_types::Query;
 use sdcv_base::{Name, Seq};
 use std::alloc::{AllocError, Global};
 

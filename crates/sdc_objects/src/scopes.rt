@@ -1,7 +1,7 @@
 //! Where the objects of a script are looked up.
 use crate::tables::Tables;
 use link_defs::Linked;
-use sdc_text::Script;
+use script_types::Script;
 
 /// A linked design, tables of its names, and the script, whose clocks have names too.
 #[derive(Clone, Copy)]

@@ -4,8 +4,8 @@ ghost use Rattle.sdc_settings.specs.Inputs.{object_text as text_of};
 ghost use Rattle.sdc_objects.specs.Standing as spec;
 
 use crate::things::Thing;
+use script_types::Object;
 use sdc_settings::object_text;
-use sdc_values::Object;
 use sdcv_base::{Name, Seq};
 use std::alloc::{AllocError, Global};
 

@@ -11,8 +11,8 @@ use Rattle.std.specs.List.{flat_map}
 use Rattle.std.proofs.lemmas.List.Elements.{All-append}
 use Rattle.link_defs.specs.declared.names.PortName.{PortName}
 use Rattle.sdcv_base.specs.declared.settings.Setting.{Setting}
-use Rattle.sdc_values.specs.declared.values.Object.{Object}
-use Rattle.sdc_values.specs.declared.values.Object.TheVariants.{Named, AllInputs, AllOutputs, AllRegisters, AllClocks}
+use Rattle.script_types.specs.declared.objects.Object.{Object}
+use Rattle.script_types.specs.declared.objects.Object.TheVariants.{Named, AllInputs, AllOutputs, AllRegisters, AllClocks}
 use Rattle.sdc_settings.specs.Inputs.{name_of, name_at, named_places, names_input, port_places}
 use Rattle.sdc_settings.specs.Settings.{setting_names, case_places, data_places, is_clock}
 use Rattle.sdc_settings.proofs.Ranges.{below_filter}

@@ -4,7 +4,7 @@ use Rattle.std.specs.Prelude.{Some, slice_get}
 use Rattle.std.specs.List.{filter}
 use Rattle.std.proofs.Math.Seq.{drop-cons}
 use Rattle.std.proofs.lemmas.Option.{get_or_from_slice_get, slice_get_within}
-use Rattle.sdc_text.specs.declared.scripts.Command.{Command}
+use Rattle.script_types.specs.declared.scripts.Command.{Command}
 use Rattle.sdc_settings.specs.Settings.{is_sourced}
 
 -- the commands from a place on

@@ -2,9 +2,9 @@
 use Rattle.std.specs.Prelude.{◌≡◌, ◌≢◌, ℕ, ◌<◌, List, [], ◌∷◌, take, Contains, Option, Some, slice_get}
 use Rattle.link_defs.specs.declared.names.PortName.{PortName}
 use Rattle.sdcv_base.specs.declared.settings.Setting.{Setting}
-use Rattle.sdc_values.specs.declared.values.Object.{Object}
-use Rattle.sdc_text.specs.declared.scripts.Command.{Command}
-use Rattle.sdc_text.specs.declared.scripts.Script.{Script}
+use Rattle.script_types.specs.declared.objects.Object.{Object}
+use Rattle.script_types.specs.declared.scripts.Command.{Command}
+use Rattle.script_types.specs.declared.scripts.Script.{Script}
 use Rattle.sdc_settings.specs.declared.faults.ExpandFault.{ExpandFault}
 use Rattle.sdc_settings.specs.declared.faults.ExpandFault.TheVariants.{TwoClocks, ClockNotPort, CaseTwice, CaseOnReset, CaseOnPin, Limit, Memory}
 use Rattle.sdc_settings.specs.declared.cases.Given.{Given}

@@ -3,11 +3,11 @@ use Rattle.std.specs.Prelude.{ℕ, Bool, true, false, ◌||◌, List, [], length
 use Rattle.std.specs.List.{range_with_len}
 use Rattle.glob.specs.Match.{matches}
 use Rattle.link_defs.specs.declared.names.PortName.{PortName}
-use Rattle.sdc_values.specs.declared.values.Class.{Class}
-use Rattle.sdc_values.specs.declared.values.Class.TheVariants as class
-use Rattle.sdc_values.specs.declared.values.Query.{Query}
-use Rattle.sdc_values.specs.declared.values.Object.{Object}
-use Rattle.sdc_values.specs.declared.values.Object.TheVariants.{Named, AllInputs, AllOutputs, AllRegisters, AllClocks}
+use Rattle.script_types.specs.declared.objects.Class.{Class}
+use Rattle.script_types.specs.declared.objects.Class.TheVariants as class
+use Rattle.script_types.specs.declared.objects.Query.{Query}
+use Rattle.script_types.specs.declared.objects.Object.{Object}
+use Rattle.script_types.specs.declared.objects.Object.TheVariants.{Named, AllInputs, AllOutputs, AllRegisters, AllClocks}
 
 -- the classes of patterns that may name ports
 abbrev pub is_port_class : Class → Bool

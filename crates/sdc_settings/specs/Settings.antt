@@ -4,12 +4,12 @@ use Rattle.std.specs.Str.{bytes_eq}
 use Rattle.texts.specs.Names.{are_distinct}
 use Rattle.link_defs.specs.declared.names.PortName.{PortName}
 use Rattle.sdcv_base.specs.declared.settings.Setting.{Setting}
-use Rattle.sdc_values.specs.declared.values.Object.{Object}
-use Rattle.sdc_values.specs.declared.values.Object.TheVariants.{AllInputs}
-use Rattle.sdc_text.specs.declared.scripts.What.{What}
-use Rattle.sdc_text.specs.declared.scripts.What.TheVariants.{Clock, Case}
-use Rattle.sdc_text.specs.declared.scripts.Command.{Command}
-use Rattle.sdc_text.specs.declared.scripts.Script.{Script}
+use Rattle.script_types.specs.declared.objects.Object.{Object}
+use Rattle.script_types.specs.declared.objects.Object.TheVariants.{AllInputs}
+use Rattle.script_types.specs.declared.scripts.What.{What}
+use Rattle.script_types.specs.declared.scripts.What.TheVariants.{Clock, Case}
+use Rattle.script_types.specs.declared.scripts.Command.{Command}
+use Rattle.script_types.specs.declared.scripts.Script.{Script}
 use Rattle.sdc_settings.specs.declared.values.Settings.{Settings}
 use Rattle.sdc_settings.specs.declared.cases.Given.{Given}
 use Rattle.sdc_settings.specs.Inputs.{is_port_object, port_places, places, name_at}

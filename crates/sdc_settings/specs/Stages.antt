@@ -4,7 +4,7 @@ use Rattle.std.specs.Prelude.{slice_index_or}
 use Rattle.texts.specs.Names.{are_distinct, with_name}
 use Rattle.link_defs.specs.declared.names.PortName.{PortName}
 use Rattle.sdcv_base.specs.declared.settings.Setting.{Setting}
-use Rattle.sdc_text.specs.declared.scripts.Command.{Command}
+use Rattle.script_types.specs.declared.scripts.Command.{Command}
 use Rattle.sdc_settings.specs.declared.cases.Given.{Given}
 use Rattle.sdc_settings.specs.declared.fixed.Fixed.{Fixed}
 use Rattle.sdc_settings.specs.Inputs.{name_at}

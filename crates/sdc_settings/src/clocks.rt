@@ -8,7 +8,7 @@ ghost use Rattle.sdc_settings.specs.Stages.{IsNextSourced};
 use crate::faults::ExpandFault;
 use crate::inputs::{add_port_places, is_port_object};
 use link_defs::PortName;
-use sdc_text::{Command, Object, Script, What};
+use script_types::{Command, Object, Script, What};
 use sdcv_base::{Name, Seq};
 use std::alloc::{AllocError, Global};
 

@@ -4,7 +4,7 @@ ghost use Rattle.sdc_settings.specs.Inputs as spec;
 
 use glob::matches;
 use link_defs::PortName;
-use sdc_text::{Class, Object, Query};
+use script_types::{Class, Object, Query};
 use sdcv_base::{Name, Seq};
 use std::alloc::{AllocError, Global};
 

@@ -9,7 +9,7 @@ use crate::faults::ExpandFault;
 use crate::fixed::fixed_inputs;
 use crate::values::Settings;
 use link_defs::PortName;
-use sdc_text::Script;
+use script_types::Script;
 use sdcv_base::{Seq, Setting};
 use std::alloc::Global;
 

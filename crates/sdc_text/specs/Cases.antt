@@ -6,8 +6,8 @@ use Rattle.sdc_values.specs.declared.faults.SdcFault.{SdcFault}
 use Rattle.sdc_values.specs.declared.values.Value.{Value}
 use Rattle.sdc_values.specs.declared.values.Said.{Said}
 use Rattle.sdc_values.specs.Lists.{objects_of}
-use Rattle.sdc_text.specs.declared.scripts.What.{What}
-use Rattle.sdc_text.specs.declared.scripts.What.TheVariants as what
+use Rattle.script_types.specs.declared.scripts.What.{What}
+use Rattle.script_types.specs.declared.scripts.What.TheVariants as what
 use Rattle.sdc_text.specs.declared.heads.Head.{Head}
 use Rattle.sdc_text.specs.Heads.{bad_option, bad_number, lacking, surplus, wanted_text, option_of}
 

@@ -2,11 +2,11 @@
 use Rattle.std.specs.Prelude.{ℕ, is_some, if◌then◌else◌, List, [], Option, Some, None, Result, Ok, Err}
 use Rattle.texts.specs.Rules.{◌>>=◌}
 use Rattle.sdc_values.specs.declared.faults.SdcFault.{SdcFault}
-use Rattle.sdc_values.specs.declared.values.Object.{Object}
+use Rattle.script_types.specs.declared.objects.Object.{Object}
 use Rattle.sdc_values.specs.declared.values.Said.{Said}
 use Rattle.sdc_values.specs.Lists.{objects_of}
-use Rattle.sdc_text.specs.declared.scripts.What.{What}
-use Rattle.sdc_text.specs.declared.scripts.What.TheVariants as what
+use Rattle.script_types.specs.declared.scripts.What.{What}
+use Rattle.script_types.specs.declared.scripts.What.TheVariants as what
 use Rattle.sdc_text.specs.declared.heads.Head.{Head}
 use Rattle.sdc_text.specs.declared.options.ClockOption.{ClockOption}
 use Rattle.sdc_text.specs.declared.options.ClockOption.TheVariants as option

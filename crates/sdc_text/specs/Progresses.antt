@@ -8,8 +8,8 @@ use Rattle.sdc_values.specs.declared.faults.SdcFault.TheVariants as fault
 use Rattle.sdc_values.specs.declared.values.Said.{Said}
 use Rattle.sdc_values.specs.Variables.{with_value}
 use Rattle.sdc_values.specs.Lines.{said_words, command_name}
-use Rattle.sdc_text.specs.declared.scripts.What.{What}
-use Rattle.sdc_text.specs.declared.scripts.What.TheVariants as what
+use Rattle.script_types.specs.declared.scripts.What.{What}
+use Rattle.script_types.specs.declared.scripts.What.TheVariants as what
 use Rattle.sdc_text.specs.declared.heads.Head.{Head}
 use Rattle.sdc_text.specs.declared.kinds.CommandKind.{CommandKind}
 use Rattle.sdc_text.specs.declared.kinds.CommandKind.TheVariants as kind

@@ -7,7 +7,7 @@ use Rattle.sdc_words.specs.Lines.{cleaned, original}
 use Rattle.sdc_values.specs.declared.faults.SdcFault.{SdcFault}
 use Rattle.sdc_values.specs.declared.faults.SdcFault.TheVariants as fault
 use Rattle.sdc_values.specs.Told.{of_words}
-use Rattle.sdc_text.specs.declared.scripts.Script.{Script}
+use Rattle.script_types.specs.declared.scripts.Script.{Script}
 use Rattle.sdc_text.specs.declared.progresses.Progress.{Progress}
 use Rattle.sdc_text.specs.Progresses.{fresh, after_command}
 

@@ -6,7 +6,7 @@ ghost use Rattle.sdc_text.specs.Cases as spec;
 
 use crate::heads::{Head, option_of};
 use crate::options::is;
-use crate::scripts::What;
+use script_types::What;
 use sdc_values::{Said, SdcFault, Value, objects_of};
 use sdcv_base::Name;
 use std::alloc::Global;

@@ -7,8 +7,8 @@ ghost use Rattle.sdc_text.specs.Clocks as spec;
 use crate::gathers::{Gather, take_all};
 use crate::heads::{Head, option_of};
 use crate::options::{ClockOption, clock_option};
-use crate::scripts::What;
-use sdc_values::{Object, Said, SdcFault, objects_of};
+use script_types::{Object, What};
+use sdc_values::{Said, SdcFault, objects_of};
 use sdcv_base::{Name, Seq};
 use std::alloc::{AllocError, Global};
 

@@ -8,8 +8,8 @@ use crate::gathers::{Gather, take_all};
 use crate::heads::{Head, option_of};
 use crate::numbers::{is_whole, multiplier};
 use crate::options::{PathCommand, PathOption, path_option};
-use crate::scripts::{Exception, What};
-use sdc_values::{Object, Said, SdcFault, Value, objects_of};
+use script_types::{Exception, Object, What};
+use sdc_values::{Said, SdcFault, Value, objects_of};
 use sdcv_base::{Kind, Name, Seq};
 use std::alloc::{AllocError, Global};
 

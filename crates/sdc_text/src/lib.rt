@@ -16,9 +16,8 @@ mod numbers;
 mod options;
 mod progresses;
 mod readers;
-mod scripts;
 
 pub use readers::read_sdc;
-pub use scripts::{Command, Exception, Script, What};
-pub use sdc_values::{Class, Object, Query, SdcFault};
+pub use script_types::{Class, Command, Exception, Object, Query, Script, What};
+pub use sdc_values::SdcFault;
 pub use sdcv_base::Kind;

@@ -9,7 +9,7 @@ use crate::clocks::take_clock;
 use crate::exceptions::take_exception;
 use crate::heads::Head;
 use crate::kinds::{CommandKind, command_kind};
-use crate::scripts::{Command, What};
+use script_types::{Command, What};
 use sdc_values::{Said, SdcFault, Variables, command_name, said_words};
 use sdc_words::{RawCommand, Word};
 use sdcv_base::Seq;

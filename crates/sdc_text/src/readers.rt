@@ -6,7 +6,7 @@ ghost use Rattle.sdc_values.specs.Told.{Fails};
 ghost use Rattle.sdc_text.specs.Scripts as spec;
 
 use crate::progresses::Progress;
-use crate::scripts::Script;
+use script_types::Script;
 use sdc_values::SdcFault;
 use sdc_words::{Commands, RawCommand, cleaned, original};
 use std::alloc::Global;

@@ -1,7 +1,7 @@
 -- One turn of the loops over the bytes of an element, and over the items of a list.
 use Rattle.std.proofs.Common.{◌≡◌, ℕ, zero, suc, ◌+◌, ◌<◌, Bool, true, false, List, [], ◌∷◌, ◌++◌, length, if◌then◌else◌, Some, None, refl, arith, ◌==◌}
-use Rattle.sdc_values.specs.declared.values.Class.{Class}
-use Rattle.sdc_values.specs.declared.values.Object.{Object}
+use Rattle.script_types.specs.declared.objects.Class.{Class}
+use Rattle.script_types.specs.declared.objects.Object.{Object}
 use Rattle.sdc_values.specs.Lists.{is_over, byte_of, element_from, after_white, item_at, items_from}
 
 module _ (braces : List Bool) (found s : List ℕ) where

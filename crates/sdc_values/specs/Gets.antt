@@ -6,8 +6,8 @@ use Rattle.sdc_words.specs.declared.words.Word.TheVariants as word
 use Rattle.sdc_values.specs.declared.faults.SdcFault.{SdcFault}
 use Rattle.sdc_values.specs.declared.faults.SdcFault.TheVariants as fault
 use Rattle.sdc_values.specs.declared.gets.Asking.{Asking}
-use Rattle.sdc_values.specs.declared.values.Class.{Class}
-use Rattle.sdc_values.specs.declared.values.Object.{Object}
+use Rattle.script_types.specs.declared.objects.Class.{Class}
+use Rattle.script_types.specs.declared.objects.Object.{Object}
 use Rattle.sdc_values.specs.declared.values.Value.{Value}
 use Rattle.sdc_values.specs.declared.values.Value.TheVariants.{Text, Objects}
 use Rattle.sdc_values.specs.Lists.{list_at}

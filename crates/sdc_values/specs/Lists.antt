@@ -9,10 +9,10 @@ use Rattle.sdc_words.specs.Blanks.{is_next}
 use Rattle.sdc_words.specs.Marks.{backslash, left_brace, right_brace}
 use Rattle.sdc_values.specs.declared.faults.SdcFault.{SdcFault}
 use Rattle.sdc_values.specs.declared.faults.SdcFault.TheVariants as fault
-use Rattle.sdc_values.specs.declared.values.Class.{Class}
-use Rattle.sdc_values.specs.declared.values.Class.TheVariants as class
-use Rattle.sdc_values.specs.declared.values.Object.{Object}
-use Rattle.sdc_values.specs.declared.values.Object.TheVariants.{Named}
+use Rattle.script_types.specs.declared.objects.Class.{Class}
+use Rattle.script_types.specs.declared.objects.Class.TheVariants as class
+use Rattle.script_types.specs.declared.objects.Object.{Object}
+use Rattle.script_types.specs.declared.objects.Object.TheVariants.{Named}
 use Rattle.sdc_values.specs.declared.values.Said.{Said}
 use Rattle.sdc_values.specs.declared.values.Value.{Value}
 use Rattle.sdc_values.specs.declared.values.Value.TheVariants.{Text, Objects}

@@ -8,8 +8,8 @@ use Rattle.sdc_values.specs.declared.faults.SdcFault.TheVariants as fault
 use Rattle.sdc_values.specs.declared.nested.Joined.{Joined}
 use Rattle.sdc_values.specs.declared.nested_kinds.NestedKind.{NestedKind}
 use Rattle.sdc_values.specs.declared.nested_kinds.NestedKind.TheVariants as kind
-use Rattle.sdc_values.specs.declared.values.Object.{Object}
-use Rattle.sdc_values.specs.declared.values.Object.TheVariants as object
+use Rattle.script_types.specs.declared.objects.Object.{Object}
+use Rattle.script_types.specs.declared.objects.Object.TheVariants as object
 use Rattle.sdc_values.specs.Gets.{get_at, all_at}
 use Rattle.sdc_values.specs.Lists.{objects_of}
 use Rattle.sdc_values.specs.NestedKinds.{nested_kind}

@@ -4,7 +4,7 @@ use Rattle.std.specs.Char.{is_ascii_digit}
 use Rattle.std.specs.Str.{bytes_eq}
 use Rattle.texts.specs.Fronts.{first}
 use Rattle.texts.specs.Lookups.{in_table}
-use Rattle.sdc_values.specs.declared.values.Class.TheVariants as class
+use Rattle.script_types.specs.declared.objects.Class.TheVariants as class
 use Rattle.sdc_values.specs.declared.nested_kinds.NestedKind.{NestedKind}
 use Rattle.sdc_values.specs.declared.nested_kinds.NestedKind.TheVariants.{List as JoinsLists, Get, AllInputs, AllOutputs, AllRegisters, AllClocks}
 

@@ -15,6 +15,7 @@ pub use command_words::{command_name, said_words};
 pub use faults::SdcFault;
 pub use lists::objects_of;
 pub use nested_kinds::is_option;
-pub use values::{Class, Object, Query, Said, Value, copy_objects};
+pub use script_types::{Class, Object, Query, copy_objects};
+pub use values::{Said, Value};
 pub use variables::Variables;
 pub use word_texts::said_text;

@@ -3,7 +3,7 @@ ghost use Rattle.std.specs.Prelude.{◌≡◌};
 ghost use Rattle.std.specs.Str.{bytes_eq};
 ghost use Rattle.sdc_values.specs.NestedKinds as spec;
 
-use crate::values::Class;
+use script_types::Class;
 use texts::byte_at;
 
 /// A command that may stand in brackets.

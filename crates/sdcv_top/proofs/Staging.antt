@@ -5,7 +5,7 @@ use Rattle.cell_types.specs.declared.libraries.Library.{Library}
 use Rattle.design_stages.specs.declared.refusals.Refusal.{Refusal}
 use Rattle.design_stages.specs.declared.refusals.Refusal.TheVariants as refusal
 use Rattle.netlist_types.specs.declared.sources.Source.{Source}
-use Rattle.sdc_text.specs.declared.scripts.Script.{Script}
+use Rattle.script_types.specs.declared.scripts.Script.{Script}
 use Rattle.design_stages.specs.declared.designs.Reset.{Reset}
 use Rattle.design_stages.specs.declared.designs.Designed.{Designed}
 use Rattle.design_stages.specs.Designs.{Designs}

@@ -3,7 +3,7 @@ use Rattle.std.specs.Prelude.{◌≡◌, ℕ, Bool, true, false, List, Ok, Err}
 use Rattle.netlist_types.specs.declared.sources.Source.{Source}
 use Rattle.cell_types.specs.declared.libraries.Library.{Library}
 use Rattle.cell_types.specs.Builtin.{builtin_cells}
-use Rattle.sdc_text.specs.declared.scripts.Script.{Script}
+use Rattle.script_types.specs.declared.scripts.Script.{Script}
 use Rattle.fault_lines.specs.declared.sources.Origin.{Origin}
 use Rattle.fault_lines.specs.declared.sources.Origin.TheVariants as origin
 use Rattle.fault_lines.specs.Sources.{too_long_line}

@@ -13,7 +13,7 @@ use cell_types::{Library, builtin};
 use design_stages::{cells as cells_of, constraints as constraints_of, netlist as netlist_of};
 use fault_lines::{Origin, too_long_line};
 use netlist_types::Source;
-use sdc_text::Script;
+use script_types::Script;
 use sdcv_base::Host;
 use std::alloc::Global;
 

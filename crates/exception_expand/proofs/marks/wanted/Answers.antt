@@ -1,7 +1,7 @@
 use Rattle.std.proofs.Common.{◌∙◌, List, sym, subst}
 use Rattle.std.specs.Prelude.{Option, None, IfOk}
 use Rattle.net_paths.specs.Those.{AreThose}
-use Rattle.sdc_values.specs.declared.values.Object.{Object}
+use Rattle.script_types.specs.declared.objects.Object.{Object}
 use Rattle.sdc_objects.specs.Standing as standing
 use Rattle.exception_expand.specs.Points.{IsMeant}
 use Rattle.exception_expand.proofs.Sharing.{those_everything}

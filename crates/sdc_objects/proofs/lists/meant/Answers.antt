@@ -1,5 +1,5 @@
 use Rattle.std.proofs.Common.{◌+◌, ◌∙◌, take, sym, ap, ◌++◌, flat_map}
-use Rattle.sdc_values.specs.declared.values.Object.{Object}
+use Rattle.script_types.specs.declared.objects.Object.{Object}
 use Rattle.sdc_objects.specs.Things.{things_of}
 use Rattle.sdc_objects.specs.Standing as spec
 use Rattle.sdc_objects.proofs.Joining.{flat_next, pushed}

@@ -1,7 +1,7 @@
 use Rattle.std.proofs.Common.{◌≡◌, take}
 use Rattle.std.specs.List.{flat_map}
 use Rattle.std.specs.Prelude.{All}
-use Rattle.sdc_text.specs.declared.scripts.Command.{Command}
+use Rattle.script_types.specs.declared.scripts.Command.{Command}
 use Rattle.sdc_settings.specs.Settings.{given_by, case_objects, IsCaseObject}
 use Rattle.sdc_settings.proofs.cases.all_given.Given as goal
 

@@ -4,7 +4,7 @@ use Rattle.std.specs.List.{flat_map}
 use Rattle.std.proofs.lemmas.List.{take_all}
 use Rattle.std.proofs.lemmas.List.Elements.{All-more}
 use Rattle.std.proofs.lemmas.Option.{slice_get_within, get_or_from_slice_get}
-use Rattle.sdc_values.specs.declared.values.Object.{Object}
+use Rattle.script_types.specs.declared.objects.Object.{Object}
 use Rattle.sdc_settings.specs.Inputs.{name_at}
 use Rattle.sdc_settings.specs.Settings.{case_places, is_clock, IsCaseObject}
 use Rattle.sdc_settings.proofs.Naming.{flat_next, All-flat_map, case_places_within}

@@ -3,7 +3,7 @@ use Rattle.std.specs.Prelude.{All}
 use Rattle.std.proofs.lemmas.List.{take_all}
 use Rattle.std.proofs.lemmas.List.Elements.{All-more}
 use Rattle.std.proofs.lemmas.Option.{get_or_from_slice_get}
-use Rattle.sdc_values.specs.declared.values.Object.{Object}
+use Rattle.script_types.specs.declared.objects.Object.{Object}
 use Rattle.sdc_settings.specs.Inputs.{is_port_object}
 use Rattle.sdc_settings.proofs.clocks.are_ports.Goals as goal
 

@@ -1,6 +1,6 @@
 use Rattle.std.proofs.Common.{◌≡◌, ◌∙◌, ℕ, [], ◌∷◌, ◌++◌, List, refl, sym, ap, subst, inl, inr}
-use Rattle.sdc_text.specs.declared.scripts.What.{What}
-use Rattle.sdc_text.specs.declared.scripts.What.TheVariants.{Clock, Case, Hold, Aside, Passed}
+use Rattle.script_types.specs.declared.scripts.What.{What}
+use Rattle.script_types.specs.declared.scripts.What.TheVariants.{Clock, Case, Hold, Aside, Passed}
 use Rattle.exception_expand.specs.declared.selections.Listing.TheVariants.{Aside as ListsAside}
 use Rattle.exception_expand.specs.Selections.{command_line}
 use Rattle.exception_expand.specs.Progress.{Adds}

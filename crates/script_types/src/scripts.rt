@@ -1,6 +1,6 @@
 //! Scripts as callers see them.
 
-use sdc_values::Object;
+use crate::objects::Object;
 use sdcv_base::{Kind, Name, Seq};
 
 /// A timing exception, with a list of objects for each `-through` in its order.

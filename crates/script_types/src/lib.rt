@@ -1,0 +1,11 @@
+//! The constraints of a design as values (SDC 2.1): commands with their lines, exceptions, and the objects that they name.
+//!
+//! The types alone, with copies of objects: what a text means is left to its reader, and what an object stands for in a design
+//! to the selection, so that neither of the two stands on the other. `Script` is the type to read first.
+#![tactic(auto)]
+
+mod objects;
+mod scripts;
+
+pub use objects::{Class, Object, Query, copy_objects};
+pub use scripts::{Command, Exception, Script, What};
