@@ -4,7 +4,9 @@ ghost use Rattle.net_model.specs.Netlist.{IsSound};
 ghost use Rattle.net_model.specs.Fits.{Fits};
 
 use inv_candidates::candidates;
-use net_model::{Claim, Design, End, Func, InvClause, Kind, Node, Reg, RegOut, Start};
+use net_model::{
+    Claim, Design, Edge, End, Func, InvClause, Kind, Node, Reg, RegOut, Start,
+};
 use net_samples::Form::{And, Pin};
 use net_samples::Out::Q;
 use net_samples::Part::{Drives, Holds, Nets, Outputs};
@@ -35,6 +37,8 @@ struct Row(Kind, Start, End);
 fn claim_of(alloc: Global, row: &Row) -> Claim {
     Claim {
         kind: row.0,
+        edge: Edge::Any,
+        lag: 0,
         hazard: false,
         start: row.1,
         end: row.2,

@@ -5,7 +5,7 @@ ghost use Rattle.net_model.specs.Fits.{Fits};
 ghost use Rattle.cert_values.specs.Certs.{HasBases, IsComplete};
 
 use cert_values::{Cert, CertFault, PairProof};
-use net_model::{Claim, Design, End, InvClause, Kind, Start, StateLit};
+use net_model::{Claim, Design, Edge, End, InvClause, Kind, Start, StateLit};
 use net_samples::Form::{And, Pin, Xor};
 use net_samples::Out::Q;
 use net_samples::Part::{Drives, Holds, Nets, Outputs, Reset};
@@ -43,6 +43,8 @@ pub fn claim_to(rt: &impl Abort, alloc: Global, design: &Design, kind: Kind, sta
 {
     let claim = Claim {
         kind,
+        edge: Edge::Any,
+        lag: 0,
         hazard: false,
         start,
         end: End::Reg(1),

@@ -1,11 +1,13 @@
 -- The claims of selected pairs fit the design.
-use Rattle.std.proofs.Common.{arith, ◌≡◌, ◌∙◌, ◌+◌, Bool, List, map, sym, ap, subst, inl, inr}
+use Rattle.std.proofs.Common.{arith, ◌≡◌, ◌∙◌, ◌+◌, Bool, List, map, refl, sym, ap, subst, inl, inr}
 use Rattle.std.specs.Prelude.{Some, slice_index_or, All}
 use Rattle.std.proofs.lemmas.List.{length-map}
 use Rattle.std.proofs.lemmas.List.Elements.{All-map}
 use Rattle.std.proofs.lemmas.Option.{same_Some}
-use Rattle.net_model.specs.Fits.{Fits, IsPinIn}
+use Rattle.net_model.specs.Fits.{Fits, IsLagFit, IsPinIn}
 use Rattle.net_model.specs.declared.claims.Claim.{Claim}
+use Rattle.sdcv_base.specs.declared.kinds.Kind.{Kind}
+use Rattle.sdcv_base.specs.declared.kinds.Kind.TheVariants.{False, Multi}
 use Rattle.net_model.proofs.Members.{In, In-map, from_map}
 use Rattle.net_model.proofs.Settling.{All-at}
 use Rattle.net_paths.specs.Those.{AreThose, All_seen, Taken, Left_out}
@@ -30,6 +32,11 @@ holds_of P _ _ y (Taken x xs ys holds rest) (inl here) = subst P here holds
 holds_of P _ _ y (Taken x xs ys holds rest) (inr later) = holds_of P xs ys y rest later
 holds_of P _ _ y (Left_out x xs ys not rest) has = holds_of P xs ys y rest has
 
+-- no lag fits each kind
+no_lag : (kind : Kind) → IsLagFit kind 0
+no_lag False = omega arith
+no_lag (Multi k) = refl
+
 -- the claims that an exception makes of a pair of the design
 claim_fits : (l : Linked) (script : Script) (hazard : Bool) (what : What) (p : Pair) (claim : Claim) → IsUsable l → spec.HasMultiplier what
     → spec.HasFewSets what
@@ -39,6 +46,7 @@ claim_fits l script hazard (Claiming e) p claim usable kind few there is =
     let ends = pair_in l.design p there in
     subst (Fits l.design) same (record {
       kind = kind;
+      lag = no_lag e.kind;
       start = ends.0;
       end_ = ends.1;
       pins = All-map (All (IsPinIn l.design)) (pins_of l script) e.through (λ k d low. pins_fit l script usable (slice_index_or e.through k d));

@@ -3,6 +3,7 @@ use Rattle.std.specs.Prelude.{ℕ, Bool, true, not, ◌&&◌, ◌||◌, ◌==◌
 use Rattle.std.specs.List.{list_any}
 use Rattle.net_model.specs.Judge.{judged_count}
 use Rattle.sdcv_base.specs.declared.kinds.Kind.{Kind}
+use Rattle.sdcv_base.specs.declared.kinds.Edge.TheVariants.{Any}
 use Rattle.net_model.specs.Fits.{IsStartIn, IsEndIn}
 use Rattle.net_model.specs.Paths.{HasPath}
 use Rattle.net_model.specs.declared.netlist.Design.{Design}
@@ -29,9 +30,9 @@ pairs_between starts ends = flat_map (λ start. map (pair start) ends) starts
 abbrev pub IsConnected : Design → List (List PinRef) → Pair → Type 0
 IsConnected d sets p = HasPath d p.start p.end sets
 
--- a claim of a pair, by what the claims of an exception have in common
+-- a claim of a pair, of each edge and without lag, by what the claims of an exception have in common
 abbrev pub claim_with : Kind → Bool → List (List PinRef) → Pair → Claim
-claim_with kind hazard sets p = record { kind = kind; hazard = hazard; start = p.start; end = p.end; through = sets }
+claim_with kind hazard sets p = record { kind = kind; edge = Any; lag = 0; hazard = hazard; start = p.start; end = p.end; through = sets }
 
 -- the input is one of those that have a value
 abbrev pub is_set : ℕ → List Fixed → Bool

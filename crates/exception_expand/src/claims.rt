@@ -3,7 +3,7 @@ ghost use Rattle.std.specs.Prelude.{◌≡◌, ◌++◌, IfOk, OnOk, map};
 ghost use Rattle.exception_expand.specs.Pairs.{claim_with};
 
 use crate::pairs::Pair;
-use net_model::{Claim, Kind, PinSet};
+use net_model::{Claim, Edge, Kind, PinSet};
 use sdcv_base::Seq;
 use std::alloc::{AllocError, Global};
 
@@ -35,6 +35,8 @@ fn claim_of(alloc: Global, terms: &Terms, pair: Pair) -> Result<Claim, AllocErro
 {
     Ok(Claim {
         kind: terms.kind,
+        edge: Edge::Any,
+        lag: 0,
         hazard: terms.hazard,
         start: pair.start,
         end: pair.end,

@@ -1,5 +1,5 @@
 //! Designs and claims by hand, and why some are refused.
-use net_model::{Claim, Cycle, DesignFault, End, Kind, PinRef, PinSet, Start};
+use net_model::{Claim, Cycle, DesignFault, Edge, End, Kind, PinRef, PinSet, Start};
 use net_samples::Form::{Not, Pin, Xor};
 use net_samples::Part::{Drives, Holds, Nets, Outputs, Reset, Zero};
 use net_samples::{Controls, Out, Part, design};
@@ -57,6 +57,8 @@ fn claim(alloc: Global, row: &Fitting) -> Result<Claim, AllocError> {
     }
     Ok(Claim {
         kind: row.0,
+        edge: Edge::Any,
+        lag: 0,
         hazard: false,
         start: row.1,
         end: row.2,
@@ -72,6 +74,39 @@ fn claims_fit_whose_places_are_those_of_the_design(rt: HostRuntime) -> Result<()
     for (place, row) in FITTING.iter().enumerate() {
         let claim = claim(rt.alloc(), row)?;
         assert_eq!(rt; claim.fits(&design), row.4, "claim {place}");
+    }
+    Ok(())
+}
+
+/// A claim's kind and lag, how many captures it judges, and whether it fits the small design.
+struct Judged(Kind, u8, usize, bool);
+
+const JUDGED: &[Judged] = &[
+    Judged(Kind::False, 0, 1, true),
+    Judged(Kind::False, 8, 9, true),
+    Judged(Kind::False, 9, 10, false),
+    Judged(Kind::Multi(1), 0, 0, true),
+    Judged(Kind::Multi(2), 0, 1, true),
+    Judged(Kind::Multi(16), 0, 15, true),
+    Judged(Kind::Multi(2), 1, 1, false),
+];
+
+// Captures counted by hand: a false path has one for each cycle of its lag besides the first, a multicycle path none.
+#[test]
+fn a_lag_is_one_of_false_paths_alone(rt: HostRuntime) -> Result<(), test::Fail> {
+    let design = design(rt.alloc(), SMALL)?;
+    for (place, row) in JUDGED.iter().enumerate() {
+        let claim = Claim {
+            kind: row.0,
+            edge: Edge::Rise,
+            lag: row.1,
+            hazard: false,
+            start: REG,
+            end: OUT,
+            through: Seq::new(rt.alloc()),
+        };
+        assert_eq!(rt; claim.judged_count(), row.2, "claim {place}");
+        assert_eq!(rt; claim.fits(&design), row.3, "claim {place}");
     }
     Ok(())
 }

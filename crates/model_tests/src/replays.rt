@@ -1,7 +1,7 @@
 //! Replays of designs by hand, from the texts of their stimuli.
 use crate::sound_cases::sound_case;
 use net_model::PinRef;
-use net_samples::Ask::{Hazard, Multi, To, Via};
+use net_samples::Ask::{Falls, Hazard, Lag, Multi, Rises, To, Via};
 use net_samples::{Ask, GLITCHING_PAIR, Part, RESET_FIRST};
 use std::alloc::{AllocError, Global};
 use std::process::Abort;
@@ -28,6 +28,16 @@ const FLOPS: &[Row] = &[
         &[],
         "stimulus 2 cycles 3\nstate 00\ninput 10\ninput 01\ninput 00\nend\n",
         Ok(Replay::Violated(2)),
+    ),
+    Row(
+        &[Rises],
+        "stimulus 2 cycles 3\nstate 00\ninput 10\ninput 01\ninput 00\nend\n",
+        Ok(Replay::Violated(2)),
+    ),
+    Row(
+        &[Falls],
+        "stimulus 2 cycles 3\nstate 00\ninput 10\ninput 01\ninput 00\nend\n",
+        Ok(Replay::Holds),
     ),
     Row(
         &[],
@@ -75,6 +85,12 @@ const STAYS: &str = "stimulus 2 cycles 2\nstate 0000\ninput 11\ninput 01\nend\n"
 // The same, while e falls.
 const FALLS: &str = "stimulus 2 cycles 2\nstate 0000\ninput 11\ninput 00\nend\n";
 
+// Register 0 is 0, 1 and 1, and e is 1, 1 and 0: the toggle in cycle 1 is seen one capture later.
+const SEEN_LATER: &str = "stimulus 2 cycles 3\nstate 0000\ninput 11\ninput 11\ninput 00\nend\n";
+
+// Register 0 is 0, 1 and 0: one capture later it shows the stale bit again, but falls there itself.
+const TURNS_BACK: &str = "stimulus 2 cycles 3\nstate 0000\ninput 11\ninput 01\ninput 00\nend\n";
+
 const LATE: Ask = Via(PinRef::Net(2));
 
 const PASSED: Ask = Via(PinRef::Net(4));
@@ -93,6 +109,17 @@ const GATES: &[Row] = &[
     Row(&[], FALLS, VIOLATED),
     Row(&[Multi(2)], FALLS, VIOLATED),
     Row(&[Multi(2), LATE], FALLS, HOLDS),
+    Row(&[Rises], FALLS, VIOLATED),
+    Row(&[Falls], FALLS, HOLDS),
+    Row(&[], SEEN_LATER, HOLDS),
+    Row(&[Lag(1)], SEEN_LATER, VIOLATED),
+    Row(&[Lag(8), Rises], SEEN_LATER, VIOLATED),
+    Row(&[Lag(8), Falls], SEEN_LATER, HOLDS),
+    Row(&[Hazard, To(2)], SEEN_LATER, HOLDS),
+    Row(&[Hazard, To(2), Lag(1)], SEEN_LATER, VIOLATED),
+    Row(&[Hazard, To(2), Lag(1), Falls], SEEN_LATER, HOLDS),
+    Row(&[Lag(1), Rises], TURNS_BACK, HOLDS),
+    Row(&[Lag(1), Falls], TURNS_BACK, Ok(Replay::Violated(2))),
 ];
 
 // Where e stays 1 register 1 captures 1 in both cycles: with a late start too, unless it is late on net 2 alone. Register

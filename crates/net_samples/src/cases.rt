@@ -1,6 +1,6 @@
 //! Queries about designs, as lists of parts.
 use crate::parts::{Part, design};
-use net_model::{Claim, Design, End, InvClause, Kind, PinRef, PinSet, Start, StateLit};
+use net_model::{Claim, Design, Edge, End, InvClause, Kind, PinRef, PinSet, Start, StateLit};
 use sdcv_base::Seq;
 use std::alloc::{AllocError, Global};
 
@@ -14,6 +14,12 @@ pub enum Ask {
     In(usize),
     Out(usize),
     Multi(u8),
+    /// The start rises.
+    Rises,
+    /// It falls.
+    Falls,
+    /// Judged over so many cycles of lag.
+    Lag(u8),
     Hazard,
     /// Through this pin.
     Via(PinRef),
@@ -51,6 +57,9 @@ fn add_ask(alloc: Global, case: &mut Case, ask: &Ask) -> Result<(), AllocError> 
         Ask::In(input) => claim.start = Start::Input(input),
         Ask::Out(output) => claim.end = End::Output(output),
         Ask::Multi(multiplier) => claim.kind = Kind::Multi(multiplier),
+        Ask::Rises => claim.edge = Edge::Rise,
+        Ask::Falls => claim.edge = Edge::Fall,
+        Ask::Lag(cycles) => claim.lag = cycles,
         Ask::Hazard => claim.hazard = true,
         Ask::Via(pin) => claim.through.push(PinSet::of(alloc, &[pin])?)?,
         Ask::Either(first, second) => claim.through.push(PinSet::of(alloc, &[first, second])?)?,
@@ -69,6 +78,8 @@ pub fn case_of(alloc: Global, parts: &[Part], query: &[Ask]) -> Result<Case, All
         design: design(alloc, parts)?,
         claim: Claim {
             kind: Kind::False,
+            edge: Edge::Any,
+            lag: 0,
             hazard: false,
             start: Start::Reg(0),
             end: End::Reg(1),

@@ -125,7 +125,7 @@ length-cube_terns zero w = refl
 length-cube_terns (suc places) w = omega (arith, length-cube_terns places (w / 3))
 
 -- the rows in a cube are the bits inside it
-in_rows : (bits : List Bool) (ts : List Tern) → Inside bits ts → In bits (rows_in ts)
+pub in_rows : (bits : List Bool) (ts : List Tern) → Inside bits ts → In bits (rows_in ts)
 in_rows [] [] inside = inl refl
 in_rows [] (t ∷ ts) inside = absurd inside
 in_rows (b ∷ bs) [] inside = absurd inside
@@ -140,7 +140,7 @@ in_rows (true ∷ bs) (Unknown ∷ ts) inside =
     In-right (true ∷ bs) (map (λ row. false ∷ row) (rows_in ts)) (map (λ row. true ∷ row) (rows_in ts))
     (In-map (λ row. true ∷ row) bs (rows_in ts) (in_rows bs ts inside.1))
 
-row_inside : (ts : List Tern) (bits : List Bool) → In bits (rows_in ts) → Inside bits ts
+pub row_inside : (ts : List Tern) (bits : List Bool) → In bits (rows_in ts) → Inside bits ts
 row_inside [] bits (inl e) = subst (λ (x : List Bool). Inside x []) e tt
 row_inside [] bits (inr none) = absurd none
 row_inside (Zero ∷ ts) bits has =
@@ -175,7 +175,7 @@ none_other cell bit (r ∷ rs) all =
     or_from (gives cell (not bit) r) (list_any (gives cell (not bit)) rs) (gives_other cell bit r (all r (inl refl)))
     (none_other cell bit rs (λ row has. all row (inr has)))
 
-each_this : (cell : (ℕ → Bool) → Bool) (bit : Bool) (rows : List (List Bool)) → list_any (gives cell (not bit)) rows ≡ false → (row : List Bool)
+pub each_this : (cell : (ℕ → Bool) → Bool) (bit : Bool) (rows : List (List Bool)) → list_any (gives cell (not bit)) rows ≡ false → (row : List Bool)
     → In row rows → on_list cell row ≡ bit
 each_this cell bit [] e row has = absurd has
 each_this cell bit (r ∷ rs) e row (inl here) =

@@ -9,4 +9,5 @@ pub mod Lists
 pub mod Hazard
 pub mod Prime
 pub mod Codings
+pub mod Depends
 pub mod Places

@@ -36,7 +36,7 @@ lies_trans (x ∷ a) (y ∷ b) (z ∷ c) e f =
     let q = and_parts (tern_within y z) (lies_in b c) f in
     and_from (tern_within x z) (lies_in a c) (within_trans x y z p.0 q.0) (lies_trans a b c p.1 q.1)
 
-within_refl : (t : Tern) → tern_within t t ≡ true
+pub within_refl : (t : Tern) → tern_within t t ≡ true
 within_refl Zero = refl
 within_refl One = refl
 within_refl Unknown = refl
@@ -81,7 +81,7 @@ fewer (x ∷ a) (y ∷ b) e =
       ],
     )
 
-found_any : {X : Type 0} (p : X → Bool) (xs : List X) → list_any p xs ≡ true → (x : X) × In x xs × (p x ≡ true)
+pub found_any : {X : Type 0} (p : X → Bool) (xs : List X) → list_any p xs ≡ true → (x : X) × In x xs × (p x ≡ true)
 found_any p [] e = cc
 found_any p (x ∷ xs) e =
     elim (or_cases (p x) (list_any p xs) e) [

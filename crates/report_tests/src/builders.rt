@@ -2,7 +2,7 @@
 ghost use Rattle.report_text.specs.Rows.{HasRows};
 
 use exception_expand::{CommandLine, Listing, PairLine, Selected};
-use net_model::{Claim, End, Phase, Start, Stimulus};
+use net_model::{Claim, Edge, End, Phase, Start, Stimulus};
 use proof_log::Derivation;
 use report_text::RunOptions;
 use sdc_objects::Warning;
@@ -117,6 +117,8 @@ fn claims_of(alloc: Global, rows: &[Pair], hazard: bool) -> Result<Seq<Claim>, A
     for row in rows {
         claims.push(Claim {
             kind: row.1,
+            edge: Edge::Any,
+            lag: 0,
             hazard,
             start: Start::Reg(0),
             end: End::Reg(0),

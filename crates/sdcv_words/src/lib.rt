@@ -16,4 +16,5 @@ mod settings;
 mod words;
 
 pub use commands::{Command, Job, Options, Proving, Texts};
+pub use settings::settings_of;
 pub use words::command_of;

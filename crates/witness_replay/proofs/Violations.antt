@@ -2,8 +2,7 @@
 use Rattle.std.proofs.Common.{◌≡◌, ◌≢◌, ℕ, ◌+◌, ◌-◌, ◌<◌, ◌≤◌, Bool, List, length, min, Some, ap, sym, ◌∙◌, subst, arith}
 use Rattle.std.specs.Prelude.{slice_get}
 use Rattle.std.proofs.lemmas.Option.{slice_get_within, same_Some}
-use Rattle.net_model.specs.Judge.{judged_count}
-use Rattle.net_model.specs.Judge.{start_bit, IsBadFor, IsViolatedAt}
+use Rattle.net_model.specs.Judge.{judged_count, start_bit, IsEdge, IsBadFor, IsViolatedAt}
 use Rattle.net_model.specs.declared.netlist.Design.{Design}
 use Rattle.net_model.specs.declared.cycles.Cycle.{Cycle}
 use Rattle.net_model.specs.declared.claims.Claim.{Claim}
@@ -47,10 +46,17 @@ not_toggled d claim run t live before now before_at now_at same v =
     let here : now ≡ v.toggles.now = same_Some now v.toggles.now (sym now_at ∙ v.toggles.now_at) in
     v.toggles.differs (ap (start_bit claim.start) (sym here) ∙ (same ∙ stale_of d claim run t live before v before_at))
 
+-- a change with another edge is no toggle of the claim
+pub other_edge : (d : Design) (claim : Claim) (run : List Cycle) (t live : ℕ) (before : Cycle) (stale : Bool) → slice_get run (t - 1) ≡ Some before
+    → stale ≡ start_bit claim.start before → ¬ IsEdge claim.edge stale → ¬ IsViolatedAt live d claim run t
+other_edge d claim run t live before stale before_at stale_is other v =
+    let same : v.stale ≡ stale = sym (stale_of d claim run t live before v before_at) ∙ sym stale_is in
+    other (subst (IsEdge claim.edge) same v.toggles.edge_is)
+
 pub violated_from : (d : Design) (claim : Claim) (run : List Cycle) (t live : ℕ) (before now : Cycle) (stale : Bool) (r : ℕ) → live < t
     → slice_get run (t - 1) ≡ Some before → slice_get run t ≡ Some now → stale ≡ start_bit claim.start before → start_bit claim.start now ≢ stale
-    → r < judged_count claim → IsBadAt d claim run t stale r → IsViolatedAt live d claim run t
-violated_from d claim run t live before now stale r is_live before_at now_at stale_is differs judged bad =
+    → IsEdge claim.edge stale → r < judged_count claim → IsBadAt d claim run t stale r → IsViolatedAt live d claim run t
+violated_from d claim run t live before now stale r is_live before_at now_at stale_is differs edge_is judged bad =
     record {
       stale = stale;
       toggles =
@@ -62,6 +68,7 @@ violated_from d claim run t live before now stale r is_live before_at now_at sta
             is_live = omega arith;
             stale_is = sym stale_is;
             differs = differs;
+            edge_is = edge_is;
           };
       r = r;
       judged = judged;

@@ -15,6 +15,7 @@ mod shapes;
 mod stimulus_reads;
 mod stimulus_texts;
 
+pub use bads::{Rooms, is_bad};
 pub use faults::{ReplayFault, StimFault};
 pub use outcomes::Replay;
 pub use replays::replay;

@@ -12,10 +12,21 @@ use crate::bads::{Rooms, is_bad};
 use crate::faults::ReplayFault;
 use crate::outcomes::Replay;
 use crate::shapes::{first_unlawful, has_shape};
-use net_model::{Claim, Cycle, Design, Stimulus};
+use net_model::{Claim, Cycle, Design, Edge, Stimulus};
 use net_sim::linked_run;
 use sdcv_base::Seq;
 use std::alloc::{AllocError, Global};
+
+/// Whether a change of the start from the stale bit has the edge.
+fn has_edge(edge: Edge, stale: bool) -> bool
+    ensures { IsTrue result ↔ judge.IsEdge edge stale }
+{
+    match edge {
+        Edge::Any => true,
+        Edge::Rise => !stale,
+        Edge::Fall => stale,
+    }
+}
 
 /// Whether the run violates the claim at t.
 fn is_violated_at(
@@ -38,6 +49,9 @@ fn is_violated_at(
     }
     let stale = run.item(t - 1).start_bit(design, &claim.start);
     if run.item(t).start_bit(design, &claim.start) == stale {
+        return false;
+    }
+    if !has_edge(claim.edge, stale) {
         return false;
     }
     let judged = claim.judged_count().min(run.len() - t);
