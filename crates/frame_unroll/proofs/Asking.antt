@@ -1,10 +1,10 @@
 -- What a query asks, a cycle at a time.
 use Rattle.std.proofs.Common.{◌≡◌, ℕ, zero, suc, ◌+◌, ◌*◌, ◌≤◌, ◌<◌, Bool, true, false, List, [], ◌∷◌, ◌++◌, length, take, flat_map, Some, refl, ap}
-use Rattle.std.proofs.Common.{◌∙◌, arith, length-append}
+use Rattle.std.proofs.Common.{◌∙◌, arith, length-append, append_assoc}
 use Rattle.std.proofs.lemmas.Grind.{flat_map-append}
 use Rattle.std.specs.Prelude.{slice_get}
-use Rattle.net_model.specs.Judge.{judged_count}
-use Rattle.net_model.specs.Fits.{IsKindFit}
+use Rattle.net_model.specs.Judge.{judged_by, judged_count}
+use Rattle.net_model.specs.Fits.{Fits, IsKindFit, IsLagFit}
 use Rattle.net_model.specs.declared.netlist.Design.{Design}
 use Rattle.net_model.specs.declared.claims.Claim.{Claim}
 use Rattle.sdcv_base.specs.declared.kinds.Kind.{Kind}
@@ -12,7 +12,11 @@ use Rattle.sdcv_base.specs.declared.kinds.Kind.TheVariants.{False, Multi}
 use Rattle.net_model.specs.declared.claims.PinRef.{PinRef}
 use Rattle.query_model.specs.Keys.{lit, below}
 use Rattle.query_model.specs.Defined.{numbered, bad_key}
+use Rattle.net_model.specs.Queries.{live_of, only_in_step, claim_query}
+use Rattle.net_model.specs.declared.invariants.InvClause.{InvClause}
+use Rattle.net_model.specs.declared.queries.Phase.{Phase}
 use Rattle.query_model.specs.Formula.{plain_alternatives, hazard_alternatives, alternatives_at}
+use Rattle.query_model.specs.Formula.{kept_in, clean_clauses, bad_clauses, asked_clauses}
 use Rattle.query_model.specs.declared.keys.KeyLit.{KeyLit}
 use Rattle.query_model.specs.Formula.{some_chosen, chosen_clauses, all_chosen}
 use Rattle.frame_unroll.proofs.Numbering.{numbered-take}
@@ -28,10 +32,13 @@ append_nil (x ∷ xs) = ap (λ ys. x ∷ ys) (append_nil xs)
 pub flat_map-below : {X : Type 0} (f : ℕ → List X) (n : ℕ) → flat_map f (below (n + 1)) ≡ flat_map f (below n) ++ f n
 flat_map-below f n = ap (flat_map f) (below_more n) ∙ flat_map-append f (below n) (n ∷ []) ∙ ap (λ xs. flat_map f (below n) ++ xs) (append_nil (f n))
 
+by_kind : (kind : Kind) (lag : ℕ) → IsKindFit kind → IsLagFit kind lag → judged_by kind lag ≤ 15
+by_kind False lag fit few = omega (arith, few)
+by_kind (Multi k) lag fit none = omega (arith, fit.0, fit.1)
+
 -- a fitting claim judges at most 15 captures
-pub judged_few : (kind : Kind) → IsKindFit kind → judged_count kind ≤ 15
-judged_few False fit = omega arith
-judged_few (Multi k) fit = omega (arith, fit.0, fit.1)
+pub judged_few : (d : Design) (claim : Claim) → Fits d claim → judged_count claim ≤ 15
+judged_few d claim fits = by_kind claim.kind claim.lag fits.kind fits.lag
 
 plain_few : (kind : Kind) (sets : List (List PinRef)) (d : Design) (c r : ℕ) → length (plain_alternatives kind sets d c r) ≤ 2
 plain_few False sets d c r = omega arith
@@ -78,3 +85,24 @@ all_chosen-take d t found a conditions at =
     ap (flat_map (λ x. x)) (numbered-take (chosen_clauses d t) found a conditions at) ∙ flat_map-append (λ x. x)
     (numbered (chosen_clauses d t) 0 (take a found)) (chosen_clauses d t a conditions ∷ [])
     ∙ ap (λ xs. all_chosen d t (take a found) ++ xs) (append_nil (chosen_clauses d t a conditions))
+
+-- the kept clauses, those that a claim is not violated before, and those that it is, put one after another
+pub claim_asked_are : (d : Design) (claim : Claim) (phase : Phase) (depth : ℕ) (inv : List InvClause) (live kept_below clean : ℕ)
+    (kept before all : List (List KeyLit)) → live ≡ live_of d phase → kept_below ≡ (claim_query d claim phase depth inv).kept_below
+    → clean ≡ only_in_step phase depth → kept ≡ flat_map (kept_in d inv) (below kept_below)
+    → before ≡ kept ++ flat_map (λ o. clean_clauses d claim (live + 1 + o)) (below clean)
+    → all ≡ before ++ bad_clauses d claim (live + 1 + depth) → all ≡ asked_clauses (claim_query d claim phase depth inv)
+claim_asked_are d claim phase depth inv live kept_below clean kept before all live_is kept_below_is clean_is kept_is before_is all_is =
+    all_is ∙ ap (λ xs. xs ++ bads live) (before_is ∙ ap (λ xs. xs ++ cleans live clean) kept_is)
+    ∙ append_assoc (keeps kept_below) (cleans live clean) (bads live) ∙ ap (λ n. keeps n ++ (cleans live clean ++ bads live)) kept_below_is
+    ∙ ap (λ n. keeps (claim_query d claim phase depth inv).kept_below ++ (cleans live n ++ bads live)) clean_is
+    ∙ ap (λ n. keeps (claim_query d claim phase depth inv).kept_below ++ (cleans n (only_in_step phase depth) ++ bads n)) live_is
+  where
+    keeps : ℕ → List (List KeyLit)
+    keeps n = flat_map (kept_in d inv) (below n)
+
+    cleans : ℕ → ℕ → List (List KeyLit)
+    cleans l n = flat_map (λ o. clean_clauses d claim (l + 1 + o)) (below n)
+
+    bads : ℕ → List (List KeyLit)
+    bads l = bad_clauses d claim (l + 1 + depth)

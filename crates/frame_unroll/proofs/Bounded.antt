@@ -3,7 +3,7 @@ use Rattle.std.proofs.Common.{◌≡◌, ℕ, zero, suc, ◌+◌, ◌-◌, ◌<�
 use Rattle.std.specs.Prelude.{All}
 use Rattle.std.proofs.lemmas.Grind.{flat_map-append}
 use Rattle.std.proofs.lemmas.List.Elements.{All-nil, All-cons, All-head, All-tail, All-append, All-map, All-weaker}
-use Rattle.net_model.specs.Fits.{Fits, IsKindFit}
+use Rattle.net_model.specs.Fits.{Fits, NamesRegs}
 use Rattle.net_model.specs.Judge.{judged_count}
 use Rattle.net_model.specs.declared.netlist.Design.{Design}
 use Rattle.net_model.specs.declared.claims.Claim.{Claim}
@@ -17,7 +17,6 @@ use Rattle.net_model.specs.declared.queries.Phase.TheVariants.{Base, Step}
 use Rattle.query_model.specs.Keys.{lit, opposite, below}
 use Rattle.query_model.specs.Reads.{bit_key}
 use Rattle.net_model.specs.Queries.{claim_query, clause_query, live_of, only_in_step}
-use Rattle.net_model.specs.Fits.{NamesRegs}
 use Rattle.query_model.specs.Defined.{numbered, extra, toggle_key, change_key, differ_key, stale_key, bad_key}
 use Rattle.query_model.specs.Formula.{state_lit, clause_in, stale_if_later, plain_alternatives, hazard_alternatives, alternatives_at, alternatives}
 use Rattle.query_model.specs.Formula.{clean_clauses, bad_clauses, asked_clauses}
@@ -104,21 +103,21 @@ at_within true d claim cycles t r e le few = rw e (hazard_within claim.kind clai
 at_within false d claim cycles t r e le few = rw e (plain_within claim.kind claim.through d cycles (t + r) r le few)
 
 -- the conditions of a toggle, where the cycles judged are among these
-alternatives_within : (d : Design) (claim : Claim) (cycles t : ℕ) → IsKindFit claim.kind → t + judged_count claim ≤ cycles
+alternatives_within : (d : Design) (claim : Claim) (cycles t : ℕ) → Fits d claim → t + judged_count claim ≤ cycles
     → AreWithin d cycles (alternatives d claim t)
-alternatives_within d claim cycles t fit le =
+alternatives_within d claim cycles t fits le =
     All-below (AreLitsWithin d cycles) (alternatives_at d claim t) (judged_count claim)
-    (λ r lt. at_within claim.hazard d claim cycles t r refl (omega (arith, le, lt)) (omega (arith, lt, judged_few claim.kind fit)))
+    (λ r lt. at_within claim.hazard d claim cycles t r refl (omega (arith, le, lt)) (omega (arith, lt, judged_few d claim fits)))
 
-clean_within : (d : Design) (claim : Claim) (cycles t : ℕ) → IsKindFit claim.kind → t + judged_count claim ≤ cycles
+clean_within : (d : Design) (claim : Claim) (cycles t : ℕ) → Fits d claim → t + judged_count claim ≤ cycles
     → AreWithin d cycles (clean_clauses d claim t)
-clean_within d claim cycles t fit le =
+clean_within d claim cycles t fits le =
     let clause : List KeyLit → List KeyLit = λ conditions. lit false (toggle_key d t) ∷ map opposite conditions in
     All-map (AreLitsWithin d cycles) clause (alternatives d claim t)
     (All-weaker (AreLitsWithin d cycles) (λ conditions. AreLitsWithin d cycles (clause conditions))
     (λ conditions within. All-cons (IsLitWithin d cycles) (lit false (toggle_key d t)) (map opposite conditions)
     (extra_within d cycles t 0 (omega (arith, le)) (omega arith)) (All-map (IsLitWithin d cycles) opposite conditions within))
-    (alternatives d claim t) (alternatives_within d claim cycles t fit le))
+    (alternatives d claim t) (alternatives_within d claim cycles t fits le))
 
 chosen_within : (d : Design) (cycles t a : ℕ) (conditions : List KeyLit) → t ≤ cycles → a < 30 → AreLitsWithin d cycles conditions
     → AreWithin d cycles (chosen_clauses d t a conditions)
@@ -130,13 +129,13 @@ chosen_within d cycles t a conditions le lt within =
     (extra_within d cycles t (20 + a) le (omega (arith, lt))) (one d cycles condition is))
     conditions within)
 
-bad_within : (d : Design) (claim : Claim) (cycles t : ℕ) → IsKindFit claim.kind → t + judged_count claim ≤ cycles
+bad_within : (d : Design) (claim : Claim) (cycles t : ℕ) → Fits d claim → t + judged_count claim ≤ cycles
     → AreWithin d cycles (bad_clauses d claim t)
-bad_within d claim cycles t fit le =
+bad_within d claim cycles t fits le =
     let found = alternatives d claim t in
-    let within = alternatives_within d claim cycles t fit le in
+    let within = alternatives_within d claim cycles t fits le in
     let now : t ≤ cycles = omega (arith, le) in
-    let few : length found ≤ 30 = omega (arith, below_few d claim t (judged_count claim), judged_few claim.kind fit) in
+    let few : length found ≤ 30 = omega (arith, below_few d claim t (judged_count claim), judged_few d claim fits) in
     let toggles : IsLitWithin d cycles (lit true (toggle_key d t)) = extra_within d cycles t 0 now (omega arith) in
     let some : AreLitsWithin d cycles (some_chosen d t found) =
     All-numbered (AreLitsWithin d cycles) (IsLitWithin d cycles) (λ a (conditions : List KeyLit). lit true (bad_key d t a)) 0 found within
@@ -176,12 +175,12 @@ claim_within d claim phase depth inv fits names =
     let cycles = live + depth + 1 + judged_count claim in
     let before : AreWithin d cycles (flat_map (λ o. clean_clauses d claim (live + 1 + o)) (below clean)) =
     All-below (AreLitsWithin d cycles) (λ o. clean_clauses d claim (live + 1 + o)) clean
-    (λ o lt. clean_within d claim cycles (live + 1 + o) fits.kind (omega (arith, lt, only_less phase depth))) in
+    (λ o lt. clean_within d claim cycles (live + 1 + o) fits (omega (arith, lt, only_less phase depth))) in
     All-append (AreLitsWithin d cycles) (flat_map (kept_in d inv) (below (only_in_step phase cycles)))
     (flat_map (λ o. clean_clauses d claim (live + 1 + o)) (below clean) ++ bad_clauses d claim (live + 1 + depth))
     (kept_within d cycles (only_in_step phase cycles) inv (only_less phase cycles) names)
     (All-append (AreLitsWithin d cycles) (flat_map (λ o. clean_clauses d claim (live + 1 + o)) (below clean)) (bad_clauses d claim (live + 1 + depth))
-    before (bad_within d claim cycles (live + 1 + depth) fits.kind (omega arith)))
+    before (bad_within d claim cycles (live + 1 + depth) fits (omega arith)))
 
 -- what is asked about a clause
 pub broken_within : (d : Design) (inv : List InvClause) (clause : InvClause) (phase : Phase) (depth : ℕ) → NamesRegs d clause → All (NamesRegs d) inv

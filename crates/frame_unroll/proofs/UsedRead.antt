@@ -20,8 +20,8 @@ use Rattle.query_model.specs.Keys.{key, lit, below}
 use Rattle.query_model.specs.Reads.{is_start_net}
 use Rattle.net_model.specs.Queries.{Query, Violates}
 use Rattle.query_model.specs.Defined.{Definition, numbered, exclusive, base_definitions, unit, has_own, layer_gate, start_units, layer_definitions}
-use Rattle.query_model.specs.Defined.{late_key, late_reg, end_definition, start_lit, capture_lit, extra, toggle_key, change_key, stale_key}
-use Rattle.query_model.specs.Defined.{differ_definition, extra_definitions, claim_definitions}
+use Rattle.query_model.specs.Defined.{late_key, late_reg, end_definition, start_lit, capture_lit, extra, change_key, stale_key}
+use Rattle.query_model.specs.Defined.{toggle_definition, differ_definition, extra_definitions, claim_definitions}
 use Rattle.query_model.specs.Formula.{Mentions, definitions, cycle_definitions, question_definitions}
 use Rattle.query_model.proofs.Members.{below_less}
 use Rattle.query_model.proofs.Based.{from_numbered}
@@ -36,7 +36,7 @@ use Rattle.frame_unroll.proofs.Saying.{Among, Among-left, Among-right, ReadsOf, 
 use Rattle.frame_unroll.proofs.Using.{gate_own, base_use}
 use Rattle.frame_unroll.proofs.UsingLate.{zero_more, gate_layer, gate_pins, gate_plain, gate_rails, gate_says, reg_rail, reg_plain, reg_rails}
 use Rattle.frame_unroll.proofs.UsingLate.{reg_says, from_rails, reg_listed, differ_reads, differ_says, differ_out, stale_definition, earlier}
-use Rattle.frame_unroll.proofs.UsingLate.{base_level}
+use Rattle.frame_unroll.proofs.UsingLate.{toggle_read, toggle_outs, base_level}
 
 -- the key itself, or one that its definition reads
 abbrev IsRead : Design → Claim → List (List Bool) → ℕ → Key → Key → Type 0
@@ -295,9 +295,9 @@ from_extra d claim moved cycles c def k j early has out m = by_place has
         (exclusive_read (stale_key d c (r + 1)) (start_lit d claim.start c) (start_lit d claim.start (c - r - 2))) reads is
 
     by_place : In def (extra_definitions d claim moved c) → IsRead d claim moved cycles k j
-    by_place (inl is) = one_of 0 (exclusive (toggle_key d c) (start_lit d claim.start c) (start_lit d claim.start (c - 1)))
-        (start_lit d claim.start c ∷ start_lit d claim.start (c - 1) ∷ []) refl
-        (exclusive_read (toggle_key d c) (start_lit d claim.start c) (start_lit d claim.start (c - 1))) refl is
+    by_place (inl is) = one_of 0 (toggle_definition d claim.edge claim.start c)
+        (start_lit d claim.start c ∷ start_lit d claim.start (c - 1) ∷ []) (toggle_outs d claim.edge claim.start c)
+        (toggle_read d claim.edge claim.start c) refl is
     by_place (inr (inl is)) = one_of 1 (exclusive (change_key d c) (capture_lit d claim.end c) (capture_lit d claim.end (c - 1)))
         (capture_lit d claim.end c ∷ capture_lit d claim.end (c - 1) ∷ []) refl
         (exclusive_read (change_key d c) (capture_lit d claim.end c) (capture_lit d claim.end (c - 1))) refl is

@@ -14,16 +14,19 @@ use Rattle.net_model.specs.declared.netlist.Design.{Design}
 use Rattle.net_model.specs.declared.netlist.Gate.{Gate}
 use Rattle.net_model.specs.declared.netlist.Reg.{Reg}
 use Rattle.net_model.specs.declared.claims.Claim.{Claim}
+use Rattle.net_model.specs.declared.claims.Start.{Start}
 use Rattle.net_model.specs.declared.claims.End.{End}
 use Rattle.net_model.specs.declared.claims.End.TheVariants.{Reg as RegEnd, Output as OutputEnd}
 use Rattle.net_model.specs.declared.claims.PinRef.TheVariants.{GateIn, RegIn}
+use Rattle.sdcv_base.specs.declared.kinds.Edge.{Edge}
 use Rattle.query_model.specs.Keys.{key, lit, below}
 use Rattle.query_model.specs.Reads.{bit_key, read_pin}
 use Rattle.net_model.specs.Queries.{Query, Violates}
 use Rattle.net_model.specs.Mentions.{reads_own}
 use Rattle.query_model.specs.Defined.{Definition, numbered, plain, rails, exclusive, both, with_own, base_definitions, has_own, layer_gate}
 use Rattle.query_model.specs.Defined.{start_units, layer_definitions, late_key, late_reg, end_definition, start_lit, capture_lit, late_capture_lit}
-use Rattle.query_model.specs.Defined.{extra, toggle_key, change_key, differ_key, stale_key, differ_definition, extra_definitions, claim_definitions}
+use Rattle.query_model.specs.Defined.{extra, toggle_key, change_key, differ_key, stale_key, toggle_definition, differ_definition, extra_definitions}
+use Rattle.query_model.specs.Defined.{claim_definitions}
 use Rattle.query_model.specs.Formula.{Mentions, definitions, cycle_definitions, question_definitions}
 use Rattle.query_model.proofs.Members.{In-below}
 use Rattle.query_model.proofs.Lists.{length-numbered}
@@ -36,6 +39,7 @@ use Rattle.frame_unroll.specs.Origins.{reads_of_origin, gate_late, reg_late, rea
 use Rattle.frame_unroll.specs.declared.origins.Origin.{Origin}
 use Rattle.frame_unroll.specs.declared.origins.Origin.TheVariants.{Free, Reg as OfReg, Stale}
 use Rattle.frame_unroll.proofs.Saying.{Among, Among-left, Among-right, ReadsOf, plain_read, plain_out, rails_reads, rails_read, exclusive_read, both_read}
+use Rattle.frame_unroll.proofs.Saying.{edge_read, edge_outs}
 use Rattle.frame_unroll.proofs.Using.{key_at, use_by, gate_found, base_used}
 
 pub zero_more : (r : ℕ) → 0 + r ≡ r
@@ -323,6 +327,14 @@ stale_in d claim moved c r lt = inr (inr (inr (In-map (stale_definition d claim 
 pub earlier : (c r : ℕ) → c - (r + 1) - 1 ≡ c - r - 2
 earlier c r = omega arith
 
+-- the definition of a toggle reads the start's bit, and that of the cycle before
+pub toggle_read : (d : Design) (edge : Edge) (start : Start) (c : ℕ) → ReadsOf (toggle_definition d edge start c)
+    (start_lit d start c ∷ start_lit d start (c - 1) ∷ [])
+toggle_read d edge start c = edge_read edge (toggle_key d c) (start_lit d start c) (start_lit d start (c - 1))
+
+pub toggle_outs : (d : Design) (edge : Edge) (start : Start) (c : ℕ) → (toggle_definition d edge start c).outs ≡ toggle_key d c ∷ []
+toggle_outs d edge start c = edge_outs edge (toggle_key d c) (start_lit d start c) (start_lit d start (c - 1))
+
 extra_used : (q : Query) (claim : Claim) (offset clean : ℕ) (moved : List (List Bool)) (k j : Key) → q.question ≡ Violates claim offset clean
     → k.layer ≡ 0 → k.rail ≡ 0 → k.cycle < q.cycles → (n : ℕ) → q.design.nets + length q.design.regs + n ≡ k.point
     → Among (reads_in_layer q.design claim moved k 0 (extra_origin claim n)) j → Uses (definitions Rows q moved) k j
@@ -343,9 +355,10 @@ extra_used q claim offset clean moved k j asks layer rail early = by_point
     by_point : (n : ℕ) → d.nets + length d.regs + n ≡ k.point → Among (reads_in_layer d claim moved k 0 (extra_origin claim n)) j
         → Uses (definitions Rows q moved) k j
     by_point zero point a =
-        let def : Definition = exclusive (toggle_key d c) (start_lit d claim.start c) (start_lit d claim.start (c - 1)) in
+        let def : Definition = toggle_definition d claim.edge claim.start c in
         use_by (definitions Rows q moved) def (start_lit d claim.start c ∷ start_lit d claim.start (c - 1) ∷ []) k j (listed def (inl refl))
-        (inl (own 0 point)) (exclusive_read (toggle_key d c) (start_lit d claim.start c) (start_lit d claim.start (c - 1))) a
+        (subst (λ (outs : List Key). In k outs) (sym (toggle_outs d claim.edge claim.start c)) (inl (own 0 point)))
+        (toggle_read d claim.edge claim.start c) a
     by_point (suc zero) point a =
         let def : Definition = exclusive (change_key d c) (capture_lit d claim.end c) (capture_lit d claim.end (c - 1)) in
         use_by (definitions Rows q moved) def (capture_lit d claim.end c ∷ capture_lit d claim.end (c - 1) ∷ []) k j (listed def (inr (inl refl)))

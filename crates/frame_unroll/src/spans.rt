@@ -1,6 +1,6 @@
 //! How many cycles a query has.
 ghost use Rattle.std.specs.Prelude.{◌≡◌, ◌≤◌, ◌+◌};
-ghost use Rattle.sdcv_base.specs.Kinds as kinds;
+ghost use Rattle.net_model.specs.Judge as judge;
 ghost use Rattle.net_model.specs.Netlist.{IsSound};
 ghost use Rattle.net_model.specs.Fits.{Fits};
 ghost use Rattle.net_model.specs.Queries as queries;
@@ -41,7 +41,7 @@ pub fn claim_span(design: &Design, claim: &Claim, phase: Phase, depth: usize) ->
     requires fits { Fits design.now claim.now }
     requires few { depth ≤ 64 }
     ensures live { result.live ≡ queries.live_of design.now phase }
-    ensures cycles { result.cycles ≡ queries.live_of design.now phase + depth + 1 + kinds.judged_count claim.now }
+    ensures cycles { result.cycles ≡ queries.live_of design.now phase + depth + 1 + judge.judged_count claim.now }
     ensures kept { result.kept_below ≡ queries.only_in_step phase result.cycles }
     ensures few { (result.live ≤ 64) × (result.cycles ≤ 144) }
 {

@@ -6,4 +6,4 @@ pub returns-clause-few : goal.returns-clause-few
 returns-clause-few c =
     let few : length c.loop-later.found ≤ 2 * c.loop-later.later = omega
     (arith, ap length c.loop-later.invariant, below_few c.args.design.now c.args.claim.now c.args.toggle c.loop-later.later) in
-    omega (arith, few, judged_few c.args.claim.now.kind c.requires.fits.kind, c.judged_count-later-end.ensures)
+    omega (arith, few, judged_few c.args.design.now c.args.claim.now c.requires.fits, c.judged_count-later-end.ensures)
