@@ -7,9 +7,10 @@ ghost use Rattle.query_model.specs.Defined.{toggle_definition, change_definition
 ghost use Rattle.frame_unroll.specs.Reading.{IsSubject};
 ghost use Rattle.cnf_encode.specs.Listed.{IsClosed, Lists};
 
+use crate::clauses::opposite;
 use crate::needed::{list_both, list_exclusive};
 use frame_unroll::{Frames, Subject, capture_lit, late_capture_lit, start_lit};
-use net_model::Design;
+use net_model::{Design, Edge};
 use proof_log::Clause;
 use query_model::Key;
 use sdcv_base::Seq;
@@ -29,7 +30,7 @@ fn extra(design: &Design, cycle: usize, place: usize) -> Key
     }
 }
 
-/// That the start's bit differs from the one in the cycle before.
+/// That the start's bit differs from the one in the cycle before, as the claim's edge says.
 fn list_toggle(
     alloc: Global,
     frames: &Frames,
@@ -38,14 +39,18 @@ fn list_toggle(
     clauses: &mut Seq<Clause>,
 ) -> Result<(), AllocError>
     requires subject { IsSubject subject.now }
-    requires closed { IsClosed frames.now (toggle_definition subject.now.design.now subject.now.claim.now.start cycle ∷ []) }
-    ensures { OnOk result (Lists frames.now (toggle_definition subject.now.design.now subject.now.claim.now.start cycle ∷ [])
+    requires closed { IsClosed frames.now (toggle_definition subject.now.design.now subject.now.claim.now.edge subject.now.claim.now.start cycle ∷ []) }
+    ensures { OnOk result (Lists frames.now (toggle_definition subject.now.design.now subject.now.claim.now.edge subject.now.claim.now.start cycle ∷ [])
         clauses.old clauses.new) }
 {
     let toggles = extra(subject.design, cycle, 0);
     let now = start_lit(subject, cycle);
     let before = start_lit(subject, cycle.saturating_sub(1));
-    list_exclusive(alloc, frames, toggles, now, before, clauses)
+    match subject.claim.edge {
+        Edge::Any => list_exclusive(alloc, frames, toggles, now, before, clauses),
+        Edge::Rise => list_both(alloc, frames, toggles, now, opposite(before), clauses),
+        Edge::Fall => list_both(alloc, frames, toggles, opposite(now), before, clauses),
+    }
 }
 
 /// That the end captures another bit than in the cycle before.
