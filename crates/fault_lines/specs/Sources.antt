@@ -23,6 +23,7 @@ verilog_line (verilog.Syntax place) = Some (number_line (codes "refused verilog 
 verilog_line (verilog.Unsupported place word) = Some (numbered_line (codes "refused verilog 2 Unsupported") place word)
 verilog_line (verilog.TwiceName name) = Some (name_line (codes "refused verilog 3 TwiceName") name)
 verilog_line (verilog.Width place) = Some (number_line (codes "refused verilog 4 Width") place)
+verilog_line (verilog.Deep place) = Some (number_line (codes "refused verilog 6 Deep") place)
 verilog_line verilog.Memory = None
 
 abbrev pub liberty_line : LibFault → Option (List ℕ)

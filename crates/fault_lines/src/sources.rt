@@ -42,6 +42,7 @@ pub fn verilog_line(alloc: Global, fault: &VerFault) -> Result<Vec<u8>, AllocErr
         }
         VerFault::TwiceName(name) => name_line(alloc, "refused verilog 3 TwiceName", name),
         VerFault::Width(place) => number_line(alloc, "refused verilog 4 Width", *place as u64),
+        VerFault::Deep(place) => number_line(alloc, "refused verilog 6 Deep", *place as u64),
         VerFault::Memory => Err(AllocError),
     }
 }

@@ -11,4 +11,5 @@ fails_through (fault.Syntax place) a b h through = through (fault.Syntax place) 
 fails_through (fault.Unsupported place word) a b h through = through (fault.Unsupported place word) h
 fails_through (fault.TwiceName name) a b h through = through (fault.TwiceName name) h
 fails_through (fault.Width place) a b h through = through (fault.Width place) h
+fails_through (fault.Deep place) a b h through = through (fault.Deep place) h
 fails_through fault.Memory a b h through = tt

@@ -9,6 +9,7 @@ use Rattle.verilog_scope.specs.declared.faults.VerFault.TheVariants as fault
 abbrev pub of_syntax : SyntaxFault → VerFault
 of_syntax (syntax_fault.Syntax place) = fault.Syntax place
 of_syntax (syntax_fault.Unsupported place word) = fault.Unsupported place word
+of_syntax (syntax_fault.Deep place) = fault.Deep place
 of_syntax syntax_fault.Memory = fault.Memory
 
 -- the rules have that fault, or memory ran out
@@ -17,4 +18,5 @@ Fails (fault.Syntax place) expected = expected ≡ Err (fault.Syntax place)
 Fails (fault.Unsupported place word) expected = expected ≡ Err (fault.Unsupported place word)
 Fails (fault.TwiceName name) expected = expected ≡ Err (fault.TwiceName name)
 Fails (fault.Width place) expected = expected ≡ Err (fault.Width place)
+Fails (fault.Deep place) expected = expected ≡ Err (fault.Deep place)
 Fails fault.Memory expected = Unit {0}

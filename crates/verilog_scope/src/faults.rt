@@ -23,6 +23,9 @@ pub enum VerFault {
     /// A connection, a terminal or an assignment begins there, and its two sides have not the same number of bits.
     #[error("byte {0}: the two sides differ in width")]
     Width(usize),
+    /// A brace stands there inside as many others as may be open at once.
+    #[error("byte {0}: too many braces are open here")]
+    Deep(usize),
     #[error("out of memory")]
     Memory,
 }
@@ -34,6 +37,7 @@ impl From<SyntaxFault> for VerFault {
         match fault {
             SyntaxFault::Syntax(place) => VerFault::Syntax(place),
             SyntaxFault::Unsupported(place, word) => VerFault::Unsupported(place, word),
+            SyntaxFault::Deep(place) => VerFault::Deep(place),
             SyntaxFault::Memory => VerFault::Memory,
         }
     }

@@ -5,7 +5,7 @@ use Rattle.texts.specs.Rules.{◌>>=◌}
 use Rattle.verilog_words.specs.declared.faults.SyntaxFault.{SyntaxFault}
 use Rattle.verilog_words.specs.Codes.{comma, left_brace, right_brace}
 use Rattle.verilog_words.specs.Marks.{is_next, after_mark, mark_at}
-use Rattle.verilog_words.specs.Reads.{Rule, refused}
+use Rattle.verilog_words.specs.Reads.{Rule, deep}
 use Rattle.verilog_syntax.specs.declared.declarations.PartDecl.{PartDecl}
 use Rattle.verilog_syntax.specs.Lists.{list_from}
 use Rattle.verilog_syntax.specs.Parts.{part_at}
@@ -68,7 +68,7 @@ enter_open k (suc e) ms found total s some here =
 
 -- it comes next, and may not
 pub enter_full : (k : Bool) (d : ℕ) (ms : List ℕ) (found : List PartDecl) (total : ℕ) (s : List ℕ) → d ≡ 0 → is_next left_brace s ≡ true
-    → enter k d ms found total s ≡ refused total s
+    → enter k d ms found total s ≡ deep total s
 unfolding adds_expr
 enter_full k zero ms found total s e here = rw here refl
 enter_full k (suc d) ms found total s e here = absurd (omega arith)

@@ -9,7 +9,8 @@ use crate::declarations::{PartDecl, TermDecl};
 use crate::parts::take_part;
 use sdcv_base::{Cursor, Seq};
 use std::alloc::Global;
-use verilog_words::{SyntaxFault, bump, expect_mark, is_next, refused, try_pass};
+use texts::MOST_NESTED;
+use verilog_words::{SyntaxFault, bump, deep, expect_mark, is_next, try_pass};
 
 /// Passes each `}` that comes next and closes one of so many open braces, and tells how many are open then.
 fn close_all(c: &mut Cursor<'_>, opened: usize) -> usize
@@ -41,7 +42,7 @@ fn take_parts(
     'parts: loop {
         if is_next(c, b'{') {
             if opened == room {
-                return Err(refused(c));
+                return Err(deep(c));
             }
             bump(c);
             opened += 1;
@@ -57,8 +58,8 @@ fn take_parts(
     }
 }
 
-/// Takes an expression. A target is one without constants.
-#[tactic(auto, unfolding(crate::specs::Exprs::expr_at))]
+/// Takes an expression, in which no brace stands inside more others than may be open at once. A target is one without constants.
+#[tactic(auto, unfolding(crate::specs::Exprs::expr_at, texts::specs::Rules::most_nested))]
 pub fn take_expr(
     alloc: Global,
     c: &mut Cursor<'_>,
@@ -69,8 +70,7 @@ pub fn take_expr(
     ensures shorter { OnOk result (length (rest c.new) < length (rest c.old)) }
 {
     let offset = c.place();
-    let room = c.rest().len();
     let mut parts = Seq::new(alloc);
-    take_parts(alloc, c, constants, room, &mut parts)?;
+    take_parts(alloc, c, constants, MOST_NESTED, &mut parts)?;
     Ok(TermDecl { offset, parts })
 }

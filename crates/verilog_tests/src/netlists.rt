@@ -261,3 +261,55 @@ fn texts_are_netlists_or_faults(rt: HostRuntime) -> Result<(), Fail> {
     }
     Ok(())
 }
+
+// What stands before, in and after braces, how many there are, and the netlist or how its fault is told; by hand.
+const BRACES: &[(&str, usize, &str, &str, &str)] = &[
+    (
+        "module m (output y); assign y = ",
+        256,
+        "1'b0",
+        "; endmodule",
+        "/m: output y 0; y | 0 < '0;",
+    ),
+    (
+        "module m (output y); assign y = ",
+        257,
+        "1'b0",
+        "; endmodule",
+        "byte 288: too many braces are open here",
+    ),
+    (
+        "module m (output y); assign ",
+        257,
+        "y",
+        " = 1'b0; endmodule",
+        "byte 284: too many braces are open here",
+    ),
+    (
+        "module m (output y); assign y = /*",
+        300,
+        "",
+        "*/ {1'b0}; endmodule",
+        "/m: output y 0; y | 0 < '0;",
+    ),
+];
+
+#[test]
+fn braces_nest_to_their_limit(rt: HostRuntime) -> Result<(), Fail> {
+    let alloc = rt.alloc();
+    for (before, count, inside, after, want) in BRACES {
+        let mut text = String::new(alloc);
+        text.push_str(before)?;
+        for _ in 0..*count {
+            text.push_str("{")?;
+        }
+        text.push_str(inside)?;
+        for _ in 0..*count {
+            text.push_str("}")?;
+        }
+        text.push_str(after)?;
+        let told = told(alloc, text.as_bytes())?;
+        assert_eq!(rt; told.as_str(), *want, "{before} {count}");
+    }
+    Ok(())
+}

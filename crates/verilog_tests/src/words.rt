@@ -192,6 +192,10 @@ fn faults_are_shown(rt: HostRuntime) -> Result<(), Fail> {
             SyntaxFault::Unsupported(18, word),
             "byte 18: reg begins nothing that a netlist has",
         ),
+        (
+            SyntaxFault::Deep(288),
+            "byte 288: too many marks are open here",
+        ),
         (SyntaxFault::Memory, "out of memory"),
     ] {
         let shown = format!(in rt.alloc(); "{fault}")?;

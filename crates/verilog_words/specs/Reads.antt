@@ -17,8 +17,13 @@ After = Result (List ℕ) SyntaxFault
 abbrev pub refused : {A : Type 0} → ℕ → List ℕ → Result A SyntaxFault
 refused total s = Err (fault.Syntax (offset_of total s))
 
+-- a mark inside as many as may be open stands where this is left of it
+abbrev pub deep : {A : Type 0} → ℕ → List ℕ → Result A SyntaxFault
+deep total s = Err (fault.Deep (offset_of total s))
+
 -- the rule gives this fault, at a place of a text of this length; or memory ran out
 abbrev pub Fails : {B : Type 0} → ℕ → SyntaxFault → Result B SyntaxFault → Type 0
 Fails total (fault.Syntax place) expected = (expected ≡ Err (fault.Syntax place)) × (place ≤ total)
 Fails total (fault.Unsupported place word) expected = (expected ≡ Err (fault.Unsupported place word)) × (place ≤ total)
+Fails total (fault.Deep place) expected = (expected ≡ Err (fault.Deep place)) × (place ≤ total)
 Fails total fault.Memory expected = Unit {0}

@@ -15,6 +15,9 @@ pub enum SyntaxFault {
     /// A word of behaviour, or another one that is left out, begins an item there, or stands where a module could begin.
     #[error("byte {0}: {1} begins nothing that a netlist has")]
     Unsupported(usize, Name),
+    /// A mark stands there inside as many of its kind as may be open at once.
+    #[error("byte {0}: too many marks are open here")]
+    Deep(usize),
     #[error("out of memory")]
     Memory,
 }

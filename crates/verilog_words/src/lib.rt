@@ -16,7 +16,7 @@ mod words;
 pub use blanks::skip_blanks;
 pub use constants::take_constant;
 pub use faults::SyntaxFault;
-pub use marks::{bump, expect_mark, expect_open, is_next, opens_list, refused, try_pass};
+pub use marks::{bump, deep, expect_mark, expect_open, is_next, opens_list, refused, try_pass};
 pub use names::{
     begins_name, expect_word, has_word, identifier, next_word, skip_identifier, take_name, try_word,
 };

@@ -18,6 +18,13 @@ pub fn refused(c: &Cursor<'_>) -> SyntaxFault
     SyntaxFault::Syntax(c.place())
 }
 
+/// A mark stands here inside as many of its kind as may be open at once.
+pub fn deep(c: &Cursor<'_>) -> SyntaxFault
+    ensures { result ≡ fault.Deep (offset_of (length (text_of c.now)) (rest c.now)) }
+{
+    SyntaxFault::Deep(c.place())
+}
+
 /// Whether this mark comes next.
 #[tactic(auto, using(crate::proofs::FrontLemmas::first_some))]
 pub fn is_next(c: &Cursor<'_>, mark: u8) -> bool

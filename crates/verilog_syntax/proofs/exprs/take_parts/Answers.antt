@@ -15,7 +15,7 @@ returns-then-opened-room-clause-value c =
     let (d, ms, sum, len, cov, told) = c.parts.invariant.told in
     let full = enter_full c.args.constants d ms c.parts.found (length (text_of c.args.c.now)) (rest c.parts.c) (omega arith)
     (sym c.if-is_next.ensures.value) in
-    rw (c.refused.ensures, c.parts.invariant.text) (told ∙ full, omega arith)
+    rw (c.deep.ensures, c.parts.invariant.text) (told ∙ full, omega arith)
 
 pub parts-preserved-then-is_next : goal.parts-preserved-then-is_next
 parts-preserved-then-is_next c =
