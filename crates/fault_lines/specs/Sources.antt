@@ -39,3 +39,4 @@ sdc_line (sdc.UnknownVariable line word) = Some (numbered_line (codes "refused s
 sdc_line (sdc.BadOption line word) = Some (numbered_line (codes "refused sdc 4 BadOption") line word)
 sdc_line (sdc.BadNumber line word) = Some (numbered_line (codes "refused sdc 5 BadNumber") line word)
 sdc_line sdc.Memory = None
+sdc_line (sdc.Deep place) = Some (number_line (codes "refused sdc 7 Deep") place)

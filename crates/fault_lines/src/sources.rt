@@ -80,5 +80,6 @@ pub fn sdc_line(alloc: Global, fault: &SdcFault) -> Result<Vec<u8>, AllocError>
             numbered_line(alloc, "refused sdc 5 BadNumber", *line, word)
         }
         SdcFault::Memory => Err(AllocError),
+        SdcFault::Deep(place) => number_line(alloc, "refused sdc 7 Deep", *place as u64),
     }
 }

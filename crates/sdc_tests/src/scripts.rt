@@ -118,6 +118,7 @@ fn fault_text(alloc: Global, fault: &SdcFault) -> Result<String, Fail> {
         SdcFault::BadOption(line, word) => format!(in alloc; "BadOption {line} {word}")?,
         SdcFault::BadNumber(line, word) => format!(in alloc; "BadNumber {line} {word}")?,
         SdcFault::Memory => String::from_str(alloc, "Memory")?,
+        SdcFault::Deep(place) => format!(in alloc; "Deep {place}")?,
     })
 }
 
@@ -324,6 +325,105 @@ const REFUSED: &[(&str, &str)] = &[
 fn other_texts_are_refused(rt: HostRuntime) -> Result<(), Fail> {
     for (text, want) in REFUSED {
         let got = read_text(rt.alloc(), text)?;
+        assert_eq!(rt; got.as_str(), *want, "{text}");
+    }
+    Ok(())
+}
+
+fn push_times(text: &mut String, part: &str, times: usize) -> Result<(), Fail> {
+    for _ in 0..times {
+        text.push_str(part)?;
+    }
+    Ok(())
+}
+
+fn repeated(alloc: Global, parts: &[(&str, usize)]) -> Result<String, Fail> {
+    let mut text = String::new(alloc);
+    for (part, times) in parts {
+        push_times(&mut text, part, *times)?;
+    }
+    Ok(text)
+}
+
+// Texts by their parts, each with how often it stands, and what they are. The place is that of the first brace or bracket
+// within 256 others, counted by hand.
+const NESTED: &[(&[(&str, usize)], &str)] = &[
+    (&[("set x ", 1), ("{", 256), ("}", 256)], "1 Passed\n"),
+    (&[("set x ", 1), ("{", 257), ("}", 257)], "Deep 262"),
+    (
+        &[("set y 1\r\nset x ", 1), ("{", 257), ("}", 257)],
+        "Deep 271",
+    ),
+    (&[("set_load ", 1), ("{", 257), ("}", 257)], "Deep 265"),
+    (
+        &[
+            ("set_load", 1),
+            (" ", 1),
+            ("{", 256),
+            ("}", 256),
+            (" ", 1),
+            ("{", 256),
+            ("}", 256),
+        ],
+        "1 Passed\n",
+    ),
+    (&[("set x {", 1), ("\\{", 300), ("}", 1)], "1 Passed\n"),
+    (
+        &[("set x \"", 1), ("{", 300), ("}", 300), ("\"", 1)],
+        "1 Passed\n",
+    ),
+    (
+        &[
+            ("set_false_path -to \"", 1),
+            ("{", 300),
+            ("a", 1),
+            ("}", 300),
+            ("\"", 1),
+        ],
+        "1 False to any:a\n",
+    ),
+    (
+        &[("set x ", 1), ("[list ", 256), ("a", 1), ("]", 256)],
+        "1 Passed\n",
+    ),
+    (
+        &[("set x ", 1), ("[list ", 257), ("a", 1), ("]", 257)],
+        "Deep 1542",
+    ),
+    (
+        &[("set x ", 1), ("[list ", 256), ("{a}", 1), ("]", 256)],
+        "Deep 1542",
+    ),
+    (
+        &[
+            ("set x ", 1),
+            ("[list ", 200),
+            ("{", 56),
+            ("a", 1),
+            ("}", 56),
+            ("]", 200),
+        ],
+        "1 Passed\n",
+    ),
+    (
+        &[
+            ("set x ", 1),
+            ("[list ", 200),
+            ("{", 57),
+            ("a", 1),
+            ("}", 57),
+            ("]", 200),
+        ],
+        "Deep 1262",
+    ),
+    (&[("set x $nope ", 1), ("{", 257), ("}", 257)], "Deep 268"),
+];
+
+#[test]
+fn braces_and_brackets_nest_up_to_256(rt: HostRuntime) -> Result<(), Fail> {
+    for (parts, want) in NESTED {
+        let text = repeated(rt.alloc(), parts)?;
+        let got = read_text(rt.alloc(), text.as_str())?;
         assert_eq!(rt; got.as_str(), *want, "{text}");
     }
     Ok(())

@@ -1,4 +1,4 @@
-use sdc_words::{Commands, Piece, RawCommand, Word, WordFault, cleaned, matched_len, original};
+use sdc_words::{Commands, Piece, RawCommand, Word, WordFault, cleaned, original};
 use sdcv_base::Seq;
 use std::alloc::Global;
 use std::test::Fail;
@@ -162,7 +162,7 @@ fn a_broken_text_is_refused_at_its_place(rt: HostRuntime) -> Result<(), Fail> {
     Ok(())
 }
 
-// What developers see of each fault, and how far a brace reaches.
+// What developers see of each fault.
 #[test]
 fn faults_are_shown(rt: HostRuntime) -> Result<(), Fail> {
     for (fault, want) in [
@@ -171,10 +171,13 @@ fn faults_are_shown(rt: HostRuntime) -> Result<(), Fail> {
             "byte 7: no SDC command goes on like this",
         ),
         (WordFault::Memory, "out of memory"),
+        (
+            WordFault::Deep(8),
+            "byte 8: too many braces and brackets are open",
+        ),
     ] {
         let shown = format!(in rt.alloc(); "{fault}")?;
         assert_eq!(rt; shown.as_str(), want);
     }
-    assert_eq!(rt; matched_len(b"a{b}c} d"), Some(6));
     Ok(())
 }

@@ -33,6 +33,7 @@ module _ (text : List ℕ) (p : Progress) (s : List ℕ) where
 pub fails_lifted : {A : Type 0} (total : ℕ) (e : WordFault) (x : Result A WordFault) → words.Fails total e x → Fails (of_words e) (lifted x)
 fails_lifted total (word_fault.Syntax place) x h = λ other. rw h.0 refl
 fails_lifted total word_fault.Memory x h = λ other. absurd (other refl)
+fails_lifted total (word_fault.Deep place) x h = λ other. rw h.0 refl
 
 -- a fault of the cleaned text is one of the text
 pub fails_placed : (text : List ℕ) (e : SdcFault) (x : Result Progress SdcFault) → Fails e x → Fails (placed_fault text e) (placed text x)
@@ -42,3 +43,4 @@ fails_placed text (fault.UnknownVariable line name) x h = λ other. rw (h other)
 fails_placed text (fault.BadOption line word) x h = λ other. rw (h other) refl
 fails_placed text (fault.BadNumber line word) x h = λ other. rw (h other) refl
 fails_placed text fault.Memory x h = λ other. absurd (other refl)
+fails_placed text (fault.Deep place) x h = λ other. rw (h (λ same. absurd cc)) refl

@@ -40,6 +40,7 @@ placed_fault text (fault.UnknownVariable line name) = fault.UnknownVariable line
 placed_fault text (fault.BadOption line word) = fault.BadOption line word
 placed_fault text (fault.BadNumber line word) = fault.BadNumber line word
 placed_fault text fault.Memory = fault.Memory
+placed_fault text (fault.Deep place) = fault.Deep (original text place)
 
 abbrev pub placed : List ℕ → Result Progress SdcFault → Result Script SdcFault
 placed text (Ok p) = Ok (record { commands = p.commands })
@@ -57,3 +58,4 @@ IsWithin len (fault.UnknownVariable line name) = Unit {0}
 IsWithin len (fault.BadOption line word) = Unit {0}
 IsWithin len (fault.BadNumber line word) = Unit {0}
 IsWithin len fault.Memory = Unit {0}
+IsWithin len (fault.Deep place) = place ≤ len

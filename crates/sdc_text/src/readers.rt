@@ -11,7 +11,7 @@ use sdc_values::SdcFault;
 use sdc_words::{Commands, RawCommand, cleaned, original};
 use std::alloc::Global;
 
-/// The script that a text is, or the fault that it has. A `Syntax` is at most the text's length.
+/// The script that a text is, or the fault that it has. A `Syntax` and a `Deep` are at most the text's length.
 #[tactic(auto, unfolding(crate::specs::Scripts::script_of))]
 pub fn read_sdc(alloc: Global, text: &[u8]) -> Result<Script, SdcFault>
     ensures value { Gives Fails (λ script. script) result (spec.script_of text.now) }
@@ -38,6 +38,7 @@ fn placed(text: &[u8], fault: SdcFault) -> SdcFault
 {
     match fault {
         SdcFault::Syntax(place) => SdcFault::Syntax(original(text, place)),
+        SdcFault::Deep(place) => SdcFault::Deep(original(text, place)),
         other => other,
     }
 }

@@ -9,6 +9,7 @@ use Rattle.sdc_words.specs.declared.faults.WordFault.TheVariants as word_fault
 abbrev pub of_words : WordFault → SdcFault
 of_words (word_fault.Syntax place) = fault.Syntax place
 of_words word_fault.Memory = fault.Memory
+of_words (word_fault.Deep place) = fault.Deep place
 
 -- the fault is the expected one, or memory ran out
 abbrev pub Fails : {B : Type 0} → SdcFault → Result B SdcFault → Type 0

@@ -28,6 +28,9 @@ pub enum SdcFault {
     BadNumber(u64, Name),
     #[error("out of memory")]
     Memory,
+    /// A brace or a bracket stands there within 256 others.
+    #[error("byte {0}: too many braces and brackets are open")]
+    Deep(usize),
 }
 
 impl From<WordFault> for SdcFault {
@@ -37,6 +40,7 @@ impl From<WordFault> for SdcFault {
         match fault {
             WordFault::Syntax(place) => SdcFault::Syntax(place),
             WordFault::Memory => SdcFault::Memory,
+            WordFault::Deep(place) => SdcFault::Deep(place),
         }
     }
 }

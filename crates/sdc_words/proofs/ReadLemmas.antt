@@ -9,3 +9,4 @@ pub fails_through : {A B : Type 0} (old new : ℕ) → old ≡ new → (e : Word
     → ((why : WordFault) → a ≡ Err why → b ≡ Err why) → Fails new e b
 fails_through old new same (fault.Syntax place) a b h f = (f (fault.Syntax place) h.0, rw (← same) h.1)
 fails_through old new same fault.Memory a b h f = tt
+fails_through old new same (fault.Deep place) a b h f = (f (fault.Deep place) h.0, rw (← same) h.1)

@@ -16,6 +16,9 @@ pub enum WordFault {
     Syntax(usize),
     #[error("out of memory")]
     Memory,
+    /// A brace or a bracket stands there within as many as may be open. The offset is at most the text's length.
+    #[error("byte {0}: too many braces and brackets are open")]
+    Deep(usize),
 }
 
 impl From<AllocError> for WordFault {
@@ -39,4 +42,11 @@ pub fn refused(c: &Cursor<'_>) -> WordFault
     ensures { result ≡ fault.Syntax (offset_of (length (text_of c.now)) (rest c.now)) }
 {
     WordFault::Syntax(c.place())
+}
+
+/// A brace or a bracket is opened here within as many as may be open.
+pub fn deep(c: &Cursor<'_>) -> WordFault
+    ensures { result ≡ fault.Deep (offset_of (length (text_of c.now)) (rest c.now)) }
+{
+    WordFault::Deep(c.place())
 }

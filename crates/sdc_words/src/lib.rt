@@ -3,7 +3,7 @@
 //! `Commands` goes through a text command by command, each with its line; it is the type to read first. Brackets stand among
 //! the words as marks, so a command is one flat list whatever its nesting. Before that `cleaned` leaves out the carriage
 //! returns before newlines, and `original` tells where a byte stood. What a command is, and the values of its words, are
-//! left to the crates above; `matched_len` is for the lists in them.
+//! left to the crates above.
 #![tactic(auto)]
 
 mod blanks;
@@ -16,7 +16,6 @@ mod plain_words;
 mod word_lists;
 mod words;
 
-pub use braces::matched_len;
 pub use commands::Commands;
 pub use faults::WordFault;
 pub use lines::{cleaned, original};

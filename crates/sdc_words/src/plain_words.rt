@@ -6,8 +6,8 @@ ghost use Rattle.sdc_words.specs.Reads.{Fails};
 ghost use Rattle.sdc_words.specs.Texts as spec;
 
 use crate::blanks::is_next;
-use crate::braces::{joined, matched_len};
-use crate::faults::{WordFault, refused};
+use crate::braces::{Match, joined, matched, may_open};
+use crate::faults::{WordFault, deep, refused};
 use crate::pieces::{Within, is_over, more_pieces, take_piece};
 use crate::words::Piece;
 use sdcv_base::{Cursor, Seq};
@@ -36,21 +36,30 @@ pub fn expect_parted(c: &Cursor<'_>, is_inside: bool) -> Result<(), WordFault>
     Ok(())
 }
 
-/// A word in braces.
+/// A word in braces, in so many brackets.
 #[tactic(auto, unfolding(crate::specs::Texts::braced_at))]
-fn take_braced(alloc: Global, c: &mut Cursor<'_>) -> Result<Seq<Piece>, WordFault>
+fn take_braced(alloc: Global, c: &mut Cursor<'_>, opened: usize) -> Result<Seq<Piece>, WordFault>
     requires { 0 < length (rest c.old) }
-    ensures value { Reads c.old c.new Fails (λ p. p) result spec.braced_at }
+    ensures value { Reads c.old c.new Fails (λ p. p) result (spec.braced_at opened) }
     ensures text { text_of c.new ≡ text_of c.old }
     ensures shorter { OnOk result (length (rest c.new) < length (rest c.old)) }
 {
+    if !may_open(opened) {
+        return Err(deep(c));
+    }
     let text = after(c.rest(), 1);
-    let Some(len) = matched_len(text) else {
-        return Err(refused(c));
-    };
-    c.skip(len + 1);
-    let bytes = joined(alloc, upto(text, len - 1))?;
-    Ok(Seq::one(alloc, Piece::Bytes(bytes))?)
+    match matched(opened + 1, text) {
+        Match::Closed(len) => {
+            c.skip(len + 1);
+            let bytes = joined(alloc, upto(text, len - 1))?;
+            Ok(Seq::one(alloc, Piece::Bytes(bytes))?)
+        }
+        Match::Deep(place) => {
+            c.skip(place + 1);
+            Err(deep(c))
+        }
+        Match::Unclosed => Err(refused(c)),
+    }
 }
 
 #[tactic(auto, unfolding(crate::specs::Texts::quote_at))]
@@ -95,20 +104,17 @@ fn take_bare(alloc: Global, c: &mut Cursor<'_>, is_inside: bool) -> Result<Seq<P
     Ok(pieces)
 }
 
-/// Takes the pieces of a word.
+/// Takes the pieces of a word in so many brackets.
 #[tactic(auto, unfolding(crate::specs::Texts::text_at))]
-pub fn take_text(
-    alloc: Global,
-    c: &mut Cursor<'_>,
-    is_inside: bool,
-) -> Result<Seq<Piece>, WordFault>
+pub fn take_text(alloc: Global, c: &mut Cursor<'_>, opened: usize) -> Result<Seq<Piece>, WordFault>
     requires { 0 < length (rest c.old) }
-    ensures value { Reads c.old c.new Fails (λ p. p) result (spec.text_at is_inside) }
+    ensures value { Reads c.old c.new Fails (λ p. p) result (spec.text_at opened) }
     ensures text { text_of c.new ≡ text_of c.old }
     ensures shorter { OnOk result (length (rest c.new) < length (rest c.old)) }
 {
+    let is_inside = 0 < opened;
     if is_next(c.rest(), b'{') {
-        let pieces = take_braced(alloc, c)?;
+        let pieces = take_braced(alloc, c, opened)?;
         expect_parted(c, is_inside)?;
         return Ok(pieces);
     }

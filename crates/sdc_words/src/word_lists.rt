@@ -7,7 +7,8 @@ ghost use Rattle.sdc_words.specs.Pieces.{ends_command};
 ghost use Rattle.sdc_words.specs.Words as spec;
 
 use crate::blanks::{is_next, pass_gaps};
-use crate::faults::{WordFault, refused};
+use crate::braces::may_open;
+use crate::faults::{WordFault, deep, refused};
 use crate::pieces;
 use crate::plain_words::{expect_parted, take_text};
 use crate::words::Word;
@@ -17,13 +18,14 @@ use std::alloc::Global;
 /// Takes a word or a bracket, where so many brackets are open, and sets how many are open then.
 #[tactic(auto, unfolding(crate::specs::Words::word_at))]
 fn take_word(alloc: Global, c: &mut Cursor<'_>, opened: &mut usize) -> Result<Word, WordFault>
-    requires { opened.old + length (rest c.old) ≤ length (text_of c.old) }
     ensures value { Reads c.old c.new Fails (λ word. (opened.new, word)) result (spec.word_at opened.old) }
     ensures text { text_of c.new ≡ text_of c.old }
     ensures shorter { OnOk result (length (rest c.new) < length (rest c.old)) }
-    ensures few { OnOk result (opened.new + length (rest c.new) ≤ length (text_of c.new)) }
 {
     if is_next(c.rest(), b'[') {
+        if !may_open(*opened) {
+            return Err(deep(c));
+        }
         c.bump();
         let offset = c.place() - 1;
         *opened += 1;
@@ -39,7 +41,7 @@ fn take_word(alloc: Global, c: &mut Cursor<'_>, opened: &mut usize) -> Result<Wo
         return Err(refused(c));
     }
     let offset = c.place();
-    let pieces = take_text(alloc, c, 0 < *opened)?;
+    let pieces = take_text(alloc, c, *opened)?;
     Ok(Word::Text { offset, pieces })
 }
 
@@ -57,7 +59,6 @@ fn more_words(
     opened: usize,
     words: &mut Seq<Word>,
 ) -> Result<(), WordFault>
-    requires { opened + length (rest c.old) ≤ length (text_of c.old) }
     ensures value { Reads c.old c.new Fails (λ _. words.new) result (spec.words_after opened words.old) }
     ensures text { text_of c.new ≡ text_of c.old }
     ensures within { OnOk result (length (rest c.new) ≤ length (rest c.old)) }

@@ -33,6 +33,5 @@ words-preserved c =
     record {
       text = c.in_ok-word.ensures.text ∙ text;
       within = omega arith;
-      few = c.in_ok-word.ensures.few;
       told = (n, omega arith, told ∙ step ∙ rw c.in_ok-push.ensures.ok refl);
     }
