@@ -1,6 +1,6 @@
 -- From the groups of a text to its library.
 use Rattle.std.proofs.Common.{◌≡◌, ℕ, ◌+◌, ◌<◌, ◌≤◌, Bool, true, false, not, List, [], ◌∷◌, ◌++◌, length, map, take, drop, get_or, slice_get, Option}
-use Rattle.std.proofs.Common.{Some, None, is_some, Ok, Err, refl, sym, ap, ◌∙◌, subst}
+use Rattle.std.proofs.Common.{Some, None, is_some, Ok, Err, inl, refl, sym, ap, ◌∙◌, subst}
 use Rattle.std.specs.List.{IsDistinct, AllByRecursion}
 use Rattle.std.specs.Str.{bytes_eq}
 use Rattle.std.proofs.Math.ListN.{drop_of_length-le}
@@ -20,7 +20,7 @@ use Rattle.lib_words.specs.declared.faults.GroupFault.{GroupFault}
 use Rattle.lib_words.specs.declared.faults.GroupFault.TheVariants as group_fault
 use Rattle.lib_words.specs.Reads.{Fails}
 use Rattle.cell_lib.specs.Told.{of_groups}
-use Rattle.cell_lib.specs.Texts.{first_of, broken_in, names, cells_made, library_of, StandsTwice, Refuses}
+use Rattle.cell_lib.specs.Texts.{first_of, broken_in, deep_in, names, cells_made, library_of, StandsTwice, Refuses}
 use Rattle.cell_lib.proofs.LawfulCells.{cells_lawful}
 
 module _ {A B : Type 0} (f : A → Option B) (xs : List A) (i : ℕ) (x : A) (lt : i < length xs) (here : x ≡ get_or xs i x) where
@@ -75,14 +75,21 @@ pub broken_makes_none : (groups : List CellGroup) (place : ℕ) → broken_in gr
 unfolding cells_made
 broken_makes_none groups place e = rw e refl
 
--- names that do not differ
-pub twice_makes_none : (groups : List CellGroup) → broken_in groups ≡ None → are_distinct (names groups) ≡ false → cells_made groups ≡ None
+-- a function is too deep
+pub deep_makes_none : (groups : List CellGroup) (place : ℕ) → broken_in groups ≡ None → deep_in groups ≡ Some place → cells_made groups ≡ None
 unfolding cells_made
-twice_makes_none groups e twice = rw (e, twice) refl
+deep_makes_none groups place whole deep = rw (whole, deep) refl
 
-pub made_all : (groups : List CellGroup) → broken_in groups ≡ None → are_distinct (names groups) ≡ true → cells_made groups ≡ Some (map cell_of groups)
+-- names that do not differ
+pub twice_makes_none : (groups : List CellGroup) → broken_in groups ≡ None → deep_in groups ≡ None → are_distinct (names groups) ≡ false
+    → cells_made groups ≡ None
 unfolding cells_made
-made_all groups e distinct = rw (e, distinct) refl
+twice_makes_none groups whole low twice = rw (whole, low, twice) refl
+
+pub made_all : (groups : List CellGroup) → broken_in groups ≡ None → deep_in groups ≡ None → are_distinct (names groups) ≡ true
+    → cells_made groups ≡ Some (map cell_of groups)
+unfolding cells_made
+made_all groups whole low distinct = rw (whole, low, distinct) refl
 
 all_differ : (x : List ℕ) (xs : List (List ℕ)) → is_among x xs ≡ false → AllByRecursion (λ y. bytes_eq x y ≡ false) xs
 all_differ x [] e = tt
@@ -133,6 +140,7 @@ twice_differ n xs (k, there, among) =
 -- what the group tree refuses
 pub groups_refused : (text : List ℕ) (e : GroupFault) → Fails (length text) e (words.cells_of text) → Refuses text (of_groups e)
 groups_refused text (group_fault.Syntax place) h = (made_of_none text (group_fault.Syntax place) h.0, h.0, h.1)
+groups_refused text (group_fault.Deep place) h = (made_of_none text (group_fault.Deep place) h.0, inl h)
 groups_refused text group_fault.Memory h = tt
 
 -- cells have the names of their groups

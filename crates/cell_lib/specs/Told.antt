@@ -6,4 +6,5 @@ use Rattle.cell_lib.specs.declared.faults.LibFault.TheVariants as fault
 
 abbrev pub of_groups : GroupFault → LibFault
 of_groups (group_fault.Syntax place) = fault.Syntax place
+of_groups (group_fault.Deep place) = fault.Deep place
 of_groups group_fault.Memory = fault.Memory

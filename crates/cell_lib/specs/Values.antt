@@ -4,7 +4,7 @@ use Rattle.std.specs.Option.{option_map, option_map_or}
 use Rattle.std.specs.Str.{bytes_eq}
 use Rattle.texts.specs.Reads.{◌>>=◌}
 use Rattle.lib_func.specs.Trees.{Tree}
-use Rattle.lib_func.specs.Functions.{function_of}
+use Rattle.lib_func.specs.Functions.{low_function}
 use Rattle.lib_words.specs.declared.kinds.AttributeKind.{AttributeKind}
 use Rattle.lib_words.specs.declared.kinds.AttributeKind.TheVariants.{Direction, Function, ThreeState, ClockedOn, ClockedOnAlso, NextState, Clear}
 use Rattle.lib_words.specs.declared.kinds.AttributeKind.TheVariants.{Preset, ClearPresetVar1, ClockGatingIntegratedCell}
@@ -32,6 +32,6 @@ value_of kind attributes = option_map (λ (a : Attribute). a.value) (find (λ (a
 unfoldable pub says : AttributeKind → List ℕ → List Attribute → Bool
 says kind word attributes = option_map_or (λ (v : Value). bytes_eq v.text word) (value_of kind attributes) false
 
--- the expression that the value is, where one is given that keeps to the grammar
+-- the expression that the value is, where one is given that keeps to the grammar and is not too deep
 unfoldable pub expr_of : AttributeKind → List Attribute → Option Tree
-expr_of kind attributes = value_of kind attributes >>= λ (v : Value). function_of v.text
+expr_of kind attributes = value_of kind attributes >>= λ (v : Value). low_function v.text

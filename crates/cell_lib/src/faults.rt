@@ -23,6 +23,10 @@ pub enum LibFault {
     TwiceCell(Name),
     #[error("out of memory")]
     Memory,
+    /// The `{` there stands inside 256 groups; or the text whose first byte stands there is read as a function, quoted or
+    /// not, and its parentheses nest deeper than 256 or its tree is higher.
+    #[error("byte {0}: nested too deep")]
+    Deep(usize),
 }
 
 impl From<GroupFault> for LibFault {
@@ -31,6 +35,7 @@ impl From<GroupFault> for LibFault {
     fn from(fault: GroupFault) -> LibFault {
         match fault {
             GroupFault::Syntax(place) => LibFault::Syntax(place),
+            GroupFault::Deep(place) => LibFault::Deep(place),
             GroupFault::Memory => LibFault::Memory,
         }
     }

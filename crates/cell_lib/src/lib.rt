@@ -5,10 +5,10 @@
 //! values that it makes, and the cells that are known without a file, are those of `cell_types`.
 #![tactic(auto)]
 
-mod broken;
 mod cells;
 mod combs;
 mod faults;
+mod flaws;
 mod flops;
 mod misfits;
 mod pins;

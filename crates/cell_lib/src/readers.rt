@@ -4,8 +4,8 @@ ghost use Rattle.texts.specs.Names.{are_distinct};
 ghost use Rattle.cell_types.specs.Libraries.{IsLawful};
 ghost use Rattle.cell_lib.specs.Texts.{Reads, StandsTwice, names};
 
-use crate::broken::broken_in;
 use crate::cells::cells_of;
+use crate::flaws::{Flaw, flaw_in};
 use crate::{LibFault, Library};
 use lib_words::{CellGroup, read_cells};
 use sdcv_base::Name;
@@ -28,17 +28,21 @@ fn twice_named(alloc: Global, groups: &[CellGroup]) -> Result<Option<Name>, Allo
 /// The library that a Liberty text is.
 ///
 /// It refuses a text that is no group tree (`Syntax`), a quoted text that is read as a function and is none
-/// (`Function`, at the first byte after the quote of the first one), and two cells of one name (`TwiceCell`). A cell that
-/// can't be modelled is `Other`, and never refuses the text. Each name is looked up in a table, so the work is linear in
+/// (`Function`, at the first byte after the quote of the first one), a group or function that is too deep (`Deep`), and two
+/// cells of one name (`TwiceCell`). A cell that can't be modelled is `Other`, and never refuses the text. Each name is looked up in a table, so the work is linear in
 /// the bytes, but that a group which names n pins has its function n times.
 pub fn read_lib(alloc: Global, text: &[u8]) -> Result<Library, LibFault>
     ensures value { Reads text.now result }
     ensures lawful { IfOk result (λ library. IsLawful library.cells) }
 {
     let groups = read_cells(alloc, text)?;
-    let broken = broken_in(alloc, groups.as_slice())?;
+    let broken = flaw_in(alloc, Flaw::Broken, groups.as_slice())?;
     if let Some(place) = broken {
         return Err(LibFault::Function(place));
+    }
+    let deep = flaw_in(alloc, Flaw::Deep, groups.as_slice())?;
+    if let Some(place) = deep {
+        return Err(LibFault::Deep(place));
     }
     let twice = twice_named(alloc, groups.as_slice())?;
     if let Some(name) = twice {

@@ -60,7 +60,8 @@ fn name_func(
 ///
 /// A name stands for its place among the inputs. Where the names of a flop's state are given, the state stands for the
 /// place after the last input, and the complement for its inverse. The work is linear in the expression's nodes and in
-/// the bytes of its names, whatever the number of the inputs. It recurses as deep as the expression is high.
+/// the bytes of its names, whatever the number of the inputs. It recurses as deep as the expression is high,
+/// which is 256 at most for one that was read.
 pub fn resolve(
     alloc: Global,
     expr: &Expr,

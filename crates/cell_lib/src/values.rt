@@ -30,7 +30,7 @@ pub fn says(attributes: &[Attribute], kind: AttributeKind, word: &str) -> bool
     }
 }
 
-/// The expression that the value is: one that is no function counts as absent.
+/// The expression that the value is: one that is no function, or is too deep, counts as absent.
 #[tactic(auto, unfolding(crate::specs::Values::expr_of))]
 pub fn expr_of(
     alloc: Global,

@@ -31,6 +31,7 @@ liberty_line (liberty.Syntax place) = Some (number_line (codes "refused liberty 
 liberty_line (liberty.Function place) = Some (number_line (codes "refused liberty 2 Function") place)
 liberty_line (liberty.TwiceCell name) = Some (name_line (codes "refused liberty 3 TwiceCell") name)
 liberty_line liberty.Memory = None
+liberty_line (liberty.Deep place) = Some (number_line (codes "refused liberty 5 Deep") place)
 
 abbrev pub sdc_line : SdcFault → Option (List ℕ)
 sdc_line (sdc.Syntax place) = Some (number_line (codes "refused sdc 1 Syntax") place)

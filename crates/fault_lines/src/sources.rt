@@ -58,6 +58,7 @@ pub fn liberty_line(alloc: Global, fault: &LibFault) -> Result<Vec<u8>, AllocErr
         }
         LibFault::TwiceCell(name) => name_line(alloc, "refused liberty 3 TwiceCell", name),
         LibFault::Memory => Err(AllocError),
+        LibFault::Deep(place) => number_line(alloc, "refused liberty 5 Deep", *place as u64),
     }
 }
 

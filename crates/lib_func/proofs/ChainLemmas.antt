@@ -1,23 +1,15 @@
 -- One turn of the loops over operands and over inversions, and the end of a whole text.
-use Rattle.std.proofs.Common.{◌≡◌, ◌==◌, ℕ, zero, suc, ◌+◌, ◌-◌, ◌<◌, false, List, length, Option, Some, None, refl, arith}
+use Rattle.std.proofs.Common.{◌≡◌, ◌==◌, ℕ, zero, suc, ◌+◌, ◌-◌, ◌<◌, false, List, length, Some, None, refl, arith}
 use Rattle.std.proofs.lemmas.Bool.Decides.{nat_tests}
-use Rattle.texts.specs.Reads.{Read}
-use Rattle.lib_func.specs.declared.functions.Stop.{Stop}
-use Rattle.lib_func.specs.declared.functions.Stop.TheVariants as stop
+use Rattle.texts.specs.Reads.{Read, ◌>>=◌}
 use Rattle.lib_func.specs.declared.operators.Level.{Level}
 use Rattle.lib_func.specs.declared.operators.Level.TheVariants.{Or}
-use Rattle.lib_func.specs.Fails.{Fails}
 use Rattle.lib_func.specs.Trees.{Tree, NotTree, negated}
 use Rattle.lib_words.specs.Blanks.{after_space}
 use Rattle.lib_func.specs.Operators.{after_operator, join}
 use Rattle.lib_func.specs.Functions.{chain_from, chain_of, chain_at, function_in}
 
 module _ (o : List ℕ → Read Tree) (level : Level) where
-  -- no operand stands there
-  pub chain_none : (s : List ℕ) → o s ≡ None → chain_of o level s ≡ None
-  unfolding chain_of
-  chain_none s e = rw e refl
-
   -- an operand stands there
   pub chain_some : (s : List ℕ) (f : Tree) (r : List ℕ) → o s ≡ Some (f, r) → chain_of o level s ≡ chain_from o level (length s) f r
   unfolding chain_of
@@ -29,11 +21,12 @@ module _ (o : List ℕ → Read Tree) (level : Level) where
   chain_stop zero found s some e = absurd (omega arith)
   chain_stop (suc m) found s some e = rw (e, chain_from) refl
 
-  -- an operator follows, and no operand
-  pub chain_bad : (m : ℕ) (found : Tree) (s t : List ℕ) → after_operator level s ≡ Some t → o t ≡ None → chain_from o level m found s ≡ None
+  -- an operator follows
+  pub chain_next : (m : ℕ) (found : Tree) (s t : List ℕ) → 0 < m → after_operator level s ≡ Some t
+      → (n : ℕ) × (m ≡ n + 1) × (chain_from o level m found s ≡ (o t >>= λ p. chain_from o level n (join level found p.0) p.1))
   unfolding chain_from
-  chain_bad zero found s t e bad = refl
-  chain_bad (suc m) found s t e bad = rw (e, bad, chain_from) refl
+  chain_next zero found s t some e = absurd (omega arith)
+  chain_next (suc m) found s t some e = (m, omega arith, rw (e, chain_from) refl)
 
   -- an operator follows, and an operand
   pub chain_more : (m : ℕ) (found : Tree) (s t : List ℕ) (f : Tree) (r : List ℕ) → 0 < m → after_operator level s ≡ Some t → o t ≡ Some (f, r)
@@ -46,24 +39,12 @@ module _ (o : List ℕ → Read Tree) (level : Level) where
 pub negated_step : (count i : ℕ) (f : Tree) → i < count → negated (count - i) f ≡ negated (count - (i + 1)) (NotTree f)
 negated_step count i f lt = let k : count - i ≡ suc (count - (i + 1)) = omega arith in rw k refl
 
--- what fails because its part fails
-pub fails_through : {A B : Type 0} (e : Stop) (a : Option A) (b : Option B) → Fails e a → (a ≡ None → b ≡ None) → Fails e b
-fails_through stop.NoFunction a b h f = f h
-fails_through stop.Memory a b h f = tt
-
--- the text begins with no function
-pub function_none : (s : List ℕ) → chain_at (length s) Or s ≡ None → function_in (length s) s ≡ None
-unfolding function_in
-function_none s e = rw e refl
-
 -- only white space follows the function
-pub function_ends : (s : List ℕ) (f : Tree) (r : List ℕ) → chain_at (length s) Or s ≡ Some (f, r) → length (after_space r) ≡ 0
-    → function_in (length s) s ≡ Some f
+pub function_ends : (d : ℕ) (s : List ℕ) (f : Tree) (r : List ℕ) → chain_at d Or s ≡ Some (f, r) → length (after_space r) ≡ 0 → function_in d s ≡ Some f
 unfolding function_in
-function_ends s f r e ended = rw (e, ended) refl
+function_ends d s f r e ended = rw (e, ended) refl
 
 -- something else follows it
-pub function_trails : (s : List ℕ) (f : Tree) (r : List ℕ) → chain_at (length s) Or s ≡ Some (f, r) → 0 < length (after_space r)
-    → function_in (length s) s ≡ None
+pub function_trails : (d : ℕ) (s : List ℕ) (f : Tree) (r : List ℕ) → chain_at d Or s ≡ Some (f, r) → 0 < length (after_space r) → function_in d s ≡ None
 unfolding function_in
-function_trails s f r e more = let differs : (length (after_space r) == 0) ≡ false = grind (arith, nat_tests) in rw (e, differs) refl
+function_trails d s f r e more = let differs : (length (after_space r) == 0) ≡ false = grind (arith, nat_tests) in rw (e, differs) refl

@@ -1,11 +1,12 @@
 -- The grammar of a function (Liberty, `function`): or, and, exclusive or, inversion, atom.
-use Rattle.std.specs.Prelude.{ℕ, zero, suc, ◌==◌, if◌then◌else◌, List, length, take, drop, Option, Some, None}
+use Rattle.std.specs.Prelude.{ℕ, zero, suc, ◌+◌, ◌==◌, nat_le, Bool, ◌&&◌, if◌then◌else◌, List, length, take, drop, Option, Some, None, is_some, is_none}
 use Rattle.std.specs.List.{prefix_len}
 use Rattle.texts.specs.Bytes.{is_letter, is_word}
 use Rattle.texts.specs.Reads.{Read, ◌>>=◌}
+use Rattle.texts.specs.Rules.{most_nested}
 use Rattle.lib_func.specs.declared.operators.Level.{Level}
 use Rattle.lib_func.specs.declared.operators.Level.TheVariants.{Or, And, Xor}
-use Rattle.lib_func.specs.Trees.{Tree, ZeroTree, OneTree, NameTree, negated}
+use Rattle.lib_func.specs.Trees.{Tree, ZeroTree, OneTree, NameTree, negated, height}
 use Rattle.texts.specs.Fronts.{first}
 use Rattle.lib_words.specs.Blanks.{after_space}
 use Rattle.lib_func.specs.Marks.{marks}
@@ -76,4 +77,12 @@ function_in depth s = chain_at depth Or s >>= λ p. if length (after_space p.1) 
 
 -- the function that a whole text is: no text has more parentheses than bytes
 abbrev pub function_of : List ℕ → Option Tree
-function_of s = function_in (length s) s
+function_of s = function_in (length s + most_nested) s
+
+-- the function that a whole text is, where neither its parentheses nest too deep nor its tree is too high
+unfoldable pub low_function : List ℕ → Option Tree
+low_function s = function_in most_nested s >>= λ f. if nat_le (height f) most_nested then Some f else None
+
+-- a function that is too deep or too high
+abbrev pub is_deep : List ℕ → Bool
+is_deep s = is_some (function_of s) && is_none (low_function s)

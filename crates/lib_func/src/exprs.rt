@@ -1,7 +1,9 @@
 //! Boolean expressions over names.
 ghost use Rattle.std.specs.Prelude.{◌≡◌, IfOk};
 ghost use Rattle.lib_func.specs.Trees.{negated};
+ghost use Rattle.lib_func.specs.Operators.{join};
 
+use crate::operators::Level;
 use sdcv_base::Name;
 use std::alloc::{AllocError, Global};
 use std::marker::Model;
@@ -9,7 +11,7 @@ use std::marker::Model;
 /// A Boolean expression over names, as a tree.
 ///
 /// Contracts see the tree itself, and not the boxes that hold its parts. A drop of it recurses as deep as the tree is
-/// high, and a chain of n operators is a tree of height n.
+/// high, and a chain of n operators is a tree of height n: those that are read are at most 256 high.
 #[cycle(expr)]
 #[derive(Drop)]
 pub struct Expr {
@@ -60,5 +62,19 @@ impl Expr {
             };
         }
         Ok(found)
+    }
+
+    /// Two operands with the level's operator.
+    pub(crate) fn joined(alloc: Global, level: Level, x: Expr, y: Expr) -> Result<Expr, AllocError>
+        ensures { IfOk result (λ e. e ≡ join level x y) }
+    {
+        let x = Box::new(alloc, x)?;
+        let y = Box::new(alloc, y)?;
+        let root = match level {
+            Level::Or => Term::Or(x, y),
+            Level::And => Term::And(x, y),
+            Level::Xor => Term::Xor(x, y),
+        };
+        Ok(Expr { root })
     }
 }

@@ -1,61 +1,43 @@
 //! Functions by their grammar.
-ghost use Rattle.std.specs.Prelude.{◌≡◌, ◌<◌, length, OnOk, IfOk, slice_index};
+ghost use Rattle.std.specs.Prelude.{◌≡◌, ◌<◌, length, OnOk, IfOk, IfSome, Some, slice_index};
 ghost use Rattle.sdcv_base.specs.Cursors.{rest};
 ghost use Rattle.texts.specs.Reads.{Gives};
-ghost use Rattle.lib_func.specs.Fails.{Fails};
+ghost use Rattle.texts.specs.Rules.{most_nested};
+ghost use Rattle.lib_func.specs.Fails.{Fails, FailsWhole};
 ghost use Rattle.lib_func.specs.Functions as spec;
 ghost use Rattle.lib_func.specs.Functions.{within};
-ghost use Rattle.lib_func.specs.declared.functions.Stop.TheVariants as stop;
 
 use crate::exprs::{Expr, Term};
+use crate::lows::Low;
 use crate::marks::{count_marks, skip_blanks};
-use crate::operators::{Level, joined, try_operator};
+use crate::operators::{Level, try_operator};
+use crate::stops::Stop;
 use sdcv_base::{Cursor, Name};
-use std::alloc::{AllocError, AllocFailed, Global};
-use texts::{is_letter, upto, word_len};
+use std::alloc::{AllocError, Global};
+use texts::{MOST_NESTED, is_letter, upto, word_len};
 
-/// Why no function was read.
-#[derive(Drop)]
-enum Stop {
-    NoFunction,
-    Memory,
-}
-
-impl From<AllocError> for Stop {
-    ghost from_gives = { λ _ e. e ≡ stop.Memory };
-
-    fn from(_: AllocError) -> Stop {
-        Stop::Memory
-    }
-}
-
-impl<T: Drop> From<AllocFailed<T>> for Stop {
-    ghost from_gives = { λ _ e. e ≡ stop.Memory };
-
-    fn from(_: AllocFailed<T>) -> Stop {
-        Stop::Memory
-    }
-}
-
-/// The function that a whole text is, and `None` exactly where it is none.
+/// The function that a whole text is, and `None` exactly where it is none, or one whose parentheses nest deeper than 256
+/// or whose tree is higher than that.
 ///
-/// Parentheses may nest as deep as the text is long. Only they recurse: a chain of operators is a loop, and many `!`
-/// are a count.
+/// Only parentheses recurse: a chain of operators is a loop, and many `!` are a count. No taller tree is built.
 pub fn read_function(alloc: Global, text: &[u8]) -> Result<Option<Expr>, AllocError>
-    ensures { IfOk result (λ found. found ≡ spec.function_of text.now) }
+    ensures low { IfOk result (λ found. found ≡ spec.low_function text.now) }
+    ensures same { IfOk result (λ found. IfSome found (λ f. spec.function_of text.now ≡ Some f)) }
 {
     match whole(alloc, text) {
-        Ok(found) => Ok(Some(found)),
+        Ok(found) => Ok(Some(found.expr)),
         Err(Stop::NoFunction) => Ok(None),
+        Err(Stop::Deep) => Ok(None),
         Err(Stop::Memory) => Err(AllocError),
     }
 }
 
-fn whole(alloc: Global, text: &[u8]) -> Result<Expr, Stop>
-    ensures { Gives Fails (λ e. e) result (spec.function_of text.now) }
+/// The same, and why there is none.
+fn whole(alloc: Global, text: &[u8]) -> Result<Low, Stop>
+    ensures { Gives FailsWhole (λ low. low.expr) result (spec.function_in most_nested text.now) }
 {
     let mut c = Cursor::new(text);
-    let found = chain(alloc, &mut c, Level::Or, text.len())?;
+    let found = chain(alloc, &mut c, Level::Or, MOST_NESTED)?;
     skip_blanks(&mut c);
     match c.peek() {
         None => Ok(found),
@@ -65,8 +47,8 @@ fn whole(alloc: Global, text: &[u8]) -> Result<Expr, Stop>
 
 /// Operands with the level's operators between them.
 #[cycle(chain)]
-fn chain(alloc: Global, c: &mut Cursor<'_>, level: Level, depth: usize) -> Result<Expr, Stop>
-    ensures value { Gives Fails (λ e. (e, rest c.new)) result (spec.chain_at depth level (rest c.old)) }
+fn chain(alloc: Global, c: &mut Cursor<'_>, level: Level, depth: usize) -> Result<Low, Stop>
+    ensures value { Gives Fails (λ low. (low.expr, rest c.new)) result (spec.chain_at depth level (rest c.old)) }
     ensures shorter { OnOk result (length (rest c.new) < length (rest c.old)) }
 {
     let mut found = operand(alloc, c, level, depth)?;
@@ -75,13 +57,13 @@ fn chain(alloc: Global, c: &mut Cursor<'_>, level: Level, depth: usize) -> Resul
             return Ok(found);
         }
         let next = operand(alloc, c, level, depth)?;
-        found = joined(alloc, level, found, next)?;
+        found = Low::joined(alloc, level, found, next)?;
     }
 }
 
 #[cycle(chain)]
-fn operand(alloc: Global, c: &mut Cursor<'_>, level: Level, depth: usize) -> Result<Expr, Stop>
-    ensures value { Gives Fails (λ e. (e, rest c.new)) result (spec.operand_at depth level (rest c.old)) }
+fn operand(alloc: Global, c: &mut Cursor<'_>, level: Level, depth: usize) -> Result<Low, Stop>
+    ensures value { Gives Fails (λ low. (low.expr, rest c.new)) result (spec.operand_at depth level (rest c.old)) }
     ensures shorter { OnOk result (length (rest c.new) < length (rest c.old)) }
 {
     match level {
@@ -94,21 +76,21 @@ fn operand(alloc: Global, c: &mut Cursor<'_>, level: Level, depth: usize) -> Res
 /// Any number of `!` before an atom, and of `'` after it.
 #[cycle(chain)]
 #[tactic(auto, unfolding(crate::specs::Functions::inverted_in))]
-fn inverted(alloc: Global, c: &mut Cursor<'_>, depth: usize) -> Result<Expr, Stop>
-    ensures value { Gives Fails (λ e. (e, rest c.new)) result (spec.inverted_in (within depth) (rest c.old)) }
+fn inverted(alloc: Global, c: &mut Cursor<'_>, depth: usize) -> Result<Low, Stop>
+    ensures value { Gives Fails (λ low. (low.expr, rest c.new)) result (spec.inverted_in (within depth) (rest c.old)) }
     ensures shorter { OnOk result (length (rest c.new) < length (rest c.old)) }
 {
     let before = count_marks(c, b'!');
     let atom = atom(alloc, c, depth)?;
     let after = count_marks(c, b'\'');
     let found = atom.inverted(alloc, after)?;
-    Ok(found.inverted(alloc, before)?)
+    found.inverted(alloc, before)
 }
 
 #[cycle(chain)]
 #[tactic(auto, unfolding(crate::specs::Functions::atom_in, crate::specs::Functions::within))]
-fn atom(alloc: Global, c: &mut Cursor<'_>, depth: usize) -> Result<Expr, Stop>
-    ensures value { Gives Fails (λ e. (e, rest c.new)) result (spec.atom_in (within depth) (rest c.old)) }
+fn atom(alloc: Global, c: &mut Cursor<'_>, depth: usize) -> Result<Low, Stop>
+    ensures value { Gives Fails (λ low. (low.expr, rest c.new)) result (spec.atom_in (within depth) (rest c.old)) }
     ensures shorter { OnOk result (length (rest c.new) < length (rest c.old)) }
 {
     let byte = skip_blanks(c);
@@ -125,25 +107,23 @@ fn atom(alloc: Global, c: &mut Cursor<'_>, depth: usize) -> Result<Expr, Stop>
 
 /// A constant or a name, whose first byte is given.
 #[tactic(auto, unfolding(crate::specs::Functions::leaf_at))]
-fn leaf(alloc: Global, c: &mut Cursor<'_>, byte: u8) -> Result<Expr, Stop>
+fn leaf(alloc: Global, c: &mut Cursor<'_>, byte: u8) -> Result<Low, Stop>
     requires { (byte ≡ slice_index (rest c.old) 0) × (0 < byte → 0 < length (rest c.old)) }
-    ensures value { Gives Fails (λ e. (e, rest c.new)) result (spec.leaf_at (rest c.old)) }
+    ensures value { Gives Fails (λ low. (low.expr, rest c.new)) result (spec.leaf_at (rest c.old)) }
     ensures shorter { OnOk result (length (rest c.new) < length (rest c.old)) }
 {
     if byte == b'0' {
         c.bump();
-        Ok(Expr { root: Term::Zero })
+        Ok(Low::leaf(Term::Zero))
     } else if byte == b'1' {
         c.bump();
-        Ok(Expr { root: Term::One })
+        Ok(Low::leaf(Term::One))
     } else if is_letter(byte) {
         let text = c.rest();
         let len = word_len(text);
         let name = Name::new(alloc, upto(text, len))?;
         c.skip(len);
-        Ok(Expr {
-            root: Term::Name(name),
-        })
+        Ok(Low::leaf(Term::Name(name)))
     } else {
         Err(Stop::NoFunction)
     }
@@ -151,8 +131,8 @@ fn leaf(alloc: Global, c: &mut Cursor<'_>, byte: u8) -> Result<Expr, Stop>
 
 /// The closing parenthesis after an expression.
 #[tactic(auto, unfolding(crate::specs::Functions::closed))]
-fn close(c: &mut Cursor<'_>, found: Expr) -> Result<Expr, Stop>
-    ensures value { Gives Fails (λ e. (e, rest c.new)) result (spec.closed (found, rest c.old)) }
+fn close(c: &mut Cursor<'_>, found: Low) -> Result<Low, Stop>
+    ensures value { Gives Fails (λ low. (low.expr, rest c.new)) result (spec.closed (found.expr, rest c.old)) }
     ensures shorter { OnOk result (length (rest c.new) < length (rest c.old)) }
 {
     if skip_blanks(c) != b')' {

@@ -1,13 +1,11 @@
 //! The three levels of operators.
-ghost use Rattle.std.specs.Prelude.{◌≡◌, ◌≤◌, length, IfOk};
+ghost use Rattle.std.specs.Prelude.{◌≡◌, ◌≤◌, length};
 ghost use Rattle.sdcv_base.specs.Cursors.{rest};
 ghost use Rattle.texts.specs.Reads.{Passes};
 ghost use Rattle.lib_func.specs.Operators as spec;
 
-use crate::exprs::{Expr, Term};
 use crate::marks::skip_blanks;
 use sdcv_base::Cursor;
-use std::alloc::{AllocError, Global};
 use texts::is_letter;
 
 /// The operators, from loosest to tightest.
@@ -18,10 +16,25 @@ pub enum Level {
     Xor,
 }
 
-fn begins_operand(byte: u8) -> bool
+/// A letter or `_`, `!`, `(`, `0` or `1`.
+pub fn begins_operand(byte: u8) -> bool
     ensures { result ≡ spec.begins_operand byte }
 {
     is_letter(byte) || matches!(byte, b'!' | b'(' | b'0' | b'1')
+}
+
+/// `+` or `|`.
+pub fn is_or(byte: u8) -> bool
+    ensures { result ≡ spec.is_or byte }
+{
+    byte == b'+' || byte == b'|'
+}
+
+/// `*` or `&`.
+pub fn is_and(byte: u8) -> bool
+    ensures { result ≡ spec.is_and byte }
+{
+    byte == b'*' || byte == b'&'
 }
 
 /// Passes the operator where the chain goes on, and else nothing.
@@ -33,9 +46,9 @@ pub fn try_operator(c: &mut Cursor<'_>, level: Level) -> bool
     let mut next = *c;
     let byte = skip_blanks(&mut next);
     let (goes_on, is_written) = match level {
-        Level::Or => (byte == b'+' || byte == b'|', true),
+        Level::Or => (is_or(byte), true),
         Level::And => {
-            let is_written = byte == b'*' || byte == b'&';
+            let is_written = is_and(byte);
             (is_written || begins_operand(byte), is_written)
         }
         Level::Xor => (byte == b'^', true),
@@ -48,18 +61,4 @@ pub fn try_operator(c: &mut Cursor<'_>, level: Level) -> bool
     }
     *c = next;
     true
-}
-
-/// Two operands with the level's operator.
-pub fn joined(alloc: Global, level: Level, x: Expr, y: Expr) -> Result<Expr, AllocError>
-    ensures { IfOk result (λ e. e ≡ spec.join level x y) }
-{
-    let x = Box::new(alloc, x)?;
-    let y = Box::new(alloc, y)?;
-    let root = match level {
-        Level::Or => Term::Or(x, y),
-        Level::And => Term::And(x, y),
-        Level::Xor => Term::Xor(x, y),
-    };
-    Ok(Expr { root })
 }

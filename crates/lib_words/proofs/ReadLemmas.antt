@@ -8,4 +8,5 @@ use Rattle.lib_words.specs.Reads.{Fails}
 pub fails_through : {A B : Type 0} (old new : ℕ) → old ≡ new → (e : GroupFault) (a : Result A GroupFault) (b : Result B GroupFault) → Fails old e a
     → ((why : GroupFault) → a ≡ Err why → b ≡ Err why) → Fails new e b
 fails_through old new same (fault.Syntax place) a b h f = (f (fault.Syntax place) h.0, rw (← same) h.1)
+fails_through old new same (fault.Deep place) a b h f = (f (fault.Deep place) h.0, rw (← same) h.1)
 fails_through old new same fault.Memory a b h f = tt

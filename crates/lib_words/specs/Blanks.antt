@@ -22,12 +22,13 @@ unfoldable pub after_space : List ℕ → List ℕ
 after_space [] = []
 after_space (b ∷ s) = if is_blank (b ∷ s) then after_space s else b ∷ s
 
+-- the length of the closed comment at the front, and 0 where none stands there
+unfoldable pub comment_len : List ℕ → ℕ
+comment_len s = if opens_comment s then option_map_or (λ n. n + 2) (closed_by star slash (drop 2 s)) 0 else 0
+
 -- the length of a byte of white space or of the closed comment at the front, and 0 where neither stands there
 unfoldable pub blank_len : List ℕ → ℕ
-blank_len s =
-    if is_blank s then 1
-    else if opens_comment s then option_map_or (λ n. n + 2) (closed_by star slash (drop 2 s)) 0
-    else 0
+blank_len s = if is_blank s then 1 else comment_len s
 
 -- after at most so many of them
 unfoldable pub skipped : ℕ → List ℕ → List ℕ

@@ -10,10 +10,11 @@ use Rattle.lib_words.specs.declared.groups.Part.{Part}
 use Rattle.lib_words.specs.declared.groups.CellGroup.{CellGroup}
 use Rattle.lib_words.specs.Kinds.{part_kind, attribute_kind}
 use Rattle.lib_words.specs.Blanks.{after_blanks}
-use Rattle.texts.specs.Rules.{◌>>=◌}
+use Rattle.texts.specs.Rules.{◌>>=◌, most_nested}
 use Rattle.lib_words.specs.Reads.{After, Rule, refused}
 use Rattle.lib_words.specs.Tokens.{is_next, after_mark, mark_at, name_at}
-use Rattle.lib_words.specs.Runs.{argument_at, value_at}
+use Rattle.lib_words.specs.Runs.{argument_at}
+use Rattle.lib_words.specs.Values.{value_at}
 use Rattle.lib_words.specs.Lists.{list_at}
 use Rattle.lib_words.specs.Passes.{after_arguments, enter_at, passed_at}
 
@@ -113,8 +114,8 @@ after_semicolon s = if is_next semicolon s then after_mark s else s
 unfoldable pub ended_at : ℕ → List ℕ → After
 ended_at total s = let t = after_semicolon s in if length t == 0 then Ok t else refused total t
 
--- the cells of the library that a whole text is, or the fault that the text has; no text holds more groups than bytes
+-- the cells of the library that a whole text is, or the fault that the text has
 unfoldable pub cells_of : List ℕ → Result (List CellGroup) GroupFault
 cells_of text =
     let total = length text in
-    library_at total total (after_blanks text) >>= λ cells. ended_at total cells.1 >>= λ t. Ok cells.0
+    library_at most_nested total (after_blanks text) >>= λ cells. ended_at total cells.1 >>= λ t. Ok cells.0

@@ -7,4 +7,5 @@ pub mod Marks
 pub mod Reads
 pub mod Runs
 pub mod Tokens
+pub mod Values
 pub mod Passes

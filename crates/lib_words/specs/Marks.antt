@@ -47,3 +47,6 @@ right_brace = 125
 
 abbrev pub newline : ℕ
 newline = 10
+
+abbrev pub space : ℕ
+space = 32

@@ -3,9 +3,10 @@ use Rattle.std.specs.Prelude.{ℕ, zero, suc, ◌+◌, ◌-◌, nat_lt, if◌the
 use Rattle.lib_words.specs.Marks.{colon, comma, left_brace, left_paren, right_brace, right_paren, semicolon}
 use Rattle.lib_words.specs.declared.passes.Passed.{Passed}
 use Rattle.texts.specs.Rules.{◌>>=◌}
-use Rattle.lib_words.specs.Reads.{After, Rule, refused}
+use Rattle.lib_words.specs.Reads.{After, Rule, refused, deep}
 use Rattle.lib_words.specs.Tokens.{is_next, after_mark, mark_at, name_at}
-use Rattle.lib_words.specs.Runs.{argument_at, value_at}
+use Rattle.lib_words.specs.Runs.{argument_at}
+use Rattle.lib_words.specs.Values.{value_at}
 use Rattle.lib_words.specs.Lists.{list_at}
 
 -- nothing is kept
@@ -22,7 +23,7 @@ after_arguments total s = mark_at left_paren total s >>= λ r. list_at right_par
 
 -- the `{` of a group, where so many groups are open of those that may be
 unfoldable pub enter_at : ℕ → ℕ → ℕ → List ℕ → After
-enter_at room opened total s = if nat_lt opened room then mark_at left_brace total s else refused total s
+enter_at room opened total s = if nat_lt opened room then mark_at left_brace total s else deep total s
 
 -- where a `{` may stand: how many groups are open then
 unfoldable pub opened_at : ℕ → ℕ → Rule ℕ

@@ -17,7 +17,12 @@ After = Result (List ℕ) GroupFault
 abbrev pub refused : {A : Type 0} → ℕ → List ℕ → Result A GroupFault
 refused total s = Err (fault.Syntax (offset_of total s))
 
+-- a mark that opens more than may nest stands where this is left of the text
+abbrev pub deep : {A : Type 0} → ℕ → List ℕ → Result A GroupFault
+deep total s = Err (fault.Deep (offset_of total s))
+
 -- the rule gives this fault, at a place of a text of this length; or memory ran out
 abbrev pub Fails : {B : Type 0} → ℕ → GroupFault → Result B GroupFault → Type 0
 Fails total (fault.Syntax place) expected = (expected ≡ Err (fault.Syntax place)) × (place ≤ total)
+Fails total (fault.Deep place) expected = (expected ≡ Err (fault.Deep place)) × (place ≤ total)
 Fails total fault.Memory expected = Unit {0}

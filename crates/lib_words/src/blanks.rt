@@ -25,22 +25,28 @@ pub fn skip_space(c: &mut Cursor<'_>)
     }
 }
 
+/// The length of the closed comment at the front, and 0 where none stands there.
+#[tactic(auto, unfolding(crate::specs::Blanks::comment_len))]
+pub(crate) fn comment_len(text: &[u8]) -> usize
+    ensures value { result ≡ spec.comment_len text.now }
+    ensures within { result ≤ length text.now }
+{
+    if !has_two(text, b'/', b'*') {
+        return 0;
+    }
+    match closed_by(after(text, 2), b'*', b'/') {
+        Some(len) => len + 2,
+        None => 0,
+    }
+}
+
 /// The length of a byte of white space or of the comment at the front, and 0 where neither stands there.
 #[tactic(auto, unfolding(crate::specs::Blanks::blank_len))]
 fn blank_len(text: &[u8]) -> usize
     ensures value { result ≡ spec.blank_len text.now }
     ensures within { result ≤ length text.now }
 {
-    if is_blank(text) {
-        1
-    } else if has_two(text, b'/', b'*') {
-        match closed_by(after(text, 2), b'*', b'/') {
-            Some(len) => len + 2,
-            None => 0,
-        }
-    } else {
-        0
-    }
+    if is_blank(text) { 1 } else { comment_len(text) }
 }
 
 /// Passes white space and comments.

@@ -11,6 +11,9 @@ pub enum GroupFault {
     /// The text breaks the grammar there. The offset is at most the text's length.
     #[error("byte {0}: no Liberty group goes on like this")]
     Syntax(usize),
+    /// The `{` there stands inside as many groups as may nest. The offset is at most the text's length.
+    #[error("byte {0}: a group inside too many others")]
+    Deep(usize),
     #[error("out of memory")]
     Memory,
 }

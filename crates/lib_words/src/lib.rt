@@ -15,6 +15,7 @@ mod lists;
 mod passes;
 mod runs;
 mod tokens;
+mod values;
 
 pub use blanks::{is_blank, skip_space};
 pub use faults::GroupFault;

@@ -11,10 +11,12 @@ use crate::groups::{Attribute, CellGroup, Part};
 use crate::kinds::{AttributeKind, PartKind, attribute_kind, is, part_kind};
 use crate::lists::{Gather, list};
 use crate::passes::{enter, pass_arguments, pass_statement};
-use crate::runs::{take_argument, take_value};
+use crate::runs::take_argument;
 use crate::tokens::{expect_mark, is_next, refused, take_name, try_mark};
+use crate::values::take_value;
 use sdcv_base::{Cursor, Name, Seq};
 use std::alloc::Global;
+use texts::MOST_NESTED;
 
 /// An argument.
 impl Gather for Seq<Name> {
@@ -233,14 +235,15 @@ fn pass_end(c: &mut Cursor<'_>) -> Result<(), GroupFault>
 }
 
 /// The cells of the library that the whole text is, as they stand in it. `Syntax` comes exactly where the text is no
-/// library, with the place at which it stops being one.
-#[tactic(auto, unfolding(crate::specs::Groups::cells_of))]
+/// library, with the place at which it stops being one, and `Deep` exactly where it stops at the `{` of a group that stands
+/// inside 256 others.
+#[tactic(auto, unfolding(crate::specs::Groups::cells_of, texts::specs::Rules::most_nested))]
 pub fn read_cells(alloc: Global, text: &[u8]) -> Result<Seq<CellGroup>, GroupFault>
     ensures { Gives (Fails (length text.now)) (λ cells. cells) result (spec.cells_of text.now) }
 {
     let mut c = Cursor::new(text);
     skip_blanks(&mut c);
-    let cells = take_library(alloc, &mut c, text.len())?;
+    let cells = take_library(alloc, &mut c, MOST_NESTED)?;
     pass_end(&mut c)?;
     Ok(cells)
 }

@@ -7,8 +7,9 @@ ghost use Rattle.lib_words.specs.Passes as spec;
 
 use crate::faults::GroupFault;
 use crate::lists::{Gather, list};
-use crate::runs::{take_argument, take_value};
-use crate::tokens::{expect_mark, is_next, refused, take_name, try_mark};
+use crate::runs::take_argument;
+use crate::tokens::{deep, expect_mark, is_next, take_name, try_mark};
+use crate::values::take_value;
 use sdcv_base::Cursor;
 use std::alloc::Global;
 
@@ -45,7 +46,7 @@ pub fn enter(c: &mut Cursor<'_>, room: usize, opened: usize) -> Result<(), Group
     ensures below { OnOk result (opened < room) }
 {
     if room <= opened {
-        return Err(refused(c));
+        return Err(deep(c));
     }
     expect_mark(c, b'{')
 }

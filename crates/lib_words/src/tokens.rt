@@ -19,6 +19,13 @@ pub fn refused(c: &Cursor<'_>) -> GroupFault
     GroupFault::Syntax(c.place())
 }
 
+/// A group too many is opened here.
+pub fn deep(c: &Cursor<'_>) -> GroupFault
+    ensures { result ≡ fault.Deep (offset_of (length (text_of c.now)) (rest c.now)) }
+{
+    GroupFault::Deep(c.place())
+}
+
 /// Whether this mark comes next.
 #[tactic(auto, using(crate::proofs::TokenLemmas::first_some))]
 pub fn is_next(c: &Cursor<'_>, mark: u8) -> bool
