@@ -21,6 +21,23 @@ fn add_file(
     Ok(())
 }
 
+/// A host with these files, and then all of `FILES`. One of its calls may fail.
+pub fn host_with(
+    alloc: Global,
+    own: &[(&str, &[u8])],
+    fail: Option<Fail>,
+) -> Result<MemHost, AllocError> {
+    let mut files = Vec::new(alloc);
+    for (name, bytes) in own {
+        add_file(alloc, &mut files, name, bytes)?;
+    }
+    for (name, text) in FILES {
+        add_file(alloc, &mut files, name, text.as_bytes())?;
+    }
+    let fails = Vec::from_slice(alloc, fail.as_slice())?;
+    MemHost::new(alloc, files, fails, ROOM)
+}
+
 /// A host with all files, and with these constraints and bytes in the files `s` and `first`. One of its calls may fail.
 pub fn host_of(
     alloc: Global,
@@ -28,14 +45,11 @@ pub fn host_of(
     first: &[u8],
     fail: Option<Fail>,
 ) -> Result<MemHost, AllocError> {
-    let mut files = Vec::new(alloc);
-    add_file(alloc, &mut files, "s", constraints.as_bytes())?;
-    add_file(alloc, &mut files, "first", first)?;
-    for (name, text) in FILES {
-        add_file(alloc, &mut files, name, text.as_bytes())?;
-    }
-    let fails = Vec::from_slice(alloc, fail.as_slice())?;
-    MemHost::new(alloc, files, fails, ROOM)
+    host_with(
+        alloc,
+        &[("s", constraints.as_bytes()), ("first", first)],
+        fail,
+    )
 }
 
 /// The words of a line, which blanks part.

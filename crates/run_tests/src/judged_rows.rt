@@ -244,38 +244,41 @@ const UNSAVED: Deeds = Deeds {
 };
 
 // The calls of the first row are two reads, a save and four prints: the one that fails, what is done by then, and what is
-// printed.
-const CUTS: &[(u64, Deeds, Row)] = &[
-    (1, READS, Row(VERIFY_TIED, FALSE_A_B, HostFault, Whole(""))),
-    (2, READS, Row(VERIFY_TIED, FALSE_A_B, HostFault, Whole(""))),
-    (
-        3,
-        UNSAVED,
-        Row(VERIFY_TIED, FALSE_A_B, HostFault, Whole("")),
-    ),
-    (
-        4,
-        VERIFIES,
-        Row(VERIFY_TIED, FALSE_A_B, HostFault, Whole("sdc")),
-    ),
+// printed, with two bytes of the line that the call prints.
+const CUTS: &[(u64, Deeds, &str)] = &[
+    (1, READS, ""),
+    (2, READS, ""),
+    (3, UNSAVED, ""),
+    (4, VERIFIES, "sd"),
     (
         5,
         VERIFIES,
-        Row(
-            VERIFY_TIED,
-            FALSE_A_B,
-            HostFault,
-            Whole("sdcv 1 mode plain reset 1 depth 8 budget 20000 inv 1\ncom"),
-        ),
+        "sdcv 1 mode plain reset 1 depth 8 budget 20000 inv 1\nco",
+    ),
+    (
+        6,
+        VERIFIES,
+        "sdcv 1 mode plain reset 1 depth 8 budget 20000 inv 1
+command 1 line 2 false pairs 1
+pa",
+    ),
+    (
+        7,
+        VERIFIES,
+        "sdcv 1 mode plain reset 1 depth 8 budget 20000 inv 1
+command 1 line 2 false pairs 1
+pair 1 command 1 false a -> b justified depth 0
+to",
     ),
 ];
 
 #[test]
 fn a_call_that_fails_leaves_a_front_of_the_report(rt: HostRuntime) -> Result<(), AllocError> {
-    for (call, deeds, row) in CUTS {
-        let (call, taken) = (*call, 3);
+    for (call, deeds, printed) in CUTS {
+        let (call, taken) = (*call, 2);
+        let row = Row(VERIFY_TIED, FALSE_A_B, HostFault, Whole(printed));
         let mut host = host_of(rt.alloc(), row.1, &[], Some(Fail { call, taken }))?;
-        check_call(&rt, rt.alloc(), row, deeds, &mut host)?;
+        check_call(&rt, rt.alloc(), &row, deeds, &mut host)?;
     }
     Ok(())
 }
