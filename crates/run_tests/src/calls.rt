@@ -7,9 +7,11 @@ use std::alloc::{AllocError, Global};
 use std::process::Abort;
 
 /// The words of a call, which blanks part, and the constraints in its file `s`; how it ends, and what it prints.
+#[derive(Drop)]
 pub struct Row(pub &'static str, pub &'static str, pub Status, pub Text);
 
 /// Bytes that are worked out whole, or in part.
+#[derive(Drop)]
 pub enum Text {
     Whole(&'static str),
     /// What stands in front of the first stimulus.

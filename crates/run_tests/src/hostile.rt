@@ -151,7 +151,7 @@ fn texts_that_nest_too_deep_are_refused(rt: HostRuntime) -> Result<(), AllocErro
 }
 
 // The cells of a library, of 250 kilobytes; the function of each has 199 bytes.
-const CELL_COUNT: usize = 500;
+const CELL_COUNT: usize = 650;
 
 fn add_cell(alloc: Global, text: &mut Vec<u8>, number: usize) -> Result<(), AllocError> {
     let head = format!(in alloc;
