@@ -4,6 +4,8 @@ use sdcv_base::{Host, HostFault, ReadFault};
 use std::alloc::{AllocError, Global};
 use std::fs::{File, Permissions};
 use std::io::Sink;
+use std::io::{Read, Sink};
+use std::os::fd::AsRawFd;
 use std::os::unix::fs::{PermissionsExt, symlink};
 use std::process::Abort;
 use std::rt::Files;
@@ -24,6 +26,16 @@ fn teller<F: Files>(alloc: Global, files: F, err: &mut Vec<u8>) -> RealHost<F, S
     RealHost::new(alloc, "sdcv", files, io::sink(), err)
 }
 
+<<<<<<< HEAD
+=======
+// Removes what a test made, and what one that failed may have left before.
+fn clear(files: &impl Files, names: &[&str]) {
+    for name in names {
+        let _ = fs::remove_file(files, *name);
+    }
+}
+
+>>>>>>> 6416281bd7ee9b5a4215f074f0ca662018bacae7
 // What stands under the name, in 2,000,000 bytes.
 fn held(rt: &HostRuntime, name: &str) -> Result<Vec<u8>, ReadFault> {
     let mut told = Vec::new(rt.alloc());
@@ -46,6 +58,10 @@ fn a_file_gives_back_what_was_saved(rt: HostRuntime) -> Result<(), Fail> {
         assert!(rt; !part, "a part of {count} bytes is left");
     }
     assert!(rt; told.is_empty());
+<<<<<<< HEAD
+=======
+    clear(&rt, &["large.bin"]);
+>>>>>>> 6416281bd7ee9b5a4215f074f0ca662018bacae7
     Ok(())
 }
 
@@ -62,6 +78,10 @@ fn all_pieces_are_printed(rt: HostRuntime) -> Result<(), Fail> {
     assert!(rt; host.read_file(alloc, "printed.bin", 100_000)?.as_slice() == bytes.as_slice());
     let short = host.read_file(alloc, "printed.bin", 99_999);
     assert_eq!(rt; short.err(), Some(ReadFault::TooLong));
+<<<<<<< HEAD
+=======
+    clear(&rt, &["printed.bin"]);
+>>>>>>> 6416281bd7ee9b5a4215f074f0ca662018bacae7
     Ok(())
 }
 
@@ -121,6 +141,11 @@ fn a_failed_print_is_told(rt: HostRuntime) -> Result<(), Fail> {
 #[test]
 fn a_file_that_was_read_is_not_saved_over(rt: HostRuntime) -> Result<(), Fail> {
     let alloc = rt.alloc();
+<<<<<<< HEAD
+=======
+    let made = ["kept.v", "also_kept.v"];
+    clear(&rt, &made);
+>>>>>>> 6416281bd7ee9b5a4215f074f0ca662018bacae7
     fs::write(&rt, "kept.v", b"module")?;
     symlink(&rt, "kept.v", "also_kept.v")?;
     for name in ["kept.v", "./kept.v", "also_kept.v"] {
@@ -140,6 +165,10 @@ fn a_file_that_was_read_is_not_saved_over(rt: HostRuntime) -> Result<(), Fail> {
             "{name}"
         );
     }
+<<<<<<< HEAD
+=======
+    clear(&rt, &made);
+>>>>>>> 6416281bd7ee9b5a4215f074f0ca662018bacae7
     Ok(())
 }
 
@@ -147,9 +176,16 @@ fn a_file_that_was_read_is_not_saved_over(rt: HostRuntime) -> Result<(), Fail> {
 #[test]
 fn a_link_is_followed(rt: HostRuntime) -> Result<(), Fail> {
     let alloc = rt.alloc();
+<<<<<<< HEAD
     fs::create_dir(&rt, "real")?;
     fs::write(&rt, "real/old.cert", b"old")?;
     for (target, link) in [("real/old.cert", "old_link"), ("real/new.cert", "new_link")] {
+=======
+    let made = ["real_old", "real_new", "old_link", "new_link"];
+    clear(&rt, &made);
+    fs::write(&rt, "real_old", b"old")?;
+    for (target, link) in [("real_old", "old_link"), ("real_new", "new_link")] {
+>>>>>>> 6416281bd7ee9b5a4215f074f0ca662018bacae7
         symlink(&rt, target, link)?;
         let mut told = Vec::new(alloc);
         teller(alloc, &rt, &mut told).save(link, b"saved")?;
@@ -162,6 +198,10 @@ fn a_link_is_followed(rt: HostRuntime) -> Result<(), Fail> {
             "{target}"
         );
     }
+<<<<<<< HEAD
+=======
+    clear(&rt, &made);
+>>>>>>> 6416281bd7ee9b5a4215f074f0ca662018bacae7
     Ok(())
 }
 
@@ -177,6 +217,26 @@ fn what_stands_there_keeps_its_kind(rt: HostRuntime) -> Result<(), Fail> {
     assert_eq!(rt; mode & 0o777, 0o640);
     teller(alloc, &rt, &mut told).save("/dev/null", b"new")?;
     assert!(rt; !fs::metadata(&rt, "/dev/null")?.is_file());
+<<<<<<< HEAD
+=======
+    clear(&rt, &["own.cert"]);
+    Ok(())
+}
+
+// What a pipe gets is all that is saved, with nothing beside it: it is written as it is.
+#[test]
+fn a_pipe_is_written_as_it_is(rt: HostRuntime) -> Result<(), Fail> {
+    let alloc = rt.alloc();
+    let bytes = many(alloc, 10_000)?;
+    let (mut reader, writer) = io::pipe(&rt)?;
+    let name = format!(in alloc; "/proc/self/fd/{}", writer.as_raw_fd())?;
+    let mut told = Vec::new(alloc);
+    teller(alloc, &rt, &mut told).save(name.as_str(), &bytes)?;
+    drop(writer);
+    let mut got = Vec::new(alloc);
+    reader.read_to_end(&mut got)?;
+    assert!(rt; got.as_slice() == bytes.as_slice());
+>>>>>>> 6416281bd7ee9b5a4215f074f0ca662018bacae7
     Ok(())
 }
 
@@ -206,5 +266,9 @@ fn a_failed_save_leaves_the_old_file(rt: HostRuntime) -> Result<(), Fail> {
         );
         assert!(rt; !fs::exists(&rt, "old.cert.sdcv-part")?, "{step:?}");
     }
+<<<<<<< HEAD
+=======
+    clear(&rt, &["old.cert"]);
+>>>>>>> 6416281bd7ee9b5a4215f074f0ca662018bacae7
     Ok(())
 }
