@@ -3,7 +3,6 @@ use real_host::RealHost;
 use sdcv_base::{Host, HostFault, ReadFault};
 use std::alloc::{AllocError, Global};
 use std::fs::{File, Permissions};
-use std::io::Sink;
 use std::io::{Read, Sink};
 use std::os::fd::AsRawFd;
 use std::os::unix::fs::{PermissionsExt, symlink};
@@ -26,8 +25,6 @@ fn teller<F: Files>(alloc: Global, files: F, err: &mut Vec<u8>) -> RealHost<F, S
     RealHost::new(alloc, "sdcv", files, io::sink(), err)
 }
 
-<<<<<<< HEAD
-=======
 // Removes what a test made, and what one that failed may have left before.
 fn clear(files: &impl Files, names: &[&str]) {
     for name in names {
@@ -35,7 +32,6 @@ fn clear(files: &impl Files, names: &[&str]) {
     }
 }
 
->>>>>>> 6416281bd7ee9b5a4215f074f0ca662018bacae7
 // What stands under the name, in 2,000,000 bytes.
 fn held(rt: &HostRuntime, name: &str) -> Result<Vec<u8>, ReadFault> {
     let mut told = Vec::new(rt.alloc());
@@ -58,10 +54,7 @@ fn a_file_gives_back_what_was_saved(rt: HostRuntime) -> Result<(), Fail> {
         assert!(rt; !part, "a part of {count} bytes is left");
     }
     assert!(rt; told.is_empty());
-<<<<<<< HEAD
-=======
     clear(&rt, &["large.bin"]);
->>>>>>> 6416281bd7ee9b5a4215f074f0ca662018bacae7
     Ok(())
 }
 
@@ -78,10 +71,7 @@ fn all_pieces_are_printed(rt: HostRuntime) -> Result<(), Fail> {
     assert!(rt; host.read_file(alloc, "printed.bin", 100_000)?.as_slice() == bytes.as_slice());
     let short = host.read_file(alloc, "printed.bin", 99_999);
     assert_eq!(rt; short.err(), Some(ReadFault::TooLong));
-<<<<<<< HEAD
-=======
     clear(&rt, &["printed.bin"]);
->>>>>>> 6416281bd7ee9b5a4215f074f0ca662018bacae7
     Ok(())
 }
 
@@ -141,11 +131,8 @@ fn a_failed_print_is_told(rt: HostRuntime) -> Result<(), Fail> {
 #[test]
 fn a_file_that_was_read_is_not_saved_over(rt: HostRuntime) -> Result<(), Fail> {
     let alloc = rt.alloc();
-<<<<<<< HEAD
-=======
     let made = ["kept.v", "also_kept.v"];
     clear(&rt, &made);
->>>>>>> 6416281bd7ee9b5a4215f074f0ca662018bacae7
     fs::write(&rt, "kept.v", b"module")?;
     symlink(&rt, "kept.v", "also_kept.v")?;
     for name in ["kept.v", "./kept.v", "also_kept.v"] {
@@ -165,10 +152,7 @@ fn a_file_that_was_read_is_not_saved_over(rt: HostRuntime) -> Result<(), Fail> {
             "{name}"
         );
     }
-<<<<<<< HEAD
-=======
     clear(&rt, &made);
->>>>>>> 6416281bd7ee9b5a4215f074f0ca662018bacae7
     Ok(())
 }
 
@@ -176,16 +160,10 @@ fn a_file_that_was_read_is_not_saved_over(rt: HostRuntime) -> Result<(), Fail> {
 #[test]
 fn a_link_is_followed(rt: HostRuntime) -> Result<(), Fail> {
     let alloc = rt.alloc();
-<<<<<<< HEAD
-    fs::create_dir(&rt, "real")?;
-    fs::write(&rt, "real/old.cert", b"old")?;
-    for (target, link) in [("real/old.cert", "old_link"), ("real/new.cert", "new_link")] {
-=======
     let made = ["real_old", "real_new", "old_link", "new_link"];
     clear(&rt, &made);
     fs::write(&rt, "real_old", b"old")?;
     for (target, link) in [("real_old", "old_link"), ("real_new", "new_link")] {
->>>>>>> 6416281bd7ee9b5a4215f074f0ca662018bacae7
         symlink(&rt, target, link)?;
         let mut told = Vec::new(alloc);
         teller(alloc, &rt, &mut told).save(link, b"saved")?;
@@ -198,10 +176,7 @@ fn a_link_is_followed(rt: HostRuntime) -> Result<(), Fail> {
             "{target}"
         );
     }
-<<<<<<< HEAD
-=======
     clear(&rt, &made);
->>>>>>> 6416281bd7ee9b5a4215f074f0ca662018bacae7
     Ok(())
 }
 
@@ -217,8 +192,6 @@ fn what_stands_there_keeps_its_kind(rt: HostRuntime) -> Result<(), Fail> {
     assert_eq!(rt; mode & 0o777, 0o640);
     teller(alloc, &rt, &mut told).save("/dev/null", b"new")?;
     assert!(rt; !fs::metadata(&rt, "/dev/null")?.is_file());
-<<<<<<< HEAD
-=======
     clear(&rt, &["own.cert"]);
     Ok(())
 }
@@ -236,7 +209,6 @@ fn a_pipe_is_written_as_it_is(rt: HostRuntime) -> Result<(), Fail> {
     let mut got = Vec::new(alloc);
     reader.read_to_end(&mut got)?;
     assert!(rt; got.as_slice() == bytes.as_slice());
->>>>>>> 6416281bd7ee9b5a4215f074f0ca662018bacae7
     Ok(())
 }
 
@@ -266,9 +238,6 @@ fn a_failed_save_leaves_the_old_file(rt: HostRuntime) -> Result<(), Fail> {
         );
         assert!(rt; !fs::exists(&rt, "old.cert.sdcv-part")?, "{step:?}");
     }
-<<<<<<< HEAD
-=======
     clear(&rt, &["old.cert"]);
->>>>>>> 6416281bd7ee9b5a4215f074f0ca662018bacae7
     Ok(())
 }
