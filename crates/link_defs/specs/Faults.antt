@@ -129,6 +129,7 @@ pub data IsAboveLimit (s : Source) (lib : Library) (flat : Flat) (c : Circuit) :
   Outputs : 20000 < length c.outputs → IsAboveLimit s lib flat c what.Outputs 20001
   Instances : 1000000 < count_by is_counted flat.items → IsAboveLimit s lib flat c what.Instances 1000001
   Pins : HasManyPins s lib flat → IsAboveLimit s lib flat c what.Pins 7
+  Hierarchy : (at : Located) → Contains flat.items at → is_counted at ≡ true → 256 < at.scope.depth → IsAboveLimit s lib flat c what.Hierarchy 257
 
 -- the names of the inputs that are given a value
 abbrev pub set_names : LinkOptions → List (List ℕ)

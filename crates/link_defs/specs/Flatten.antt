@@ -17,11 +17,13 @@ use Rattle.cell_types.specs.declared.libraries.CellKind.TheVariants as kind
 use Rattle.link_defs.specs.Hierarchy.{cell_of, wires_of}
 use Rattle.netlist_types.specs.Lawful.{module_of}
 
--- an instance of a module: what its names begin with, and the flat net of each of its nets
+-- an instance of a module: what its names begin with, the flat net of each of its nets, and in how many module instances what
+-- is in it stands, with itself; the top module is none
 pub record Scope : Type 0 where
   pub prefix : List ℕ
   pub body : Module
   pub nets : List ℕ
+  pub depth : ℕ
 
 -- an item of an instance, and the first of the flat nets that are its own
 pub record Located : Type 0 where
@@ -63,7 +65,7 @@ with_slash prefix name = prefix ++ name ++ 47 ∷ []
 -- an instance of a module inside another
 abbrev pub inner_scope : Scope → List ℕ → Module → List Conn → ℕ → Scope
 inner_scope scope name m conns first =
-    record { prefix = with_slash scope.prefix name; body = m; nets = inner_nets scope.nets m conns first }
+    record { prefix = with_slash scope.prefix name; body = m; nets = inner_nets scope.nets m conns first; depth = scope.depth + 1 }
 
 -- the pins of a cell that are no inputs: outputs, and the clock of a flop
 abbrev pub other_pins : Cell → ℕ
@@ -116,7 +118,7 @@ add_scope (suc depth) s lib flat scope = fold (add_item (add_scope depth s lib) 
 
 -- the top module: its names stand alone, and its nets are the first numbers
 abbrev pub top_scope : Module → Scope
-top_scope top = record { prefix = []; body = top; nets = numbers 0 (length top.nets) }
+top_scope top = record { prefix = []; body = top; nets = numbers 0 (length top.nets); depth = 0 }
 
 -- the flat netlist below a module: no module stands in itself, so the number of modules bounds the depth
 abbrev pub flat_of : Source → Library → Module → Flat

@@ -112,7 +112,7 @@ goes_inner s lib f x g stack old mid new at taken grown same count = λ whole u.
     All-cons (λ (y : Frame). y.scope < length old.scopes) (next_of f) stack
     (All-head (λ (y : Frame). y.scope < length old.scopes) f stack u.there)
     (All-tail (λ (y : Frame). y.scope < length old.scopes) f stack u.there) in
-    let standing = u.made_is.are_scopes f.scope (record { prefix = []; body = 0; nets = [] })
+    let standing = u.made_is.are_scopes f.scope (record { prefix = []; body = 0; nets = []; depth = 0 })
     (All-head (λ (y : Frame). y.scope < length old.scopes) f stack u.there) in
     let low : u.rank g.body < u.rank (instance_at old.scopes f.scope).body =
     lower s u.rank (instance_at old.scopes f.scope).body x f.next g.body u.ranks standing.body (is_inner.body g refl) at (is_inner.needed g refl) in
@@ -130,7 +130,7 @@ goes_inner s lib f x g stack old mid new at taken grown same count = λ whole u.
         flat = with_scope (with_item s lib scope x u.flat) inner;
         made_is = scope_made s lib (with_item s lib scope x u.flat) g mid new (item_made s lib scope x u.flat (Some g) old mid u.made_is taken) here grown
             same count;
-        fine = record { items = fine.items; few = fine.few };
+        fine = record { items = fine.items; few = fine.few; low = fine.low };
         goes_on =
             u.goes_on ∙ ap (λ (items : List Item). resume (depth_left s (f ∷ stack)) s lib (on s old.scopes f rest items) u.flat) first
             ∙ ap (λ (d : ℕ). resume d s lib (on s old.scopes f rest (x ∷ after)) u.flat) up
@@ -195,3 +195,9 @@ breaks s lib f x stack old e at (IsRefused.By_count is counts full) = λ whole u
     let sum = sum_by_push (λ (y : Located). cond {A = ℕ} (is_counted y) 1 0) u.flat.items here in
     subst (λ (b : LinkFault). IsFlatCause s lib o top whole c b) (sym is)
     (IsAboveLimit.Instances (omega (arith, one, more, sum, full, u.made_is.instances)))
+breaks s lib f x stack old e at (IsRefused.By_depth is counts deep) = λ whole u o top c.
+    let scope = scope_at s old.scopes f.scope in
+    let here : Located = record { scope = scope; item = x; first = u.flat.count } in
+    subst (λ (b : LinkFault). IsFlatCause s lib o top whole c b) (sym is)
+    (IsAboveLimit.Hierarchy here (contains_more (with_item s lib scope x u.flat) whole here (has_next s lib f x stack old whole at u)
+    (contains_at (u.flat.items ++ here ∷ []) (length u.flat.items) here (last_at u.flat.items here))) counts deep)

@@ -1,5 +1,5 @@
 -- What was made of a flat netlist, with one item or one instance more.
-use Rattle.std.proofs.Common.{◌≡◌, ℕ, ◌+◌, cond, List, [], ◌∷◌, ◌++◌, map, ap, subst, sym, ◌∙◌, arith}
+use Rattle.std.proofs.Common.{◌≡◌, ℕ, ◌+◌, ◌≤◌, true, cond, List, [], ◌∷◌, ◌++◌, map, ap, subst, sym, ◌∙◌, arith}
 use Rattle.std.specs.Prelude.{Option, flat_map}
 use Rattle.std.specs.List.{AllZip}
 use Rattle.std.proofs.lemmas.List.{map-append}
@@ -88,6 +88,8 @@ item_fine s lib scope x flat inner old new is fine taken =
       items = All-push (λ (at : Located). IsFaultless s lib at.scope at.item) flat.items (record { scope = scope; item = x; first = flat.count }) fine.items
           taken.faultless;
       few = omega (arith, made.instances, taken.few (omega (arith, is.instances, fine.few)));
+      low = All-push (λ (at : Located). is_counted at ≡ true → at.scope.depth ≤ 256) flat.items
+          (record { scope = scope; item = x; first = flat.count }) fine.low taken.low;
     }
 
 -- with one instance more

@@ -22,7 +22,7 @@ use Rattle.link_flat.proofs.Ranking.{rank_in, rank_falls, rank_below}
 
 -- no instance
 abbrev pub blank : Instance
-blank = record { prefix = []; body = 0; nets = [] }
+blank = record { prefix = []; body = 0; nets = []; depth = 0 }
 
 -- the instance at a place is the one that stands there
 pub instance_is : (scopes : List Instance) (k : ℕ) (g : Instance) → slice_get scopes k ≡ Some g → instance_at scopes k ≡ g

@@ -17,7 +17,7 @@ use Rattle.link_flat.specs.UnderWay.{IsUnderWay}
 
 -- the instance of the top module
 abbrev top_instance : Source → ℕ → Instance
-top_instance s top = record { prefix = []; body = top; nets = numbers 0 (length (module_at s top).nets) }
+top_instance s top = record { prefix = []; body = top; nets = numbers 0 (length (module_at s top).nets); depth = 0 }
 
 -- the frame of it
 abbrev pub top_frame : Frame
@@ -53,7 +53,7 @@ begins s lib top f lt ranks is =
     record {
       flat = with_scope (nothing s top) (top_scope m);
       made_is = start_made s lib top f lt is;
-      fine = record { items = λ k d none. absurd (omega (arith, none)); few = omega arith };
+      fine = record { items = λ k d none. absurd (omega (arith, none)); few = omega arith; low = λ k d none. absurd (omega (arith, none)) };
       goes_on =
           ap (λ (n : ℕ). add_scope n s lib (nothing s top) (top_scope m)) len
           ∙ ap (λ (p : Pend). resume (depth_left s (top_frame ∷ [])) s lib (p ∷ []) (with_scope (nothing s top) (top_scope m))) (sym pend_is);

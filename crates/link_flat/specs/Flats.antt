@@ -1,5 +1,5 @@
 -- What is made of a flat netlist, and why a source is not flattened.
-use Rattle.std.specs.Prelude.{◌≡◌, ℕ, ◌<◌, ◌≤◌, List, [], ◌∷◌, length, map, flat_map, All, count_by}
+use Rattle.std.specs.Prelude.{◌≡◌, ℕ, ◌<◌, ◌≤◌, true, List, [], ◌∷◌, length, map, flat_map, All, count_by}
 use Rattle.netlist_types.specs.declared.sources.Source.{Source}
 use Rattle.netlist_types.specs.declared.sources.Module.{Module}
 use Rattle.cell_types.specs.declared.libraries.Library.{Library}
@@ -33,10 +33,11 @@ pub record IsFlattened (s : Source) (lib : Library) (flat : Flat) (f : Flattened
   pub leaves : AreLeavesAt lib f.made.parts f.made.leaves (leaves s lib flat)
   pub instances : f.instances ≡ count_by is_counted flat.items
 
--- no item of the flat netlist is refused, and there are no more instances than are allowed
+-- no item of the flat netlist is refused, there are no more instances than are allowed, and none stands too deep
 pub record AreFine (s : Source) (lib : Library) (flat : Flat) : Type 0 where
   pub items : All (λ (at : Located). IsFaultless s lib at.scope at.item) flat.items
   pub few : count_by is_counted flat.items ≤ 1000000
+  pub low : All (λ (at : Located). is_counted at ≡ true → at.scope.depth ≤ 256) flat.items
 
 -- no module contains itself
 abbrev pub IsUnrecursive : Source → Type 0
@@ -52,7 +53,7 @@ IsCauseBelow s lib top e = IsCauseIn s lib (flat_of s lib top) e
 
 -- the top module alone
 pub record IsStart (s : Source) (top : ℕ) (f : Flattened) : Type 0 where
-  pub scopes : f.scopes ≡ (record { prefix = []; body = top; nets = numbers 0 (length (module_at s top).nets) }) ∷ []
+  pub scopes : f.scopes ≡ (record { prefix = []; body = top; nets = numbers 0 (length (module_at s top).nets); depth = 0 }) ∷ []
   pub count : f.made.count ≡ length (module_at s top).nets
   pub parts : f.made.parts ≡ []
   pub leaves : f.made.leaves ≡ []

@@ -11,7 +11,7 @@ use Rattle.link_flat.specs.Pending.{Pend}
 
 -- the instance at a place
 abbrev pub instance_at : List Instance → ℕ → Instance
-instance_at scopes place = slice_index_or scopes place (record { prefix = []; body = 0; nets = [] })
+instance_at scopes place = slice_index_or scopes place (record { prefix = []; body = 0; nets = []; depth = 0 })
 
 abbrev pub scope_at : Source → List Instance → ℕ → Scope
 scope_at s scopes place = scope_of s (instance_at scopes place)

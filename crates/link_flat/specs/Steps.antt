@@ -1,5 +1,5 @@
 -- What one step does.
-use Rattle.std.specs.Prelude.{◌≡◌, ℕ, ◌+◌, ◌≤◌, true, cond, List, [], ◌∷◌, ◌++◌, length, Option, Some, None}
+use Rattle.std.specs.Prelude.{◌≡◌, ℕ, ◌+◌, ◌<◌, ◌≤◌, true, cond, List, [], ◌∷◌, ◌++◌, length, Option, Some, None}
 use Rattle.sdcv_base.specs.declared.limits.LimitName.TheVariants as what
 use Rattle.netlist_types.specs.declared.sources.Source.{Source}
 use Rattle.netlist_types.specs.declared.sources.Item.{Item}
@@ -22,11 +22,14 @@ pub record IsTaken (s : Source) (lib : Library) (scope : Scope) (i : Item) (inne
   pub scopes : new.scopes ≡ old.scopes
   pub instances : new.instances ≡ old.instances + cond (is_instance i) 1 0
   pub few : old.instances ≤ 1000000 → new.instances ≤ 1000000
+  pub low : is_instance i ≡ true → scope.depth ≤ 256
 
--- an item is refused for a cause of its own, or it is an instance and there are as many as are allowed
+-- an item is refused for a cause of its own, or it is an instance and there are as many as are allowed, or one that stands
+-- too deep
 pub data IsRefused (s : Source) (lib : Library) (scope : Scope) (i : Item) (instances : ℕ) (e : LinkFault) : Type 0 where
   By_item : IsCauseWithin s lib scope i e → IsRefused s lib scope i instances e
   By_count : e ≡ fault.Limit what.Instances 1000001 → is_instance i ≡ true → 1000000 ≤ instances → IsRefused s lib scope i instances e
+  By_depth : e ≡ fault.Limit what.Hierarchy 257 → is_instance i ≡ true → 256 < scope.depth → IsRefused s lib scope i instances e
 
 -- the item after this one
 abbrev pub next_of : Frame → Frame

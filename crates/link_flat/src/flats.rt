@@ -87,6 +87,7 @@ fn start(alloc: Global, netlist: &Netlist, top: usize) -> Result<Flattened, Allo
         prefix: Name::new(alloc, b"")?,
         body: top,
         nets: numbers(alloc, count)?,
+        depth: 0,
     };
     Ok(Flattened {
         scopes: Seq::one(alloc, instance)?,

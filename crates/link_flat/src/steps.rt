@@ -25,6 +25,9 @@ use std::alloc::{AllocError, Global};
 /// How many modules, cells and primitives may stand in a flat netlist.
 const MOST_INSTANCES: usize = 1_000_000;
 
+/// In how many module instances one of them may stand.
+const MOST_LEVELS: usize = 256;
+
 /// Takes the next item of an instance; an instance whose items are all taken is left.
 pub(crate) fn step(
     alloc: Global,
@@ -83,6 +86,7 @@ fn take(
 {
     let instances = counted(flat.instances, item)?;
     let at = flat.scopes.item(frame.scope);
+    expect_low(at.depth, item)?;
     let inner = add_item(alloc, netlist, at, item, &mut flat.made)?;
     flat.instances = instances;
     Ok(inner)
@@ -100,6 +104,17 @@ fn counted(instances: usize, item: &Item) -> Result<usize, LinkFault>
         return Err(LinkFault::Limit(LimitName::Instances, 1_000_001));
     }
     Ok(instances + 1)
+}
+
+/// Refuses an instance or a primitive that stands in more module instances than are allowed.
+fn expect_low(depth: usize, item: &Item) -> Result<(), LinkFault>
+    ensures ok { OnOk result (counts item.now ≡ true → depth ≤ 256) }
+    ensures err { IfErr result (λ e. (e ≡ fault.Limit what.Hierarchy 257) × (counts item.now ≡ true) × (256 < depth)) }
+{
+    if is_instance(item) && depth > MOST_LEVELS {
+        return Err(LinkFault::Limit(LimitName::Hierarchy, 257));
+    }
+    Ok(())
 }
 
 /// Whether an item is an instance or a primitive.

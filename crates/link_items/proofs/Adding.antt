@@ -226,17 +226,18 @@ instance_cell : (s : Source) (scope : Scope) (cell name : List ℕ) (conns : Lis
 instance_cell s scope cell name conns first none =
     ap (λ (o : Option Module). let r : Option Scope = elim o [ Some m ↦ Some (inner_scope scope name m conns first) | None ↦ None ] in r) none
 
-scope_is : (prefix prefix2 nets nets2 : List ℕ) (body body2 : Module) → prefix ≡ prefix2 → body ≡ body2 → nets ≡ nets2
-    → ◌≡◌ {A = Scope} (record { prefix = prefix; body = body; nets = nets }) (record { prefix = prefix2; body = body2; nets = nets2 })
-scope_is prefix prefix2 nets nets2 body body2 p b n = cc
+scope_is : (prefix prefix2 nets nets2 : List ℕ) (body body2 : Module) (depth depth2 : ℕ) → prefix ≡ prefix2 → body ≡ body2 → nets ≡ nets2 → depth ≡ depth2
+    → ◌≡◌ {A = Scope} (record { prefix = prefix; body = body; nets = nets; depth = depth })
+    (record { prefix = prefix2; body = body2; nets = nets2; depth = depth2 })
+scope_is prefix prefix2 nets nets2 body body2 depth depth2 p b n d = cc
 
 -- the instance that an instance of a module is
 pub module_inner : (s : Source) (scope : Scope) (cell name : List ℕ) (conns : List Conn) (first : ℕ) (m : Module) (g : Instance)
     → module_of s cell ≡ Some m → slice_get s.modules g.body ≡ Some m → g.prefix ≡ with_slash scope.prefix name
-    → g.nets ≡ inner_nets scope.nets m conns first → g.body ≡ place_of_module s cell → IsInner s scope (item.Inst cell name conns) first (Some g)
-module_inner s scope cell name conns first m g is at prefix nets named = record {
+    → g.nets ≡ inner_nets scope.nets m conns first → g.depth ≡ scope.depth + 1 → g.body ≡ place_of_module s cell → IsInner s scope (item.Inst cell name conns) first (Some g)
+module_inner s scope cell name conns first m g is at prefix nets depth named = record {
   scope_is = ap (λ (x : Scope). Some x) (scope_is g.prefix (with_slash scope.prefix name) g.nets (inner_nets scope.nets m conns first)
-      (module_at s g.body) m prefix (get_or_from_slice_get s.modules g.body m _ at) nets) ∙ sym (instance_module s scope cell name conns first m is);
+      (module_at s g.body) m g.depth (scope.depth + 1) prefix (get_or_from_slice_get s.modules g.body m _ at) nets depth) ∙ sym (instance_module s scope cell name conns first m is);
   body = λ h same. let here : g ≡ h = cc in subst (λ (i : Instance). i.body < length s.modules) here (slice_get_within s.modules g.body m at);
   needed = λ h same.
       let here : g ≡ h = cc in

@@ -22,7 +22,7 @@ module_at s place = slice_index_or s.modules place (record { name = []; ports = 
 
 -- the instance as the flat netlist has it
 abbrev pub scope_of : Source → Instance → Scope
-scope_of s i = record { prefix = i.prefix; body = module_at s i.body; nets = i.nets }
+scope_of s i = record { prefix = i.prefix; body = module_at s i.body; nets = i.nets; depth = i.depth }
 
 -- the cell at a place of a library; a primitive has none
 abbrev pub IsCellAt : Library → Option ℕ → Option Cell → Type 0

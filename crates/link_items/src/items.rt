@@ -31,7 +31,7 @@ use netlist_types::{Conn, Item, Module, PrimKind, Wire};
 use sdcv_base::{LimitName, Name, Seq};
 use std::alloc::{AllocError, Global};
 
-/// The sum of two counts of nets. More nets than a number counts are more than any memory holds.
+/// The sum of two counts. More nets or levels than a number counts are more than any memory holds.
 fn sum(a: usize, b: usize) -> Result<usize, LinkFault>
     ensures ok { IfOk result (λ n. n ≡ a + b) }
     ensures err { IfErr result (λ e. e ≡ fault.Memory) }
@@ -175,10 +175,12 @@ fn add_module_at(
     let body = netlist.source.modules.item(place);
     let nets = add_module(alloc, &at.nets, &full, inst.conns.as_slice(), body, made)?;
     let prefix = inner_prefix(alloc, &at.prefix, inst.name)?;
+    let depth = sum(at.depth, 1)?;
     Ok(Some(Instance {
         prefix,
         body: place,
         nets,
+        depth,
     }))
 }
 

@@ -2,7 +2,7 @@
 ghost use Rattle.std.specs.Prelude.{◌≡◌, IfOk};
 ghost use Rattle.cell_types.specs.Libraries.{IsLawful as IsLawfulLibrary};
 
-use crate::rows::{CELLS, NETLISTS, SETTINGS};
+use crate::rows::{CELLS, CHAINS, NETLISTS, SETTINGS};
 use cell_lib::read_lib;
 use cell_types::{Library, builtin};
 use net_link::{LinkOptions, link};
@@ -79,6 +79,34 @@ fn netlists_without_a_design_are_refused_by_full_names(rt: HostRuntime) -> Resul
         };
         let told = told(rt.alloc(), netlist, "", &given)?;
         assert!(rt; told.starts_with(*want), "{netlist} {told}");
+    }
+    Ok(())
+}
+
+/// A module of this body, and so many more, each with an instance of the one before it.
+fn chain(alloc: Global, depth: usize, body: &str) -> Result<String, Fail> {
+    let mut text = format!(in alloc; "module m0 (input a, output y); {body} endmodule\n")?;
+    for inner in 0..depth {
+        let own = inner + 1;
+        write!(
+            &mut text,
+            "module m{own} (input a, output y); m{inner} u (.a(a), .y(y)); endmodule\n"
+        )?;
+    }
+    Ok(text)
+}
+
+#[test]
+fn modules_stand_in_modules_to_a_limit(rt: HostRuntime) -> Result<(), Fail> {
+    let given = Given {
+        clock: "",
+        fixed: "",
+        reset: "",
+    };
+    for (depth, body, want) in CHAINS {
+        let netlist = chain(rt.alloc(), *depth, body)?;
+        let told = told(rt.alloc(), netlist.as_str(), "", &given)?;
+        assert_eq!(rt; told.as_str(), *want, "{depth} {body}");
     }
     Ok(())
 }

@@ -144,6 +144,14 @@ pub(crate) const NETLISTS: &[(&str, &str, &str)] = &[
     ),
 ];
 
+/// In how many module instances the body of a module with the input `a` and the output `y` stands, the body, and what is told.
+pub(crate) const CHAINS: &[(usize, &str, &str)] = &[
+    (256, "INV g (.A(a), .Y(y));", ""),
+    (257, "INV g (.A(a), .Y(y));", "limit of hierarchy: 257"),
+    (257, "buf g (y, a);", "limit of hierarchy: 257"),
+    (257, "assign y = a;", ""),
+];
+
 /// Cells in Liberty, a netlist over them, and what is told.
 pub(crate) const CELLS: &[(&str, &str, &str)] = &[
     (

@@ -1,5 +1,5 @@
 -- The causes of refusals, and none of them where there is a design.
-use Rattle.std.proofs.Common.{◌≡◌, ◌≢◌, ℕ, List, [], ◌∷◌, ◌++◌, length, map, Some, None, refl, ap}
+use Rattle.std.proofs.Common.{◌≡◌, ◌≢◌, ℕ, ◌≤◌, true, List, [], ◌∷◌, ◌++◌, length, map, Some, None, refl, ap}
 use Rattle.std.proofs.Common.{subst, sym, ◌∙◌, arith, inl, inr}
 use Rattle.std.specs.Prelude.{Option, Contains, slice_get}
 use Rattle.sdcv_base.specs.declared.limits.LimitName.{LimitName}
@@ -25,7 +25,7 @@ use Rattle.link_defs.specs.declared.options.LinkOptions.{LinkOptions}
 use Rattle.link_defs.specs.CellNames.{Leaf, leaves}
 use Rattle.link_defs.specs.Circuits.{circuit_of, input_bits, output_bits, all_drivers, all_reads}
 use Rattle.link_defs.specs.Faults.{IsInstance, IsOfModule, IsOfCell, IsOfModelled, IsUnknownPin, IsOpenInput, HasManyDrivers, StandsTwice, bit_names, Clashes}
-use Rattle.link_defs.specs.Faults.{HasManyPins, IsWidePrim, IsAboveLimit, IsBadSetting, IsFlatCause, IsCause, IsFaultless}
+use Rattle.link_defs.specs.Faults.{HasManyPins, IsWidePrim, is_counted, IsAboveLimit, IsBadSetting, IsFlatCause, IsCause, IsFaultless}
 use Rattle.link_defs.specs.Faults as link
 use Rattle.link_defs.specs.Flatten.{Located, Flat, flat_of, full_names}
 use Rattle.link_defs.specs.Hierarchy.{cell_of, tops}
@@ -219,6 +219,10 @@ above_limit s lib o top flat c k n free (link.Inputs more) = free.circuit (circu
 above_limit s lib o top flat c k n free (link.Outputs more) = free.circuit (circuit.Limit what.Outputs 20001) (λ e. cc) (above.Outputs more)
 above_limit s lib o top flat c k n free (link.Instances more) = let few = free.fine.few in omega (arith, more, few)
 above_limit s lib o top flat c k n free (link.Pins many) = many_pins s lib flat free.fine many
+above_limit s lib o top flat c k n free (link.Hierarchy at has counts deep) =
+    let low : is_counted at ≡ true → at.scope.depth ≤ 256 =
+    all_in (λ (a : Located). is_counted a ≡ true → a.scope.depth ≤ 256) flat.items free.fine.low at (In-from_Contains flat.items at has) in
+    let within = low counts in omega (arith, within, deep)
 
 -- a net that is read is driven, where no refusal of the circuit has its cause
 read_driven : (c : Circuit) (n : ℕ) → IsFaultlessCircuit c → Contains (all_drivers c ++ all_reads c) n → Contains (all_drivers c) n

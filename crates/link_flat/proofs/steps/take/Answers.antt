@@ -1,5 +1,6 @@
-use Rattle.std.proofs.Common.{refl, subst, sym}
+use Rattle.std.proofs.Common.{◌≡◌, ◌<◌, ◌≤◌, true, refl, subst, sym}
 use Rattle.std.proofs.lemmas.Result.{err_from_is_err_and}
+use Rattle.link_defs.specs.Faults.{is_instance as counts}
 use Rattle.link_items.specs.declared.made.Instance.{Instance}
 use Rattle.link_items.specs.Faults.{IsFaultless, IsCauseWithin}
 use Rattle.link_items.specs.Items.{scope_of, IsAdded, IsInner}
@@ -15,6 +16,13 @@ returns-in_err-inner-clause-err c =
     rw (p.1, p.2) (IsRefused.By_item (subst (λ (g : Instance). IsCauseWithin s c.args.netlist.now.library.now (scope_of s g) c.args.item.now
     c.in_err-inner.field-0.0) (sym at) c.in_err-inner.ensures.cause))
 
+pub returns-in_err-expect_low-clause-err : goal.returns-in_err-expect_low-clause-err
+returns-in_err-expect_low-clause-err c =
+    let p = err_from_is_err_and c.from_residual-in_err-expect_low.result c.from_residual-in_err-expect_low.ensures.1 in
+    let at = instance_is c.args.flat.now.scopes c.args.frame.scope c.item-at.result.now c.item-at.ensures in
+    let (is, counts, deep) = c.in_err-expect_low.ensures.err in
+    rw (p.1, p.2) (IsRefused.By_depth is counts (subst (λ (g : Instance). 256 < g.depth) (sym at) deep))
+
 pub returns-clause-ok : goal.returns-clause-ok
 returns-clause-ok c =
     let s = c.args.netlist.now.source.now in
@@ -29,4 +37,5 @@ returns-clause-ok c =
       scopes = refl;
       instances = c.in_ok-instances.ensures.ok.0;
       few = c.in_ok-instances.ensures.ok.1;
+      low = subst (λ (g : Instance). counts c.args.item.now ≡ true → g.depth ≤ 256) (sym at) c.in_ok-expect_low.ensures.ok;
     }

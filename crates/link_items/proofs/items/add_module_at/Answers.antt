@@ -45,10 +45,10 @@ pub returns-clause-inner : goal.returns-clause-inner
 returns-clause-inner c =
     module_inner c.args.netlist.now.source.now (scope_of c.args.netlist.now.source.now c.args.at.now) c.args.inst.now.cell.now c.args.inst.now.name.now
     c.args.inst.now.conns.now c.args.made.now.count c.item-body.result.now
-    (record { prefix = c.in_ok-prefix.prefix; body = c.args.place; nets = c.in_ok-nets.nets }) (found_module c.args.netlist.now.source.now
+    (record { prefix = c.in_ok-prefix.prefix; body = c.args.place; nets = c.in_ok-nets.nets; depth = c.in_ok-depth.depth }) (found_module c.args.netlist.now.source.now
     c.args.netlist.now.library.now c.args.inst.now.cell.now c.args.place c.item-body.result.now c.requires.referent c.item-body.ensures) c.item-body.ensures
     c.in_ok-prefix.ensures
-    (rw c.as_slice.ensures at c.in_ok-nets.ensures.ok).nets_are c.requires.referent.3
+    (rw c.as_slice.ensures at c.in_ok-nets.ensures.ok).nets_are c.in_ok-depth.ensures.ok c.requires.referent.3
 
 pub returns-clause-faultless : goal.returns-clause-faultless
 returns-clause-faultless c =
