@@ -1,13 +1,30 @@
 -- One turn of the loop over the commands of a text, and faults that go through.
-use Rattle.std.proofs.Common.{◌≡◌, ℕ, zero, suc, ◌+◌, ◌<◌, true, false, List, length, Result, Ok, Err, refl, arith}
+use Rattle.std.proofs.Common.{◌≡◌, ◌∙◌, ℕ, zero, suc, ◌+◌, ◌<◌, true, false, List, [], ◌∷◌, take, drop, Option, Some, None, Result, Ok, Err, refl, ap, arith}
+use Rattle.std.specs.Option.{option_map}
+use Rattle.texts.specs.Rules.{◌>>=◌}
 use Rattle.sdc_words.specs.declared.faults.WordFault.{WordFault}
 use Rattle.sdc_words.specs.declared.faults.WordFault.TheVariants as word_fault
+use Rattle.sdc_words.specs.declared.words.Word.{Word}
+use Rattle.sdc_words.specs.declared.words.Word.TheVariants as word
+use Rattle.sdc_words.specs.declared.words.RawCommand.{RawCommand}
 use Rattle.sdc_words.specs.Reads as words
+use Rattle.sdc_words.specs.Commands.{command_at, line_at, IsFront}
+use Rattle.sdc_words.proofs.ReadLemmas.{value_or}
+use Rattle.script_types.specs.declared.scripts.What.TheVariants as what
+use Rattle.sdc_values.specs.Variables.{Vars}
+use Rattle.sdc_values.specs.Lines.{command_name}
 use Rattle.sdc_values.specs.declared.faults.SdcFault.{SdcFault}
 use Rattle.sdc_values.specs.declared.faults.SdcFault.TheVariants as fault
 use Rattle.sdc_values.specs.Told.{Fails, of_words}
 use Rattle.sdc_text.specs.declared.progresses.Progress.{Progress}
-use Rattle.sdc_text.specs.Scripts.{lifted, next_at, progress_from, placed, placed_fault}
+use Rattle.sdc_text.specs.declared.kinds.CommandKind.TheVariants as kind
+use Rattle.sdc_text.specs.Kinds.{command_kind}
+use Rattle.sdc_text.specs.Progresses.{with_command, after_kind, after_command, IsPassedOver}
+use Rattle.sdc_text.specs.Scripts.{lifted, next_at, PassesNext, progress_from, placed, placed_fault}
+
+of_lifted : {A : Type 0} (r : Result A WordFault) (x : A) → lifted r ≡ Ok x → r ≡ Ok x
+of_lifted (Ok y) x e = cc
+of_lifted (Err why) x e = absurd cc
 
 module _ (text : List ℕ) (p : Progress) (s : List ℕ) where
   -- no command is left
@@ -44,3 +61,64 @@ fails_placed text (fault.BadOption line word) x h = λ other. rw (h other) refl
 fails_placed text (fault.BadNumber line word) x h = λ other. rw (h other) refl
 fails_placed text fault.Memory x h = λ other. absurd (other refl)
 fails_placed text (fault.Deep place) x h = λ other. rw (h (λ same. absurd cc)) refl
+
+-- a command has the name that its first word gives it
+name_of_front : (vars : Vars) (line : ℕ) (ws : List Word) → command_name vars line ws ≡ command_name vars line (take 1 ws)
+unfolding command_name
+name_of_front vars line [] = refl
+name_of_front vars line (word.Text offset pieces ∷ ws) = refl
+name_of_front vars line (word.Opens offset ∷ ws) = refl
+name_of_front vars line (word.Closes ∷ ws) = refl
+
+abbrev after_named : Progress → RawCommand → List ℕ → Result Progress SdcFault
+after_named p command name = elim (command_kind name) [
+  | Some found ↦ after_kind p found (record { line = command.line; name = name }) (drop 1 command.words)
+  | None ↦ Err (fault.UnknownCommand command.line name)
+]
+
+by_name : (p : Progress) (command : RawCommand) (name : List ℕ) → command_name p.variables command.line command.words ≡ Ok name
+    → after_command p command ≡ after_named p command name
+unfolding after_command
+by_name p command name named = rw named refl
+
+by_kind : (p : Progress) (command : RawCommand) (name : List ℕ) → command_kind name ≡ Some kind.Passed
+    → after_named p command name ≡ Ok (with_command p command.line what.Passed)
+unfolding after_kind
+by_kind p command name passed = rw (passed, after_named) refl
+
+-- a command with a front that is passed over is passed over
+pub passes_front : (read : Result (Option RawCommand × List ℕ) WordFault) (p : Progress) (front : RawCommand)
+    → IsFront front read → IsPassedOver p front → PassesNext read p
+passes_front read p front begins (name, told, passed) = λ command left good.
+    let (line, words) = begins command left good in
+    let named : command_name p.variables command.line command.words ≡ Ok name = name_of_front p.variables command.line command.words ∙ rw (words, line) told in
+    by_name p command name named ∙ by_kind p command name passed
+
+abbrev line_by : Result (Option RawCommand × List ℕ) WordFault → Result (Option ℕ × List ℕ) WordFault
+line_by r = r >>= λ c. Ok (option_map (λ (q : RawCommand). q.line) c.0, c.1)
+
+abbrev read_as : Option RawCommand → List ℕ → Result (Option RawCommand × List ℕ) WordFault
+read_as o u = Ok (o, u)
+
+command_by : (o : Option RawCommand) (u : List ℕ) (line : ℕ) (t : List ℕ) → option_map (λ (q : RawCommand). q.line) o ≡ Some line → u ≡ t
+    → (command : RawCommand) × (read_as o u ≡ Ok (Some command, t)) × (command.line ≡ line)
+command_by (Some command) u line t some left = (command, ap (λ (r : List ℕ). read_as (Some command) r) left, cc)
+command_by None u line t some left = absurd cc
+
+command_of_line : (r : Result (Option RawCommand × List ℕ) WordFault) (line : ℕ) (t : List ℕ) → line_by r ≡ Ok (Some line, t)
+    → (command : RawCommand) × (r ≡ Ok (Some command, t)) × (command.line ≡ line)
+unfolding value_or
+command_of_line (Ok c) line t e =
+    let some : option_map (λ (q : RawCommand). q.line) c.0 ≡ Some line = ap (λ (r : Result (Option ℕ × List ℕ) WordFault). (value_or (Some line, t) r).0) e in
+    let left : c.1 ≡ t = ap (λ (r : Result (Option ℕ × List ℕ) WordFault). (value_or (Some line, t) r).1) e in
+    command_by c.0 c.1 line t some left
+command_of_line (Err why) line t e = absurd cc
+
+-- a command of which only the line is known is passed over
+pub next_passed : (text : List ℕ) (p q : Progress) (s : List ℕ) (o : Option ℕ) (line : ℕ) (t : List ℕ) → PassesNext (command_at text s) p
+    → lifted (line_at text s) ≡ Ok (o, t) → o ≡ Some line → q ≡ with_command p line what.Passed → next_at text p s ≡ Ok ((true, q), t)
+unfolding next_at
+next_passed text p q s o line t passes good some pushed =
+    let line_read : lifted (line_at text s) ≡ Ok (Some line, t) = good ∙ ap (λ (found : Option ℕ). Ok (found, t)) some in
+    let (command, read, same) = command_of_line (command_at text s) line t (of_lifted (line_at text s) (Some line, t) line_read) in
+    rw (read, passes command t read, same, pushed) refl

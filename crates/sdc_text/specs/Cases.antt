@@ -1,5 +1,5 @@
 -- Case analyses and variables: set_case_analysis and set (SDC 2.1).
-use Rattle.std.specs.Prelude.{ℕ, Bool, true, false, ◌||◌, if◌then◌else◌, List, [], ◌∷◌, Option, Some, None, Result, Ok, Err, codes}
+use Rattle.std.specs.Prelude.{ℕ, Bool, true, false, if◌then◌else◌, List, [], ◌∷◌, Option, Some, None, Result, Ok, Err, codes}
 use Rattle.std.specs.Str.{bytes_eq}
 use Rattle.texts.specs.Rules.{◌>>=◌}
 use Rattle.sdc_values.specs.declared.faults.SdcFault.{SdcFault}

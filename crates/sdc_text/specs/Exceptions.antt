@@ -7,7 +7,6 @@ use Rattle.sdc_values.specs.declared.faults.SdcFault.{SdcFault}
 use Rattle.sdc_values.specs.declared.values.Value.{Value}
 use Rattle.sdc_values.specs.declared.values.Said.{Said}
 use Rattle.sdc_values.specs.Lists.{objects_of}
-use Rattle.script_types.specs.declared.scripts.Exception.{Exception}
 use Rattle.script_types.specs.declared.scripts.What.{What}
 use Rattle.script_types.specs.declared.scripts.What.TheVariants as what
 use Rattle.sdc_text.specs.declared.heads.Head.{Head}

@@ -1,5 +1,5 @@
 -- Commands one after the other.
-use Rattle.std.specs.Prelude.{ℕ, List, [], ◌∷◌, ◌++◌, drop, Option, Some, None, Result, Ok, Err}
+use Rattle.std.specs.Prelude.{◌≡◌, ℕ, List, [], ◌∷◌, ◌++◌, drop, Some, None, Result, Ok, Err}
 use Rattle.texts.specs.Rules.{◌>>=◌}
 use Rattle.sdc_words.specs.declared.words.Word.{Word}
 use Rattle.sdc_words.specs.declared.words.RawCommand.{RawCommand}
@@ -53,6 +53,10 @@ after_kind p kind.Clock head words = said_words p.variables head.line words >>= 
 after_kind p kind.Case head words = said_words p.variables head.line words >>= λ said. after_said p kind.Case head said
 after_kind p (kind.Path path) head words = said_words p.variables head.line words >>= λ said. after_said p (kind.Path path) head said
 after_kind p kind.Passed head words = Ok (with_command p head.line what.Passed)
+
+-- a command that begins like this one is passed over
+abbrev pub IsPassedOver : Progress → RawCommand → Type 0
+IsPassedOver p front = (name : List ℕ) × (command_name p.variables front.line front.words ≡ Ok name) × (command_kind name ≡ Some kind.Passed)
 
 -- after a command: its first word names it
 unfoldable pub after_command : Progress → RawCommand → Result Progress SdcFault

@@ -1,20 +1,26 @@
 -- The script that a text is.
-use Rattle.std.specs.Prelude.{ℕ, zero, suc, ◌-◌, ◌≤◌, Bool, true, false, if◌then◌else◌, List, length, Option, Some, None, Result, Ok, Err}
+use Rattle.std.specs.Prelude.{◌≡◌, ℕ, zero, suc, ◌≤◌, Bool, true, false, if◌then◌else◌, List, length, Option, Some, None, Result, Ok, Err}
 use Rattle.texts.specs.Rules.{◌>>=◌, offset_of}
 use Rattle.sdc_words.specs.declared.faults.WordFault.{WordFault}
+use Rattle.sdc_words.specs.declared.words.RawCommand.{RawCommand}
 use Rattle.sdc_words.specs.Commands.{command_at}
 use Rattle.sdc_words.specs.Lines.{cleaned, original}
 use Rattle.sdc_values.specs.declared.faults.SdcFault.{SdcFault}
 use Rattle.sdc_values.specs.declared.faults.SdcFault.TheVariants as fault
 use Rattle.sdc_values.specs.Told.{of_words}
 use Rattle.script_types.specs.declared.scripts.Script.{Script}
+use Rattle.script_types.specs.declared.scripts.What.TheVariants as what
 use Rattle.sdc_text.specs.declared.progresses.Progress.{Progress}
-use Rattle.sdc_text.specs.Progresses.{fresh, after_command}
+use Rattle.sdc_text.specs.Progresses.{fresh, after_command, with_command}
 
 -- what is read of words, with a fault as one of a script
 abbrev pub lifted : {A : Type 0} → Result A WordFault → Result A SdcFault
 lifted (Ok found) = Ok found
 lifted (Err e) = Err (of_words e)
+
+-- if a command is read next, it is passed over
+abbrev pub PassesNext : Result (Option RawCommand × List ℕ) WordFault → Progress → Type 0
+PassesNext read p = (command : RawCommand) (left : List ℕ) → read ≡ Ok (Some command, left) → after_command p command ≡ Ok (with_command p command.line what.Passed)
 
 -- whether a command is left of the text, what is known after it, and what is left then
 unfoldable pub next_at : List ℕ → Progress → List ℕ → Result ((Bool × Progress) × List ℕ) SdcFault

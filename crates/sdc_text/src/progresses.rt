@@ -1,5 +1,5 @@
 //! Commands one after the other.
-ghost use Rattle.std.specs.Prelude.{◌≡◌, drop, OnOk};
+ghost use Rattle.std.specs.Prelude.{◌≡◌, drop, OnOk, IsTrue};
 ghost use Rattle.texts.specs.Rules.{Gives};
 ghost use Rattle.sdc_values.specs.Told.{Fails};
 ghost use Rattle.sdc_text.specs.Progresses as spec;
@@ -33,7 +33,8 @@ impl Progress {
         }
     }
 
-    fn push(&mut self, line: u64, what: What) -> Result<(), AllocError>
+    /// Adds what a command on this line says.
+    pub fn push(&mut self, line: u64, what: What) -> Result<(), AllocError>
         ensures { OnOk result (self.new ≡ spec.with_command self.old line what) }
     {
         self.commands.push(Command { line, what })?;
@@ -86,6 +87,16 @@ impl Progress {
         }
     }
 
+    /// Whether a command that begins like this one is passed over; `false` also where memory runs out.
+    pub fn passes_over(&self, alloc: Global, front: &RawCommand) -> bool
+        ensures { IsTrue result → spec.IsPassedOver self.now front.now }
+    {
+        match command_name(alloc, &self.variables, front.line, front.words.as_slice()) {
+            Ok(name) => is_passed(command_kind(name.as_bytes())),
+            Err(_) => false,
+        }
+    }
+
     /// Takes a command.
     #[tactic(auto, unfolding(crate::specs::Progresses::after_command))]
     pub fn take_command(&mut self, alloc: Global, command: &RawCommand) -> Result<(), SdcFault>
@@ -98,6 +109,15 @@ impl Progress {
             Some(kind) => self.take_words(alloc, kind, Head { line, name }, after_first(words)),
             None => Err(SdcFault::UnknownCommand(line, name)),
         }
+    }
+}
+
+fn is_passed(kind: Option<CommandKind>) -> bool
+    ensures { IsTrue result → kind ≡ Some CommandKind.Passed }
+{
+    match kind {
+        Some(CommandKind::Passed) => true,
+        _ => false,
     }
 }
 

@@ -1,12 +1,12 @@
 //! The script that a text is.
 ghost use Rattle.std.specs.Prelude.{◌≡◌, ◌<◌, ◌≤◌, length, IfOk, IfErr, IfSome, IsTrue};
 ghost use Rattle.texts.specs.Rules.{Gives};
-ghost use Rattle.sdc_words.specs.Commands.{text_of, left_of, command_at};
+ghost use Rattle.sdc_words.specs.Commands.{text_of, left_of, command_at, line_at};
 ghost use Rattle.sdc_values.specs.Told.{Fails};
 ghost use Rattle.sdc_text.specs.Scripts as spec;
 
 use crate::progresses::Progress;
-use script_types::Script;
+use script_types::{Script, What};
 use sdc_values::SdcFault;
 use sdc_words::{Commands, RawCommand, cleaned, original};
 use std::alloc::Global;
@@ -51,7 +51,47 @@ fn next_raw(alloc: Global, commands: &mut Commands<'_>) -> Result<Option<RawComm
     Ok(commands.next_command(alloc)?)
 }
 
-/// Takes the next command, and tells whether there was one.
+/// Whether the next command is passed over. Where its front can't be read, it is not: the command is read for its fault.
+fn is_passed_over(alloc: Global, commands: &Commands<'_>, progress: &Progress) -> bool
+    ensures { IsTrue result → spec.PassesNext (command_at (text_of commands.now) (left_of commands.now)) progress.now }
+{
+    match commands.front(alloc) {
+        Ok(Some(front)) => progress.passes_over(alloc, &front),
+        _ => false,
+    }
+}
+
+/// Takes the next command, which is passed over, and tells whether there was one.
+#[tactic(auto, unfolding(crate::specs::Scripts::next_at))]
+fn pass_next(
+    alloc: Global,
+    commands: &mut Commands<'_>,
+    progress: &mut Progress,
+) -> Result<bool, SdcFault>
+    requires { spec.PassesNext (command_at (text_of commands.old) (left_of commands.old)) progress.old }
+    ensures value { Gives Fails (λ more. ((more, progress.new), left_of commands.new)) result
+        (spec.next_at (text_of commands.old) progress.old (left_of commands.old)) }
+    ensures text { text_of commands.new ≡ text_of commands.old }
+    ensures shorter { IfOk result (λ more. IsTrue more → length (left_of commands.new) < length (left_of commands.old)) }
+{
+    match pass_raw(alloc, commands)? {
+        Some(line) => {
+            progress.push(line, What::Passed)?;
+            Ok(true)
+        }
+        None => Ok(false),
+    }
+}
+
+fn pass_raw(alloc: Global, commands: &mut Commands<'_>) -> Result<Option<u64>, SdcFault>
+    ensures value { Gives Fails (λ line. (line, left_of commands.new)) result (spec.lifted (line_at (text_of commands.old) (left_of commands.old))) }
+    ensures text { text_of commands.new ≡ text_of commands.old }
+    ensures shorter { IfOk result (λ line. IfSome line (λ _. length (left_of commands.new) < length (left_of commands.old))) }
+{
+    Ok(commands.pass_command(alloc)?)
+}
+
+/// Takes the next command, and tells whether there was one. Of one that is passed over no word is kept.
 #[tactic(auto, unfolding(crate::specs::Scripts::next_at))]
 fn take_next(
     alloc: Global,
@@ -63,6 +103,9 @@ fn take_next(
     ensures text { text_of commands.new ≡ text_of commands.old }
     ensures shorter { IfOk result (λ more. IsTrue more → length (left_of commands.new) < length (left_of commands.old)) }
 {
+    if is_passed_over(alloc, commands, progress) {
+        return pass_next(alloc, commands, progress);
+    }
     match next_raw(alloc, commands)? {
         Some(command) => {
             progress.take_command(alloc, &command)?;

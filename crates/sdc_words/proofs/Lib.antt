@@ -1,4 +1,5 @@
 pub mod BraceLemmas
+pub mod CommandLemmas
 pub mod LineLemmas
 pub mod BlankLemmas
 pub mod PieceLemmas

@@ -19,6 +19,10 @@ word_at opened total s =
     else if length s == 0 then refused total s
     else (text_at opened total s >>= λ p. Ok ((opened, word.Text (offset_of total s) p.0), p.1))
 
+-- the same of a word of which nothing is kept
+abbrev pub word_past : ℕ → Rule ℕ
+word_past opened total s = word_at opened total s >>= λ p. Ok (p.0.0, p.1)
+
 -- the words up to the command's end, after those found before, where so many brackets are open; of fewer than n
 unfoldable pub words_from : ℕ → ℕ → List Word → Rule (List Word)
 words_from zero opened found total s = refused total s

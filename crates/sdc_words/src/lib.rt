@@ -2,8 +2,9 @@
 //!
 //! `Commands` goes through a text command by command, each with its line; it is the type to read first. Brackets stand among
 //! the words as marks, so a command is one flat list whatever its nesting. Before that `cleaned` leaves out the carriage
-//! returns before newlines, and `original` tells where a byte stood. What a command is, and the values of its words, are
-//! left to the crates above.
+//! returns before newlines, and `original` tells where a byte stood. A command whose words are not wanted is known by its
+//! `front` and passed, and takes no memory but that of its longest piece. What a command is, and the values of its words,
+//! are left to the crates above.
 #![tactic(auto)]
 
 mod blanks;
@@ -11,6 +12,7 @@ mod braces;
 mod commands;
 mod faults;
 mod lines;
+mod passes;
 mod pieces;
 mod plain_words;
 mod word_lists;

@@ -15,7 +15,7 @@ use std::alloc::Global;
 use texts::{after, upto};
 
 /// What a bare word stands in.
-fn around(is_inside: bool) -> Within
+pub fn around(is_inside: bool) -> Within
     ensures { result ≡ spec.around is_inside }
 {
     if is_inside {
@@ -38,7 +38,11 @@ pub fn expect_parted(c: &Cursor<'_>, is_inside: bool) -> Result<(), WordFault>
 
 /// A word in braces, in so many brackets.
 #[tactic(auto, unfolding(crate::specs::Texts::braced_at))]
-fn take_braced(alloc: Global, c: &mut Cursor<'_>, opened: usize) -> Result<Seq<Piece>, WordFault>
+pub fn take_braced(
+    alloc: Global,
+    c: &mut Cursor<'_>,
+    opened: usize,
+) -> Result<Seq<Piece>, WordFault>
     requires { 0 < length (rest c.old) }
     ensures value { Reads c.old c.new Fails (λ p. p) result (spec.braced_at opened) }
     ensures text { text_of c.new ≡ text_of c.old }
@@ -63,7 +67,7 @@ fn take_braced(alloc: Global, c: &mut Cursor<'_>, opened: usize) -> Result<Seq<P
 }
 
 #[tactic(auto, unfolding(crate::specs::Texts::quote_at))]
-fn expect_quote(c: &mut Cursor<'_>) -> Result<(), WordFault>
+pub fn expect_quote(c: &mut Cursor<'_>) -> Result<(), WordFault>
     ensures value { Gives (Fails (length (text_of c.old))) (λ _. rest c.new) result (spec.quote_at (length (text_of c.old)) (rest c.old)) }
     ensures text { text_of c.new ≡ text_of c.old }
     ensures shorter { OnOk result (length (rest c.new) < length (rest c.old)) }

@@ -17,7 +17,7 @@ use std::alloc::Global;
 
 /// Takes a word or a bracket, where so many brackets are open, and sets how many are open then.
 #[tactic(auto, unfolding(crate::specs::Words::word_at))]
-fn take_word(alloc: Global, c: &mut Cursor<'_>, opened: &mut usize) -> Result<Word, WordFault>
+pub fn take_word(alloc: Global, c: &mut Cursor<'_>, opened: &mut usize) -> Result<Word, WordFault>
     ensures value { Reads c.old c.new Fails (λ word. (opened.new, word)) result (spec.word_at opened.old) }
     ensures text { text_of c.new ≡ text_of c.old }
     ensures shorter { OnOk result (length (rest c.new) < length (rest c.old)) }
@@ -46,7 +46,7 @@ fn take_word(alloc: Global, c: &mut Cursor<'_>, opened: &mut usize) -> Result<Wo
 }
 
 /// Whether a command ends here, where so many brackets are open.
-fn is_end(opened: usize, text: &[u8]) -> bool
+pub fn is_end(opened: usize, text: &[u8]) -> bool
     ensures { result ≡ (opened == 0 && ends_command text.now) }
 {
     opened == 0 && pieces::ends_command(text)

@@ -1,4 +1,4 @@
-use Rattle.std.proofs.Common.{◌≡◌, ◌∙◌, arith, true, false, Ok, ap, length}
+use Rattle.std.proofs.Common.{◌≡◌, ◌∙◌, arith, true, false, Ok}
 use Rattle.std.proofs.lemmas.Result.{err_from_is_err_and}
 use Rattle.sdc_words.specs.Commands.{left_of}
 use Rattle.sdc_text.specs.Scripts.{next_at}
