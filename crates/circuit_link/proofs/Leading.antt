@@ -15,7 +15,7 @@ use Rattle.graph_order.proofs.Marked.{at_contains, contains_at}
 use Rattle.graph_order.proofs.Acyclic.{needs_within, cycle_within}
 use Rattle.link_defs.specs.Circuits as net
 use Rattle.link_defs.specs.Designs.{number_by}
-use Rattle.circuit_link.specs.Orders.{IsWired, IsGateOrder, need_by, gate_needs}
+use Rattle.circuit_link.specs.Orders.{IsWired, IsGateOrder, need_by, row_needs}
 use Rattle.circuit_link.proofs.DriverPlaces.{number_is, number_at}
 
 -- what a mapped list contains comes from an item
@@ -31,7 +31,7 @@ contains_map f (y ∷ ys) x (zero, lt, same) = (0, omega arith, ap f same)
 contains_map f (y ∷ ys) x (suc k, lt, same) = let (i, less, is) = contains_map f ys x (k, omega arith, same) in (suc i, omega arith, is)
 
 -- a place after the first list is one of the second
-after : (xs ys : List ℕ) (k : ℕ) → slice_get (xs ++ ys) (length xs + k) ≡ slice_get ys k
+pub after : (xs ys : List ℕ) (k : ℕ) → slice_get (xs ++ ys) (length xs + k) ≡ slice_get ys k
 after [] ys k = ap (λ (i : ℕ). slice_get ys i) (omega arith)
 after (x ∷ xs) ys k =
     let next : length (x ∷ xs) + k ≡ suc (length xs + k) = omega arith in ap (λ (i : ℕ). slice_get (x ∷ (xs ++ ys)) i) next ∙ after xs ys k
@@ -47,7 +47,7 @@ map_from f (x ∷ xs) zero y at = (x, refl, cc)
 map_from f (x ∷ xs) (suc k) y at = map_from f xs k y at
 
 -- what the row says of a net
-row_at : (gates : List Gate) (sources row : List ℕ) → IsWired gates sources row → (n : ℕ) → n < length row → slice_index_or row n 0 ≡ number_by
+pub row_at : (gates : List Gate) (sources row : List ℕ) → IsWired gates sources row → (n : ℕ) → n < length row → slice_index_or row n 0 ≡ number_by
     (sources ++ gate_nets gates) n
 row_at gates sources row w n lt = get_or_from_slice_get row n (number_by (sources ++ gate_nets gates) n) 0 (w.row_is.at n lt)
 
@@ -69,7 +69,7 @@ need_is gates sources row w k h at =
     (length sources + k) (w.once h.out) there)
 
 -- what is needed for a net is no gate, or the gate at the place of its driver
-need_cases : (count sources : ℕ) (row : List ℕ) (n p : ℕ) → slice_index_or row n 0 ≡ p → (need_by count sources row n ≡ count) ⊎
+pub need_cases : (count sources : ℕ) (row : List ℕ) (n p : ℕ) → slice_index_or row n 0 ≡ p → (need_by count sources row n ≡ count) ⊎
     ((sources ≤ p) × (need_by count sources row n ≡ p - sources))
 unfolding need_by
 need_cases count sources row n p is = elim (cases_lt p sources) [
@@ -96,7 +96,7 @@ needed_is gates sources row w n j lt is less =
 
 -- what the gates need, by place
 abbrev needs : List Gate → List ℕ → List ℕ → List (List ℕ)
-needs gates sources row = gate_needs gates (length sources) row
+needs gates sources row = row_needs gates (length sources) row
 
 -- what the gate at a place needs
 needs_at : (gates : List Gate) (sources row : List ℕ) (k : ℕ) (g : Gate) → slice_get gates k ≡ Some g

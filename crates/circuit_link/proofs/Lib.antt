@@ -3,6 +3,7 @@ pub mod DriverPlaces
 pub mod Keeping
 pub mod Leading
 pub mod Making
+pub mod Needing
 pub mod Ordering
 pub mod Parted
 pub mod Readying

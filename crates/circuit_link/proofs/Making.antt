@@ -20,14 +20,14 @@ use Rattle.link_defs.specs.declared.circuits.Circuit.{Circuit}
 use Rattle.link_defs.specs.declared.circuits.Part.{Part}
 use Rattle.link_defs.specs.declared.circuits.Part.TheVariants as part
 use Rattle.link_defs.specs.Circuits.{regs_of, all_gates, all_drivers, all_reads, IsTree}
-use Rattle.link_defs.specs.Designs.{equations, kept_gates, drivers_by, number_by, moved_reg}
+use Rattle.link_defs.specs.Designs.{equations, kept_gates, drivers_by, number_by, moved_reg, gate_at}
 use Rattle.circuit_link.specs.declared.designs.Held.{Held}
 use Rattle.circuit_link.specs.declared.numbers.NetNumbers.{NetNumbers}
 use Rattle.circuit_link.specs.declared.ordered.OrderedGates.{OrderedGates}
 use Rattle.circuit_link.specs.declared.faults.CircuitFault.{CircuitFault}
 use Rattle.circuit_link.specs.declared.faults.CircuitFault.TheVariants as fault
 use Rattle.circuit_link.specs.Faults.{IsCause, IsFaultless, IsAboveLimit, Nets, Regs, Inputs, Outputs}
-use Rattle.circuit_link.specs.Kept.{gate_at, is_kept, kept_in, kept_drivers}
+use Rattle.circuit_link.specs.Kept.{is_kept, kept_in, kept_drivers}
 use Rattle.circuit_link.specs.Lawful.{IsLawfulCircuit}
 use Rattle.circuit_link.specs.Made.{IsOrdered, IsClocked, IsHeldBy, IsMade}
 use Rattle.circuit_link.specs.Numbered.{IsWithin}
@@ -35,7 +35,7 @@ use Rattle.circuit_link.specs.Trees.{IsTreeRow}
 use Rattle.circuit_link.specs.Lists.{data_sources, all_marks}
 use Rattle.circuit_link.specs.Netlists.{AreDrivers, IsNumberedBy, IsNetlist, IsSized, IsSizeAbove, IsTooLarge}
 use Rattle.circuit_link.specs.Rows.{IsTwice, IsDriverRow}
-use Rattle.circuit_link.proofs.Keeping.{kept_permutes}
+use Rattle.circuit_link.proofs.Keeping.{kept_is}
 use Rattle.circuit_link.proofs.Parted.{all_in, all_from_in, gate_reads, gate_of_part}
 use Rattle.circuit_link.proofs.Readying.{kept_below, kept_spelled, kept_drivers_are, gate_there, ready_is}
 use Rattle.circuit_link.proofs.Sounding.{IsNumbered, design_is_sound}
@@ -223,7 +223,7 @@ made_is c o tree odd kept n h d lawful held is row clocked same numbered list si
       order = order;
       design_is = record {
         tree_is = tree_of_row c tree odd row;
-        order_is = kept_permutes c tree o.order lawful is.order;
+        order_is = record { places = o.order; found = is.found; kept = kept_is c tree o.order lawful is.order };
         nets = made.nets;
         gates = made.gates;
         regs = made.regs;

@@ -1,6 +1,7 @@
 -- The gates of a circuit whose nets each have one driver.
 use Rattle.std.proofs.Common.{◌≡◌, ℕ, ◌<◌, ◌≤◌, ◌==◌, nat_lt, Bool, true, false, List, ◌++◌, length, All, ap, subst, sym, ◌∙◌, arith}
-use Rattle.std.specs.Prelude.{Contains, slice_index_or, count_by}
+use Rattle.std.specs.Prelude.{Contains, slice_index_or, count_by, Ok}
+use Rattle.graph_order.specs.Orders.{order_of}
 use Rattle.std.proofs.lemmas.Bool.{and_parts}
 use Rattle.std.proofs.lemmas.Bool.Decides.{nat_tests}
 use Rattle.std.proofs.lemmas.Option.{get_or_from_slice_get}
@@ -10,7 +11,7 @@ use Rattle.net_model.specs.declared.netlist.Gate.{Gate}
 use Rattle.graph_order.proofs.Marked.{at_contains, contains_at}
 use Rattle.link_defs.specs.declared.circuits.Circuit.{Circuit}
 use Rattle.link_defs.specs.Circuits.{all_gates, all_drivers, all_reads, IsOnCycle}
-use Rattle.link_defs.specs.Designs.{number_by}
+use Rattle.link_defs.specs.Designs.{number_by, gate_needs}
 use Rattle.circuit_link.specs.declared.faults.CircuitFault.{CircuitFault}
 use Rattle.circuit_link.specs.declared.faults.CircuitFault.TheVariants as fault
 use Rattle.circuit_link.specs.Faults.{IsCause}
@@ -106,13 +107,14 @@ wired c gates sources drivers row lawful is row_is once = record {
 pub ordered_is : (c : Circuit) (gates : List Gate) (marks : List Bool) (order sources drivers row reads : List ℕ) → IsLawfulCircuit c
     → IsListed c gates sources drivers → IsDriverRow drivers c.nets row
     → ((net : ℕ) → count_by (λ m. m == net) drivers ≤ 1) → marks ≡ all_marks c → reads ≡ all_reads c
-    → All (λ net. is_driven row (length drivers) net ≡ true) reads → IsGateOrder gates order
+    → All (λ net. is_driven row (length drivers) net ≡ true) reads → IsGateOrder gates order → order_of (gate_needs gates) ≡ Ok order
     → ((net : ℕ) → IsOnCycle gates net → ⊥) → IsOrdered c (record { gates = gates; marks = marks; order = order })
-ordered_is c gates marks order sources drivers row reads lawful is row_is once marks_are reads_are driven right acyclic = record {
+ordered_is c gates marks order sources drivers row reads lawful is row_is once marks_are reads_are driven right found acyclic = record {
   gates = is.gates_are;
   marks = marks_are;
   once = λ net. subst (λ (ns : List ℕ). count_by (λ m. m == net) ns ≤ 1) (listed c gates sources drivers is) (once net);
   driven = all_driven c drivers row reads lawful (listed c gates sources drivers is) row_is reads_are driven;
   order = subst (λ (gs : List Gate). IsGateOrder gs order) is.gates_are right;
+  found = subst (λ (gs : List Gate). order_of (gate_needs gs) ≡ Ok order) is.gates_are found;
   acyclic = λ net on. acyclic net (subst (λ (gs : List Gate). IsOnCycle gs net) (sym is.gates_are) on);
 }

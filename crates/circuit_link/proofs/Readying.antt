@@ -20,16 +20,17 @@ use Rattle.link_defs.specs.declared.circuits.Circuit.{Circuit}
 use Rattle.link_defs.specs.declared.circuits.Part.{Part}
 use Rattle.link_defs.specs.declared.circuits.Part.TheVariants as part
 use Rattle.link_defs.specs.Circuits.{part_gates, part_regs, part_reads, part_data, regs_of, all_gates, all_drivers, all_reads, all_data, OnTree, Root}
-use Rattle.link_defs.specs.Designs.{equations, kept_gates, drivers_by}
+use Rattle.link_defs.specs.Designs.{equations, kept_gates, drivers_by, gate_at, no_gate}
+use Rattle.link_defs.proofs.Permuting.{filter_hit, filter_miss}
 use Rattle.circuit_link.specs.declared.ordered.OrderedGates.{OrderedGates}
 use Rattle.link_defs.specs.Parts.{inverts}
-use Rattle.circuit_link.specs.Kept.{gate_at, no_gate, is_kept, kept_in, kept_drivers}
+use Rattle.circuit_link.specs.Kept.{is_kept, kept_in, kept_drivers}
 use Rattle.circuit_link.specs.Lawful.{IsLawfulCircuit, IsLawfulPart, IsLawfulFlop, IsLawfulGate}
 use Rattle.circuit_link.specs.Lists.{data_sources, all_marks}
 use Rattle.circuit_link.specs.Made.{IsOrdered, IsClocked}
 use Rattle.circuit_link.specs.Netlists.{AreDrivers}
 use Rattle.circuit_link.specs.Trees.{IsTreeRow, is_tree_gate}
-use Rattle.circuit_link.proofs.Keeping.{kept_permutes, filter_hit, filter_miss}
+use Rattle.circuit_link.proofs.Keeping.{kept_permutes}
 use Rattle.circuit_link.proofs.Leading.{map_from}
 use Rattle.circuit_link.proofs.Parted.{IsMarkedGate, marked_gate, gate_of_part, all_in, all_from_in, data_sources_are, data_sources_below, drivers_are}
 use Rattle.circuit_link.proofs.Sounding.{IsReady}

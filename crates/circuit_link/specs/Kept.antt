@@ -1,19 +1,12 @@
 -- The gates that stand in the design, in their order.
-use Rattle.std.specs.Prelude.{ℕ, Bool, not, List, [], ◌++◌, map, filter, slice_index_or}
+use Rattle.std.specs.Prelude.{ℕ, Bool, not, List, ◌++◌, map, filter}
 use Rattle.sdcv_base.specs.Seqs.{is_marked}
-use Rattle.net_model.specs.Form.{ZeroForm}
 use Rattle.net_model.specs.declared.netlist.Gate.{Gate}
 use Rattle.net_model.specs.Netlist.{gate_nets}
 use Rattle.link_defs.specs.declared.circuits.Circuit.{Circuit}
+use Rattle.link_defs.specs.Designs.{gate_at}
 use Rattle.circuit_link.specs.Lists.{data_sources}
 use Rattle.circuit_link.specs.Trees.{is_tree_gate}
-
--- the gate at a place
-abbrev pub no_gate : Gate
-no_gate = record { func = ZeroForm; ins = []; out = 0 }
-
-abbrev pub gate_at : List Gate → ℕ → Gate
-gate_at gates place = slice_index_or gates place no_gate
 
 -- the gate at a place is none of the clock tree's
 abbrev pub is_kept : List Bool → List Gate → List Bool → ℕ → Bool

@@ -1,12 +1,13 @@
 -- What is known of a circuit on the way to its design, and the design.
-use Rattle.std.specs.Prelude.{◌≡◌, ℕ, ◌<◌, ◌≤◌, ◌==◌, Bool, false, List, ◌++◌, All, Contains, slice_get, Some, count_by}
+use Rattle.std.specs.Prelude.{◌≡◌, ℕ, ◌<◌, ◌≤◌, ◌==◌, Bool, false, List, ◌++◌, All, Contains, slice_get, Some, Ok, count_by}
+use Rattle.graph_order.specs.Orders.{order_of}
 use Rattle.net_model.specs.Netlist.{AllBelow, IsSound, setting_inputs}
 use Rattle.net_model.specs.declared.netlist.Gate.{Gate}
 use Rattle.net_model.specs.declared.netlist.Reg.{Reg}
 use Rattle.link_defs.specs.declared.circuits.Circuit.{Circuit}
 use Rattle.link_defs.specs.declared.circuits.Part.TheVariants as part
 use Rattle.link_defs.specs.Circuits.{all_gates, all_drivers, all_reads, all_data, OnTree, IsOnCycle}
-use Rattle.link_defs.specs.Designs.{IsDesignOf, drivers_by}
+use Rattle.link_defs.specs.Designs.{IsDesignOf, drivers_by, gate_needs}
 use Rattle.circuit_link.specs.declared.designs.CircuitDesign.{CircuitDesign}
 use Rattle.circuit_link.specs.declared.designs.Held.{Held}
 use Rattle.circuit_link.specs.declared.ordered.OrderedGates.{OrderedGates}
@@ -21,6 +22,7 @@ pub record IsOrdered (c : Circuit) (o : OrderedGates) : Type 0 where
   pub once : (net : ℕ) → count_by (λ m. m == net) (all_drivers c) ≤ 1
   pub driven : All (Contains (all_drivers c)) (all_reads c)
   pub order : IsGateOrder (all_gates c) o.order
+  pub found : order_of (gate_needs (all_gates c)) ≡ Ok o.order
   pub acyclic : (net : ℕ) → IsOnCycle (all_gates c) net → ⊥
 
 -- each register is on the clock, and the clock is read as a clock alone

@@ -36,6 +36,6 @@ IsLoop gates f = ⊥
 unfoldable pub need_by : ℕ → ℕ → List ℕ → ℕ → ℕ
 need_by count sources row net = let driver = slice_index_or row net 0 in if nat_lt driver sources then count else driver - sources
 
--- what each gate needs
-abbrev pub gate_needs : List Gate → ℕ → List ℕ → List (List ℕ)
-gate_needs gates sources row = map (λ (g : Gate). map (need_by (length gates) sources row) g.ins) gates
+-- what each gate needs, by the row
+abbrev pub row_needs : List Gate → ℕ → List ℕ → List (List ℕ)
+row_needs gates sources row = map (λ (g : Gate). map (need_by (length gates) sources row) g.ins) gates

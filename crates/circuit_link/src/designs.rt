@@ -2,7 +2,8 @@
 ghost use Rattle.std.specs.Prelude.{◌≡◌, IfOk, IfErr, OnOk, All, length, map};
 ghost use Rattle.net_model.specs.Netlist.{AllBelow};
 ghost use Rattle.circuit_link.specs.Faults.{IsCause, IsFaultless};
-ghost use Rattle.circuit_link.specs.Kept.{gate_at, kept_drivers};
+ghost use Rattle.link_defs.specs.Designs.{gate_at};
+ghost use Rattle.circuit_link.specs.Kept.{kept_drivers};
 ghost use Rattle.circuit_link.specs.Lawful.{IsLawfulCircuit};
 ghost use Rattle.circuit_link.specs.Made.{IsHeldBy, IsMade};
 ghost use Rattle.circuit_link.specs.Netlists.{AreDrivers, IsNumberedBy, IsNetlist, IsSized, IsTooLarge};

@@ -1,7 +1,8 @@
 //! The gates that stand in the design, in their order.
 ghost use Rattle.std.specs.Prelude.{◌≡◌, ◌++◌, ◌<◌, IfOk, length, filter, map};
 ghost use Rattle.net_model.specs.Netlist.{AllBelow, gate_nets};
-ghost use Rattle.circuit_link.specs.Kept.{is_kept, gate_at};
+ghost use Rattle.link_defs.specs.Designs.{gate_at};
+ghost use Rattle.circuit_link.specs.Kept.{is_kept};
 
 use crate::marks::is_marked;
 use crate::ordered::OrderedGates;

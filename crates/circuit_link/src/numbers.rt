@@ -3,7 +3,7 @@ ghost use Rattle.std.specs.Prelude.{◌≡◌, ◌++◌, ◌<◌, IfOk, OnOk, Al
 ghost use Rattle.net_model.specs.Netlist.{AllBelow};
 ghost use Rattle.link_defs.specs.Circuits.{part_regs};
 ghost use Rattle.link_defs.specs.Designs.{number_by, moved, moved_out, moved_reg};
-ghost use Rattle.circuit_link.specs.Kept.{gate_at as gate_in};
+ghost use Rattle.link_defs.specs.Designs.{gate_at as gate_in};
 ghost use Rattle.circuit_link.specs.Lawful.{IsLawfulPart};
 ghost use Rattle.circuit_link.specs.Numbered.{IsNumbering, IsWithin};
 

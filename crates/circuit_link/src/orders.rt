@@ -1,9 +1,11 @@
 //! The order in which gates are settled.
-ghost use Rattle.std.specs.Prelude.{◌≡◌, ◌<◌, ℕ, length, map, slice_get, Some, IfOk, IfErr, OnOk};
+ghost use Rattle.std.specs.Prelude.{◌≡◌, ◌<◌, ℕ, length, map, slice_get, Some, Ok, IfOk, IfErr, OnOk};
 ghost use Rattle.net_model.specs.Netlist.{AllBelow};
 ghost use Rattle.net_model.specs.declared.netlist.Gate.{Gate};
+ghost use Rattle.graph_order.specs.Orders.{order_of};
 ghost use Rattle.link_defs.specs.Circuits.{IsOnCycle};
-ghost use Rattle.circuit_link.specs.Orders.{IsWired, IsGateOrder, IsLoop, AreReadsBelow, need_by, gate_needs};
+ghost use Rattle.link_defs.specs.Designs.{gate_needs};
+ghost use Rattle.circuit_link.specs.Orders.{IsWired, IsGateOrder, IsLoop, AreReadsBelow, need_by, row_needs};
 
 use crate::faults::CircuitFault;
 use graph_order::{OrderFault, order_of};
@@ -19,6 +21,7 @@ pub fn gate_order(
     row: &Seq<usize>,
 ) -> Result<Seq<usize>, CircuitFault>
     requires { IsWired gates.now sources.now row.now }
+    ensures is { IfOk result (λ order. order_of (gate_needs gates.now) ≡ Ok order) }
     ensures ok { IfOk result (IsGateOrder gates.now) }
     ensures none { OnOk result ((net : ℕ) → IsOnCycle gates.now net → ⊥) }
     ensures err { IfErr result (IsLoop gates.now) }
@@ -39,7 +42,7 @@ fn gate_needs(
     row: &Seq<usize>,
 ) -> Result<Vec<Seq<usize>>, AllocError>
     requires { AreReadsBelow gates.now (length row.now) }
-    ensures { IfOk result (λ needs. needs.items ≡ gate_needs gates.now sources row.now) }
+    ensures { IfOk result (λ needs. needs.items ≡ row_needs gates.now sources row.now) }
 {
     let mut needs = Vec::new(alloc);
     for gate in gates.as_slice() {

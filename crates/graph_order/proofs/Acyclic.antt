@@ -8,7 +8,7 @@ use Rattle.graph_order.specs.Orders.{IsRightOrder}
 use Rattle.graph_order.proofs.Marked.{count_cons, counted, counted_contains, at_contains}
 
 -- what stands at a place is counted
-hit_at : (k : ℕ) (xs : List ℕ) (p : ℕ) → slice_get xs p ≡ Some k → 1 ≤ count_by (λ m. m == k) xs
+pub hit_at : (k : ℕ) (xs : List ℕ) (p : ℕ) → slice_get xs p ≡ Some k → 1 ≤ count_by (λ m. m == k) xs
 hit_at k [] p at = cc
 hit_at k (x ∷ xs) zero at = let same : x ≡ k = cc in omega (arith, count_cons (λ m. m == k) x xs, counted k x same)
 hit_at k (x ∷ xs) (suc p) at = omega (arith, count_cons (λ m. m == k) x xs, hit_at k xs p at)

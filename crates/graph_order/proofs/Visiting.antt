@@ -11,7 +11,7 @@ use Rattle.graph_order.specs.Visits.{Chained, IsVisiting, Waits, IsFree}
 use Rattle.graph_order.proofs.Marked.{marked_more, counted_contains, contains_cases, place_cases}
 
 -- the top, or what is below it, is led to from the top
-leads_down : (needs : List (List ℕ)) (k j : ℕ) (rest : List ℕ) → Chained needs (k ∷ rest) → Contains (k ∷ rest) j → LeadsTo needs k j
+pub leads_down : (needs : List (List ℕ)) (k j : ℕ) (rest : List ℕ) → Chained needs (k ∷ rest) → Contains (k ∷ rest) j → LeadsTo needs k j
 leads_down needs k j rest chained has = elim (contains_cases k rest j has) [
   | inl same ↦ subst (λ (x : ℕ). LeadsTo needs k x) same (Stay k)
   | inr later ↦ (chained.0 j later).1
@@ -22,18 +22,18 @@ not_both : (b : Bool) → b ≡ true → b ≡ false → ⊥
 not_both b hit miss = cc
 
 -- what was not met is not in the order
-not_done : (b c : Bool) → (b ≡ true → c ≡ true) → c ≡ false → b ≡ false
+pub not_done : (b c : Bool) → (b ≡ true → c ≡ true) → c ≡ false → b ≡ false
 not_done true c implied miss = let hit = implied refl in cc
 not_done false c implied miss = refl
 
 -- a need that was met and isn't in the order stands on the stack, so it is on a cycle
-visit_loop : (needs : List (List ℕ)) (k need : ℕ) (rest : List ℕ) (seen done : List Bool) (order : List ℕ)
+pub visit_loop : (needs : List (List ℕ)) (k need : ℕ) (rest : List ℕ) (seen done : List Bool) (order : List ℕ)
     → IsVisiting needs (k ∷ rest) seen done order → Waits needs done k need → slice_index_or seen need false ≡ true → IsOnCycle needs need
 visit_loop needs k need rest seen done order v w met =
     record { by = k; needed = w.asked; back = leads_down needs k need rest v.chained (v.waits need w.within met w.undone) }
 
 -- what is met is put on the stack
-visit_push : (needs : List (List ℕ)) (stack : List ℕ) (seen done : List Bool) (order : List ℕ) (from : ℕ) → IsVisiting needs stack seen done order
+pub visit_push : (needs : List (List ℕ)) (stack : List ℕ) (seen done : List Bool) (order : List ℕ) (from : ℕ) → IsVisiting needs stack seen done order
     → from < length needs → slice_index_or seen from false ≡ false → ((j : ℕ) → Contains stack j → LeadsTo needs from j)
     → IsVisiting needs (from ∷ stack) (set seen from true) done order
 visit_push needs stack seen done order from v within fresh leads =
@@ -60,7 +60,7 @@ visit_push needs stack seen done order from v within fresh leads =
       earlier = v.earlier;
     }
 
-all_done : (b : Bool) → (b ≡ false → ⊥) → b ≡ true
+pub all_done : (b : Bool) → (b ≡ false → ⊥) → b ≡ true
 all_done true h = refl
 all_done false h = absurd (h refl)
 
@@ -69,7 +69,7 @@ take_whole [] ys = refl
 take_whole (x ∷ xs) ys = ap (λ (zs : List ℕ). x ∷ zs) (take_whole xs ys)
 
 -- the place on top, which waits for nothing, is put into the order
-visit_pop : (needs : List (List ℕ)) (k : ℕ) (rest : List ℕ) (seen done : List Bool) (order : List ℕ) → IsVisiting needs (k ∷ rest) seen done order
+pub visit_pop : (needs : List (List ℕ)) (k : ℕ) (rest : List ℕ) (seen done : List Bool) (order : List ℕ) → IsVisiting needs (k ∷ rest) seen done order
     → IsFree needs done k → IsVisiting needs rest seen (set done k true) (order ++ k ∷ [])
 visit_pop needs k rest seen done order v free =
     let top : Contains (k ∷ rest) k = (0, omega arith, refl) in

@@ -1,7 +1,9 @@
 -- A search through the places, depth first: its stack, what it has met (`seen`) and what it has put into the order (`done`).
-use Rattle.std.specs.Prelude.{◌≡◌, ◌≢◌, ℕ, ◌<◌, ◌==◌, nat_lt, Bool, true, false, not, ◌&&◌, if◌then◌else◌, List, [], ◌∷◌, length, take, Contains}
-use Rattle.std.specs.Prelude.{Some, slice_get, slice_index_or, count_by}
+use Rattle.std.specs.Prelude.{◌≡◌, ◌≢◌, ℕ, suc, ◌+◌, ◌<◌, ◌==◌, nat_lt, Bool, true, false, not, ◌&&◌, if◌then◌else◌, List, [], ◌∷◌, ◌++◌, length, take}
+use Rattle.std.specs.Prelude.{Contains, Some, slice_get, slice_index_or, count_by, Result, Ok}
+use Rattle.sdcv_base.specs.Steps.{◌>>=◌, after_all}
 use Rattle.graph_order.specs.Needs.{needs_of, LeadsTo}
+use Rattle.graph_order.specs.Orders.{visited}
 
 -- the need is a place that isn't in the order yet
 abbrev pub is_waiting : List Bool → ℕ → Bool
@@ -37,3 +39,15 @@ pub record IsVisiting (needs : List (List ℕ)) (stack : List ℕ) (seen done : 
   pub marked : AreMarked order done
   pub in_range : (i k : ℕ) → slice_get order i ≡ Some k → k < length needs
   pub earlier : (i k need : ℕ) → slice_get order i ≡ Some k → Contains (needs_of needs k) need → need < length needs → Contains (take i order) need
+
+-- what the stack still gives: what its top needs, from the first need on, then the top, then what the places below it give
+abbrev pub resume : List (List ℕ) → ℕ → List ℕ → List ℕ → Result (List ℕ) ℕ
+resume needs n [] order = Ok order
+resume needs n (k ∷ rest) order =
+    after_all (visited n needs (k ∷ rest)) order (needs_of needs k) >>= λ found. resume needs (suc n) rest (found ++ k ∷ [])
+
+-- what was begun gives this answer
+pub record StillGives (needs : List (List ℕ)) (stack order : List ℕ) (answer : Result (List ℕ) ℕ) : Type 0 where
+  pub left : ℕ
+  pub deep : left + length stack ≡ suc (length needs)
+  pub gives : resume needs left stack order ≡ answer

@@ -1,7 +1,7 @@
 //! The search, depth first, with a stack of its own.
-ghost use Rattle.std.specs.Prelude.{◌≡◌, ◌<◌, ℕ, [], true, false, length, slice_index_or, OnOk, IfOk, IfErr, IfSome, IfNone, All, Contains};
-ghost use Rattle.graph_order.specs.Needs.{IsCause, IsOnCycle};
-ghost use Rattle.graph_order.specs.Orders.{IsRightOrder};
+ghost use Rattle.std.specs.Prelude.{◌≡◌, ◌<◌, ℕ, suc, [], true, false, length, slice_index_or, Ok, OnOk, IfOk, IfErr, IfSome, IfNone, All, Contains, find};
+ghost use Rattle.graph_order.specs.Needs.{IsCause, IsOnCycle, needs_of};
+ghost use Rattle.graph_order.specs.Orders.{IsRightOrder, order_of, visited, Tells};
 ghost use Rattle.graph_order.specs.Visits.{IsVisiting, Waits, IsFree, is_waiting};
 
 use crate::faults::OrderFault;
@@ -9,8 +9,11 @@ use crate::stacks::Stack;
 use sdcv_base::Seq;
 use std::alloc::Global;
 
-/// The places in an order in which each comes after those that it needs. A need that is no place counts for nothing.
+/// The places in an order in which each comes after those that it needs: depth first, roots and needs in their order.
+/// A need that is no place counts for nothing.
 pub fn order_of(alloc: Global, needs: &[Seq<usize>]) -> Result<Seq<usize>, OrderFault>
+    ensures is { IfOk result (λ order. order_of needs.now ≡ Ok order) }
+    ensures told { IfErr result (Tells (order_of needs.now)) }
     ensures ok { IfOk result (IsRightOrder needs.now) }
     ensures err { IfErr result (IsCause needs.now) }
     ensures none { OnOk result ((place : ℕ) → IsOnCycle needs.now place → ⊥) }
@@ -41,6 +44,8 @@ fn visit(
     ensures visiting { OnOk result (IsVisiting needs.now [] seen.new done.new order.new) }
     ensures root { OnOk result (slice_index_or seen.new root false ≡ true) }
     ensures grows { OnOk result ((k : ℕ) → slice_index_or seen.old k false ≡ true → slice_index_or seen.new k false ≡ true) }
+    ensures is { OnOk result (visited (suc (length needs.now)) needs.now [] order.old root ≡ Ok order.new) }
+    ensures told { IfErr result (Tells (visited (suc (length needs.now)) needs.now [] order.old root)) }
     ensures err { IfErr result (IsCause needs.now) }
 {
     let mut stack = Stack::new(alloc);
@@ -69,6 +74,7 @@ fn visit(
 fn first_waiting(needs: &[Seq<usize>], done: &Seq<bool>, place: usize) -> Option<usize>
     requires within { place < length needs.now }
     requires len { length done.now ≡ length needs.now }
+    ensures first { result ≡ find (is_waiting done.now) (needs_of needs.now place) }
     ensures some { IfSome result (λ need. Waits needs.now done.now place need) }
     ensures none { IfNone result (IsFree needs.now done.now place) }
 {
@@ -77,6 +83,7 @@ fn first_waiting(needs: &[Seq<usize>], done: &Seq<bool>, place: usize) -> Option
 
 /// The first of these that waits.
 fn waiting_of(done: &Seq<bool>, needs: &[usize]) -> Option<usize>
+    ensures first { result ≡ find (is_waiting done.now) needs.now }
     ensures some { IfSome result (λ need. Contains needs.now need × (is_waiting done.now need ≡ true)) }
     ensures none { IfNone result (All (λ need. is_waiting done.now need ≡ false) needs.now) }
 {

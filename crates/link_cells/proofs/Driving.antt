@@ -16,6 +16,7 @@ use Rattle.net_model.specs.declared.netlist.Reg.{Reg}
 use Rattle.net_model.specs.declared.netlist.RegOut.{RegOut}
 use Rattle.net_model.proofs.Members.{In, In-from_Contains, Contains-from_In, In-flat, from_flat, from_map}
 use Rattle.graph_order.proofs.Marked.{at_contains, contains_at}
+use Rattle.link_defs.proofs.Permuting.{order_permutes}
 use Rattle.link_defs.specs.declared.circuits.Circuit.{Circuit}
 use Rattle.link_defs.specs.declared.circuits.Part.{Part}
 use Rattle.link_defs.specs.declared.circuits.Part.TheVariants as part
@@ -138,7 +139,8 @@ numbered c tree order d row lawful is row_is net = elim (cases_lt net c.nets) [
   | inl lt ↦ get_or_from_slice_get row net (number_by (drivers_by c order) net) d.nets (row_is.at net lt)
   | inr past ↦
       get_or-eq_default row d.nets (omega (arith, row_is.len, past)) ∙ is.nets
-      ∙ sym (no_number (drivers_by c order) c.nets net (drivers_below c tree order lawful is.order_is) past)
+      ∙ sym (no_number (drivers_by c order) c.nets net (drivers_below c tree order lawful
+      (order_permutes c tree order is.order_is)) past)
 ]
 
 -- a gate of a part that is none of the clock tree's stands in the design, where its net's number says
@@ -148,7 +150,7 @@ pub gate_stands : (c : Circuit) (tree : List Bool) (order : List Gate) (d : Desi
 gate_stands c tree order d buffer ins gates g is sound stands off has =
     let own : In g (kept_gates tree (part.Comb buffer ins gates)) = rw off has in
     let kept = Contains-from_In (equations tree c) g (In-flat (kept_gates tree) g (part.Comb buffer ins gates) c.parts stands own) in
-    let (k, at) = at_contains order g (Contains-permutation (equations tree c) order g is.order_is kept) in
+    let (k, at) = at_contains order g (Contains-permutation (equations tree c) order g (order_permutes c tree order is.order_is) kept) in
     let place : number_by (drivers_by c order) g.out - source_count c ≡ k = omega (arith, gate_number c tree order d k g is sound at) in
     ap (λ (i : ℕ). slice_get d.gates i) place ∙ ap (λ (gs : List Gate). slice_get gs k) is.gates
     ∙ map_at (moved (number_by (drivers_by c order))) order k g at

@@ -1,3 +1,4 @@
+pub mod Permuting
 pub mod Solving
 pub mod Worked
 pub mod WorkedModules

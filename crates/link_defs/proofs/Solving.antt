@@ -20,6 +20,7 @@ use Rattle.net_model.specs.declared.netlist.Reg.{Reg}
 use Rattle.net_model.specs.declared.netlist.RegOut.{RegOut}
 use Rattle.net_model.specs.declared.cycles.Cycle.{Cycle}
 use Rattle.graph_order.proofs.Marked.{contains_at, at_contains}
+use Rattle.link_defs.proofs.Permuting.{order_permutes}
 use Rattle.link_defs.specs.declared.circuits.Circuit.{Circuit}
 use Rattle.link_defs.specs.Circuits.{regs_of}
 use Rattle.link_defs.specs.Designs.{moved, moved_out, moved_reg, number_by, drivers_by, equations, shows, captured, IsSolution, IsDesignOf, AreSolutions}
@@ -204,7 +205,7 @@ solutions_are c tree order d is sound =
     let number : ℕ → ℕ = number_by drivers in
     let moved_gates : IsPermutation (map (moved number) (equations tree c)) d.gates =
     subst (λ (gs : List Gate). IsPermutation (map (moved number) (equations tree c)) gs) (sym is.gates)
-    (IsPermutation-map (moved number) (equations tree c) order is.order_is) in
+    (IsPermutation-map (moved number) (equations tree c) order (order_permutes c tree order is.order_is)) in
     record {
       each = λ y settled. settled_solves d y c (equations tree c) number sound.in_range is.inputs is.regs moved_gates settled;
       all = λ bits ins v bits_len ins_len sol.

@@ -1,6 +1,8 @@
 -- The full names of cells, with their pins.
-use Rattle.std.specs.Prelude.{◌≡◌, ℕ, ◌+◌, ◌-◌, Bool, if◌then◌else◌, List, [], ◌∷◌, ◌++◌, length, map, flat_map, zip, Contains}
-use Rattle.std.specs.Prelude.{Option, Some, None, slice_get}
+use Rattle.std.specs.Prelude.{◌≡◌, ℕ, ◌+◌, ◌-◌, Bool, if◌then◌else◌, List, [], ◌∷◌, ◌++◌, length, map, filter, flat_map, zip, Contains}
+use Rattle.std.specs.Prelude.{Option, Some, None, slice_get, nat_eq}
+use Rattle.std.specs.List.{list_any}
+use Rattle.texts.specs.Names.{each_once}
 use Rattle.net_model.specs.declared.netlist.Gate.{Gate}
 use Rattle.net_model.specs.declared.claims.PinRef.{PinRef}
 use Rattle.net_model.specs.declared.claims.PinRef.TheVariants.{GateIn, RegIn}
@@ -122,9 +124,11 @@ unfoldable pub cell_names : (ℕ → ℕ) → ℕ → List Bool → ℕ → List
 cell_names number sources tree before [] = []
 cell_names number sources tree before (l ∷ ls) = cell_name number sources tree before l ∷ cell_names number sources tree (before + length (part_regs l.part)) ls
 
--- each full name of a net of the design, and no other, stands there once with the net's number
+-- each full name of a net of the design, and no other, stands there once with the net's number, in the order in which it first comes
 pub record AreNetNames (flat : Flat) (drivers : List ℕ) (number : ℕ → ℕ) (names : List NetName) : Type 0 where
   pub all : (name : List ℕ) (net : ℕ) → Contains (full_names flat) (name, net) → Contains drivers net
       → Contains names (record { name = name; net = number net })
   pub only : (x : NetName) → Contains names x → (net : ℕ) × Contains (full_names flat) (x.name, net) × Contains drivers net × (number net ≡ x.net)
   pub once : (i j : ℕ) (x y : NetName) → slice_get names i ≡ Some x → slice_get names j ≡ Some y → x.name ≡ y.name → i ≡ j
+  pub order : map (λ (n : NetName). n.name) names ≡ each_once
+      (map (λ (p : List ℕ × ℕ). p.0) (filter (λ (p : List ℕ × ℕ). list_any (nat_eq p.1) drivers) (full_names flat)))

@@ -1,9 +1,10 @@
 -- The equations of a flat netlist, its design, and solutions.
-use Rattle.std.specs.Prelude.{◌≡◌, ℕ, ◌<◌, Bool, false, ◌&&◌, nat_eq, nat_lt, if◌then◌else◌, List, [], ◌++◌, length, map, flat_map, All}
-use Rattle.std.specs.Prelude.{Contains, slice_get, slice_index, slice_index_or, Some}
+use Rattle.std.specs.Prelude.{◌≡◌, ℕ, ◌<◌, Bool, false, not, ◌&&◌, nat_eq, nat_lt, if◌then◌else◌, List, [], ◌++◌, length, map, filter, flat_map, All}
+use Rattle.std.specs.Prelude.{Contains, slice_get, slice_index, slice_index_or, Some, Ok}
 use Rattle.std.specs.List.{list_any, position_or_len}
-use Rattle.std.specs.List.Sorted.{IsPermutation}
-use Rattle.net_model.specs.Form.{value}
+use Rattle.sdcv_base.specs.Seqs.{is_marked}
+use Rattle.graph_order.specs.Orders.{order_of}
+use Rattle.net_model.specs.Form.{ZeroForm, value}
 use Rattle.net_model.specs.Netlist.{reg_nets, gate_nets}
 use Rattle.net_model.specs.Cycles.{IsSettled, bit_at, shown, reg_capture, reg_capture_in}
 use Rattle.net_model.specs.declared.netlist.Design.{Design}
@@ -14,7 +15,7 @@ use Rattle.net_model.specs.declared.cycles.Cycle.{Cycle}
 use Rattle.link_defs.specs.declared.circuits.Part.{Part}
 use Rattle.link_defs.specs.declared.circuits.Part.TheVariants as part
 use Rattle.link_defs.specs.declared.circuits.Circuit.{Circuit}
-use Rattle.link_defs.specs.Circuits.{regs_of, IsTree}
+use Rattle.link_defs.specs.Circuits.{regs_of, all_gates, IsTree}
 
 -- a buffer or inverter of the clock tree
 abbrev pub is_on_tree : List Bool → Part → Bool
@@ -30,6 +31,22 @@ kept_gates tree (part.Flop clock reg) = []
 abbrev pub equations : List Bool → Circuit → List Gate
 equations tree c = flat_map (kept_gates tree) c.parts
 
+-- the gate at a place
+abbrev pub no_gate : Gate
+no_gate = record { func = ZeroForm; ins = []; out = 0 }
+
+abbrev pub gate_at : List Gate → ℕ → Gate
+gate_at gates place = slice_index_or gates place no_gate
+
+-- for each gate of a part whether the part is one of the clock tree
+abbrev pub tree_marks : List Bool → Part → List Bool
+tree_marks tree (part.Comb buffer ins gates) = map (λ (_ : Gate). is_on_tree tree (part.Comb buffer ins gates)) gates
+tree_marks tree (part.Flop clock reg) = []
+
+-- the gates at these places, but none of the clock tree's
+abbrev pub gates_at : List Bool → Circuit → List ℕ → List Gate
+gates_at tree c places = map (gate_at (all_gates c)) (filter (λ place. not (is_marked (flat_map (tree_marks tree) c.parts) place)) places)
+
 -- the nets of the design by their drivers: data inputs in port order, outputs of registers, gates in their order
 abbrev pub drivers_by : Circuit → List Gate → List ℕ
 drivers_by c order = c.inputs ++ flat_map reg_nets (regs_of c) ++ gate_nets order
@@ -37,6 +54,16 @@ drivers_by c order = c.inputs ++ flat_map reg_nets (regs_of c) ++ gate_nets orde
 -- the number of a net: the place of its driver
 abbrev pub number_by : List ℕ → ℕ → ℕ
 number_by drivers net = position_or_len (nat_eq net) drivers
+
+-- what each gate needs, pin by pin: the place of the gate that drives what the pin reads, and no place where none does
+abbrev pub gate_needs : List Gate → List (List ℕ)
+gate_needs gates = map (λ (g : Gate). map (number_by (gate_nets gates)) g.ins) gates
+
+-- depth first, from the gates in the order of the parts, needs in the order of pins: all gates but those of the clock tree
+pub record IsOrderOf (c : Circuit) (tree : List Bool) (order : List Gate) : Type 0 where
+  pub places : List ℕ
+  pub found : order_of (gate_needs (all_gates c)) ≡ Ok places
+  pub kept : order ≡ gates_at tree c places
 
 -- a gate with other numbers for its nets
 abbrev pub moved : (ℕ → ℕ) → Gate → Gate
@@ -57,10 +84,10 @@ moved_reg number r = record {
   outs = map (moved_out number) r.outs;
 }
 
--- the design has the equations as its gates in some order, and registers and ports in the order of the netlist
+-- the design has the equations as its gates in their order, and registers and ports in the order of the netlist
 pub record IsDesignOf (c : Circuit) (tree : List Bool) (order : List Gate) (d : Design) : Type 0 where
   pub tree_is : IsTree c tree
-  pub order_is : IsPermutation (equations tree c) order
+  pub order_is : IsOrderOf c tree order
   pub nets : d.nets ≡ length (drivers_by c order)
   pub gates : d.gates ≡ map (moved (number_by (drivers_by c order))) order
   pub regs : d.regs ≡ map (moved_reg (number_by (drivers_by c order))) (regs_of c)

@@ -14,6 +14,6 @@ mod options;
 
 pub use circuits::{Circuit, Part};
 pub use faults::LinkFault;
-pub use laws::solutions_are;
+pub use laws::{equations_are, solutions_are};
 pub use names::{CellName, Linked, Names, NetName, PinName, PinRole, PortName};
 pub use options::LinkOptions;

@@ -2,11 +2,13 @@
 use Rattle.std.proofs.Common.{◌≡◌, ℕ, zero, suc, ◌+◌, ◌<◌, Bool, true, false, not, ◌||◌, List, [], ◌∷◌, ◌++◌, length, map, Some, None, refl, ap}
 use Rattle.std.proofs.Common.{subst, sym, ◌∙◌, arith, inl, inr, cond, nat_lt, take, get_or}
 use Rattle.std.specs.Prelude.{Contains, slice_get, slice_index_or, zip, flat_map, Option, nat_eq, if◌then◌else◌}
-use Rattle.std.specs.List.{position_or_len}
+use Rattle.std.specs.List.{position_or_len, list_any}
 use Rattle.std.specs.Option.{option_map}
 use Rattle.std.specs.Str.{bytes_eq}
 use Rattle.std.proofs.lemmas.Bool.Decides.{nat_tests}
-use Rattle.std.proofs.lemmas.Bool.{and_parts}
+use Rattle.std.proofs.lemmas.Bool.{and_parts, eqb-true}
+use Rattle.std.proofs.lemmas.Cmp.{nat_eq_equiv}
+use Rattle.std.proofs.lemmas.Map.Views.{Contains-from_any, list_any-from_Contains}
 use Rattle.std.proofs.lemmas.Option.{slice_get-map, slice_get-get_or}
 use Rattle.net_model.proofs.Members.{In, In-from_Contains, Contains-from_In, In-flat, from_flat}
 use Rattle.graph_order.proofs.Marked.{at_contains}
@@ -17,7 +19,7 @@ use Rattle.link_defs.specs.Designs.{number_by}
 use Rattle.link_defs.specs.Flatten.{Flat, full_names}
 use Rattle.link_items.proofs.Listing.{contains_at, flat_next}
 use Rattle.link_names.specs.Tables.{HasNet}
-use Rattle.link_names.specs.Scopes.{IsTableOf, IsNumberedBy, kept, kept_names}
+use Rattle.link_names.specs.Scopes.{IsTableOf, IsNumberedBy, names_where, kept, kept_names}
 use Rattle.link_names.proofs.Scoped.{zip_at}
 use Rattle.link_names.proofs.Tabled.{one_place}
 
@@ -153,6 +155,44 @@ name_at : (list : List NetName) (i : ℕ) (x : NetName) → slice_get list i ≡
 name_at list i x at =
     slice_get-map (λ (x : NetName). x.name) list i ∙ ap (λ (o : Option NetName). option_map (λ (x : NetName). x.name) o) at
 
+same_bits : (a b : Bool) → (a ≡ true → b ≡ true) → (b ≡ true → a ≡ true) → a ≡ b
+same_bits true b f g = sym (f refl)
+same_bits false true f g = g refl
+same_bits false false f g = refl
+
+one_kept : (row : List ℕ) (count : ℕ) (p : List ℕ × ℕ) (rest : List NetName) (ps : List (List ℕ × ℕ)) (test : ℕ → Bool) (b : Bool)
+    → nat_lt (slice_index_or row p.1 count) count ≡ b → nat_lt (slice_index_or row p.1 count) count ≡ test p.1 → names_in rest ≡ names_where test ps
+    → names_in (kept row count p ++ rest) ≡ names_where test (p ∷ ps)
+one_kept row count p rest ps test true e same is =
+    let hit : test p.1 ≡ true = sym same ∙ e in rw (e, hit) (ap (λ (ns : List (List ℕ)). p.0 ∷ ns) is)
+one_kept row count p rest ps test false e same is = let miss : test p.1 ≡ false = sym same ∙ e in rw (e, miss) is
+
+-- a net has a number where it is among the drivers
+lt_test : (a b : ℕ) → a < b → nat_lt a b ≡ true
+lt_test a b lt = grind (arith, nat_tests)
+
+test_lt : (a b : ℕ) → nat_lt a b ≡ true → a < b
+test_lt a b e = grind (arith, nat_tests)
+
+is_numbered : (drivers row : List ℕ) (count net : ℕ) → count ≡ length drivers → slice_index_or row net count ≡ number_by drivers net
+    → nat_lt (slice_index_or row net count) count ≡ list_any (nat_eq net) drivers
+is_numbered drivers row count net count_is number = same_bits (nat_lt (slice_index_or row net count) count) (list_any (nat_eq net) drivers)
+    (λ hit.
+    let below = test_lt (slice_index_or row net count) count hit in
+    list_any-from_Contains {eq = nat_eq} nat_eq_equiv net drivers
+    (Contains-from_In drivers net (driven net drivers (omega (arith, below, count_is, number)))))
+    (λ has.
+    let there = Contains-from_any {eq = nat_eq} (λ x y same. eqb-true x y same) net drivers has in
+    lt_test (slice_index_or row net count) count (omega (arith, number, count_is, numbered drivers net there)))
+
+-- a name that stays is that of a net among the drivers
+names_kept : (drivers row : List ℕ) (count : ℕ) → count ≡ length drivers → ((net : ℕ) → slice_index_or row net count ≡ number_by drivers net)
+    → (ps : List (List ℕ × ℕ)) → names_in (flat_map (kept row count) ps) ≡ names_where (λ net. list_any (nat_eq net) drivers) ps
+names_kept drivers row count count_is number [] = refl
+names_kept drivers row count count_is number (p ∷ ps) =
+    one_kept row count p (flat_map (kept row count) ps) ps (λ net. list_any (nat_eq net) drivers) (nat_lt (slice_index_or row p.1 count) count) refl
+    (is_numbered drivers row count p.1 count_is (number p.1)) (names_kept drivers row count count_is number ps)
+
 -- the list is that of the names of a design
 pub net_names_are : (marks : List Bool) (flat : Flat) (drivers row : List ℕ) (count : ℕ) (names : List (List ℕ)) (nets : List ℕ)
     → IsTableOf marks (full_names flat) names nets → IsNumberedBy marks drivers row count
@@ -173,6 +213,8 @@ net_names_are marks flat drivers row count names nets t n = record {
       one_place x.name (names_in (kept_names row count names nets)) i j (distinct row count names nets t.distinct)
       (name_at (kept_names row count names nets) i x at_i)
       (name_at (kept_names row count names nets) j y at_j ∙ ap (λ (m : List ℕ). Some m) (sym same));
+  order = names_kept drivers row count n.count_is n.number (zip names nets) ∙ t.order (λ net. list_any (nat_eq net) drivers)
+      (λ net hit. n.marked net (Contains-from_any {eq = nat_eq} (λ x y same. eqb-true x y same) net drivers hit));
 }
 
 -- one place more of a table

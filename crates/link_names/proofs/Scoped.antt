@@ -5,6 +5,7 @@ use Rattle.std.specs.Prelude.{Contains, slice_get, zip, Option}
 use Rattle.std.specs.Option.{option_map}
 use Rattle.std.proofs.lemmas.List.{length-map}
 use Rattle.std.proofs.lemmas.List.Elements.{Contains-append_left, Contains-append_right, Contains-push, Contains-push_cases, Contains-append_cases}
+use Rattle.std.proofs.lemmas.Bool.{false_from_ne_true}
 use Rattle.std.proofs.lemmas.Option.{slice_get-map}
 use Rattle.sdcv_base.specs.Seqs.{is_marked}
 use Rattle.texts.specs.Names.{are_distinct}
@@ -16,7 +17,8 @@ use Rattle.link_names.specs.declared.faults.NameFault.{NameFault}
 use Rattle.link_names.specs.declared.faults.NameFault.TheVariants as fault
 use Rattle.link_names.specs.declared.tables.NetTable.{NetTable}
 use Rattle.link_names.specs.Tables.{HasNet, IsAdded, IsOther}
-use Rattle.link_names.specs.Scopes.{named, IsTableOf, IsOfTwo, IsTwice, IsAddedIf}
+use Rattle.link_names.specs.Scopes.{named, names_where, IsTableOf, IsOfTwo, IsTwice, IsAddedIf}
+use Rattle.link_names.proofs.Chosen.{order_miss, order_again, order_new}
 use Rattle.link_names.proofs.Tabled.{one_place}
 
 -- the empty table
@@ -27,7 +29,19 @@ table_of_none marks = record {
   distinct = refl;
   all = λ name net has marked. let (k, lt, is) = has in absurd (omega arith);
   only = λ name net has. let at = has.1 in cc;
+  order = λ test chosen. refl;
 }
+
+-- what stands at a place of two lists side by side
+pub zip_at : {X Y : Type 0} (xs : List X) (ys : List Y) (k : ℕ) (x : X) (y : Y) → slice_get xs k ≡ Some x → slice_get ys k ≡ Some y → slice_get (zip xs ys) k
+    ≡ Some (x, y)
+zip_at [] ys k x y a b = cc
+zip_at (x2 ∷ xs) [] k x y a b = cc
+zip_at (x2 ∷ xs) (y2 ∷ ys) zero x y a b =
+    let one : x2 ≡ x = cc in
+    let two : y2 ≡ y = cc in
+    ap (λ z. Some (z, y2)) one ∙ ap (λ z. Some (x, z)) two
+zip_at (x2 ∷ xs) (y2 ∷ ys) (suc k) x y a b = zip_at xs ys k x y a b
 
 -- a pair more
 abbrev pair : NetName → List ℕ × ℕ
@@ -46,6 +60,9 @@ marked_more marks pairs names names2 nets nets2 x t marked (inl (has, names_same
         | inr same ↦ subst (λ (p : List ℕ × ℕ). HasNet names nets p.0 p.1) same has
       ];
       only = λ name net there. let (old, hit) = t.only name net there in (Contains-append_left pairs (pair x ∷ []) (name, net) old, hit);
+      order = λ test among.
+          let (p, at_name, at_net) = has in
+          order_again test pairs names nets p (pair x) (zip_at names nets p x.name x.net at_name at_net) (t.order test among);
     })
 marked_more marks pairs names names2 nets nets2 x t marked (inr (fresh, names_are, nets_are)) =
     let more = λ (name : List ℕ) (net : ℕ) (has : HasNet names nets name net).
@@ -84,6 +101,7 @@ marked_more marks pairs names names2 nets nets2 x t marked (inr (fresh, names_ar
                   )
             ]
           ];
+      order = λ test among. order_new test pairs names nets x.name x.net t.len fresh (t.order test among);
     })
 
 not_both : (b : Bool) → b ≡ true → b ≡ false → ⊥
@@ -103,6 +121,9 @@ unmarked_more marks pairs names nets x t miss = record {
         absurd (not_both (is_marked marks net) hit (subst (λ (n : ℕ). is_marked marks n ≡ false) net_is miss))
   ];
   only = λ name net has. let (old, hit) = t.only name net has in (Contains-append_left pairs (pair x ∷ []) (name, net) old, hit);
+  order = λ test among.
+      let off = false_from_ne_true (test x.net) (λ hit. not_both (is_marked marks x.net) (among x.net hit) miss) in
+      order_miss test pairs (pair x) (names_where test (zip names nets)) off (t.order test among);
 }
 
 -- a name more, whether its net is marked or not
@@ -111,17 +132,6 @@ pub one_more : (marks : List Bool) (pairs : List (List ℕ × ℕ)) (old new : N
 one_more marks pairs old new x true is t added = marked_more marks pairs old.names new.names old.nets new.nets x t (sym is) added
 one_more marks pairs old new x false is t (names_same, nets_same) =
     rw (names_same, nets_same) (unmarked_more marks pairs old.names old.nets x t (sym is))
-
--- what stands at a place of two lists side by side
-pub zip_at : {X Y : Type 0} (xs : List X) (ys : List Y) (k : ℕ) (x : X) (y : Y) → slice_get xs k ≡ Some x → slice_get ys k ≡ Some y → slice_get (zip xs ys) k
-    ≡ Some (x, y)
-zip_at [] ys k x y a b = cc
-zip_at (x2 ∷ xs) [] k x y a b = cc
-zip_at (x2 ∷ xs) (y2 ∷ ys) zero x y a b =
-    let one : x2 ≡ x = cc in
-    let two : y2 ≡ y = cc in
-    ap (λ z. Some (z, y2)) one ∙ ap (λ z. Some (x, z)) two
-zip_at (x2 ∷ xs) (y2 ∷ ys) (suc k) x y a b = zip_at xs ys k x y a b
 
 -- the full name at a place, with its net
 pub named_at : (prefix : List ℕ) (names : List (List ℕ)) (nets : List ℕ) (k : ℕ) (name : List ℕ) (net : ℕ) → slice_get names k ≡ Some name

@@ -1,8 +1,8 @@
 -- Tables of the full names of instances' nets, of those nets that are marked.
-use Rattle.std.specs.Prelude.{◌≡◌, ◌≢◌, ℕ, Bool, true, false, if◌then◌else◌, nat_lt, List, [], ◌∷◌, ◌++◌, length, map, zip, flat_map, Contains}
+use Rattle.std.specs.Prelude.{◌≡◌, ◌≢◌, ℕ, Bool, true, false, if◌then◌else◌, nat_lt, List, [], ◌∷◌, ◌++◌, length, map, filter, zip, flat_map, Contains}
 use Rattle.std.specs.Prelude.{slice_index_or}
 use Rattle.sdcv_base.specs.Seqs.{is_marked}
-use Rattle.texts.specs.Names.{are_distinct}
+use Rattle.texts.specs.Names.{are_distinct, each_once}
 use Rattle.link_defs.specs.declared.names.NetName.{NetName}
 use Rattle.link_defs.specs.Designs.{number_by}
 use Rattle.link_names.specs.declared.faults.NameFault.{NameFault}
@@ -14,12 +14,19 @@ use Rattle.link_names.specs.Tables.{HasNet, IsAdded}
 abbrev pub named : List ℕ → List (List ℕ) → List ℕ → List (List ℕ × ℕ)
 named prefix names nets = zip (map (λ (name : List ℕ). prefix ++ name) names) nets
 
--- each name of a marked net is in the table, once, with the net, and nothing else is
+-- the names of those pairs whose nets pass a test
+abbrev pub names_where : (ℕ → Bool) → List (List ℕ × ℕ) → List (List ℕ)
+names_where test pairs = map (λ (p : List ℕ × ℕ). p.0) (filter (λ (p : List ℕ × ℕ). test p.1) pairs)
+
+-- each name of a marked net is in the table, once, with the net, and nothing else is; whichever of the marked nets one looks at,
+-- their names stand in the order in which they first come
 pub record IsTableOf (marks : List Bool) (pairs : List (List ℕ × ℕ)) (names : List (List ℕ)) (nets : List ℕ) : Type 0 where
   pub len : length nets ≡ length names
   pub distinct : are_distinct names ≡ true
   pub all : (name : List ℕ) (net : ℕ) → Contains pairs (name, net) → is_marked marks net ≡ true → HasNet names nets name net
   pub only : (name : List ℕ) (net : ℕ) → HasNet names nets name net → Contains pairs (name, net) × (is_marked marks net ≡ true)
+  pub order : (test : ℕ → Bool) → ((net : ℕ) → test net ≡ true → is_marked marks net ≡ true)
+      → names_where test (zip names nets) ≡ each_once (names_where test pairs)
 
 -- two marked nets have the name
 pub record IsOfTwo (marks : List Bool) (pairs : List (List ℕ × ℕ)) (name : List ℕ) : Type 0 where

@@ -20,6 +20,7 @@ use Rattle.circuit_link.specs.Made.{IsMade}
 use Rattle.circuit_link.specs.Rows.{IsDriverRow}
 use Rattle.circuit_link.proofs.DriverPlaces.{number_cases, number_within, number_at}
 use Rattle.circuit_link.proofs.Parted.{gate_of_part, drivers_are, drivers_below, all_in}
+use Rattle.link_defs.proofs.Permuting.{order_permutes}
 use Rattle.link_defs.specs.declared.circuits.Circuit.{Circuit}
 use Rattle.link_defs.specs.declared.circuits.Part.{Part}
 use Rattle.link_defs.specs.declared.circuits.Part.TheVariants as part
@@ -206,18 +207,19 @@ driven_below c n lawful has =
 
 -- the nets that something drives are those with a number, and those of the clock tree
 pub driven_hit : (c : Circuit) (h : Held) (made : CircuitDesign) (n : ℕ) → IsLawfulCircuit c → IsMade c h made → In n (all_drivers c) → is_driven made n ≡ true
-driven_hit c h made n lawful m has = elim (driven_of c made.tree m.order n lawful m.design_is.tree_is m.design_is.order_is has) [
-  | inl there ↦
-      or_left (has_number made n) (is_marked made.tree n)
-      (number_hit made (drivers_by c m.order) c.nets n m.numbers m.design_is.nets (driven_below c n lawful has)
-      (Contains-from_In (drivers_by c m.order) n there))
-  | inr hit ↦ or_right (has_number made n) (is_marked made.tree n) hit
-]
+driven_hit c h made n lawful m has = elim
+    (driven_of c made.tree m.order n lawful m.design_is.tree_is (order_permutes c made.tree m.order m.design_is.order_is) has) [
+      | inl there ↦
+          or_left (has_number made n) (is_marked made.tree n)
+          (number_hit made (drivers_by c m.order) c.nets n m.numbers m.design_is.nets (driven_below c n lawful has)
+          (Contains-from_In (drivers_by c m.order) n there))
+      | inr hit ↦ or_right (has_number made n) (is_marked made.tree n) hit
+    ]
 
 pub hit_driven : (c : Circuit) (h : Held) (made : CircuitDesign) (n : ℕ) → IsMade c h made → is_driven made n ≡ true → In n (all_drivers c)
 hit_driven c h made n m hit = elim (or_cases (has_number made n) (is_marked made.tree n) hit) [
   | inl number ↦
-      drivers_driven c made.tree m.order n m.design_is.order_is
+      drivers_driven c made.tree m.order n (order_permutes c made.tree m.order m.design_is.order_is)
       (In-from_Contains (drivers_by c m.order) n (number_driven made (drivers_by c m.order) c.nets n m.numbers m.design_is.nets number))
   | inr on ↦ let (odd, is) = (m.design_is.tree_is n).0 on in tree_driven c n odd is
 ]
@@ -232,7 +234,7 @@ row_number c h made n lawful m = elim (cases_lt n c.nets) [
       past_row made.numbers n made.design.nets (omega (arith, past, m.numbers.len)) ∙ m.design_is.nets ∙ elim (number_cases drivers n) [
         | inl there ↦
             let has = In-from_Contains drivers n (contains_at drivers (number_by drivers n) n there) in
-            let lt = driven_below c n lawful (drivers_driven c made.tree m.order n m.design_is.order_is has) in
+            let lt = driven_below c n lawful (drivers_driven c made.tree m.order n (order_permutes c made.tree m.order m.design_is.order_is) has) in
             absurd (omega (arith, lt, past))
         | inr none ↦ sym none
       ]
@@ -245,7 +247,7 @@ numbered_is c h made marks lawful m are = record {
   number = λ n. row_number c h made n lawful m;
   marked = λ n has.
       let there = In-from_Contains (drivers_by c m.order) n has in
-      let driven = drivers_driven c made.tree m.order n m.design_is.order_is there in
+      let driven = drivers_driven c made.tree m.order n (order_permutes c made.tree m.order m.design_is.order_is) there in
       are.all n (driven_below c n lawful driven)
       (or_left (has_number made n) (is_marked made.tree n)
       (number_hit made (drivers_by c m.order) c.nets n m.numbers m.design_is.nets (driven_below c n lawful driven) has));

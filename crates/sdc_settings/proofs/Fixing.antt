@@ -1,17 +1,19 @@
 -- The fixed inputs, one given value after another.
-use Rattle.std.proofs.Common.{arith, ◌≡◌, ◌≢◌, ◌∙◌, ℕ, zero, suc, ◌+◌, ◌<◌, ◌≤◌, Bool, false, List, [], ◌∷◌, ◌++◌, length, take, get_or}
+use Rattle.std.proofs.Common.{arith, ◌≡◌, ◌≢◌, ◌∙◌, ℕ, zero, suc, ◌+◌, ◌<◌, ◌≤◌, Bool, true, false, List, [], ◌∷◌, ◌++◌, length, map, take, get_or}
 use Rattle.std.proofs.Common.{refl, ap, sym, subst, inl, inr, ◌⊎◌}
-use Rattle.std.specs.Prelude.{Contains, Some, slice_get, slice_index_or}
+use Rattle.std.specs.Prelude.{Contains, Option, Some, slice_get, slice_index_or, option_map}
 use Rattle.std.proofs.Common.{length-append}
 use Rattle.std.proofs.Math.Seq.{get_or-append_seam}
 use Rattle.std.proofs.Math.ListN.{get_or-append}
 use Rattle.std.proofs.lemmas.Bool.{cases_lt, or_parts}
-use Rattle.texts.specs.Names.{is_among, are_distinct, with_name}
-use Rattle.texts.proofs.NameLemmas.{are_distinct-push}
+use Rattle.texts.specs.Names.{is_among, are_distinct, with_name, each_once}
+use Rattle.texts.proofs.NameLemmas.{are_distinct-push, with_names-push}
 use Rattle.std.specs.Str.{bytes_eq}
 use Rattle.std.proofs.lemmas.List.{take_all, take_more, length-map, get_or-map, map-append}
 use Rattle.std.proofs.lemmas.List.Elements.{Contains-append_cases, Contains-append_left, Contains-append_right}
-use Rattle.std.proofs.lemmas.Option.{slice_get_within, get_or_from_slice_get, slice_get-get_or}
+use Rattle.std.proofs.lemmas.Option.{slice_get_within, get_or_from_slice_get, slice_get-get_or, slice_get-map}
+use Rattle.std.proofs.lemmas.Map.Keys.{any_passes_from_place}
+use Rattle.std.proofs.lemmas.Slice.Eq.{bytes_eq-Decides}
 use Rattle.link_defs.specs.declared.names.PortName.{PortName}
 use Rattle.sdcv_base.specs.declared.settings.Setting.{Setting}
 use Rattle.sdc_settings.specs.declared.cases.Given.{Given}
@@ -52,7 +54,32 @@ fixed_all inputs resets givens k f past so_far = record {
       let first : IsFirstGiven inputs givens k (slice_index_or f.firsts j 0) s = so_far.first j s at in
       (first.given, at_is_in givens (slice_index_or f.firsts j 0) first.given first.here, first.says);
   once = so_far.once;
+  order = so_far.order ∙ ap (λ (l : List Given). each_once (map (λ (g : Given). name_at inputs g.input) l)) (take_all k givens past);
 }
+
+-- the names that are given a value, one more
+names_more : (inputs : List PortName) (givens : List Given) (k : ℕ) (g : Given) → slice_get givens k ≡ Some g
+    → each_once (map (λ (h : Given). name_at inputs h.input) (take (k + 1) givens))
+    ≡ with_name (each_once (map (λ (h : Given). name_at inputs h.input) (take k givens))) (name_at inputs g.input)
+names_more inputs givens k g at =
+    let name : Given → List ℕ = λ (h : Given). name_at inputs h.input in
+    let more : take (k + 1) givens ≡ take k givens ++ g ∷ [] =
+    take_more givens k g (slice_get_within givens k g at)
+    ∙ ap (λ (x : Given). take k givens ++ x ∷ []) (get_or_from_slice_get givens k g g at) in
+    ap (λ (l : List Given). each_once (map name l)) more ∙ ap each_once (map-append name (take k givens) (g ∷ []))
+    ∙ with_names-push [] (map name (take k givens)) (name_at inputs g.input)
+
+-- a name that stands there is not added
+with_old : (names : List (List ℕ)) (name : List ℕ) → is_among name names ≡ true → with_name names name ≡ names
+with_old names name there = rw there refl
+
+-- the name of a setting is among their names
+among_names : (settings : List Setting) (found : ℕ) (s : Setting) (name : List ℕ) → slice_get settings found ≡ Some s → s.name ≡ name
+    → is_among name (setting_names settings) ≡ true
+among_names settings found s name here same =
+    let at : slice_get (setting_names settings) found ≡ Some name =
+    slice_get-map (λ (t : Setting). t.name) settings found ∙ ap (λ (o : Option Setting). option_map (λ (t : Setting). t.name) o) here ∙ ap Some same in
+    any_passes_from_place (bytes_eq name) (setting_names settings) found name at ((bytes_eq-Decides name name).1 refl)
 
 -- a setting by its two fields
 setting_same : (s : Setting) (name : List ℕ) (value : Bool) → name ≡ s.name → value ≡ s.value → record { name = name; value = value } ≡ s
@@ -96,6 +123,8 @@ fixed_again inputs resets givens k found f g s at no_reset here name value so_fa
   names = so_far.names;
   count = so_far.count;
   once = so_far.once;
+  order = sym (names_more inputs givens k g at ∙ ap (λ (l : List (List ℕ)). with_name l (name_at inputs g.input)) (sym so_far.order)
+      ∙ with_old (setting_names f.settings) (name_at inputs g.input) (among_names f.settings found s (name_at inputs g.input) here name));
   no_reset = λ h has. elim (given_cases givens k g h at has) [
     | inl earlier ↦ so_far.no_reset h earlier
     | inr same ↦ subst (λ (x : Given). ¬ Contains (setting_names resets) (name_at inputs x.input)) same no_reset
@@ -177,6 +206,8 @@ fixed_new inputs resets givens k old new g name at is no_reset not_there so_far 
       count = ap length pushed.firsts ∙ length-append old.firsts (k ∷ []) ∙ ap (λ n. n + 1) so_far.count
           ∙ sym (ap length pushed.settings ∙ length-append old.settings (s ∷ []));
       once = ap are_distinct names ∙ are_distinct-push (setting_names old.settings) name ∙ rw (so_far.once, free) refl;
+      order = names ∙ sym (names_more inputs givens k g at ∙ ap (λ (l : List (List ℕ)). with_name l (name_at inputs g.input)) (sym so_far.order)
+          ∙ ap (with_name (setting_names old.settings)) is ∙ with_new (setting_names old.settings) name free);
       no_reset = λ h has. elim (given_cases givens k g h at has) [
         | inl earlier ↦ so_far.no_reset h earlier
         | inr same ↦ subst (λ (x : Given). ¬ Contains (setting_names resets) (name_at inputs x.input)) same

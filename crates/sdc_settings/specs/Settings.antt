@@ -1,7 +1,7 @@
 -- The settings of a script: the clock's port bit, and the inputs that a case analysis fixes.
 use Rattle.std.specs.Prelude.{◌≡◌, ℕ, Bool, true, false, not, ◌==◌, List, [], ◌∷◌, length, map, filter, flat_map, All, Contains, Option, Some, None}
 use Rattle.std.specs.Str.{bytes_eq}
-use Rattle.texts.specs.Names.{are_distinct}
+use Rattle.texts.specs.Names.{are_distinct, each_once}
 use Rattle.link_defs.specs.declared.names.PortName.{PortName}
 use Rattle.sdcv_base.specs.declared.settings.Setting.{Setting}
 use Rattle.script_types.specs.declared.objects.Object.{Object}
@@ -93,12 +93,14 @@ setting_names settings = map (λ (s : Setting). s.name) settings
 abbrev pub setting_of : List PortName → Given → Setting
 setting_of inputs g = record { name = name_at inputs g.input; value = g.value }
 
--- the fixed inputs are those that are given a value, each once with its value, and none is a reset
+-- the fixed inputs are those that are given a value, each once with its value, in the order in which they are first given one,
+-- and none is a reset
 pub record AreFixed (inputs : List PortName) (resets : List Setting) (givens : List Given) (fixed : List Setting) : Type 0 where
   pub no_reset : (g : Given) → Contains givens g → ¬ Contains (setting_names resets) (name_at inputs g.input)
   pub all : (g : Given) → Contains givens g → Contains fixed (setting_of inputs g)
   pub only : (f : Setting) → Contains fixed f → (g : Given) × Contains givens g × (setting_of inputs g ≡ f)
   pub once : are_distinct (setting_names fixed) ≡ true
+  pub order : setting_names fixed ≡ each_once (map (λ (g : Given). name_at inputs g.input) givens)
 
 -- the settings of a script among these input bits, with these resets
 pub record AreSettings (script : Script) (inputs : List PortName) (resets : List Setting) (s : Settings) : Type 0 where

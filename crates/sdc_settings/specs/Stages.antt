@@ -1,7 +1,7 @@
 -- What the stages of finding settings hand on.
-use Rattle.std.specs.Prelude.{true, ◌≡◌, ◌≢◌, ℕ, ◌-◌, ◌<◌, Bool, List, [], ◌∷◌, ◌++◌, length, take, drop, filter, Contains, Option, Some, None, slice_get}
+use Rattle.std.specs.Prelude.{true, ◌≡◌, ◌≢◌, ℕ, ◌-◌, ◌<◌, Bool, List, [], ◌∷◌, ◌++◌, length, map, take, drop, filter, Contains, Option, Some, None, slice_get}
 use Rattle.std.specs.Prelude.{slice_index_or}
-use Rattle.texts.specs.Names.{are_distinct, with_name}
+use Rattle.texts.specs.Names.{are_distinct, with_name, each_once}
 use Rattle.link_defs.specs.declared.names.PortName.{PortName}
 use Rattle.sdcv_base.specs.declared.settings.Setting.{Setting}
 use Rattle.script_types.specs.declared.scripts.Command.{Command}
@@ -29,6 +29,7 @@ pub record AreFixedSoFar (inputs : List PortName) (resets : List Setting) (given
   pub names : f.names ≡ setting_names f.settings
   pub count : length f.firsts ≡ length f.settings
   pub once : are_distinct (setting_names f.settings) ≡ true
+  pub order : setting_names f.settings ≡ each_once (map (λ (g : Given). name_at inputs g.input) (take k givens))
   pub no_reset : (g : Given) → Contains (take k givens) g → ¬ Contains (setting_names resets) (name_at inputs g.input)
   pub all : (g : Given) → Contains (take k givens) g → Contains f.settings (setting_of inputs g)
   pub first : (j : ℕ) (s : Setting) → slice_get f.settings j ≡ Some s → IsFirstGiven inputs givens k (slice_index_or f.firsts j 0) s

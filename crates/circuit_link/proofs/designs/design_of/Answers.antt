@@ -2,8 +2,8 @@ use Rattle.std.proofs.Common.{◌∙◌, List, map}
 use Rattle.std.proofs.lemmas.Result.{err_from_is_err_and}
 use Rattle.net_model.specs.declared.netlist.Gate.{Gate}
 use Rattle.link_defs.specs.Circuits.{all_gates}
-use Rattle.link_defs.specs.Designs.{drivers_by}
-use Rattle.circuit_link.specs.Kept.{gate_at, kept_in}
+use Rattle.link_defs.specs.Designs.{drivers_by, gate_at}
+use Rattle.circuit_link.specs.Kept.{kept_in}
 use Rattle.circuit_link.specs.Lists.{all_marks}
 use Rattle.circuit_link.proofs.Keeping.{kept_permutes}
 use Rattle.circuit_link.proofs.Making.{made_is, faultless_is, size_cause, netlist_is, kept_within, tree_of_row}

@@ -1,6 +1,6 @@
 use Rattle.std.proofs.Common.{◌≡◌, ◌++◌, take, map}
 use Rattle.net_model.specs.Netlist.{gate_nets}
-use Rattle.circuit_link.specs.Kept.{gate_at}
+use Rattle.link_defs.specs.Designs.{gate_at}
 use Rattle.circuit_link.proofs.kept.with_kept_nets.Given as goal
 
 abbrev pub invariant-loop-place : goal.invariant-loop-place

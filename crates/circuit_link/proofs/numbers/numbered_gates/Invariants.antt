@@ -1,6 +1,6 @@
 use Rattle.std.proofs.Common.{◌≡◌, take, map}
 use Rattle.link_defs.specs.Designs.{number_by, moved}
-use Rattle.circuit_link.specs.Kept.{gate_at}
+use Rattle.link_defs.specs.Designs.{gate_at}
 use Rattle.circuit_link.proofs.numbers.numbered_gates.Given as goal
 
 abbrev pub invariant-loop-place : goal.invariant-loop-place

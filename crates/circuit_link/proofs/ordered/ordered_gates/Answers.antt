@@ -46,5 +46,4 @@ returns-clause-ok c =
     (record { gates_are = c.in_ok-gates.ensures; sources_are = c.in_ok-sources.ensures; drivers_are = c.in_ok-drivers.ensures })
     c.in_ok-row.ensures.ok c.in_ok-row.ensures.once c.in_ok-marks.ensures (c.as_slice.ensures ∙ c.in_ok-reads.ensures)
     (subst (λ (n : ℕ). All (λ (net : ℕ). is_driven c.in_ok-row.row n net ≡ true) c.as_slice.result.now) c.len.ensures c.in_default.ensures.none)
-    c.in_ok-order.ensures.ok
-    c.in_ok-order.ensures.none
+    c.in_ok-order.ensures.ok c.in_ok-order.ensures.is c.in_ok-order.ensures.none

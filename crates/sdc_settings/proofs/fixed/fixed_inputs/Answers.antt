@@ -18,6 +18,7 @@ loop-place-init c = record {
   names = c.new.ensures ∙ ap setting_names (sym c.new-2.ensures);
   count = ap (length {A = ℕ}) c.new-3.ensures ∙ sym (ap length c.new-2.ensures);
   once = ap are_distinct (ap setting_names c.new-2.ensures);
+  order = ap setting_names c.new-2.ensures;
   no_reset = λ g (i, low, is). absurd (omega (arith, low));
   all = λ g (i, low, is). absurd (omega (arith, low));
   first = λ j s at. absurd (let low = slice_get_within [] j s (subst (λ (l : List Setting). slice_get l j ≡ Some s) c.new-2.ensures at) in
