@@ -42,7 +42,10 @@ module _ (o : List ℕ → Read Tree) (level : Level) where
       → chain_from o level (suc m) found s ≡ Some p
       → ((more : Tree) (t : List ℕ) → chain_from o level m more t ≡ Some p → height more ≤ height p.0) → height found ≤ height p.0
   unfolding chain_from
-  higher_cases m found s p None ea e ih = let same : Some (found, s) ≡ Some p = rw (ea, chain_from) at e in let here : (found, s) ≡ p = cc in rw (← here) (omega arith)
+  higher_cases m found s p None ea e ih =
+      let same : Some (found, s) ≡ Some p = rw (ea, chain_from) at e in
+      let here : (found, s) ≡ p = cc in
+      rw (← here) (omega arith)
   higher_cases m found s p (Some t) ea e ih =
       let (q, eq, e2) = bind_gave (o t) (λ q. chain_from o level m (join level found q.0) q.1) p (rw (ea, chain_from) at e) in
       let low = join_left level found q.0 in
@@ -112,7 +115,8 @@ module _ (inner : List ℕ → Read Tree) (s : List ℕ) (e : Stop) where
   inverted_high f r there h =
       let b = marks 33 0 (length s) s in
       let after = marks 39 0 (length r) r in
-      rw there (root_fails tree e (negated after.0 f) (Some (negated b.0 (negated after.0 f), after.1)) h (λ q eq. (turned_higher b.0 after.0 f after.1 q eq).1))
+      let turned = negated after.0 f in
+      rw there (root_fails tree e turned (Some (negated b.0 turned, after.1)) h (λ q eq. (turned_higher b.0 after.0 f after.1 q eq).1))
 
 module _ (o : List ℕ → Read Tree) (level : Level) (e : Stop) where
   pub first_fails : (s : List ℕ) → Fails e (o s) → Fails e (chain_of o level s)

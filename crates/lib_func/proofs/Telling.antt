@@ -190,7 +190,10 @@ module _ (inner : List ℕ → Read Tree) (d : ℕ) (tells : (s : List ℕ) → 
       let less = drop_less t (some_first t 40 e refl) in
       let found : Tells Any t (inner (drop 1 t) >>= closed) = inner_tells t (black s) e (inner (drop 1 t)) (tells (drop 1 t) (omega arith)) in
       rw e found
-  atom_cases s false e no_mark low = let found : Tells Any (after_space s) (leaf_at (after_space s)) = leaf_tells (after_space s) (black s) e no_mark in rw e found
+  atom_cases s false e no_mark low =
+      let t = after_space s in
+      let found : Tells Any t (leaf_at t) = leaf_tells t (black s) e no_mark in
+      rw e found
 
   atom_tells : (s : List ℕ) → (first (after_space s) == 33) ≡ false → length s ≤ d → Tells Any s (atom_in inner s)
   atom_tells s no_mark low = spaced_tells s (atom_in inner s) (atom_cases s (first (after_space s) == 40) refl no_mark low)
@@ -247,8 +250,8 @@ written r n here e =
       within = omega (arith, length-drop 1 (after_space r));
     }
 
-written_two : (r : List ℕ) (m n : ℕ) → ((first (after_space r) == m) ≡ true) ⊎ ((first (after_space r) == n) ≡ true) → ((k : ℕ) → followed k m ≡ Some (Before k))
-    → ((k : ℕ) → followed k n ≡ Some (Before k)) → Crosses r (drop 1 (after_space r))
+written_two : (r : List ℕ) (m n : ℕ) → ((first (after_space r) == m) ≡ true) ⊎ ((first (after_space r) == n) ≡ true)
+    → ((k : ℕ) → followed k m ≡ Some (Before k)) → ((k : ℕ) → followed k n ≡ Some (Before k)) → Crosses r (drop 1 (after_space r))
 written_two r m n (inl here) em en = written r m here em
 written_two r m n (inr here) em en = written r n here en
 

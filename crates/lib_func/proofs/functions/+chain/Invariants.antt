@@ -26,7 +26,8 @@ decreases-chain l = 16 * l.depth + 1 + rank l.level
 abbrev pub invariant-chain-operands : goal.invariant-chain-operands
 invariant-chain-operands l = record {
   shorter : length (rest l.c) < length (rest l.fn.c);
-  told : (m : ℕ) × (length (rest l.c) < m) × (chain_at l.depth l.level (rest l.fn.c) ≡ chain_from (operand_at l.depth l.level) l.level m l.found.expr (rest l.c));
+  told : (m : ℕ) × (length (rest l.c) < m)
+      × (chain_at l.depth l.level (rest l.fn.c) ≡ chain_from (operand_at l.depth l.level) l.level m l.found.expr (rest l.c));
 }
 
 abbrev pub decreases-chain-operands : goal.decreases-chain-operands
