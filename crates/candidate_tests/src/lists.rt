@@ -4,9 +4,7 @@ ghost use Rattle.net_model.specs.Netlist.{IsSound};
 ghost use Rattle.net_model.specs.Fits.{Fits};
 
 use inv_candidates::candidates;
-use net_model::{
-    Claim, Design, Edge, End, Func, InvClause, Kind, Node, Reg, RegOut, Start,
-};
+use net_model::{Claim, Design, Edge, End, Func, InvClause, Kind, Node, Reg, RegOut, Start};
 use net_samples::Form::{And, Pin};
 use net_samples::Out::Q;
 use net_samples::Part::{Drives, Holds, Nets, Outputs};
