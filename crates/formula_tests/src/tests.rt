@@ -12,7 +12,9 @@ use cnf_encode::{Prepared, Problem, formula, inv_formula};
 use net_model::Phase::{Base, Step};
 use net_model::PinRef::{GateIn as G, Net as N, OutPort as O, RegIn as R};
 use net_model::{Claim, Cycle, Design, InvClause, Phase, Stimulus};
-use net_samples::Ask::{Either, Fails, From, Hazard, In, Keeps, Multi, Out, To, Via};
+use net_samples::Ask::{
+    Either, Fails, Falls, From, Hazard, In, Keeps, Lag, Multi, Out, Rises, To, Via,
+};
 use net_samples::{
     Ask, BOTH, CELL, CHAIN, CLEAR, Case, FLIPS, FORK, GATES, KEEPS, LOOP, Lits, PORTS, Part, RESET,
     TWO, case_of, design,
@@ -333,6 +335,20 @@ const HAZARDS: &[Row] = &[
     Row(CHAIN, &[Hazard, Either(N(4), G(1, 0))], Step, 1, 3, 6),
 ];
 
+const EDGES: &[Row] = &[
+    Row(TWO, &[Rises], Step, 1, 3, 8),
+    Row(TWO, &[Falls, Lag(2)], Step, 1, 5, 32),
+    Row(RESET, &[Falls], Base, 0, 3, 0),
+    Row(RESET, &[Falls, Lag(1)], Base, 1, 5, 32),
+    Row(PORTS, &[In(0), Out(0), Falls, Lag(1)], Step, 0, 3, 10),
+    Row(FLIPS, &[To(0), Rises, Lag(1)], Step, 0, 3, 4),
+    Row(KEEPS, &[Falls, Lag(1), Keeps(IMPLIED)], Step, 0, 3, 10),
+    Row(KEEPS, &[Multi(3), Rises, Via(N(2))], Step, 0, 3, 30),
+    Row(FORK, &[Rises, Lag(1)], Step, 0, 3, 40),
+    Row(GATES, &[Hazard, Falls, Lag(1)], Step, 0, 3, 48),
+    Row(CHAIN, &[In(0), Out(0), Multi(2), Falls], Base, 1, 4, 8),
+];
+
 fn check_rows(rt: &impl Abort, alloc: Global, rows: &[Row]) -> Result<(), AllocError> {
     for (place, row) in rows.iter().enumerate() {
         let found = count_row(rt, alloc, row)?;
@@ -354,6 +370,11 @@ fn models_are_the_answers_of_larger_designs(rt: HostRuntime) -> Result<(), Alloc
 #[test]
 fn models_are_the_answers_where_hazards_count(rt: HostRuntime) -> Result<(), AllocError> {
     check_rows(&rt, rt.alloc(), HAZARDS)
+}
+
+#[test]
+fn models_are_the_answers_of_edges_and_lags(rt: HostRuntime) -> Result<(), AllocError> {
+    check_rows(&rt, rt.alloc(), EDGES)
 }
 
 fn push_keys(text: &mut String, problem: &Problem) -> Result<(), AllocError> {
@@ -399,22 +420,43 @@ fn push_problem(
     push_models(text, &models(rt, alloc, &problem.formula)?)
 }
 
-/// A false path between two flops.
-fn two_flops(rt: &impl Abort, alloc: Global) -> Result<Problem, AllocError> {
-    let case = sound_case(rt, alloc, TWO, &[])?;
+/// A query about a false path between two flops, the clauses of its toggle, and its models.
+struct Told(&'static [Ask], &'static str, &'static str);
+
+// Worked out by hand: the keys, each a cycle, layer, rail and point, and the clauses before and after those of the toggle.
+const KEYS: &str = "0.0.0.0 0.0.0.3 1.0.0.3 1.0.0.5 1.0.0.7 1.0.0.25 1.1.0.5 2.0.0.4";
+
+const BEFORE: &str = "1 -3, -1 3, 3 -8, -3 8, -3 -7, 3 7,";
+
+const AFTER: &str = "-5 7 8, -5 -7 -8, 5 -7 8, 5 7 -8, 4, 6, 5 -6,";
+
+const TOLD: &[Told] = &[
+    Told(
+        &[],
+        "2 3 -4, -2 -3 -4, 2 -3 4, -2 3 4,",
+        "01011110 10111101",
+    ),
+    Told(&[Rises], "3 -4, -2 -4, 2 -3 4,", "10111101"),
+    Told(&[Falls], "-3 -4, 2 -4, -2 3 4,", "01011110"),
+];
+
+fn told_problem(rt: &impl Abort, alloc: Global, row: &Told) -> Result<Problem, AllocError> {
+    let case = sound_case(rt, alloc, TWO, row.0)?;
     problem_of(rt, alloc, &case, Step, 0)
 }
 
-// Worked out by hand; a key is its cycle, layer, rail and point.
-const TWO_FLOPS: &str = " 0.0.0.0 0.0.0.3 1.0.0.3 1.0.0.5 1.0.0.7 1.0.0.25 1.1.0.5 2.0.0.4 \
-    1 -3, -1 3, 3 -8, -3 8, -3 -7, 3 7, 2 3 -4, -2 -3 -4, 2 -3 4, -2 3 4, \
-    -5 7 8, -5 -7 -8, 5 -7 8, 5 7 -8, 4, 6, 5 -6, 01011110 10111101";
+fn told_text(alloc: Global, row: &Told) -> Result<String, AllocError> {
+    let Told(_, toggle, models) = row;
+    format!(in alloc; " {KEYS} {BEFORE} {toggle} {AFTER} {models}")
+}
 
 #[test]
 fn the_formula_of_two_flops(rt: HostRuntime) -> Result<(), AllocError> {
-    let problem = two_flops(&rt, rt.alloc())?;
-    let mut text = String::new(rt.alloc());
-    push_problem(&rt, rt.alloc(), &mut text, &problem)?;
-    assert_eq!(rt; text.as_str(), TWO_FLOPS);
+    for row in TOLD {
+        let problem = told_problem(&rt, rt.alloc(), row)?;
+        let mut text = String::new(rt.alloc());
+        push_problem(&rt, rt.alloc(), &mut text, &problem)?;
+        assert!(rt; text.as_str() == told_text(rt.alloc(), row)?.as_str());
+    }
     Ok(())
 }
