@@ -1,7 +1,7 @@
 //! Functions of Liberty, against their values by hand.
-use lib_func::{Expr, Term, read_function};
+use lib_func::{Expr, Term, is_function, read_function};
 use sdcv_base::Name;
-use std::alloc::AllocError;
+use std::alloc::{AllocError, Global};
 use std::test::Fail;
 
 // The bit of a name in a row, whose highest bit is A's.
@@ -54,6 +54,7 @@ fn functions_have_the_values_of_their_grammar(rt: HostRuntime) -> Result<(), Fai
     for (text, want) in FUNCTIONS {
         let expr = read_function(rt.alloc(), text.as_bytes())?.ok_or("a function")?;
         assert_eq!(rt; bits(&expr), *want, "{text}");
+        assert!(rt; is_function(text.as_bytes()), "{text}");
     }
     Ok(())
 }
@@ -66,6 +67,79 @@ fn other_texts_are_no_function(rt: HostRuntime) -> Result<(), AllocError> {
     for text in NO_FUNCTIONS.split('\n') {
         let found = read_function(rt.alloc(), text.as_bytes())?;
         assert!(rt; found.is_none(), "{text}");
+        assert!(rt; !is_function(text.as_bytes()), "{text}");
+    }
+    Ok(())
+}
+
+// A text: what stands in front so many times, the middle, and what stands behind as often.
+fn repeated(
+    alloc: Global,
+    front: &str,
+    middle: &str,
+    back: &str,
+    count: usize,
+) -> Result<String, AllocError> {
+    let mut text = String::new(alloc);
+    for _ in 0..count {
+        text.push_str(front)?;
+    }
+    text.push_str(middle)?;
+    for _ in 0..count {
+        text.push_str(back)?;
+    }
+    Ok(text)
+}
+
+// What stands in front, in the middle and behind; how often at most; and how often beside that.
+const DEPTHS: &[(&str, &str, &str, usize, usize)] = &[
+    ("!", "A", "", 255, 20_000),
+    ("", "A", "'", 255, 300),
+    ("(", "A", ")", 256, 7_000),
+    ("A+", "A", "", 255, 20_000),
+    ("A*", "A", "", 255, 20_000),
+    ("A ", "A", "", 255, 300),
+    ("A^", "A", "", 255, 300),
+    ("!(", "A", ")", 255, 300),
+    ("A+(", "A", ")", 255, 300),
+    ("(", "A", ")'", 255, 300),
+];
+
+// A name is 1 high, and each of these adds 1; or 256 parentheses stand one inside the other.
+#[test]
+fn functions_are_256_high(rt: HostRuntime) -> Result<(), AllocError> {
+    for (front, middle, back, most, beyond) in DEPTHS {
+        for (count, want) in [(*most, true), (*most + 1, false), (*beyond, false)] {
+            let text = repeated(rt.alloc(), front, middle, back, count)?;
+            let found = read_function(rt.alloc(), text.as_bytes())?;
+            assert_eq!(rt; found.is_some(), want, "{count} {front}{middle}{back}");
+            assert!(rt;
+                is_function(text.as_bytes()),
+                "{count} {front}{middle}{back}"
+            );
+        }
+    }
+    Ok(())
+}
+
+// Texts that break the grammar, however deep.
+const DEEP_NO_FUNCTIONS: &[(&str, &str, &str)] = &[
+    ("(", "A", ""),
+    ("", "A", ")"),
+    ("!", "A +", ""),
+    ("!", "", ""),
+    ("A+", "", ""),
+    ("(", "", ")"),
+    ("(", "A", ") A)"),
+];
+
+#[test]
+fn deep_texts_that_break_the_grammar_are_no_function(rt: HostRuntime) -> Result<(), AllocError> {
+    for (front, middle, back) in DEEP_NO_FUNCTIONS {
+        let text = repeated(rt.alloc(), front, middle, back, 300)?;
+        let found = read_function(rt.alloc(), text.as_bytes())?;
+        assert!(rt; found.is_none(), "{front}{middle}{back}");
+        assert!(rt; !is_function(text.as_bytes()), "{front}{middle}{back}");
     }
     Ok(())
 }

@@ -155,7 +155,15 @@ const OFFSETS: &[(&str, &str)] = &[
     ("library(l){cell(X){clear:;}}", "\ncell X; Clear 25 ;"),
     (
         "library(l){cell(X){clear: A /* B */ \n}}",
-        "\ncell X; Clear 26 A /* B */;",
+        "\ncell X; Clear 26 A;",
+    ),
+    (
+        "library(l){cell(X){clear:R /* a;\n}*/ ;}}",
+        "\ncell X; Clear 25 R;",
+    ),
+    (
+        "library(l){cell(X){clear:A/**/B /**/}}",
+        "\ncell X; Clear 25 A B;",
     ),
     (
         "library(l){cell(X){clear/**/:/**/A\\\n}}",
@@ -171,7 +179,7 @@ const OFFSETS: &[(&str, &str)] = &[
     ),
     (
         "library(l){cell(X){pin(\"A B\",C\\\nD,E/*F*/ G){}}}",
-        "\ncell X;\nPin A B C D E/*F*/ G;",
+        "\ncell X;\nPin A B C D E G;",
     ),
     (
         "library(l){cell(X);cell:X;pin(X){};cell(Y){pin(X);ff:X}}",
@@ -209,10 +217,38 @@ const REFUSED: &[(&str, usize)] = &[
     ("library(l){a((b))}", 13),
     ("library(l){a b;}", 13),
     ("library(l){a:/*b}", 13),
+    ("library(l){cell(X){clear:R /* x;}}", 27),
     ("library(l){a(){b(){c}}}", 20),
     ("library(l){:}", 11),
     ("library(l){a:b c:d}}", 19),
 ];
+
+// So many groups, one inside the other, from the library on.
+fn nested(alloc: Global, groups: usize) -> Result<String, Fail> {
+    let mut text = String::new(alloc);
+    text.push_str("library(l){")?;
+    for _ in 1..groups {
+        text.push_str("a(){")?;
+    }
+    for _ in 0..groups {
+        text.push_str("}")?;
+    }
+    Ok(text)
+}
+
+// The 257th `{` stands after the first group's 11 bytes, 255 groups of 4 bytes and the 3 bytes before it.
+#[test]
+fn groups_nest_256_deep(rt: HostRuntime) -> Result<(), Fail> {
+    let cells = read_cells(rt.alloc(), nested(rt.alloc(), 256)?.as_bytes())?;
+    assert!(rt; cells.as_slice().is_empty());
+    for groups in [257, 300, 20_000] {
+        match read_cells(rt.alloc(), nested(rt.alloc(), groups)?.as_bytes()) {
+            Err(GroupFault::Deep(place)) => assert_eq!(rt; place, 1034, "{groups}"),
+            _ => assert!(rt; false, "{groups} groups are too deep"),
+        }
+    }
+    Ok(())
+}
 
 #[test]
 fn a_broken_text_is_refused_at_its_place(rt: HostRuntime) -> Result<(), Fail> {

@@ -175,6 +175,8 @@ const FLOPS: &str = r#"library (rules) {
   cell (name) { ff (D, N) { clocked_on : "C"; next_state : "D"; } pin (C, D) { direction : input; } }
   cell (lone) { ff (P) { clocked_on : "C"; next_state : "D"; } pin (C, D) { direction : input; } }
   cell (two) { ff (P, N) { clocked_on : "C"; next_state : "D"; } ff (R, M) { } pin (C, D) { direction : input; } }
+  cell (note) { ff (P, N) { clocked_on : C /* rising */; next_state : D; clear : R /* asynchronous;
+    } */ ; preset : /* none */ "0" /* */; clear_preset_var1 : L /* */ } pin (C, D, R) { direction : input /* */; } }
 }"#;
 
 const FLOP_LINES: &str = "
@@ -192,7 +194,8 @@ also C D; other
 twin C D; other
 name C D; other
 lone C D; other
-two C D; other";
+two C D; other
+note D R; clock C next 0 clear 1 preset zero";
 
 // Each cell is one rule of flops.
 #[test]
@@ -235,6 +238,161 @@ fn texts_are_refused_with_their_cause(rt: HostRuntime) -> Result<(), Fail> {
     Ok(())
 }
 
+// What stands in front; what is repeated, how often, and what closes each; the middle; what stands behind; what is told.
+const HEIGHTS: &[(&str, (&str, usize, &str), &str, &str, &str)] = &[
+    ("function : \"", ("!", 255, ""), "A", "\";", "\nX; other"),
+    (
+        "function : \"",
+        ("!", 256, ""),
+        "A",
+        "\";",
+        "byte 67: nested too deep",
+    ),
+    (
+        "function : \"",
+        ("!", 20_000, ""),
+        "A",
+        "\";",
+        "byte 67: nested too deep",
+    ),
+    ("function : \"", ("A + ", 255, ""), "A", "\";", "\nX; other"),
+    (
+        "function : \"",
+        ("A + ", 256, ""),
+        "A",
+        "\";",
+        "byte 67: nested too deep",
+    ),
+    (
+        "function : \"",
+        ("A*", 20_000, ""),
+        "A",
+        "\";",
+        "byte 67: nested too deep",
+    ),
+    ("function : \"", ("(", 256, ")"), "A", "\";", "\nX; other"),
+    (
+        "function : \"",
+        ("(", 257, ")"),
+        "A",
+        "\";",
+        "byte 67: nested too deep",
+    ),
+    (
+        "function : \"",
+        ("(", 7_000, ")"),
+        "A",
+        "\";",
+        "byte 67: nested too deep",
+    ),
+    (
+        "function : ",
+        ("!", 300, ""),
+        "A",
+        " ;",
+        "byte 66: nested too deep",
+    ),
+    ("function : ", ("(", 300, ""), "A", " ;", "\nX; other"),
+    (
+        "function : \"",
+        ("!", 300, ""),
+        "A +",
+        "\";",
+        "byte 67: no Boolean function",
+    ),
+    (
+        "function : \"",
+        ("(", 7_000, ""),
+        "A",
+        "\";",
+        "byte 67: no Boolean function",
+    ),
+    (
+        "} latch (P, N) { } pin (Z) { function : \"",
+        ("!", 300, ""),
+        "A",
+        "\";",
+        "\nX; other",
+    ),
+    ("} a() {", ("a() {", 253, "}"), "", "", "\nX; other"),
+    (
+        "} a() {",
+        ("a() {", 254, "}"),
+        "",
+        "",
+        "byte 1331: nested too deep",
+    ),
+    ("} a() {", ("a(){} ", 300, ""), "", "", "\nX; other"),
+];
+
+// What a library is told of whose only cell has this text in a pin.
+fn told(
+    alloc: Global,
+    front: &str,
+    part: (&str, usize, &str),
+    middle: &str,
+    back: &str,
+) -> Result<String, Fail> {
+    let (open, count, close) = part;
+    let mut text = String::new(alloc);
+    text.push_str("library (l) { cell (X) { pin (Y) { direction : output; ")?;
+    text.push_str(front)?;
+    for _ in 0..count {
+        text.push_str(open)?;
+    }
+    text.push_str(middle)?;
+    for _ in 0..count {
+        text.push_str(close)?;
+    }
+    text.push_str(back)?;
+    text.push_str(" } } }")?;
+    match read_lib(alloc, text.as_bytes()) {
+        Ok(_) => listing(alloc, text.as_str()),
+        Err(fault) => Ok(format!(in alloc; "{fault}")?),
+    }
+}
+
+// A name is 1 high. Offsets counted by hand: 55 bytes stand before what is in front; the 257th group's brace stands after
+// these, 7 bytes, 253 groups of 5, and 4 bytes of its own: library, cell and the first `a` are three.
+#[test]
+fn what_nests_too_deep_is_refused_at_its_place(rt: HostRuntime) -> Result<(), Fail> {
+    for (front, part, middle, back, want) in HEIGHTS {
+        let found = told(rt.alloc(), front, *part, middle, back)?;
+        let (open, count, close) = *part;
+        assert_eq!(rt;
+            found.as_str(),
+            *want,
+            "{front}{count} {open}{middle}{close}"
+        );
+    }
+    Ok(())
+}
+
+// A library of so many cells, each an inverter of two pins.
+fn inverters(alloc: Global, count: usize) -> Result<String, Fail> {
+    let mut text = String::new(alloc);
+    text.push_str("library (big) {\n")?;
+    for number in 0..count {
+        write!(
+            text,
+            "  cell (INV{number}) {{ /* one of many */ pin (A) {{ direction : input; }}\n"
+        )?;
+        text.push_str("    pin (Y) { direction : output; function : \"A'\"; } }\n")?;
+    }
+    text.push_str("}\n")?;
+    Ok(text)
+}
+
+#[test]
+fn a_library_of_250_kilobytes_is_read(rt: HostRuntime) -> Result<(), Fail> {
+    let text = inverters(rt.alloc(), 2_200)?;
+    assert!(rt; text.len() > 250_000);
+    let library = read_lib(rt.alloc(), text.as_bytes())?;
+    assert_eq!(rt; library.cells.as_slice().len(), 2_200);
+    assert_eq!(rt; library.find(b"INV2199"), Some(2_199));
+    Ok(())
+}
+
 // What developers see of the faults that are not in the table of refused texts.
 #[test]
 fn faults_are_shown(rt: HostRuntime) -> Result<(), Fail> {
@@ -245,6 +403,10 @@ fn faults_are_shown(rt: HostRuntime) -> Result<(), Fail> {
         (
             GroupFault::Syntax(7),
             "byte 7: no Liberty group goes on like this",
+        ),
+        (
+            GroupFault::Deep(7),
+            "byte 7: a group inside too many others",
         ),
         (GroupFault::Memory, "out of memory"),
     ] {

@@ -24,4 +24,6 @@ loop-attribute-preserved c =
     c.attribute-item.is (rw whole refl)
 
 pub returns : goal.returns
-returns c = sym (c.loop-attribute.invariant ∙ first_end (flawed c.args.flaw c.args.part.now.kind) _ c.loop-attribute.attribute-index c.loop-attribute-test.false)
+returns c =
+    let test = flawed c.args.flaw c.args.part.now.kind in
+    sym (c.loop-attribute.invariant ∙ first_end test _ c.loop-attribute.attribute-index c.loop-attribute-test.false)
