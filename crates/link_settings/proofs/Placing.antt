@@ -8,7 +8,7 @@ use Rattle.texts.specs.Names.{is_among, are_distinct}
 use Rattle.net_model.specs.Netlist.{AllBelow}
 use Rattle.net_model.specs.declared.netlist.Fixed.{Fixed}
 use Rattle.netlist_types.specs.declared.sources.Module.{Module}
-use Rattle.verilog_scope.proofs.NewLemmas.{distinct_by_test}
+use Rattle.texts.proofs.NameLemmas.{distinct_by_test}
 use Rattle.circuit_link.specs.declared.designs.Held.{Held}
 use Rattle.circuit_link.specs.Made.{IsHeldBy}
 use Rattle.link_defs.specs.declared.faults.LinkFault.{LinkFault}
