@@ -1,3 +1,4 @@
 pub mod Judging
 pub mod Multipliers
+pub mod Refusing
 pub mod Staging
