@@ -188,7 +188,7 @@ fn library_text(alloc: Global) -> Result<Vec<u8>, AllocError> {
 const BUSES: usize = 235;
 
 fn add_bus(alloc: Global, text: &mut Vec<u8>, bus: usize) -> Result<(), AllocError> {
-    let next = bus + 1;
+    let next = bus.wrapping_add(1);
     let cell = bus % CELL_COUNT;
     let head = format!(in alloc; "  wire [127:0] s{next};\n")?;
     text.extend_from_slice(head.as_bytes())?;
