@@ -8,10 +8,10 @@ use Rattle.std.proofs.lemmas.List.{length-map}
 use Rattle.std.proofs.lemmas.Option.{slice_get-map, slice_get_within}
 use Rattle.std.proofs.Math.Seq.{get_or-append_seam, take-append_seam}
 use Rattle.glob.specs.Match.{matches}
-use Rattle.name_index.specs.declared.indexes.Look.TheVariants.{Nowhere, At}
-use Rattle.name_index.specs.declared.owners.Owner.TheVariants.{Nobody, One}
-use Rattle.name_index.specs.Indexes.{IsLook, IsExact}
-use Rattle.name_index.specs.Owners.{IsOwner, IsOwnerAt}
+use Rattle.glob.specs.declared.indexes.Look.TheVariants.{Nowhere, At}
+use Rattle.glob.specs.declared.owners.Owner.TheVariants.{Nobody, One}
+use Rattle.glob.specs.Indexes.{IsLook, IsExact}
+use Rattle.glob.specs.Owners.{IsOwner, IsOwnerAt}
 use Rattle.sdc_objects.specs.Places.{each_at, where_true}
 use Rattle.sdc_objects.proofs.Joining.{nothing_made, one_made, item_at}
 

@@ -9,7 +9,7 @@ use Rattle.std.proofs.lemmas.Slice.Eq.{bytes_eq-Decides}
 use Rattle.glob.specs.Match.{matches}
 use Rattle.texts.specs.Names.{is_among, each_once}
 use Rattle.texts.proofs.NameLemmas.{is_among-with_names}
-use Rattle.name_index.specs.Indexes.{IsExact}
+use Rattle.glob.specs.Indexes.{IsExact}
 use Rattle.link_defs.specs.declared.names.Names.{Names}
 use Rattle.link_defs.specs.declared.names.PortName.{PortName}
 use Rattle.script_types.specs.declared.objects.Query.{Query}

@@ -1,7 +1,7 @@
 -- Tables of the names of a design.
 use Rattle.std.specs.Prelude.{◌≡◌, ℕ, List, ◌∷◌, ◌++◌, map, flat_map}
 use Rattle.texts.specs.Names.{each_once}
-use Rattle.name_index.specs.Indexes.{IsIndexOf}
+use Rattle.glob.specs.Indexes.{IsIndexOf}
 use Rattle.link_defs.specs.declared.names.Names.{Names}
 use Rattle.link_defs.specs.declared.names.Linked.{Linked}
 use Rattle.link_defs.specs.declared.names.CellName.{CellName}

@@ -13,7 +13,7 @@ use crate::scopes::Scope;
 use crate::things::{Place, Side, Thing, add_where};
 use glob::matches;
 use link_defs::{CellName, Names, NetName, PortName};
-use name_index::{Look, is_exact};
+use glob::{Look, is_exact};
 use script_types::{Class, Command, Object, Query, What};
 use sdc_settings::names_bit;
 use sdcv_base::{Name, Seq};

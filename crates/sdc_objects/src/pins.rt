@@ -8,7 +8,7 @@ use crate::scopes::Scope;
 use crate::things::{Thing, add_where};
 use glob::matches;
 use link_defs::CellName;
-use name_index::Owner;
+use glob::Owner;
 use script_types::Query;
 use sdcv_base::{Name, Seq};
 use std::alloc::{AllocError, Global};

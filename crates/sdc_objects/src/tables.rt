@@ -1,12 +1,12 @@
 //! Tables of the names of a design.
 ghost use Rattle.std.specs.Prelude.{◌≡◌, [], IfOk, OnOk, flat_map};
 ghost use Rattle.texts.specs.Names.{with_names, each_once};
-ghost use Rattle.name_index.specs.Indexes.{IsIndexOf};
+ghost use Rattle.glob.specs.Indexes.{IsIndexOf};
 ghost use Rattle.sdc_objects.specs.Places.{option_list};
 ghost use Rattle.sdc_objects.specs.Tables.{IsTablesOf, port_names, bit_names, cell_names, net_names};
 
 use link_defs::{CellName, Linked, Names, NetName, PortName};
-use name_index::Index;
+use glob::Index;
 use sdcv_base::{Name, Seq};
 use std::alloc::{AllocError, Global};
 use texts::NameTable;

@@ -6,7 +6,7 @@ use Rattle.sdc_objects.specs.declared.things.Thing.{Thing}
 use Rattle.sdc_objects.specs.declared.things.Thing.TheVariants as thing
 use Rattle.sdc_objects.specs.Things.{pins_named}
 use Rattle.sdc_objects.specs.Places.{each_at}
-use Rattle.name_index.specs.Owners.{IsOwner}
+use Rattle.glob.specs.Owners.{IsOwner}
 use Rattle.sdc_objects.specs.Tables.{cell_names}
 use Rattle.sdc_objects.proofs.Joining.{added_nothing}
 use Rattle.sdc_objects.proofs.Looking.{owned_by_nobody, owned_by_one}

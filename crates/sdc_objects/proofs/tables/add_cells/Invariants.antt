@@ -1,5 +1,5 @@
 use Rattle.std.proofs.Common.{take}
-use Rattle.name_index.specs.Indexes.{IsIndexOf}
+use Rattle.glob.specs.Indexes.{IsIndexOf}
 use Rattle.sdc_objects.specs.Tables.{cell_names}
 use Rattle.sdc_objects.proofs.tables.add_cells.Given as goal
 

@@ -1,5 +1,5 @@
 use Rattle.std.proofs.Common.{List, ℕ, take, sym, subst}
-use Rattle.name_index.specs.Indexes.{IsIndexOf}
+use Rattle.glob.specs.Indexes.{IsIndexOf}
 use Rattle.link_defs.specs.declared.names.NetName.{NetName}
 use Rattle.sdc_objects.specs.Tables.{net_names}
 use Rattle.sdc_objects.proofs.Joining.{map_next}

@@ -4,9 +4,9 @@ use Rattle.std.specs.List.{list_any}
 use Rattle.texts.specs.Names.{are_distinct}
 use Rattle.glob.specs.Match.{matches}
 use Rattle.glob.specs.Plain.{is_wild}
-use Rattle.name_index.specs.declared.indexes.Index.{Index}
-use Rattle.name_index.specs.declared.indexes.Look.{Look}
-use Rattle.name_index.specs.declared.indexes.Look.TheVariants.{Nowhere, At, Anywhere}
+use Rattle.glob.specs.declared.indexes.Index.{Index}
+use Rattle.glob.specs.declared.indexes.Look.{Look}
+use Rattle.glob.specs.declared.indexes.Look.TheVariants.{Nowhere, At, Anywhere}
 
 -- the index tells whether no two names are equal, and then the table has them in their order
 pub record IsIndexOf (names : List (List ℕ)) (index : Index) : Type 0 where

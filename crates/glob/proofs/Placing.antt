@@ -10,12 +10,12 @@ use Rattle.std.proofs.lemmas.Option.{slice_get_within, get_or_from_slice_get}
 use Rattle.glob.specs.Match.{matches}
 use Rattle.texts.specs.Names.{is_among, place_of, are_distinct, with_name}
 use Rattle.texts.proofs.NameLemmas.{slice_get-place_of, are_distinct-push}
-use Rattle.name_index.specs.declared.indexes.Index.{Index}
-use Rattle.name_index.specs.declared.indexes.Look.TheVariants.{Nowhere, At}
-use Rattle.name_index.specs.declared.owners.Owner.{Owner}
-use Rattle.name_index.specs.declared.owners.Owner.TheVariants.{Nobody, One, Many}
-use Rattle.name_index.specs.Indexes.{IsIndexOf, IsExact, IsLook}
-use Rattle.name_index.specs.Owners.{IsPlace, IsOwnerAt, HasTwoOwners, IsOwnerTo, join}
+use Rattle.glob.specs.declared.indexes.Index.{Index}
+use Rattle.glob.specs.declared.indexes.Look.TheVariants.{Nowhere, At}
+use Rattle.glob.specs.declared.owners.Owner.{Owner}
+use Rattle.glob.specs.declared.owners.Owner.TheVariants.{Nobody, One, Many}
+use Rattle.glob.specs.Indexes.{IsIndexOf, IsExact, IsLook}
+use Rattle.glob.specs.Owners.{IsPlace, IsOwnerAt, HasTwoOwners, IsOwnerTo, join}
 
 equal_bytes : (n m : List ℕ) → n ≡ m → bytes_eq n m ≡ true
 equal_bytes n m e = let (f, g) = bytes_eq-Decides n m in g e

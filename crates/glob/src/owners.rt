@@ -1,9 +1,9 @@
 //! The names that stand before a `/` of a pattern.
 ghost use Rattle.std.specs.Prelude.{◌≡◌, ℕ, List, true, IfOk, length};
 ghost use Rattle.texts.specs.Names.{are_distinct};
-ghost use Rattle.name_index.specs.Indexes.{IsIndexOf};
-ghost use Rattle.name_index.specs.Owners as spec;
-ghost use Rattle.name_index.specs.Owners.{IsOwner, IsOwnerTo, IsPlace};
+ghost use Rattle.glob.specs.Indexes.{IsIndexOf};
+ghost use Rattle.glob.specs.Owners as spec;
+ghost use Rattle.glob.specs.Owners.{IsOwner, IsOwnerTo, IsPlace};
 
 use crate::indexes::{Index, is_exact};
 use sdcv_base::Name;

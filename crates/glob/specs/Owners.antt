@@ -1,8 +1,8 @@
 -- Names that stand before a `/` of a pattern.
 use Rattle.std.specs.Prelude.{◌≡◌, ◌⊎◌, ℕ, ◌<◌, Bool, false, List, length, take, Option, Some, None, slice_get, slice_index}
-use Rattle.name_index.specs.declared.owners.Owner.{Owner}
-use Rattle.name_index.specs.declared.owners.Owner.TheVariants.{Nobody, One, Many}
-use Rattle.name_index.specs.Indexes.{IsExact, tells}
+use Rattle.glob.specs.declared.owners.Owner.{Owner}
+use Rattle.glob.specs.declared.owners.Owner.TheVariants.{Nobody, One, Many}
+use Rattle.glob.specs.Indexes.{IsExact, tells}
 
 -- the name at place k stands before the `/` at a place of the pattern
 pub record IsOwnerAt (names : List (List ℕ)) (pattern : List ℕ) (slash k : ℕ) : Type 0 where

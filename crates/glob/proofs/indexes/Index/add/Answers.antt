@@ -1,8 +1,8 @@
 use Rattle.std.proofs.Common.{◌≡◌, ◌∙◌, ◌&&◌, refl}
-use Rattle.name_index.specs.declared.indexes.Index.{Index}
-use Rattle.name_index.proofs.Placing.{more}
-use Rattle.name_index.proofs.indexes.Index.add.Goals as goal
-use Rattle.name_index.proofs.indexes.Index.add.Goals.{then-self, else-self}
+use Rattle.glob.specs.declared.indexes.Index.{Index}
+use Rattle.glob.proofs.Placing.{more}
+use Rattle.glob.proofs.indexes.Index.add.Goals as goal
+use Rattle.glob.proofs.indexes.Index.add.Goals.{then-self, else-self}
 
 pub returns : goal.returns
 returns c =

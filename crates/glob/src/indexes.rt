@@ -1,11 +1,11 @@
 //! Names in a table, with their places.
 ghost use Rattle.std.specs.Prelude.{◌≡◌, ◌++◌, ◌∷◌, ℕ, List, [], true, OnOk};
 ghost use Rattle.texts.specs.Names.{are_distinct};
-ghost use Rattle.name_index.specs.Indexes as spec;
-ghost use Rattle.name_index.specs.Indexes.{IsIndexOf, IsExact, IsLook};
-ghost use Rattle.name_index.specs.Owners.{IsPlace};
+ghost use Rattle.glob.specs.Indexes as spec;
+ghost use Rattle.glob.specs.Indexes.{IsIndexOf, IsExact, IsLook};
+ghost use Rattle.glob.specs.Owners.{IsPlace};
 
-use glob::is_plain;
+use crate::globs::is_plain;
 use sdcv_base::Name;
 use std::alloc::{AllocError, Global};
 use texts::NameTable;

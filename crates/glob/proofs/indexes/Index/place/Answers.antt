@@ -1,6 +1,6 @@
 use Rattle.std.proofs.Common.{◌∙◌, sym}
-use Rattle.name_index.proofs.Placing.{placed, unplaced}
-use Rattle.name_index.proofs.indexes.Index.place.Goals as goal
+use Rattle.glob.proofs.Placing.{placed, unplaced}
+use Rattle.glob.proofs.indexes.Index.place.Goals as goal
 
 pub returns-then-contains : goal.returns-then-contains
 returns-then-contains c =

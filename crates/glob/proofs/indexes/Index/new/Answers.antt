@@ -1,5 +1,5 @@
 use Rattle.std.proofs.Common.{refl}
-use Rattle.name_index.proofs.indexes.Index.new.Goals as goal
+use Rattle.glob.proofs.indexes.Index.new.Goals as goal
 
 pub returns : goal.returns
 unfolding Rattle.texts.specs.Names.are_distinct

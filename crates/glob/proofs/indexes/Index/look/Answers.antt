@@ -1,5 +1,5 @@
-use Rattle.name_index.proofs.Placing.{look_at, look_nowhere}
-use Rattle.name_index.proofs.indexes.Index.look.Goals as goal
+use Rattle.glob.proofs.Placing.{look_at, look_nowhere}
+use Rattle.glob.proofs.indexes.Index.look.Goals as goal
 
 pub returns-in-Some : goal.returns-in-Some
 returns-in-Some c =
