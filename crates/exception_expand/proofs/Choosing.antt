@@ -18,12 +18,13 @@ use Rattle.exception_expand.proofs.Sharing.{those_pairs, those_first, First}
 
 -- the start and the end of the pair are in the lists of the exception
 abbrev IsListed : Linked → Script → Exception → Pair → Type 0
-IsListed l script e p = IsFrom l script e.from p.start × IsTo l script e.to p.end
+IsListed l script e p = IsFrom l script e.edge e.from p.start × IsTo l script e.to p.end
 
 listed_pairs : (l : Linked) (script : Script) (e : Exception) (lists : Lists) → AreListsOf l script e lists
     → AreThose (IsListed l script e) (all_pairs l.design) (pairs_between lists.starts lists.ends)
 listed_pairs l script e lists are =
-    those_pairs pair (IsFrom l script e.from) (IsTo l script e.to) (IsListed l script e) (all_starts l.design) lists.starts (all_ends l.design) lists.ends
+    those_pairs pair (IsFrom l script e.edge e.from) (IsTo l script e.to) (IsListed l script e) (all_starts l.design) lists.starts (all_ends l.design)
+    lists.ends
     (λ a b p q. (p, q)) (λ a b r. r.0) (λ a b r. r.1) are.starts are.ends
 
 connected_by : (l : Linked) (script : Script) (e : Exception) (lists : Lists) (first found : List Pair) → AreListsOf l script e lists

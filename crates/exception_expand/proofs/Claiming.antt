@@ -1,5 +1,5 @@
 -- The claims of selected pairs fit the design.
-use Rattle.std.proofs.Common.{arith, ◌≡◌, ◌∙◌, ◌+◌, Bool, List, map, refl, sym, ap, subst, inl, inr}
+use Rattle.std.proofs.Common.{arith, ◌≡◌, ◌∙◌, ℕ, ◌+◌, ◌≤◌, List, map, refl, sym, ap, subst, inl, inr}
 use Rattle.std.specs.Prelude.{Some, slice_index_or, All}
 use Rattle.std.proofs.lemmas.List.{length-map}
 use Rattle.std.proofs.lemmas.List.Elements.{All-map}
@@ -18,7 +18,9 @@ use Rattle.script_types.specs.declared.scripts.What.TheVariants.{Clock, Case, Cl
 use Rattle.script_types.specs.declared.scripts.Command.{Command}
 use Rattle.script_types.specs.declared.scripts.Script.{Script}
 use Rattle.sdc_objects.specs.Standing.{pins_of}
+use Rattle.exception_expand.specs.declared.claims.Judging.{Judging}
 use Rattle.exception_expand.specs.declared.pairs.Pair.{Pair}
+use Rattle.exception_expand.specs.Pairs.{lag_for}
 use Rattle.exception_expand.specs.Selections as spec
 use Rattle.exception_expand.specs.Selections.{Chosen}
 use Rattle.exception_expand.proofs.Fitting.{pins_fit, from_each}
@@ -32,31 +34,31 @@ holds_of P _ _ y (Taken x xs ys holds rest) (inl here) = subst P here holds
 holds_of P _ _ y (Taken x xs ys holds rest) (inr later) = holds_of P xs ys y rest later
 holds_of P _ _ y (Left_out x xs ys not rest) has = holds_of P xs ys y rest has
 
--- no lag fits each kind
-no_lag : (kind : Kind) → IsLagFit kind 0
-no_lag False = omega arith
-no_lag (Multi k) = refl
+-- the lag of a claim fits its kind
+lag_fits : (kind : Kind) (lag : ℕ) → lag ≤ 8 → IsLagFit kind (lag_for kind lag)
+lag_fits False lag few = few
+lag_fits (Multi k) lag few = refl
 
 -- the claims that an exception makes of a pair of the design
-claim_fits : (l : Linked) (script : Script) (hazard : Bool) (what : What) (p : Pair) (claim : Claim) → IsUsable l → spec.HasMultiplier what
-    → spec.HasFewSets what
-    → In p (spec.all_pairs l.design) → Some claim ≡ spec.claim_by l script hazard p what → Fits l.design claim
-claim_fits l script hazard (Claiming e) p claim usable kind few there is =
-    let same : spec.claim l script hazard e p ≡ claim = same_Some (spec.claim l script hazard e p) claim (sym is) in
+claim_fits : (l : Linked) (script : Script) (judging : Judging) (what : What) (p : Pair) (claim : Claim) → IsUsable l → judging.lag ≤ 8
+    → spec.HasMultiplier what → spec.HasFewSets what
+    → In p (spec.all_pairs l.design) → Some claim ≡ spec.claim_by l script judging p what → Fits l.design claim
+claim_fits l script judging (Claiming e) p claim usable short kind few there is =
+    let same : spec.claim l script judging e p ≡ claim = same_Some (spec.claim l script judging e p) claim (sym is) in
     let ends = pair_in l.design p there in
     subst (Fits l.design) same (record {
       kind = kind;
-      lag = no_lag e.kind;
+      lag = lag_fits e.kind judging.lag short;
       start = ends.0;
       end_ = ends.1;
       pins = All-map (All (IsPinIn l.design)) (pins_of l script) e.through (λ k d low. pins_fit l script usable (slice_index_or e.through k d));
       few = omega (arith, few, length-map e.through (pins_of l script));
     })
-claim_fits l script hazard (Clock name source) p claim usable kind few there is = absurd cc
-claim_fits l script hazard (Case value objects) p claim usable kind few there is = absurd cc
-claim_fits l script hazard Hold p claim usable kind few there is = absurd cc
-claim_fits l script hazard (Aside option) p claim usable kind few there is = absurd cc
-claim_fits l script hazard Passed p claim usable kind few there is = absurd cc
+claim_fits l script judging (Clock name source) p claim usable short kind few there is = absurd cc
+claim_fits l script judging (Case value objects) p claim usable short kind few there is = absurd cc
+claim_fits l script judging Hold p claim usable short kind few there is = absurd cc
+claim_fits l script judging (Aside option) p claim usable short kind few there is = absurd cc
+claim_fits l script judging Passed p claim usable short kind few there is = absurd cc
 
 -- a pair of the script is one of the design
 script_pair : (l : Linked) (script : Script) (x : Chosen) → In x (spec.script_pairs l script) → In x.pair (spec.all_pairs l.design)
@@ -66,24 +68,24 @@ script_pair l script x has =
     let same : is.0 ≡ x.pair = ap (λ (c : Chosen). c.pair) is.2 in
     subst (λ (p : Pair). In p (spec.all_pairs l.design)) same is.1
 
-at_command : (l : Linked) (script : Script) (hazard : Bool) (x : Chosen) (claim : Claim) → IsUsable l → spec.HasMultipliers script
+at_command : (l : Linked) (script : Script) (judging : Judging) (x : Chosen) (claim : Claim) → IsUsable l → judging.lag ≤ 8 → spec.HasMultipliers script
     → All (λ (c : Command). spec.HasFewSets c.what) script.commands → In x.pair (spec.all_pairs l.design) → spec.IsSelected l script x
-    → Some claim ≡ spec.claim_of l script hazard x → Fits l.design claim
-at_command l script hazard x claim usable kinds sets there sel is =
+    → Some claim ≡ spec.claim_of l script judging x → Fits l.design claim
+at_command l script judging x claim usable short kinds sets there sel is =
     let c = sel.0 in
-    claim_fits l script hazard c.what x.pair claim usable (All-at (λ (d : Command). spec.HasMultiplier d.what) script.commands x.command c sel.1 kinds)
+    claim_fits l script judging c.what x.pair claim usable short (All-at (λ (d : Command). spec.HasMultiplier d.what) script.commands x.command c sel.1 kinds)
     (All-at (λ (d : Command). spec.HasFewSets d.what) script.commands x.command c sel.1 sets) there
-    (is ∙ ap (spec.claim_at l script hazard x.pair) sel.1)
+    (is ∙ ap (spec.claim_at l script judging x.pair) sel.1)
 
 -- the claims of what a script selects
-pub claims_fit : (l : Linked) (script : Script) (hazard : Bool) (chosen : List Chosen) (claims : List Claim) → IsUsable l → spec.HasMultipliers script
-    → All (λ (c : Command). spec.HasFewSets c.what) script.commands → AreThose (spec.IsSelected l script) (spec.script_pairs l script) chosen
-    → map Some claims ≡ map (spec.claim_of l script hazard) chosen → All (Fits l.design) claims
-claims_fit l script hazard chosen claims usable kinds sets those is =
+pub claims_fit : (l : Linked) (script : Script) (judging : Judging) (chosen : List Chosen) (claims : List Claim) → IsUsable l → judging.lag ≤ 8
+    → spec.HasMultipliers script → All (λ (c : Command). spec.HasFewSets c.what) script.commands → AreThose (spec.IsSelected l script) (spec.script_pairs l script) chosen
+    → map Some claims ≡ map (spec.claim_of l script judging) chosen → All (Fits l.design) claims
+claims_fit l script judging chosen claims usable short kinds sets those is =
     all_from_in (Fits l.design) claims (λ claim has.
     let some = In-map Some claim claims has in
-    let from = from_map (spec.claim_of l script hazard) (Some claim) chosen (subst (In (Some claim)) is some) in
+    let from = from_map (spec.claim_of l script judging) (Some claim) chosen (subst (In (Some claim)) is some) in
     let x = from.0 in
-    at_command l script hazard x claim usable kinds sets
+    at_command l script judging x claim usable short kinds sets
     (script_pair l script x (those_in (spec.IsSelected l script) (spec.script_pairs l script) chosen x those from.1))
     (holds_of (spec.IsSelected l script) (spec.script_pairs l script) chosen x those from.1) (sym from.2))

@@ -1,5 +1,5 @@
 -- What the commands before a place select, with one command more.
-use Rattle.std.proofs.Common.{arith, ◌≡◌, ◌∙◌, ◌≢◌, ℕ, ◌+◌, ◌-◌, ◌<◌, ◌≤◌, Bool, List, [], ◌++◌, length, map}
+use Rattle.std.proofs.Common.{arith, ◌≡◌, ◌∙◌, ◌≢◌, ℕ, ◌+◌, ◌-◌, ◌<◌, ◌≤◌, List, [], ◌++◌, length, map}
 use Rattle.std.proofs.Common.{take, drop, refl, sym, ap, subst, append_assoc, length-append}
 use Rattle.std.specs.Prelude.{Option, Some, slice_get, All, count_by, ◌==◌}
 use Rattle.std.proofs.lemmas.List.{map-append, length-map, take_all, take-append-drop, length-take}
@@ -16,6 +16,7 @@ use Rattle.script_types.specs.declared.scripts.Command.{Command}
 use Rattle.script_types.specs.declared.scripts.Script.{Script}
 use Rattle.sdc_objects.specs.Places.{each_at}
 use Rattle.sdc_objects.proofs.Joining.{each_at_more, each_at-append, take_next}
+use Rattle.exception_expand.specs.declared.claims.Judging.{Judging}
 use Rattle.exception_expand.specs.declared.pairs.Pair.{Pair}
 use Rattle.exception_expand.specs.declared.selections.Selected.{Selected}
 use Rattle.exception_expand.specs.declared.selections.CommandLine.{CommandLine}
@@ -98,21 +99,21 @@ pairs_more l script k chosen more number old new is before turn =
     ∙ ap (λ (xs : List PairLine). map (spec.line_of l script) chosen ++ xs) (sym (map_map (spec.line_of l script) (spec.chosen_by k) more))
     ∙ sym (map-append (spec.line_of l script) chosen (map (spec.chosen_by k) more))
 
-claims_more : (l : Linked) (script : Script) (hazard : Bool) (k : ℕ) (c : Command) (chosen : List Chosen) (more : List Pair) (old new : List (Option Claim))
-    → slice_get script.commands k ≡ Some c → old ≡ map (spec.claim_of l script hazard) chosen
-    → new ≡ old ++ map (λ p. spec.claim_by l script hazard p c.what) more
-    → new ≡ map (spec.claim_of l script hazard) (chosen ++ map (spec.chosen_by k) more)
-claims_more l script hazard k c chosen more old new here before turn =
-    let of = spec.claim_of l script hazard in
-    turn ∙ ap (λ (xs : List (Option Claim)). xs ++ map (λ p. spec.claim_by l script hazard p c.what) more) before
-    ∙ ap (λ (o : Option Command). map of chosen ++ map (λ (p : Pair). spec.claim_at l script hazard p o) more) (sym here)
+claims_more : (l : Linked) (script : Script) (judging : Judging) (k : ℕ) (c : Command) (chosen : List Chosen) (more : List Pair) (old new : List (Option Claim))
+    → slice_get script.commands k ≡ Some c → old ≡ map (spec.claim_of l script judging) chosen
+    → new ≡ old ++ map (λ p. spec.claim_by l script judging p c.what) more
+    → new ≡ map (spec.claim_of l script judging) (chosen ++ map (spec.chosen_by k) more)
+claims_more l script judging k c chosen more old new here before turn =
+    let of = spec.claim_of l script judging in
+    turn ∙ ap (λ (xs : List (Option Claim)). xs ++ map (λ p. spec.claim_by l script judging p c.what) more) before
+    ∙ ap (λ (o : Option Command). map of chosen ++ map (λ (p : Pair). spec.claim_at l script judging p o) more) (sym here)
     ∙ ap (λ (xs : List (Option Claim)). map of chosen ++ xs) (sym (map_map of (spec.chosen_by k) more))
     ∙ sym (map-append of chosen (map (spec.chosen_by k) more))
 
 -- one command more
-pub upto_more : (l : Linked) (script : Script) (hazard : Bool) (k : ℕ) (c : Command) (old new : Selected) → slice_get script.commands k ≡ Some c
-    → IsUpTo l script hazard k old → Adds l script hazard c.line c.what old new → IsUpTo l script hazard (k + 1) new
-upto_more l script hazard k c old new here before adds =
+pub upto_more : (l : Linked) (script : Script) (judging : Judging) (k : ℕ) (c : Command) (old new : Selected) → slice_get script.commands k ≡ Some c
+    → IsUpTo l script judging k old → Adds l script judging c.line c.what old new → IsUpTo l script judging (k + 1) new
+upto_more l script judging k c old new here before adds =
     let chosen = before.chosen in
     let more = adds.more in
     let all = chosen ++ map (spec.chosen_by k) more in
@@ -128,7 +129,7 @@ upto_more l script hazard k c old new here before adds =
           let other : k ≢ place = omega (arith, past) in
           omega (arith, count_more chosen k place more, count_other k place more other, before.none_after place low);
       pairs = pairs_more l script k chosen more (length new.commands) old.pairs new.pairs number before.pairs adds.pairs;
-      claims = claims_more l script hazard k c chosen more (map Some old.claims) (map Some new.claims) here before.claims adds.claims;
+      claims = claims_more l script judging k c chosen more (map Some old.claims) (map Some new.claims) here before.claims adds.claims;
       commands = commands;
       sets = subst (All (λ (d : Command). spec.HasFewSets d.what)) (sym (take_next script.commands k c here))
           (All-push (λ (d : Command). spec.HasFewSets d.what) (take k script.commands) c before.sets adds.sets);
@@ -136,8 +137,8 @@ upto_more l script hazard k c old new here before adds =
     }
 
 -- no command yet
-pub upto_none : (l : Linked) (script : Script) (hazard : Bool) (s : Selected) → s.commands ≡ [] → s.pairs ≡ [] → s.claims ≡ [] → IsUpTo l script hazard 0 s
-upto_none l script hazard s commands pairs claims = record {
+pub upto_none : (l : Linked) (script : Script) (judging : Judging) (s : Selected) → s.commands ≡ [] → s.pairs ≡ [] → s.claims ≡ [] → IsUpTo l script judging 0 s
+upto_none l script judging s commands pairs claims = record {
   chosen = [];
   those = All_seen;
   none_after = λ place past. refl;
@@ -149,11 +150,11 @@ upto_none l script hazard s commands pairs claims = record {
 }
 
 -- a command that selects too many pairs
-pub more_in_script : (l : Linked) (script : Script) (hazard : Bool) (k : ℕ) (c : Command) (e : Exception) (old : Selected)
+pub more_in_script : (l : Linked) (script : Script) (judging : Judging) (k : ℕ) (c : Command) (e : Exception) (old : Selected)
     → slice_get script.commands k ≡ Some c
-    → c.what ≡ Claiming e → IsUpTo l script hazard k old → HasMore (spec.Selects l script e) (spec.all_pairs l.design) (100000 - length old.claims)
+    → c.what ≡ Claiming e → IsUpTo l script judging k old → HasMore (spec.Selects l script e) (spec.all_pairs l.design) (100000 - length old.claims)
     → HasMore (spec.IsSelected l script) (spec.script_pairs l script) 100000
-more_in_script l script hazard k c e old here claiming before has =
+more_in_script l script judging k c e old here claiming before has =
     let by = spec.chosen_by k in
     let at = spec.pairs_at l.design in
     let cs = script.commands in
@@ -166,7 +167,7 @@ more_in_script l script hazard k c e old here claiming before has =
     let mid : each_at at 0 (take (k + 1) cs) ≡ E ++ (A ++ B) =
     each_at_more at cs k c here ∙ ap (λ (ps : List Pair). E ++ map by ps) has.whole ∙ ap (λ (xs : List Chosen). E ++ xs) (map-append by has.first has.rest) in
     let count : length before.chosen ≡ length old.claims =
-    sym (length-map before.chosen (spec.claim_of l script hazard)) ∙ sym (ap (λ (xs : List (Option Claim)). length xs) before.claims) ∙ length-map
+    sym (length-map before.chosen (spec.claim_of l script judging)) ∙ sym (ap (λ (xs : List (Option Claim)). length xs) before.claims) ∙ length-map
     old.claims Some in
     record {
       first = E ++ A;
@@ -180,13 +181,13 @@ more_in_script l script hazard k c e old here claiming before has =
     }
 
 -- all commands, of whose claims few enough need a verdict
-pub selection_of : (l : Linked) (script : Script) (hazard : Bool) (s : Selected) → IsUsable l → spec.HasMultipliers script
-    → IsUpTo l script hazard (length script.commands) s
-    → count_by (is_judged l.design) s.claims ≤ 10000 → spec.IsSelectionOf l script hazard s
-selection_of l script hazard s usable kinds upto few =
+pub selection_of : (l : Linked) (script : Script) (judging : Judging) (s : Selected) → IsUsable l → judging.lag ≤ 8 → spec.HasMultipliers script
+    → IsUpTo l script judging (length script.commands) s
+    → count_by (is_judged l.design) s.claims ≤ 10000 → spec.IsSelectionOf l script judging s
+selection_of l script judging s usable short kinds upto few =
     let whole : take (length script.commands) script.commands ≡ script.commands = take_all (length script.commands) script.commands (omega arith) in
     let count : length upto.chosen ≡ length s.claims =
-    sym (length-map upto.chosen (spec.claim_of l script hazard)) ∙ sym (ap (λ (xs : List (Option Claim)). length xs) upto.claims) ∙ length-map s.claims Some in
+    sym (length-map upto.chosen (spec.claim_of l script judging)) ∙ sym (ap (λ (xs : List (Option Claim)). length xs) upto.claims) ∙ length-map s.claims Some in
     let those : AreThose (spec.IsSelected l script) (spec.script_pairs l script) upto.chosen =
     subst (λ (cs : List Command). AreThose (spec.IsSelected l script) (each_at (spec.pairs_at l.design) 0 cs) upto.chosen) whole upto.those in
     let sets : All (λ (d : Command). spec.HasFewSets d.what) script.commands = subst (All (λ (d : Command). spec.HasFewSets d.what)) whole upto.sets in
@@ -199,5 +200,5 @@ selection_of l script hazard s usable kinds upto few =
       sets = sets;
       few = omega (arith, upto.few, count);
       judged = few;
-      fit = claims_fit l script hazard upto.chosen s.claims usable kinds sets those upto.claims;
+      fit = claims_fit l script judging upto.chosen s.claims usable short kinds sets those upto.claims;
     }

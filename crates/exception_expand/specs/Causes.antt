@@ -1,5 +1,5 @@
 -- What each refusal says. Want of memory alone is free.
-use Rattle.std.specs.Prelude.{◌≡◌, ℕ, ◌<◌, Bool, List, ◌++◌, map, length, Contains, Some, count_by}
+use Rattle.std.specs.Prelude.{◌≡◌, ℕ, ◌<◌, List, ◌++◌, map, length, Contains, Some, count_by}
 use Rattle.sdcv_base.specs.declared.limits.LimitName.{LimitName}
 use Rattle.sdcv_base.specs.declared.limits.LimitName.TheVariants as limit
 use Rattle.net_model.specs.declared.claims.Claim.{Claim}
@@ -11,6 +11,7 @@ use Rattle.script_types.specs.declared.scripts.Command.{Command}
 use Rattle.script_types.specs.declared.scripts.Script.{Script}
 use Rattle.sdc_settings.specs.declared.faults.ExpandFault.{ExpandFault}
 use Rattle.sdc_settings.specs.declared.faults.ExpandFault.TheVariants.{Limit, Memory}
+use Rattle.exception_expand.specs.declared.claims.Judging.{Judging}
 use Rattle.exception_expand.specs.Selections.{Chosen, IsSelected, script_pairs, claim_of}
 use Rattle.exception_expand.specs.Pairs.{is_judged}
 
@@ -24,11 +25,11 @@ pub record HasMore {A : Type 0} (Holds : A → Type 0) (all : List A) (most : �
   pub more : most < length found
 
 -- more than so many of the claims need a verdict
-pub record HasMoreJudged (l : Linked) (script : Script) (hazard : Bool) (most : ℕ) : Type 0 where
+pub record HasMoreJudged (l : Linked) (script : Script) (judging : Judging) (most : ℕ) : Type 0 where
   pub chosen : List Chosen
   pub those : AreThose (IsSelected l script) (script_pairs l script) chosen
   pub claims : List Claim
-  pub claimed : map Some claims ≡ map (claim_of l script hazard) chosen
+  pub claimed : map Some claims ≡ map (claim_of l script judging) chosen
   pub more : most < count_by (is_judged l.design) claims
 
 -- a claiming command has more than four through sets
@@ -40,14 +41,14 @@ pub record HasManySets (script : Script) : Type 0 where
   pub more : 4 < length exception.through
 
 -- the count is above its limit; the number is the limit plus 1
-abbrev pub IsOverLimit : Linked → Script → Bool → LimitName → ℕ → Type 0
-IsOverLimit l script hazard limit.Through number = (number ≡ 5) × HasManySets script
-IsOverLimit l script hazard limit.Pairs number = (number ≡ 100001) × HasMore (IsSelected l script) (script_pairs l script) 100000
-IsOverLimit l script hazard limit.Judged number = (number ≡ 10001) × HasMoreJudged l script hazard 10000
-IsOverLimit l script hazard _ number = ⊥
+abbrev pub IsOverLimit : Linked → Script → Judging → LimitName → ℕ → Type 0
+IsOverLimit l script judging limit.Through number = (number ≡ 5) × HasManySets script
+IsOverLimit l script judging limit.Pairs number = (number ≡ 100001) × HasMore (IsSelected l script) (script_pairs l script) 100000
+IsOverLimit l script judging limit.Judged number = (number ≡ 10001) × HasMoreJudged l script judging 10000
+IsOverLimit l script judging _ number = ⊥
 
 -- the refusals of a selection
-abbrev pub IsExpandCause : Linked → Script → Bool → ExpandFault → Type 0
-IsExpandCause l script hazard (Limit what number) = IsOverLimit l script hazard what number
-IsExpandCause l script hazard Memory = Unit {0}
-IsExpandCause l script hazard _ = ⊥
+abbrev pub IsExpandCause : Linked → Script → Judging → ExpandFault → Type 0
+IsExpandCause l script judging (Limit what number) = IsOverLimit l script judging what number
+IsExpandCause l script judging Memory = Unit {0}
+IsExpandCause l script judging _ = ⊥

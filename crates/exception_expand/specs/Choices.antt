@@ -23,7 +23,7 @@ pub record ArePointsOf (d : Design) (p : Points) : Type 0 where
 
 -- the starts and the ends that an exception means, in the order of the design, and its through sets
 pub record AreListsOf (l : Linked) (script : Script) (e : Exception) (lists : Lists) : Type 0 where
-  pub starts : AreThose (IsFrom l script e.from) (all_starts l.design) lists.starts
+  pub starts : AreThose (IsFrom l script e.edge e.from) (all_starts l.design) lists.starts
   pub sets : lists.sets ≡ sets_of l script e
   pub ends : AreThose (IsTo l script e.to) (all_ends l.design) lists.ends
 

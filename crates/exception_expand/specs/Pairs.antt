@@ -3,7 +3,8 @@ use Rattle.std.specs.Prelude.{ℕ, Bool, true, not, ◌&&◌, ◌||◌, ◌==◌
 use Rattle.std.specs.List.{list_any}
 use Rattle.net_model.specs.Judge.{judged_count}
 use Rattle.sdcv_base.specs.declared.kinds.Kind.{Kind}
-use Rattle.sdcv_base.specs.declared.kinds.Edge.TheVariants.{Any}
+use Rattle.sdcv_base.specs.declared.kinds.Kind.TheVariants.{False, Multi}
+use Rattle.sdcv_base.specs.declared.kinds.Edge.{Edge}
 use Rattle.net_model.specs.Fits.{IsStartIn, IsEndIn}
 use Rattle.net_model.specs.Paths.{HasPath}
 use Rattle.net_model.specs.declared.netlist.Design.{Design}
@@ -13,6 +14,7 @@ use Rattle.net_model.specs.declared.claims.Start.TheVariants.{Reg as RegStart, I
 use Rattle.net_model.specs.declared.claims.End.{End}
 use Rattle.net_model.specs.declared.claims.PinRef.{PinRef}
 use Rattle.net_model.specs.declared.claims.Claim.{Claim}
+use Rattle.exception_expand.specs.declared.claims.Judging.{Judging}
 use Rattle.exception_expand.specs.declared.pairs.Pair.{Pair}
 
 abbrev pub pair : Start → End → Pair
@@ -30,9 +32,26 @@ pairs_between starts ends = flat_map (λ start. map (pair start) ends) starts
 abbrev pub IsConnected : Design → List (List PinRef) → Pair → Type 0
 IsConnected d sets p = HasPath d p.start p.end sets
 
--- a claim of a pair, of each edge and without lag, by what the claims of an exception have in common
-abbrev pub claim_with : Kind → Bool → List (List PinRef) → Pair → Claim
-claim_with kind hazard sets p = record { kind = kind; edge = Any; lag = 0; hazard = hazard; start = p.start; end = p.end; through = sets }
+-- claims are judged with hazards or without, and false paths over this lag
+abbrev pub judging_by : Bool → ℕ → Judging
+judging_by hazard lag = record { hazard = hazard; lag = lag }
+
+-- the lag of a claim of this kind: a multicycle path has none
+abbrev pub lag_for : Kind → ℕ → ℕ
+lag_for False lag = lag
+lag_for (Multi k) lag = 0
+
+-- a claim of a pair, by what the claims of an exception have in common
+abbrev pub claim_with : Kind → Edge → Judging → List (List PinRef) → Pair → Claim
+claim_with kind edge judging sets p = record {
+  kind = kind;
+  edge = edge;
+  lag = lag_for kind judging.lag;
+  hazard = judging.hazard;
+  start = p.start;
+  end = p.end;
+  through = sets;
+}
 
 -- the input is one of those that have a value
 abbrev pub is_set : ℕ → List Fixed → Bool

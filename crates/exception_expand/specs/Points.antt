@@ -1,6 +1,7 @@
 -- The starts and the ends of a design in its order, and those that an exception means.
 use Rattle.std.specs.Prelude.{◌≡◌, ℕ, ◌+◌, nat_lt, Bool, true, false, if◌then◌else◌, ◌↔◌, List, [], ◌∷◌, ◌++◌, length, Contains}
 use Rattle.std.specs.Prelude.{Option, Some, None, slice_get, slice_index_or}
+use Rattle.sdcv_base.specs.declared.kinds.Edge.{Edge}
 use Rattle.net_model.specs.declared.netlist.Design.{Design}
 use Rattle.net_model.specs.declared.claims.Start.{Start}
 use Rattle.net_model.specs.declared.claims.Start.TheVariants.{Input as InputStart}
@@ -36,9 +37,9 @@ abbrev pub IsMeant : {A : Type 0} → (List Object → List A) → Option (List 
 IsMeant of None x = Unit {0}
 IsMeant of (Some objects) x = Contains (of objects) x
 
--- the start is one of those after `-from`
-abbrev pub IsFrom : Linked → Script → Option (List Object) → Start → Type 0
-IsFrom l script from start = IsMeant (starts_of l script) from start
+-- the start is one of those after the option of this edge: `-from`, `-rise_from` or `-fall_from`
+abbrev pub IsFrom : Linked → Script → Edge → Option (List Object) → Start → Type 0
+IsFrom l script edge from start = IsMeant (starts_of edge l script) from start
 
 -- the end is one of those after `-to`
 abbrev pub IsTo : Linked → Script → Option (List Object) → End → Type 0

@@ -1,5 +1,5 @@
 -- What the commands before a place select, and what one command adds.
-use Rattle.std.specs.Prelude.{◌≡◌, ℕ, Bool, ◌-◌, ◌≤◌, ◌++◌, List, map, take, length, All, Some}
+use Rattle.std.specs.Prelude.{◌≡◌, ℕ, ◌-◌, ◌≤◌, ◌++◌, List, map, take, length, All, Some}
 use Rattle.net_model.specs.Netlist.{IsSound}
 use Rattle.net_paths.specs.Those.{AreThose}
 use Rattle.link_defs.specs.declared.names.Linked.{Linked}
@@ -11,6 +11,7 @@ use Rattle.script_types.specs.declared.scripts.Command.{Command}
 use Rattle.script_types.specs.declared.scripts.Script.{Script}
 use Rattle.sdc_objects.specs.Places.{each_at}
 use Rattle.sdc_objects.specs.Tables.{IsTablesOf}
+use Rattle.exception_expand.specs.declared.claims.Judging.{Judging}
 use Rattle.exception_expand.specs.declared.pairs.Pair.{Pair}
 use Rattle.exception_expand.specs.declared.selections.Selected.{Selected}
 use Rattle.exception_expand.specs.declared.tasks.Task.{Task}
@@ -26,23 +27,23 @@ pub record IsTask (t : Task) : Type 0 where
   pub cells : AreRegCells t.scope.linked.now t.cells.now
 
 -- exactly what the commands before a place select
-pub record IsUpTo (l : Linked) (script : Script) (hazard : Bool) (k : ℕ) (s : Selected) : Type 0 where
+pub record IsUpTo (l : Linked) (script : Script) (judging : Judging) (k : ℕ) (s : Selected) : Type 0 where
   pub chosen : List spec.Chosen
   pub those : AreThose (spec.IsSelected l script) (each_at (spec.pairs_at l.design) 0 (take k script.commands)) chosen
   pub none_after : (place : ℕ) → k ≤ place → spec.count_at chosen place ≡ 0
   pub pairs : s.pairs ≡ map (spec.line_of l script) chosen
-  pub claims : map Some s.claims ≡ map (spec.claim_of l script hazard) chosen
+  pub claims : map Some s.claims ≡ map (spec.claim_of l script judging) chosen
   pub commands : s.commands ≡ each_at (spec.lines_at l script chosen) 0 (take k script.commands)
   pub sets : All (λ (c : Command). spec.HasFewSets c.what) (take k script.commands)
   pub few : length s.claims ≤ 100000
 
 -- exactly what one command selects is added
-pub record Adds (l : Linked) (script : Script) (hazard : Bool) (line : ℕ) (what : What) (old new : Selected) : Type 0 where
+pub record Adds (l : Linked) (script : Script) (judging : Judging) (line : ℕ) (what : What) (old new : Selected) : Type 0 where
   pub more : List Pair
   pub those : AreThose (spec.SelectsBy l script what) (spec.all_pairs l.design) more
   pub commands : new.commands ≡ old.commands ++ spec.lines_by l script (length more) line what
   pub pairs : new.pairs ≡ old.pairs ++ map (spec.pair_line l (length new.commands)) more
-  pub claims : map Some new.claims ≡ map Some old.claims ++ map (λ p. spec.claim_by l script hazard p what) more
+  pub claims : map Some new.claims ≡ map Some old.claims ++ map (λ p. spec.claim_by l script judging p what) more
   pub sets : spec.HasFewSets what
   pub few : length new.claims ≤ 100000
 

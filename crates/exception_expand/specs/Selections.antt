@@ -17,6 +17,7 @@ use Rattle.sdc_objects.specs.declared.warnings.Warning.{Warning}
 use Rattle.sdc_objects.specs.declared.things.Place.TheVariants.{From, To, Through}
 use Rattle.sdc_objects.specs.Places.{each_at}
 use Rattle.sdc_objects.specs.Standing.{pins_of, warnings, from_column, to_column, through_column}
+use Rattle.exception_expand.specs.declared.claims.Judging.{Judging}
 use Rattle.exception_expand.specs.declared.selections.Listing.{Listing}
 use Rattle.exception_expand.specs.declared.selections.Listing.TheVariants.{Claiming as ListsClaims, Hold as ListsHold, Aside as ListsAside}
 use Rattle.exception_expand.specs.declared.selections.CommandLine.{CommandLine}
@@ -38,7 +39,7 @@ sets_of l script e = map (pins_of l script) e.through
 -- the exception selects the pair: it has the start and the end in its lists, and a path leads from one to the other
 -- through its sets in their order (SDC 2.1, set_false_path and set_multicycle_path)
 abbrev pub Selects : Linked → Script → Exception → Pair → Type 0
-Selects l script e p = (IsFrom l script e.from p.start × IsTo l script e.to p.end) × HasPath l.design p.start p.end (sets_of l script e)
+Selects l script e p = (IsFrom l script e.edge e.from p.start × IsTo l script e.to p.end) × HasPath l.design p.start p.end (sets_of l script e)
 
 -- the same of a command, which selects nothing where it claims nothing
 abbrev pub SelectsBy : Linked → Script → What → Pair → Type 0
@@ -82,25 +83,25 @@ abbrev pub line_of : Linked → Script → Chosen → PairLine
 line_of l script x = pair_line l (number_of script x.command) x.pair
 
 -- what an exception claims of a pair
-abbrev pub claim : Linked → Script → Bool → Exception → Pair → Claim
-claim l script hazard e p = claim_with e.kind hazard (sets_of l script e) p
+abbrev pub claim : Linked → Script → Judging → Exception → Pair → Claim
+claim l script judging e p = claim_with e.kind e.edge judging (sets_of l script e) p
 
-abbrev pub claim_by : Linked → Script → Bool → Pair → What → Option Claim
-claim_by l script hazard p (Claiming e) = Some (claim l script hazard e p)
-claim_by l script hazard p _ = None
+abbrev pub claim_by : Linked → Script → Judging → Pair → What → Option Claim
+claim_by l script judging p (Claiming e) = Some (claim l script judging e p)
+claim_by l script judging p _ = None
 
-abbrev pub claim_at : Linked → Script → Bool → Pair → Option Command → Option Claim
-claim_at l script hazard p None = None
-claim_at l script hazard p (Some c) = claim_by l script hazard p c.what
+abbrev pub claim_at : Linked → Script → Judging → Pair → Option Command → Option Claim
+claim_at l script judging p None = None
+claim_at l script judging p (Some c) = claim_by l script judging p c.what
 
 -- what the command at its place claims of a pair
-abbrev pub claim_of : Linked → Script → Bool → Chosen → Option Claim
-claim_of l script hazard x = claim_at l script hazard x.pair (slice_get script.commands x.command)
+abbrev pub claim_of : Linked → Script → Judging → Chosen → Option Claim
+claim_of l script judging x = claim_at l script judging x.pair (slice_get script.commands x.command)
 
--- the warnings of the objects of an exception: those after `-from`, after each `-through`, and after `-to`
+-- the warnings of the objects of an exception: those after `-from` or the like, after each `-through`, and after `-to`
 abbrev pub exception_warnings : Linked → Script → Exception → List Warning
 exception_warnings l script e =
-    warnings from_column l script From (given e.from) ++ flat_map (warnings through_column l script Through) e.through
+    warnings (from_column e.edge) l script From (given e.from) ++ flat_map (warnings through_column l script Through) e.through
     ++ warnings to_column l script To (given e.to)
 
 abbrev pub command_line : ℕ → Listing → List Warning → CommandLine
@@ -108,7 +109,7 @@ command_line line listing told = record { line = line; listing = listing; warnin
 
 -- an exception as it is listed, a claiming one with the number of its pairs; no other command is listed
 abbrev pub lines_by : Linked → Script → ℕ → ℕ → What → List CommandLine
-lines_by l script count line (Claiming e) = command_line line (ListsClaims e.kind count) (exception_warnings l script e) ∷ []
+lines_by l script count line (Claiming e) = command_line line (ListsClaims e.kind e.edge count) (exception_warnings l script e) ∷ []
 lines_by l script count line Hold = command_line line ListsHold [] ∷ []
 lines_by l script count line (Aside option) = command_line line (ListsAside option) [] ∷ []
 lines_by l script count line _ = []
@@ -135,11 +136,11 @@ HasMultipliers script = All (λ (c : Command). HasMultiplier c.what) script.comm
 
 -- exactly the selected pairs, command by command, by start and then by end, within the limits; each with a claim that fits
 -- the design
-pub record IsSelectionOf (l : Linked) (script : Script) (hazard : Bool) (s : Selected) : Type 0 where
+pub record IsSelectionOf (l : Linked) (script : Script) (judging : Judging) (s : Selected) : Type 0 where
   pub chosen : List Chosen
   pub those : AreThose (IsSelected l script) (script_pairs l script) chosen
   pub pairs : s.pairs ≡ map (line_of l script) chosen
-  pub claims : map Some s.claims ≡ map (claim_of l script hazard) chosen
+  pub claims : map Some s.claims ≡ map (claim_of l script judging) chosen
   pub commands : s.commands ≡ each_at (lines_at l script chosen) 0 script.commands
   pub sets : All (λ (c : Command). HasFewSets c.what) script.commands
   pub few : length chosen ≤ 100000

@@ -1,17 +1,27 @@
-//! The claims of an exception.
+//! How claims are judged, and the claims of an exception.
 ghost use Rattle.std.specs.Prelude.{◌≡◌, ◌++◌, IfOk, OnOk, map};
 ghost use Rattle.exception_expand.specs.Pairs.{claim_with};
+ghost use Rattle.exception_expand.specs.Pairs as spec;
 
 use crate::pairs::Pair;
 use net_model::{Claim, Edge, Kind, PinSet};
 use sdcv_base::Seq;
 use std::alloc::{AllocError, Global};
 
+/// How the claims of a script are judged: whether they allow no glitch either, and for how many captures, 0 to 8, each
+/// false path is judged after the first.
+#[derive(Clone, Copy, Debug, PartialEq, Eq)]
+pub struct Judging {
+    pub hazard: bool,
+    pub lag: u8,
+}
+
 /// What the claims of one exception have in common.
 #[derive(Clone, Copy)]
 pub(crate) struct Terms<'a> {
     pub kind: Kind,
-    pub hazard: bool,
+    pub edge: Edge,
+    pub judging: Judging,
     pub sets: &'a Seq<PinSet>,
 }
 
@@ -22,7 +32,7 @@ pub(crate) fn push_claims(
     pairs: &Seq<Pair>,
     claims: &mut Seq<Claim>,
 ) -> Result<(), AllocError>
-    ensures { OnOk result (claims.new ≡ claims.old ++ map (claim_with terms.now.kind terms.now.hazard terms.now.sets.now) pairs.now) }
+    ensures { OnOk result (claims.new ≡ claims.old ++ map (claim_with terms.now.kind terms.now.edge terms.now.judging terms.now.sets.now) pairs.now) }
 {
     for k in 0..pairs.len() {
         claims.push(claim_of(alloc, terms, pairs.at(k))?)?;
@@ -31,17 +41,27 @@ pub(crate) fn push_claims(
 }
 
 fn claim_of(alloc: Global, terms: &Terms, pair: Pair) -> Result<Claim, AllocError>
-    ensures { IfOk result (λ claim. claim ≡ claim_with terms.now.kind terms.now.hazard terms.now.sets.now pair) }
+    ensures { IfOk result (λ claim. claim ≡ claim_with terms.now.kind terms.now.edge terms.now.judging terms.now.sets.now pair) }
 {
     Ok(Claim {
         kind: terms.kind,
-        edge: Edge::Any,
-        lag: 0,
-        hazard: terms.hazard,
+        edge: terms.edge,
+        lag: lag_for(terms.kind, terms.judging.lag),
+        hazard: terms.judging.hazard,
         start: pair.start,
         end: pair.end,
         through: copied(alloc, terms.sets)?,
     })
+}
+
+// A multicycle path has no lag.
+fn lag_for(kind: Kind, lag: u8) -> u8
+    ensures { result ≡ spec.lag_for kind lag }
+{
+    match kind {
+        Kind::False => lag,
+        Kind::Multi(_) => 0,
+    }
 }
 
 fn copied(alloc: Global, sets: &Seq<PinSet>) -> Result<Seq<PinSet>, AllocError>

@@ -19,7 +19,7 @@ use net_model::Design;
 use net_paths::Search;
 use script_types::{Command, Exception, What};
 use sdc_settings::ExpandFault;
-use sdcv_base::{Kind, Seq};
+use sdcv_base::Seq;
 use std::alloc::{AllocError, Global};
 
 /// What the commands before a place select, and room for the next search.
@@ -32,8 +32,8 @@ pub(crate) struct Progress {
 /// What all commands of a script select, however many claims need a verdict.
 pub(crate) fn all_selected(alloc: Global, task: &Task) -> Result<Selected, ExpandFault>
     requires { IsTask task.now }
-    ensures ok { IfOk result (IsUpTo task.now.scope.linked.now task.now.scope.script.now task.now.hazard (length task.now.scope.script.now.commands)) }
-    ensures err { IfErr result (IsExpandCause task.now.scope.linked.now task.now.scope.script.now task.now.hazard) }
+    ensures ok { IfOk result (IsUpTo task.now.scope.linked.now task.now.scope.script.now task.now.judging (length task.now.scope.script.now.commands)) }
+    ensures err { IfErr result (IsExpandCause task.now.scope.linked.now task.now.scope.script.now task.now.judging) }
 {
     let mut progress = Progress::new(alloc, &task.scope.linked.design)?;
     for k in 0..task.scope.script.commands.len() {
@@ -70,10 +70,10 @@ impl Progress {
         requires task { IsTask task.now }
         requires here { k < length task.now.scope.script.now.commands }
         requires search { IsSearchOf task.now.scope.linked.now.design self.old.search }
-        requires before { IsUpTo task.now.scope.linked.now task.now.scope.script.now task.now.hazard k self.old.selected }
+        requires before { IsUpTo task.now.scope.linked.now task.now.scope.script.now task.now.judging k self.old.selected }
         ensures search { IsSearchOf task.now.scope.linked.now.design self.new.search }
-        ensures ok { OnOk result (IsUpTo task.now.scope.linked.now task.now.scope.script.now task.now.hazard (k + 1) self.new.selected) }
-        ensures err { IfErr result (IsExpandCause task.now.scope.linked.now task.now.scope.script.now task.now.hazard) }
+        ensures ok { OnOk result (IsUpTo task.now.scope.linked.now task.now.scope.script.now task.now.judging (k + 1) self.new.selected) }
+        ensures err { IfErr result (IsExpandCause task.now.scope.linked.now task.now.scope.script.now task.now.judging) }
     {
         let command = task.scope.script.commands.item(k);
         self.add_what(alloc, task, command.line, &command.what)
@@ -91,7 +91,7 @@ impl Progress {
         requires few { length self.old.selected.claims ≤ 100000 }
         ensures search { IsSearchOf task.now.scope.linked.now.design self.new.search }
         ensures ok { OnOk result
-            (Adds task.now.scope.linked.now task.now.scope.script.now task.now.hazard line what.now self.old.selected self.new.selected) }
+            (Adds task.now.scope.linked.now task.now.scope.script.now task.now.judging line what.now self.old.selected self.new.selected) }
         ensures err { IfErr result (IsWhatCause task.now.scope.linked.now task.now.scope.script.now (length self.old.selected.claims) what.now) }
     {
         match what {
@@ -121,7 +121,7 @@ impl Progress {
         requires search { IsSearchOf task.now.scope.linked.now.design self.old.search }
         requires few { length self.old.selected.claims ≤ 100000 }
         ensures search { IsSearchOf task.now.scope.linked.now.design self.new.search }
-        ensures ok { OnOk result (Adds task.now.scope.linked.now task.now.scope.script.now task.now.hazard line
+        ensures ok { OnOk result (Adds task.now.scope.linked.now task.now.scope.script.now task.now.judging line
             (whats.Claiming exception.now) self.old.selected self.new.selected) }
         ensures err { IfErr result (IsWhatCause task.now.scope.linked.now task.now.scope.script.now (length self.old.selected.claims)
             (whats.Claiming exception.now)) }
@@ -137,7 +137,7 @@ impl Progress {
         )?;
         Ok(
             self.selected
-                .add_choice(alloc, task, line, exception.kind, choice)?,
+                .add_choice(alloc, task, line, exception, choice)?,
         )
     }
 }
@@ -164,23 +164,25 @@ impl Selected {
         alloc: Global,
         task: &Task,
         line: u64,
-        kind: Kind,
+        exception: &Exception,
         choice: Choice,
     ) -> Result<(), AllocError>
         requires task { IsTask task.now }
         requires pairs { All (IsPairIn task.now.scope.linked.now.design) choice.pairs }
         ensures commands { OnOk result (self.new.commands ≡ self.old.commands
-            ++ spec.command_line line (listings.Claiming kind (length choice.pairs)) choice.warnings ∷ []) }
+            ++ spec.command_line line (listings.Claiming exception.now.kind exception.now.edge (length choice.pairs)) choice.warnings ∷ []) }
         ensures pairs { OnOk result (self.new.pairs ≡ self.old.pairs
             ++ map (spec.pair_line task.now.scope.linked.now (length self.new.commands)) choice.pairs) }
-        ensures claims { OnOk result (self.new.claims ≡ self.old.claims ++ map (claim_with kind task.now.hazard choice.sets) choice.pairs) }
+        ensures claims { OnOk result (self.new.claims ≡ self.old.claims
+            ++ map (claim_with exception.now.kind exception.now.edge task.now.judging choice.sets) choice.pairs) }
     {
         let Choice {
             pairs,
             sets,
             warnings,
         } = choice;
-        let listing = Listing::Claiming(kind, pairs.len() as u64);
+        let (kind, edge) = (exception.kind, exception.edge);
+        let listing = Listing::Claiming(kind, edge, pairs.len() as u64);
         self.commands.push(CommandLine {
             line,
             listing,
@@ -194,7 +196,8 @@ impl Selected {
         push_lines(alloc, &names, number, &pairs, &mut self.pairs)?;
         let terms = Terms {
             kind,
-            hazard: task.hazard,
+            edge,
+            judging: task.judging,
             sets: &sets,
         };
         push_claims(alloc, &terms, &pairs, &mut self.claims)

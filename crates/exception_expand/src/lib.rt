@@ -24,6 +24,7 @@ mod sets;
 mod tasks;
 
 pub use choices::{Choice, choose};
+pub use claims::Judging;
 pub use limits::{MOST_JUDGED, MOST_PAIRS};
 pub use lists::{Lists, lists_of};
 pub use pairs::Pair;

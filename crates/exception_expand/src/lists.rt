@@ -8,7 +8,7 @@ ghost use Rattle.exception_expand.specs.Selections.{exception_warnings};
 use crate::marks::wanted;
 use crate::points::Points;
 use crate::sets::pin_sets;
-use net_model::{End, PinSet, Start};
+use net_model::{Edge, End, PinSet, Start};
 use script_types::Exception;
 use sdc_objects::{Scope, Warning};
 use sdcv_base::Seq;
@@ -22,7 +22,7 @@ pub struct Lists {
     pub ends: Seq<End>,
 }
 
-/// The lists of an exception. Adds the warnings of its objects, those after `-from` first, and those after `-to` last.
+/// The lists of an exception. Adds the warnings of its objects, those after `-from` or the like first, and those after `-to` last.
 pub fn lists_of(
     alloc: Global,
     scope: &Scope,
@@ -36,8 +36,22 @@ pub fn lists_of(
     ensures lists { IfOk result (AreListsOf scope.now.linked.now scope.now.script.now exception.now) }
     ensures warnings { OnOk result (warnings.new ≡ warnings.old ++ exception_warnings scope.now.linked.now scope.now.script.now exception.now) }
 {
-    let starts = wanted(alloc, scope, &points.starts, &exception.from, warnings)?;
+    let starts = wanted(
+        alloc,
+        scope,
+        exception.edge,
+        &points.starts,
+        &exception.from,
+        warnings,
+    )?;
     let sets = pin_sets(alloc, scope, &exception.through, warnings)?;
-    let ends = wanted(alloc, scope, &points.ends, &exception.to, warnings)?;
+    let ends = wanted(
+        alloc,
+        scope,
+        Edge::Any,
+        &points.ends,
+        &exception.to,
+        warnings,
+    )?;
     Ok(Lists { starts, sets, ends })
 }

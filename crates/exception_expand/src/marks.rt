@@ -7,17 +7,18 @@ ghost use Rattle.sdc_objects.specs.Standing as standing;
 ghost use Rattle.exception_expand.specs.Points as spec;
 
 use crate::points::Listed;
-use net_model::Design;
+use net_model::{Design, Edge};
 use script_types::Object;
 use sdc_objects::{Scope, Warning, meant};
 use sdcv_base::Seq;
 use std::alloc::{AllocError, Global};
 
-/// Those of all starts or ends, in the order of the design, that these objects stand for; all of them where no objects are
+/// Those of all starts or ends, in the order of the design, that these objects stand for after an option of this edge; all of them where no objects are
 /// given. Adds the warnings of the objects.
 pub(crate) fn wanted<T: Listed>(
     alloc: Global,
     scope: &Scope,
+    edge: Edge,
     all: &Seq<T>,
     objects: &Option<Seq<Object>>,
     warnings: &mut Seq<Warning>,
@@ -26,12 +27,12 @@ pub(crate) fn wanted<T: Listed>(
     requires tables { IsTablesOf scope.now.linked.now scope.now.tables.now }
     requires all { all.now ≡ T.all scope.now.linked.now.design }
     ensures those { IfOk result (AreThose
-        (spec.IsMeant (standing.meant T.column scope.now.linked.now scope.now.script.now T.at) objects.now) (T.all scope.now.linked.now.design)) }
+        (spec.IsMeant (standing.meant (T.column edge) scope.now.linked.now scope.now.script.now T.at) objects.now) (T.all scope.now.linked.now.design)) }
     ensures warnings { OnOk result (warnings.new ≡ warnings.old ++
-        standing.warnings T.column scope.now.linked.now scope.now.script.now T.at (spec.given objects.now)) }
+        standing.warnings (T.column edge) scope.now.linked.now scope.now.script.now T.at (spec.given objects.now)) }
 {
     match objects {
-        Some(objects) => listed(alloc, scope, all, objects, warnings),
+        Some(objects) => listed(alloc, scope, edge, all, objects, warnings),
         None => all.copy(alloc),
     }
 }
@@ -39,6 +40,7 @@ pub(crate) fn wanted<T: Listed>(
 fn listed<T: Listed>(
     alloc: Global,
     scope: &Scope,
+    edge: Edge,
     all: &Seq<T>,
     objects: &Seq<Object>,
     warnings: &mut Seq<Warning>,
@@ -47,11 +49,11 @@ fn listed<T: Listed>(
     requires tables { IsTablesOf scope.now.linked.now scope.now.tables.now }
     requires all { all.now ≡ T.all scope.now.linked.now.design }
     ensures those { IfOk result (AreThose
-        (Contains (standing.meant T.column scope.now.linked.now scope.now.script.now T.at objects.now)) (T.all scope.now.linked.now.design)) }
+        (Contains (standing.meant (T.column edge) scope.now.linked.now scope.now.script.now T.at objects.now)) (T.all scope.now.linked.now.design)) }
     ensures warnings { OnOk result (warnings.new ≡ warnings.old ++
-        standing.warnings T.column scope.now.linked.now scope.now.script.now T.at objects.now) }
+        standing.warnings (T.column edge) scope.now.linked.now scope.now.script.now T.at objects.now) }
 {
-    let items = meant::<T>(alloc, scope, objects, warnings)?;
+    let items = meant::<T>(alloc, scope, edge, objects, warnings)?;
     among(alloc, &scope.linked.design, all, &items)
 }
 

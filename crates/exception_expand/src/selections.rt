@@ -1,18 +1,18 @@
 //! Selections as callers see them.
 use net_model::Claim;
 use sdc_objects::Warning;
-use sdcv_base::{Kind, Name, Seq};
+use sdcv_base::{Edge, Kind, Name, Seq};
 
-/// What an exception does: it claims something of so many pairs, or it is a `-hold` command, or this option, which it has,
+/// What an exception does: it claims something of so many pairs, at these changes of their starts, or it is a `-hold` command, or this option, which it has,
 /// sets it aside.
 #[derive(Debug, Drop)]
 pub enum Listing {
-    Claiming(Kind, u64),
+    Claiming(Kind, Edge, u64),
     Hold,
     Aside(Name),
 }
 
-/// An exception, the line of its first byte, from 1, and the warnings of its objects: those after `-from`, after each
+/// An exception, the line of its first byte, from 1, and the warnings of its objects: those after `-from` or the like, after each
 /// `-through`, and after `-to`.
 #[derive(Debug, Drop)]
 pub struct CommandLine {

@@ -4,7 +4,7 @@ ghost use Rattle.sdc_objects.specs.Tables.{IsTablesOf};
 ghost use Rattle.sdc_objects.specs.Standing.{pins_of, through_column, warnings as warnings_of};
 ghost use Rattle.sdc_objects.specs.declared.things.Place.TheVariants as places;
 
-use net_model::{PinRef, PinSet};
+use net_model::{Edge, PinRef, PinSet};
 use script_types::Object;
 use sdc_objects::{Scope, Warning, meant};
 use sdcv_base::Seq;
@@ -40,6 +40,6 @@ fn pin_set(
     ensures warnings { OnOk result (warnings.new ≡ warnings.old ++
         warnings_of through_column scope.now.linked.now scope.now.script.now places.Through objects.now) }
 {
-    let pins = meant::<PinRef>(alloc, scope, objects, warnings)?;
+    let pins = meant::<PinRef>(alloc, scope, Edge::Any, objects, warnings)?;
     PinSet::of(alloc, pins.as_slice())
 }

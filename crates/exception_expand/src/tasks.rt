@@ -1,14 +1,15 @@
 //! Where exceptions are looked up.
+use crate::claims::Judging;
 use crate::points::Points;
 use sdc_objects::Scope;
 use sdcv_base::Seq;
 
 /// A script and its linked design with tables of its names, the design's starts and ends, the places of the cells of its
-/// registers, and whether claims allow no glitch.
+/// registers, and how claims are judged.
 #[derive(Clone, Copy)]
 pub(crate) struct Task<'a> {
     pub scope: Scope<'a>,
     pub points: &'a Points,
     pub cells: &'a Seq<Option<usize>>,
-    pub hazard: bool,
+    pub judging: Judging,
 }

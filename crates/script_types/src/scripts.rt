@@ -1,12 +1,15 @@
 //! Scripts as callers see them.
 
 use crate::objects::Object;
-use sdcv_base::{Kind, Name, Seq};
+use sdcv_base::{Edge, Kind, Name, Seq};
 
-/// A timing exception, with a list of objects for each `-through` in its order.
+/// A timing exception (SDC 2.1, `set_false_path` and `set_multicycle_path`), with a list of objects for each `-through` in
+/// its order. `from` is the list after `-from`, `-rise_from` or `-fall_from`, and `edge` says which of the three it was; without
+/// any of them it is `Any`.
 #[derive(Debug, Drop)]
 pub struct Exception {
     pub kind: Kind,
+    pub edge: Edge,
     pub from: Option<Seq<Object>>,
     pub through: Seq<Seq<Object>>,
     pub to: Option<Seq<Object>>,

@@ -1,9 +1,8 @@
 -- What is made of a list item by item.
 use Rattle.std.proofs.Common.{arith, ◌≡◌, ◌≢◌, ◌∙◌, ℕ, zero, suc, ◌+◌, ◌<◌, ◌≤◌, List, [], ◌∷◌, ◌++◌, length, take, drop, get_or, map, flat_map, Bool, refl}
 use Rattle.std.proofs.Common.{sym, ap, subst, append-nil, append_assoc, drop-cons}
-use Rattle.std.specs.Prelude.{Option, Some, slice_get, All}
+use Rattle.std.specs.Prelude.{Some, slice_get}
 use Rattle.std.proofs.lemmas.List.{take_more, take_all, length-take, map-append}
-use Rattle.std.proofs.lemmas.List.Elements.{All-append}
 use Rattle.std.proofs.lemmas.Option.{slice_get_within, get_or_from_slice_get}
 use Rattle.std.proofs.lemmas.Grind.{flat_map-append}
 use Rattle.sdc_objects.specs.Places.{each_at, where_true}

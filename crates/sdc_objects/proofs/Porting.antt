@@ -1,12 +1,11 @@
 -- Patterns that name no port.
-use Rattle.std.proofs.Common.{◌≡◌, ◌∙◌, ◌⊎◌, inl, inr, ℕ, ◌+◌, Bool, true, false, ◌||◌, List, [], ◌∷◌, ◌++◌, flat_map, refl, sym, ap}
+use Rattle.std.proofs.Common.{◌≡◌, ◌∙◌, inl, inr, ℕ, ◌+◌, true, false, ◌||◌, List, [], ◌∷◌, ◌++◌, flat_map, refl, sym}
 use Rattle.std.specs.Prelude.{Option, Some, None}
 use Rattle.std.specs.List.{list_any}
 use Rattle.std.specs.Str.{bytes_eq}
 use Rattle.std.proofs.lemmas.Bool.{cases_Bool, or_parts}
 use Rattle.std.proofs.lemmas.List.Folds.{list_any-append}
 use Rattle.std.proofs.lemmas.Slice.Eq.{bytes_eq-Decides}
-use Rattle.glob.specs.Match.{matches}
 use Rattle.texts.specs.Names.{is_among, each_once}
 use Rattle.texts.proofs.NameLemmas.{is_among-with_names}
 use Rattle.glob.specs.Indexes.{IsExact}

@@ -1,9 +1,12 @@
 -- What each thing stands for in each place of an exception.
-use Rattle.std.specs.Prelude.{ℕ, Bool, true, false, ◌&&◌, ◌==◌, if◌then◌else◌, List, [], ◌∷◌, ◌++◌, map, flat_map, length}
+use Rattle.std.specs.Prelude.{ℕ, Bool, true, false, ◌&&◌, ◌==◌, if◌then◌else◌, List, [], ◌∷◌, map, flat_map, length}
 use Rattle.std.specs.Prelude.{Option, Some, None, slice_get, slice_index, count_by}
-use Rattle.std.specs.List.{list_all}
+use Rattle.std.specs.List.{list_all, list_any}
+use Rattle.sdcv_base.specs.declared.kinds.Edge.{Edge}
+use Rattle.sdcv_base.specs.declared.kinds.Edge.TheVariants as edges
 use Rattle.net_model.specs.declared.netlist.Design.{Design}
 use Rattle.net_model.specs.declared.netlist.Reg.{Reg}
+use Rattle.net_model.specs.declared.netlist.RegOut.{RegOut}
 use Rattle.net_model.specs.declared.claims.Start.{Start}
 use Rattle.net_model.specs.declared.claims.Start.TheVariants.{Reg as RegStart, Input as InputStart}
 use Rattle.net_model.specs.declared.claims.End.{End}
@@ -24,7 +27,7 @@ use Rattle.sdc_objects.specs.declared.things.Place.{Place}
 use Rattle.sdc_objects.specs.declared.things.Place.TheVariants.{From, To, Through}
 use Rattle.sdc_objects.specs.declared.warnings.Warning.{Warning}
 use Rattle.sdc_objects.specs.declared.warnings.Warning.TheVariants.{Nothing, Dropped}
-use Rattle.sdc_objects.specs.Places.{each_at, option_list}
+use Rattle.sdc_objects.specs.Places.{each_at}
 use Rattle.sdc_objects.specs.Things.{things_of}
 
 -- a row of the table: what a thing stands for in each place; None where it is dropped there
@@ -103,6 +106,40 @@ stands l (thing.Net n) = row dropped dropped (one (NetPin n))
 stands l (thing.Clock true) = row (Some (all_reg_starts l.design)) (Some (all_reg_ends l.design)) dropped
 stands l (thing.Clock false) = row (Some []) (Some []) (Some [])
 
+-- one of a register's outputs shows the complement of the register's bit on the net
+abbrev pub has_inverted : List RegOut → ℕ → Bool
+has_inverted outs net = list_any (λ (o : RegOut). o.net == net && o.inverted) outs
+
+-- the register shows the complement of its bit on the net
+abbrev pub inverts : Option Reg → ℕ → Bool
+inverts None net = false
+inverts (Some reg) net = has_inverted reg.outs net
+
+abbrev pub is_inverted : Design → Option ℕ → ℕ → Bool
+is_inverted d None net = false
+is_inverted d (Some r) net = inverts (slice_get d.regs r) net
+
+-- an edge is that of the register's own bit (SDC 2.1, -rise_from and -fall_from): after these options a pin that is the
+-- register's clock or shows its complement is dropped
+abbrev pub edge_pin : Design → Option ℕ → PinRole → Option (List Start)
+edge_pin d reg ClockRole = dropped
+edge_pin d reg (Drive net) = if is_inverted d reg net then dropped else reg_start reg
+edge_pin d reg (Load pins) = dropped
+
+abbrev pub edge_role : Design → Option ℕ → Option PinName → Option (List Start)
+edge_role d reg None = dropped
+edge_role d reg (Some p) = edge_pin d reg p.role
+
+abbrev pub edge_pin_at : Design → Option CellName → ℕ → Option (List Start)
+edge_pin_at d None place = dropped
+edge_pin_at d (Some c) place = edge_role d c.reg (slice_get c.pins place)
+
+-- what a thing stands for after them: a clock with a source is dropped too, and all else is as after -from
+abbrev pub edge_column : Linked → Thing → Option (List Start)
+edge_column l (thing.Pin k place) = edge_pin_at l.design (slice_get l.names.cells k) place
+edge_column l (thing.Clock true) = dropped
+edge_column l t = (stands l t).from
+
 -- what a thing gives in a column
 abbrev pub meant_by : {A : Type 0} → Option (List A) → List A
 meant_by None = []
@@ -136,9 +173,11 @@ warnings_of column l script place o = warning (object_text o) (things_of l scrip
 abbrev pub warnings : {A : Type 0} → (Linked → Thing → Option (List A)) → Linked → Script → Place → List Object → List Warning
 warnings column l script place objects = flat_map (warnings_of column l script place) objects
 
--- the three columns by their places
-abbrev pub from_column : Linked → Thing → Option (List Start)
-from_column l t = (stands l t).from
+-- the three columns by their places; that of the starts by the edge of its option
+abbrev pub from_column : Edge → Linked → Thing → Option (List Start)
+from_column edges.Any l t = (stands l t).from
+from_column edges.Rise l t = edge_column l t
+from_column edges.Fall l t = edge_column l t
 
 abbrev pub to_column : Linked → Thing → Option (List End)
 to_column l t = (stands l t).to
@@ -146,8 +185,8 @@ to_column l t = (stands l t).to
 abbrev pub through_column : Linked → Thing → Option (List PinRef)
 through_column l t = (stands l t).through
 
-abbrev pub starts_of : Linked → Script → List Object → List Start
-starts_of l script = meant from_column l script From
+abbrev pub starts_of : Edge → Linked → Script → List Object → List Start
+starts_of edge l script = meant (from_column edge) l script From
 
 abbrev pub ends_of : Linked → Script → List Object → List End
 ends_of l script = meant to_column l script To

@@ -13,7 +13,6 @@ use Rattle.script_types.specs.declared.objects.Class.TheVariants as class
 use Rattle.script_types.specs.declared.objects.Query.{Query}
 use Rattle.script_types.specs.declared.objects.Object.{Object}
 use Rattle.script_types.specs.declared.objects.Object.TheVariants.{Named, AllInputs, AllOutputs, AllRegisters, AllClocks}
-use Rattle.script_types.specs.declared.scripts.What.{What}
 use Rattle.script_types.specs.declared.scripts.What.TheVariants.{Clock as ClockCommand}
 use Rattle.script_types.specs.declared.scripts.Command.{Command}
 use Rattle.script_types.specs.declared.scripts.Script.{Script}

@@ -4,6 +4,7 @@ ghost use Rattle.std.specs.List.{list_all};
 ghost use Rattle.link_defs.specs.declared.names.PinName.{PinName as PinRecord};
 ghost use Rattle.std.specs.Option.{is_some};
 ghost use Rattle.net_model.specs.declared.claims.PinRef.TheVariants.{Net as NetPin};
+ghost use Rattle.sdcv_base.specs.declared.kinds.Edge.{Edge as EdgeEnum};
 ghost use Rattle.link_defs.specs.declared.names.Linked.{Linked as LinkedRecord};
 ghost use Rattle.sdc_objects.specs.declared.things.Thing.{Thing as ThingEnum};
 ghost use Rattle.sdc_objects.specs.declared.things.Place.{Place as PlaceEnum};
@@ -13,13 +14,13 @@ ghost use Rattle.sdc_objects.specs.Standing as spec;
 
 use crate::things::{Place, Thing};
 use link_defs::{CellName, Linked, PinName, PinRole};
-use net_model::{Design, End, PinRef, Start};
+use net_model::{Design, Edge, End, PinRef, RegOut, Start};
 use sdcv_base::Seq;
 use std::alloc::{AllocError, Global};
 
-/// What things stand for in one place of an exception.
+/// What things stand for in one place of an exception. An edge is that of the option of the place; only starts have one.
 pub trait Column: Copy + Drop {
-    ghost column: { LinkedRecord → ThingEnum → Option (List Self) };
+    ghost column: { EdgeEnum → LinkedRecord → ThingEnum → Option (List Self) };
 
     ghost at: { PlaceEnum };
 
@@ -28,9 +29,14 @@ pub trait Column: Copy + Drop {
         ensures { result ≡ at };
 
     /// Adds what a thing stands for, and tells whether it isn't dropped.
-    fn add(linked: &Linked, thing: Thing, found: &mut Seq<Self>) -> Result<bool, AllocError>
-        ensures kept { IfOk result (λ kept. kept ≡ not (spec.is_dropped (column linked.now thing))) }
-        ensures added { OnOk result (found.new ≡ found.old ++ spec.meant_by (column linked.now thing)) };
+    fn add(
+        linked: &Linked,
+        edge: Edge,
+        thing: Thing,
+        found: &mut Seq<Self>,
+    ) -> Result<bool, AllocError>
+        ensures kept { IfOk result (λ kept. kept ≡ not (spec.is_dropped (column edge linked.now thing))) }
+        ensures added { OnOk result (found.new ≡ found.old ++ spec.meant_by (column edge linked.now thing)) };
 }
 
 impl Column for Start {
@@ -42,20 +48,21 @@ impl Column for Start {
         Place::From
     }
 
-    fn add(linked: &Linked, thing: Thing, found: &mut Seq<Start>) -> Result<bool, AllocError> {
-        let cells = &linked.names.cells;
-        match thing {
-            Thing::Cell(k) => add_one(reg_start(cell_reg(cells, k)), found),
-            Thing::Pin(k, place) => add_one(reg_start(launch_reg(cells, k, place)), found),
-            Thing::In(input) => add_one(Some(Start::Input(input)), found),
-            Thing::Out(_) | Thing::ClockPort | Thing::Net(_) => Ok(false),
-            Thing::Clock(sourced) => add_reg_starts(&linked.design, sourced, found),
+    fn add(
+        linked: &Linked,
+        edge: Edge,
+        thing: Thing,
+        found: &mut Seq<Start>,
+    ) -> Result<bool, AllocError> {
+        match edge {
+            Edge::Any => add_start(linked, thing, found),
+            Edge::Rise | Edge::Fall => add_edge_start(linked, thing, found),
         }
     }
 }
 
 impl Column for End {
-    ghost column = { spec.to_column };
+    ghost column = { λ edge. spec.to_column };
 
     ghost at = { places.To };
 
@@ -63,7 +70,12 @@ impl Column for End {
         Place::To
     }
 
-    fn add(linked: &Linked, thing: Thing, found: &mut Seq<End>) -> Result<bool, AllocError> {
+    fn add(
+        linked: &Linked,
+        _edge: Edge,
+        thing: Thing,
+        found: &mut Seq<End>,
+    ) -> Result<bool, AllocError> {
         let cells = &linked.names.cells;
         match thing {
             Thing::Cell(k) => add_one(reg_end(cell_reg(cells, k)), found),
@@ -76,7 +88,7 @@ impl Column for End {
 }
 
 impl Column for PinRef {
-    ghost column = { spec.through_column };
+    ghost column = { λ edge. spec.through_column };
 
     ghost at = { places.Through };
 
@@ -84,7 +96,12 @@ impl Column for PinRef {
         Place::Through
     }
 
-    fn add(linked: &Linked, thing: Thing, found: &mut Seq<PinRef>) -> Result<bool, AllocError> {
+    fn add(
+        linked: &Linked,
+        _edge: Edge,
+        thing: Thing,
+        found: &mut Seq<PinRef>,
+    ) -> Result<bool, AllocError> {
         let cells = &linked.names.cells;
         match thing {
             Thing::Cell(k) => add_cell_pins(cells, k, found),
@@ -95,6 +112,33 @@ impl Column for PinRef {
             Thing::ClockPort => Ok(false),
             Thing::Clock(sourced) => Ok(!sourced),
         }
+    }
+}
+
+// Adds the starts that a thing stands for at each of their changes.
+fn add_start(linked: &Linked, thing: Thing, found: &mut Seq<Start>) -> Result<bool, AllocError>
+    ensures kept { IfOk result (λ kept. kept ≡ not (spec.is_dropped (spec.stands linked.now thing).from)) }
+    ensures added { OnOk result (found.new ≡ found.old ++ spec.meant_by (spec.stands linked.now thing).from) }
+{
+    let cells = &linked.names.cells;
+    match thing {
+        Thing::Cell(k) => add_one(reg_start(cell_reg(cells, k)), found),
+        Thing::Pin(k, place) => add_one(reg_start(launch_reg(cells, k, place)), found),
+        Thing::In(input) => add_one(Some(Start::Input(input)), found),
+        Thing::Out(_) | Thing::ClockPort | Thing::Net(_) => Ok(false),
+        Thing::Clock(sourced) => add_reg_starts(&linked.design, sourced, found),
+    }
+}
+
+// Adds the starts that a thing stands for at one of their changes.
+fn add_edge_start(linked: &Linked, thing: Thing, found: &mut Seq<Start>) -> Result<bool, AllocError>
+    ensures kept { IfOk result (λ kept. kept ≡ not (spec.is_dropped (spec.edge_column linked.now thing))) }
+    ensures added { OnOk result (found.new ≡ found.old ++ spec.meant_by (spec.edge_column linked.now thing)) }
+{
+    match thing {
+        Thing::Pin(k, place) => add_one(reg_start(edge_reg(linked, k, place)), found),
+        Thing::Clock(true) => Ok(false),
+        _ => add_start(linked, thing, found),
     }
 }
 
@@ -150,6 +194,49 @@ fn launch_reg(cells: &Seq<CellName>, k: usize, place: usize) -> Option<usize>
         PinRole::Clock | PinRole::Drive(_) => cell.reg,
         PinRole::Load(_) => None,
     }
+}
+
+// The register whose output pin it is, and whose bit the pin shows as it is.
+fn edge_reg(linked: &Linked, k: usize, place: usize) -> Option<usize>
+    ensures { spec.reg_start result ≡ spec.edge_pin_at linked.now.design (slice_get linked.now.names.cells k) place }
+{
+    let cell = linked.names.cells.as_slice().get(k)?;
+    let pin = cell.pins.as_slice().get(place)?;
+    match &pin.role {
+        PinRole::Drive(net) => upright_reg(&linked.design, cell.reg, *net),
+        PinRole::Clock | PinRole::Load(_) => None,
+    }
+}
+
+// The register, unless its output on the net is inverted.
+fn upright_reg(design: &Design, reg: Option<usize>, net: usize) -> Option<usize>
+    ensures { result ≡ (if spec.is_inverted design.now reg net then None else reg) }
+{
+    if is_inverted(design, reg, net) {
+        None
+    } else {
+        reg
+    }
+}
+
+fn is_inverted(design: &Design, reg: Option<usize>, net: usize) -> bool
+    ensures { result ≡ spec.is_inverted design.now reg net }
+{
+    let Some(reg) = reg else {
+        return false;
+    };
+    match design.regs.as_slice().get(reg) {
+        Some(reg) => has_inverted(&reg.outs, net),
+        None => false,
+    }
+}
+
+fn has_inverted(outs: &Seq<RegOut>, net: usize) -> bool
+    ensures { result ≡ spec.has_inverted outs.now net }
+{
+    outs.as_slice()
+        .iter()
+        .any(|out| out.net == net && out.inverted)
 }
 
 // The register whose other input pin it is.

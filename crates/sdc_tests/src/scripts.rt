@@ -1,5 +1,5 @@
 use sdc_text::{Class, Exception, Object, Script, SdcFault, What, read_sdc};
-use sdcv_base::{Kind, Name, Seq};
+use sdcv_base::{Edge, Kind, Name, Seq};
 use std::alloc::Global;
 use std::test::Fail;
 
@@ -44,6 +44,14 @@ fn push_objects(
     Ok(())
 }
 
+fn from_word(edge: Edge) -> &'static str {
+    match edge {
+        Edge::Any => " from",
+        Edge::Rise => " rise from",
+        Edge::Fall => " fall from",
+    }
+}
+
 fn push_exception(alloc: Global, out: &mut String, exception: &Exception) -> Result<(), Fail> {
     let kind = match exception.kind {
         Kind::False => String::from_str(alloc, "False")?,
@@ -51,7 +59,7 @@ fn push_exception(alloc: Global, out: &mut String, exception: &Exception) -> Res
     };
     out.push_str(kind.as_str())?;
     if let Some(from) = &exception.from {
-        push_objects(alloc, out, " from", from)?;
+        push_objects(alloc, out, from_word(exception.edge), from)?;
     }
     for through in exception.through.as_slice() {
         push_objects(alloc, out, " through", through)?;
@@ -226,8 +234,12 @@ const READ: &[(&str, &str)] = &[
         "1 Multi 16\n",
     ),
     (
-        "set_false_path -rise_from {{a}b} -fall\nset_multicycle_path -reset_path x",
-        "1 Aside -rise_from\n2 Aside -reset_path\n",
+        "set_false_path -rise_to {{a}b} -fall\nset_multicycle_path -reset_path x",
+        "1 Aside -rise_to\n2 Aside -reset_path\n",
+    ),
+    (
+        "set_false_path -rise_from a -to b\nset_multicycle_path 2 -fall_from [all_clocks]",
+        "1 False rise from any:a to any:b\n2 Multi 2 fall from AllClocks\n",
     ),
     (
         "set x \\\n 1\n# c \\\n d\ncreate_clock -period 1 ; set_false_path \\\n -to b",
@@ -295,6 +307,11 @@ const REFUSED: &[(&str, &str)] = &[
     ),
     ("set_false_path -fall_to", "BadOption 1 -fall_to"),
     ("set_false_path -from a -from b", "BadOption 1 -from"),
+    (
+        "set_false_path -from a -fall_from b",
+        "BadOption 1 -fall_from",
+    ),
+    ("set_false_path -rise_from {{a}b} -fall", "Syntax"),
     (
         "set x \\\n 1\n# c \\\n d\ncreate_clock -period 1 ; set_false_path \\\n -bar",
         "BadOption 5 -bar",

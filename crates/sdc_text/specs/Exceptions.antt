@@ -3,6 +3,7 @@ use Rattle.std.specs.Prelude.{ℕ, Bool, true, false, not, ◌&&◌, if◌then�
 use Rattle.texts.specs.Rules.{◌>>=◌}
 use Rattle.sdcv_base.specs.declared.kinds.Kind.{Kind}
 use Rattle.sdcv_base.specs.declared.kinds.Kind.TheVariants as kind
+use Rattle.sdcv_base.specs.declared.kinds.Edge.TheVariants as edges
 use Rattle.sdc_values.specs.declared.faults.SdcFault.{SdcFault}
 use Rattle.sdc_values.specs.declared.values.Value.{Value}
 use Rattle.sdc_values.specs.declared.values.Said.{Said}
@@ -27,6 +28,7 @@ bare path head = record {
   path = path;
   awaited = None;
   from = None;
+  edge = edges.Any;
   through = [];
   to = None;
   number = None;
@@ -49,7 +51,7 @@ begun_once r option name is_given = if is_given then Err (bad_option r.head name
 
 -- an option begins: it awaits its word, or stands alone
 unfoldable pub begun : Reading → List ℕ → PathOption → Result Reading SdcFault
-begun r name option.From = begun_once r option.From name (is_some r.from)
+begun r name (option.From edge) = begun_once r (option.From edge) name (is_some r.from)
 begun r name option.Through = Ok (awaiting r option.Through name)
 begun r name option.To = begun_once r option.To name (is_some r.to)
 begun r name option.Setup = Ok (record r { has_setup = true })
@@ -61,7 +63,7 @@ begun r name option.LeftOutList = Ok (awaiting (set_aside r name) option.LeftOut
 
 -- an option is given its word; that of an option without a list of objects changes nothing
 unfoldable pub given : Reading → PathOption → Said → Result Reading SdcFault
-given r option.From w = objects_of w >>= λ objects. Ok (record r { from = Some objects })
+given r (option.From edge) w = objects_of w >>= λ objects. Ok (record r { from = Some objects; edge = edge })
 given r option.Through w = objects_of w >>= λ objects. Ok (record r { through = r.through ++ objects ∷ [] })
 given r option.To w = objects_of w >>= λ objects. Ok (record r { to = Some objects })
 given r option.Setup w = Ok r
@@ -119,7 +121,7 @@ kind_of r = elim r.number [
 ]
 
 abbrev pub exception_or_hold : Reading → Option Kind → What
-exception_or_hold r (Some kind) = what.Claiming (record { kind = kind; from = r.from; through = r.through; to = r.to })
+exception_or_hold r (Some kind) = what.Claiming (record { kind = kind; edge = r.edge; from = r.from; through = r.through; to = r.to })
 exception_or_hold r None = what.Hold
 
 -- an exception that is not set aside

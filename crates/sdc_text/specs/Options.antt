@@ -1,6 +1,7 @@
 -- The options of commands by their words (SDC 2.1).
 use Rattle.std.specs.Prelude.{ℕ, if◌then◌else◌, List, Option, Some, None, codes}
 use Rattle.std.specs.Str.{bytes_eq}
+use Rattle.sdcv_base.specs.declared.kinds.Edge.TheVariants as edge
 use Rattle.sdc_text.specs.declared.options.PathCommand.{PathCommand}
 use Rattle.sdc_text.specs.declared.options.PathCommand.TheVariants as path
 use Rattle.sdc_text.specs.declared.options.PathOption.{PathOption}
@@ -14,8 +15,6 @@ left_out_option x =
     if bytes_eq x (codes "-rise") then Some option.LeftOut
     else if bytes_eq x (codes "-fall") then Some option.LeftOut
     else if bytes_eq x (codes "-reset_path") then Some option.LeftOut
-    else if bytes_eq x (codes "-rise_from") then Some option.LeftOutList
-    else if bytes_eq x (codes "-fall_from") then Some option.LeftOutList
     else if bytes_eq x (codes "-rise_through") then Some option.LeftOutList
     else if bytes_eq x (codes "-fall_through") then Some option.LeftOutList
     else if bytes_eq x (codes "-rise_to") then Some option.LeftOutList
@@ -25,7 +24,9 @@ left_out_option x =
 -- the options of both exceptions, read or left out
 unfoldable pub common_option : List ℕ → Option PathOption
 common_option x =
-    if bytes_eq x (codes "-from") then Some option.From
+    if bytes_eq x (codes "-from") then Some (option.From edge.Any)
+    else if bytes_eq x (codes "-rise_from") then Some (option.From edge.Rise)
+    else if bytes_eq x (codes "-fall_from") then Some (option.From edge.Fall)
     else if bytes_eq x (codes "-through") then Some option.Through
     else if bytes_eq x (codes "-to") then Some option.To
     else if bytes_eq x (codes "-setup") then Some option.Setup

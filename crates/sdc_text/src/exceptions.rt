@@ -10,7 +10,7 @@ use crate::numbers::{is_whole, multiplier};
 use crate::options::{PathCommand, PathOption, path_option};
 use script_types::{Exception, Object, What};
 use sdc_values::{Said, SdcFault, Value, objects_of};
-use sdcv_base::{Kind, Name, Seq};
+use sdcv_base::{Edge, Kind, Name, Seq};
 use std::alloc::{AllocError, Global};
 
 /// What the words of an exception have said so far.
@@ -20,7 +20,9 @@ pub struct Reading {
     pub path: PathCommand,
     /// The option whose word comes next, and its own word.
     pub awaited: Option<(PathOption, Name)>,
+    /// The list of the one option of the from kind, and the edge that the option says.
     pub from: Option<Seq<Object>>,
+    pub edge: Edge,
     pub through: Seq<Seq<Object>>,
     pub to: Option<Seq<Object>>,
     pub number: Option<Value>,
@@ -39,6 +41,7 @@ impl Reading {
             path,
             awaited: None,
             from: None,
+            edge: Edge::Any,
             through: Seq::new(alloc),
             to: None,
             number: None,
@@ -91,7 +94,7 @@ impl Reading {
         ensures { Gives Fails (λ _. self.new) result (spec.begun self.old name.now option) }
     {
         match option {
-            PathOption::From => {
+            PathOption::From(_) => {
                 let is_given = self.from.is_some();
                 self.begin_once(alloc, option, name, is_given)?;
             }
@@ -117,7 +120,10 @@ impl Reading {
         ensures { Gives Fails (λ _. self.new) result (spec.given self.old option word.now) }
     {
         match option {
-            PathOption::From => self.from = Some(objects_of(alloc, word)?),
+            PathOption::From(edge) => {
+                self.from = Some(objects_of(alloc, word)?);
+                self.edge = edge;
+            }
             PathOption::To => self.to = Some(objects_of(alloc, word)?),
             PathOption::Through => self.through.push(objects_of(alloc, word)?)?,
             _ => {}
@@ -211,6 +217,7 @@ fn exception_or_hold(reading: Reading, kind: Option<Kind>) -> What
 {
     let Reading {
         from,
+        edge,
         through,
         to,
         ..
@@ -218,6 +225,7 @@ fn exception_or_hold(reading: Reading, kind: Option<Kind>) -> What
     match kind {
         Some(kind) => What::Claiming(Exception {
             kind,
+            edge,
             from,
             through,
             to,

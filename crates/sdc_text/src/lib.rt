@@ -20,4 +20,4 @@ mod readers;
 pub use readers::read_sdc;
 pub use script_types::{Class, Command, Exception, Object, Query, Script, What};
 pub use sdc_values::SdcFault;
-pub use sdcv_base::Kind;
+pub use sdcv_base::{Edge, Kind};

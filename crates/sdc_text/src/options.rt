@@ -3,6 +3,8 @@ ghost use Rattle.std.specs.Prelude.{◌≡◌};
 ghost use Rattle.std.specs.Str.{bytes_eq};
 ghost use Rattle.sdc_text.specs.Options as spec;
 
+use sdcv_base::Edge;
+
 /// The commands of timing exceptions.
 #[derive(Clone, Copy, Debug, PartialEq, Eq)]
 pub enum PathCommand {
@@ -13,7 +15,8 @@ pub enum PathCommand {
 /// An option of a timing exception.
 #[derive(Clone, Copy, Debug, PartialEq, Eq)]
 pub enum PathOption {
-    From,
+    /// The starts come next, with the change of their own bits at which the paths begin.
+    From(Edge),
     Through,
     To,
     Setup,
@@ -55,10 +58,6 @@ fn left_out_option(name: &[u8]) -> Option<PathOption>
         Some(PathOption::LeftOut)
     } else if is(name, "-reset_path") {
         Some(PathOption::LeftOut)
-    } else if is(name, "-rise_from") {
-        Some(PathOption::LeftOutList)
-    } else if is(name, "-fall_from") {
-        Some(PathOption::LeftOutList)
     } else if is(name, "-rise_through") {
         Some(PathOption::LeftOutList)
     } else if is(name, "-fall_through") {
@@ -77,7 +76,11 @@ fn common_option(name: &[u8]) -> Option<PathOption>
     ensures { result ≡ spec.common_option name.now }
 {
     if is(name, "-from") {
-        Some(PathOption::From)
+        Some(PathOption::From(Edge::Any))
+    } else if is(name, "-rise_from") {
+        Some(PathOption::From(Edge::Rise))
+    } else if is(name, "-fall_from") {
+        Some(PathOption::From(Edge::Fall))
     } else if is(name, "-through") {
         Some(PathOption::Through)
     } else if is(name, "-to") {

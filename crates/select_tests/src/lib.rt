@@ -5,6 +5,8 @@
 #![tactic(auto)]
 
 #[cfg(test)]
+mod edges;
+#[cfg(test)]
 mod limits;
 #[cfg(test)]
 mod netlists;

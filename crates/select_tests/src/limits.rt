@@ -63,6 +63,7 @@ fn limits_are_what_a_script_may_select(rt: HostRuntime) -> Result<(), Fail> {
             script: script.as_str(),
             reset,
             hazard: false,
+            lag: 0,
         };
         let got = counted(rt.alloc(), told_of_texts(rt.alloc(), &texts)?)?;
         assert_eq!(rt; got.as_str(), *want, "{command}");

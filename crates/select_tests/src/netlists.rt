@@ -43,6 +43,32 @@ pub(crate) const TOGGLING: &str =
     "module top (input clk, input rst, output q); wire n; INV i (.A(q), .Y(n)); \
      DFFC r (.D(n), .C(rst), .CK(clk), .Q(q)); endmodule";
 
+/// A register, its copy of the cycle before, and a register that takes 1 where both are 1.
+pub(crate) const COPIED: &str = "module top (input clk, input rst, input d, output y);
+  wire qa, qp, n1;
+  DFFC a (.D(d), .C(rst), .CK(clk), .Q(qa));
+  DFFC p (.D(qa), .C(rst), .CK(clk), .Q(qp));
+  AND2 g1 (.A(qa), .B(qp), .Y(n1));
+  DFFC b (.D(n1), .C(rst), .CK(clk), .Q(y));
+endmodule
+";
+
+/// A register that shows its bit and the complement of it.
+pub(crate) const SHOWN_TWICE: &str = "module top (input clk, input d, output y, output z);
+  FF a (.D(d), .CK(clk), .Q(y), .QN(z));
+endmodule
+";
+
+/// Its cell.
+pub(crate) const TWO_OUTPUTS: &str = r#"library (l) {
+  cell (FF) {
+    ff (IQ, IQN) { clocked_on : "CK"; next_state : "D"; }
+    pin (D, CK) { direction : input; }
+    pin (Q) { direction : output; function : "IQ"; }
+    pin (QN) { direction : output; function : "IQN"; } }
+}
+"#;
+
 /// A register two instances deep and one that has the name of a port, behind a buffer of the clock.
 pub(crate) const NESTED: &str = "module leaf (input c, d, output q);
   DFF r (.D(d), .CK(c), .Q(q));

@@ -103,6 +103,7 @@ fn objects_stand_for_starts_and_ends_and_pins(rt: HostRuntime) -> Result<(), Fai
             script: script.as_str(),
             reset: "",
             hazard: false,
+            lag: 0,
         };
         let got = shown(rt.alloc(), &texts)?;
         assert_eq!(rt; got.as_str(), *want, "{options}");

@@ -70,6 +70,7 @@ fn exceptions_select_their_pairs(rt: HostRuntime) -> Result<(), Fail> {
             script: script.as_str(),
             reset: "rst",
             hazard: false,
+            lag: 0,
         };
         let got = shown(rt.alloc(), &texts)?;
         assert_eq!(rt; got.as_str(), *want, "{commands}");
@@ -98,6 +99,7 @@ set_false_path -from [get_ports rst_n]
 ",
             reset: "rst_n",
             hazard: false,
+            lag: 0,
         },
         "9 multi 2 3
 11 hold
@@ -133,11 +135,12 @@ set_false_path -from [get_ports {se}] -to [get_cells {b_reg[1]}]
 ",
             reset: "",
             hazard: false,
+            lag: 0,
         },
         "9 false 4
 10 multi 3 1
 11 hold
-12 aside -rise_from
+12 false rise 0 dropped core 1
 13 false 1
 1 ph_reg[0] -> a_reg[0]
 1 ph_reg[0] -> a_reg[1]
@@ -164,6 +167,7 @@ set_false_path -from [get_clocks {virt core}] -comment \"both; one is virtual\"
 ",
             reset: "",
             hazard: false,
+            lag: 0,
         },
         "7 false 2
 8 multi 2 2
@@ -184,6 +188,7 @@ set_false_path -from [get_clocks {virt core}] -comment \"both; one is virtual\"
             script: "create_clock clk; set_false_path -from s",
             reset: "rst",
             hazard: true,
+            lag: 0,
         },
         "1 false 2\n1 s -> b hazard\n1 s -> c hazard\n",
     ),
@@ -194,6 +199,7 @@ set_false_path -from [get_clocks {virt core}] -comment \"both; one is virtual\"
             script: "",
             reset: "",
             hazard: false,
+            lag: 0,
         },
         "",
     ),
@@ -204,6 +210,7 @@ set_false_path -from [get_clocks {virt core}] -comment \"both; one is virtual\"
             script: "set_false_path -from [get_cells zz*]",
             reset: "",
             hazard: false,
+            lag: 0,
         },
         "1 false 0 nothing zz*\n",
     ),

@@ -66,6 +66,7 @@ fn scripts_are_refused_for_their_cause(rt: HostRuntime) -> Result<(), Fail> {
             script,
             reset: "rst",
             hazard: false,
+            lag: 0,
         };
         let got = shown(rt.alloc(), &texts)?;
         assert_eq!(rt; got.as_str(), *want, "{script}");
@@ -99,6 +100,7 @@ fn an_empty_script_leaves_a_netlist_without_a_clock(rt: HostRuntime) -> Result<(
             script: "",
             reset: "",
             hazard: false,
+            lag: 0,
         };
         let got = shown(rt.alloc(), &texts)?;
         assert_eq!(rt; got.as_str(), *want, "{netlist}");

@@ -1,15 +1,34 @@
 //! Selections as lines: first each exception, then each pair.
 use crate::stages::{Texts, Told, told_of_texts};
 use exception_expand::{CommandLine, Listing, PairLine, Selected};
-use net_model::{Claim, Kind};
+use net_model::{Claim, Edge, Kind};
 use sdc_objects::Warning;
 use std::alloc::Global;
 use std::test::Fail;
 
+// An edge, where it is not any.
+fn edge_word(edge: Edge) -> &'static str {
+    match edge {
+        Edge::Any => "",
+        Edge::Rise => " rise",
+        Edge::Fall => " fall",
+    }
+}
+
+fn push_kind(text: &mut String, kind: Kind) -> Result<(), Fail> {
+    match kind {
+        Kind::False => write!(text, "false")?,
+        Kind::Multi(k) => write!(text, "multi {k}")?,
+    }
+    Ok(())
+}
+
 fn push_listing(text: &mut String, listing: &Listing) -> Result<(), Fail> {
     match listing {
-        Listing::Claiming(Kind::False, pairs) => write!(text, "false {pairs}")?,
-        Listing::Claiming(Kind::Multi(k), pairs) => write!(text, "multi {k} {pairs}")?,
+        Listing::Claiming(kind, edge, pairs) => {
+            push_kind(text, *kind)?;
+            write!(text, "{} {pairs}", edge_word(*edge))?
+        }
         Listing::Hold => write!(text, "hold")?,
         Listing::Aside(option) => write!(text, "aside {option}")?,
     }
@@ -29,7 +48,8 @@ fn push_command(text: &mut String, command: &CommandLine) -> Result<(), Fail> {
     Ok(text.push_str("\n")?)
 }
 
-// The place of its exception, its start and its end, and how many pins stand in each through set of its claim.
+// The place of its exception, its start and its end, how many pins stand in each through set of its claim, and the claim's
+// edge, lag and hazard where it has them.
 fn push_pair(text: &mut String, pair: &PairLine, claim: &Claim) -> Result<(), Fail> {
     write!(text, "{} {} -> {}", pair.command, pair.start, pair.end)?;
     if claim.through.len() > 0 {
@@ -37,6 +57,10 @@ fn push_pair(text: &mut String, pair: &PairLine, claim: &Claim) -> Result<(), Fa
     }
     for set in claim.through.as_slice() {
         write!(text, " {}", set.pins().len())?;
+    }
+    text.push_str(edge_word(claim.edge))?;
+    if claim.lag > 0 {
+        write!(text, " lag {}", claim.lag)?;
     }
     if claim.hazard {
         text.push_str(" hazard")?;

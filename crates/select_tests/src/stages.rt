@@ -18,7 +18,7 @@ use std::test::Fail;
 use verilog_net::{Source, read_verilog};
 
 /// A netlist, its cells (none: those that are known without a file), a script, the reset (none: there is none), which is
-/// active at 0 where its name ends with `_n`, and whether glitches are forbidden.
+/// active at 0 where its name ends with `_n`, whether glitches are forbidden, and the lag of false paths.
 #[derive(Clone, Copy)]
 pub(crate) struct Texts<'a> {
     pub netlist: &'a str,
@@ -26,6 +26,7 @@ pub(crate) struct Texts<'a> {
     pub script: &'a str,
     pub reset: &'a str,
     pub hazard: bool,
+    pub lag: u8,
 }
 
 /// What a script selects, or the line of its refusal.
@@ -103,7 +104,10 @@ fn told_of_design(
     if !has_multipliers(script) {
         return Err("multipliers from 1 to 16")?;
     }
-    match expand(alloc, linked, script, texts.hazard) {
+    if texts.lag > 8 {
+        return Err("a lag of at most 8")?;
+    }
+    match expand(alloc, linked, script, texts.hazard, texts.lag) {
         Ok(selected) => Ok(Told::Selected(selected)),
         Err(fault) => refused(alloc, expand_line(alloc, &fault)?.as_slice()),
     }

@@ -9,7 +9,8 @@ use Rattle.exception_expand.proofs.choices.choose.Goals as goal
 pub connected-requires-clause-starts : goal.connected-requires-clause-starts
 connected-requires-clause-starts c =
     let l = c.args.scope.now.linked.now in
-    starts_in l.design (IsFrom l c.args.scope.now.script.now c.args.exception.now.from) c.in_ok-lists.lists.starts c.in_ok-lists.ensures.lists.starts
+    let e = c.args.exception.now in
+    starts_in l.design (IsFrom l c.args.scope.now.script.now e.edge e.from) c.in_ok-lists.lists.starts c.in_ok-lists.ensures.lists.starts
 
 pub connected-requires-clause-ends : goal.connected-requires-clause-ends
 connected-requires-clause-ends c =

@@ -1,5 +1,4 @@
-use Rattle.std.proofs.Common.{refl, arith, ◌≡◌, ◌∙◌, ◌<◌, ◌+◌, Bool, true, false, take, length, sym, ap}
-use Rattle.std.specs.List.{list_all}
+use Rattle.std.proofs.Common.{refl, ◌≡◌, ◌∙◌, Bool, true, sym, ap}
 use Rattle.std.proofs.lemmas.List.Folds.{list_all_more, list_all_at}
 use Rattle.std.proofs.lemmas.Option.{slice_get_within, get_or_from_slice_get}
 use Rattle.link_defs.specs.declared.names.PinName.{PinName}

@@ -1,4 +1,3 @@
-use Rattle.std.proofs.Common.{refl}
 use Rattle.sdc_objects.specs.Things.{bit_named}
 use Rattle.sdc_objects.proofs.Joining.{added, turned}
 use Rattle.sdc_objects.proofs.found.add_bits.Goals as goal

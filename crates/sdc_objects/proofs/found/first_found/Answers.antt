@@ -1,4 +1,4 @@
-use Rattle.std.proofs.Common.{arith, ◌≡◌, ◌∙◌, [], true, false, sym, ap}
+use Rattle.std.proofs.Common.{arith, ◌≡◌, ◌∙◌, true, false, sym, ap}
 use Rattle.std.proofs.lemmas.Option.{get_or_from_slice_get}
 use Rattle.sdc_objects.specs.Things.{found}
 use Rattle.sdc_objects.proofs.Joining.{item_at, first_here, first_later}

@@ -1,5 +1,4 @@
-use Rattle.std.proofs.Common.{arith, ◌≡◌, ◌∙◌, ◌+◌, Bool, true, false, not, List, take, sym, ap, refl, flat_map}
-use Rattle.std.specs.Prelude.{count_by}
+use Rattle.std.proofs.Common.{◌≡◌, ◌∙◌, ◌+◌, Bool, true, false, not, List, take, sym, ap, refl, flat_map}
 use Rattle.std.proofs.lemmas.List.Sums.{count_by_more_yes, count_by_more_no}
 use Rattle.std.proofs.lemmas.Option.{slice_get_within, get_or_from_slice_get}
 use Rattle.sdc_objects.specs.declared.things.Thing.{Thing}
@@ -18,7 +17,7 @@ wasnt false e = refl
 
 pub loop-k-preserved : goal.loop-k-preserved
 loop-k-preserved g c =
-    let column = g.T.Column.column c.args.linked.now in
+    let column = g.T.Column.column c.args.edge c.args.linked.now in
     let test : Thing → Bool = λ (t : Thing). is_dropped (column t) in
     let of = λ (t : Thing). meant_by (column t) in
     let xs : List Thing = c.args.things.now in

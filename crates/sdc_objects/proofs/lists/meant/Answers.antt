@@ -9,8 +9,8 @@ pub loop-k-preserved : goal.loop-k-preserved
 loop-k-preserved g c =
     let l = c.args.scope.now.linked.now in
     let script = c.args.scope.now.script.now in
-    let of = λ (o : Object). spec.meant_of (g.T.Column.column l) (things_of l script g.T.Column.at o) in
-    let told = spec.warnings_of g.T.Column.column l script g.T.Column.at in
+    let of = λ (o : Object). spec.meant_of (g.T.Column.column c.args.edge l) (things_of l script g.T.Column.at o) in
+    let told = spec.warnings_of (g.T.Column.column c.args.edge) l script g.T.Column.at in
     record {
       items = c.in_ok-add_object.ensures.items ∙ ap (λ xs. xs ++ of c.item.result.now) c.loop-k.invariant.items
           ∙ sym (flat_next of c.args.objects.now c.loop-k.k c.item.result.now c.item.ensures);

@@ -12,8 +12,8 @@ returns-in_ok-add_line-in-Hold-clause-ok c =
     let t = c.args.task.now in
     let old = c.args.self.now.selected in
     let new = c.add_line.new.self in
-    subst (λ (w : What). Adds t.scope.linked.now t.scope.script.now t.hazard c.args.line w old new) (sym c.in-Hold.is)
-    (adds_none t.scope.linked.now t.scope.script.now t.hazard c.args.line Hold old new (λ p sel. sel) tt c.requires.few
+    subst (λ (w : What). Adds t.scope.linked.now t.scope.script.now t.judging c.args.line w old new) (sym c.in-Hold.is)
+    (adds_none t.scope.linked.now t.scope.script.now t.judging c.args.line Hold old new (λ p sel. sel) tt c.requires.few
     c.in_ok-add_line-in-Hold.ensures.commands c.in_ok-add_line-in-Hold.ensures.pairs c.in_ok-add_line-in-Hold.ensures.claims)
 
 pub returns-in_ok-add_line-in-Aside-clause-ok : goal.returns-in_ok-add_line-in-Aside-clause-ok
@@ -26,8 +26,8 @@ returns-in_ok-add_line-in-Aside-clause-ok c =
     let commands : new.commands ≡ old.commands ++ command_line c.args.line (ListsAside option) [] ∷ [] =
     c.in_ok-add_line-in-Aside.ensures.commands ∙ ap (λ (n : List ℕ). old.commands ++ command_line c.args.line (ListsAside n) [] ∷ [])
     c.in_ok-copy-in-Aside.ensures in
-    subst (λ (w : What). Adds t.scope.linked.now t.scope.script.now t.hazard c.args.line w old new) (sym c.in-Aside.is)
-    (adds_none t.scope.linked.now t.scope.script.now t.hazard c.args.line (Aside option) old new (λ p sel. sel) tt c.requires.few
+    subst (λ (w : What). Adds t.scope.linked.now t.scope.script.now t.judging c.args.line w old new) (sym c.in-Aside.is)
+    (adds_none t.scope.linked.now t.scope.script.now t.judging c.args.line (Aside option) old new (λ p sel. sel) tt c.requires.few
     commands c.in_ok-add_line-in-Aside.ensures.pairs c.in_ok-add_line-in-Aside.ensures.claims)
 
 pub returns-in-Clock-clause-ok : goal.returns-in-Clock-clause-ok
@@ -35,13 +35,13 @@ returns-in-Clock-clause-ok c =
     let t = c.args.task.now in
     let old = c.args.self.now.selected in
     elim c.in-Clock.is [
-      | inl clock ↦ adds_nothing t.scope.linked.now t.scope.script.now t.hazard c.args.line (Clock clock.0 clock.1) c.args.what.now old clock.2
+      | inl clock ↦ adds_nothing t.scope.linked.now t.scope.script.now t.judging c.args.line (Clock clock.0 clock.1) c.args.what.now old clock.2
           (λ p sel. sel) tt
           c.requires.few refl
       | inr other ↦ elim other [
-        | inl case ↦ adds_nothing t.scope.linked.now t.scope.script.now t.hazard c.args.line (Case case.0 case.1) c.args.what.now old case.2 (λ p sel. sel) tt
+        | inl case ↦ adds_nothing t.scope.linked.now t.scope.script.now t.judging c.args.line (Case case.0 case.1) c.args.what.now old case.2 (λ p sel. sel) tt
             c.requires.few refl
-        | inr passed ↦ adds_nothing t.scope.linked.now t.scope.script.now t.hazard c.args.line Passed c.args.what.now old passed (λ p sel. sel) tt
+        | inr passed ↦ adds_nothing t.scope.linked.now t.scope.script.now t.judging c.args.line Passed c.args.what.now old passed (λ p sel. sel) tt
             c.requires.few refl
       ]
     ]
