@@ -6,9 +6,8 @@ ghost use Rattle.sdc_objects.specs.Things as spec;
 
 use crate::scopes::Scope;
 use crate::things::{Thing, add_where};
-use glob::matches;
+use glob::{Owner, matches};
 use link_defs::CellName;
-use glob::Owner;
 use script_types::Query;
 use sdcv_base::{Name, Seq};
 use std::alloc::{AllocError, Global};

@@ -5,8 +5,8 @@ ghost use Rattle.glob.specs.Indexes.{IsIndexOf};
 ghost use Rattle.sdc_objects.specs.Places.{option_list};
 ghost use Rattle.sdc_objects.specs.Tables.{IsTablesOf, port_names, bit_names, cell_names, net_names};
 
-use link_defs::{CellName, Linked, Names, NetName, PortName};
 use glob::Index;
+use link_defs::{CellName, Linked, Names, NetName, PortName};
 use sdcv_base::{Name, Seq};
 use std::alloc::{AllocError, Global};
 use texts::NameTable;
