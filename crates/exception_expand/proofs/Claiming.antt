@@ -79,7 +79,8 @@ at_command l script judging x claim usable short kinds sets there sel is =
 
 -- the claims of what a script selects
 pub claims_fit : (l : Linked) (script : Script) (judging : Judging) (chosen : List Chosen) (claims : List Claim) → IsUsable l → judging.lag ≤ 8
-    → spec.HasMultipliers script → All (λ (c : Command). spec.HasFewSets c.what) script.commands → AreThose (spec.IsSelected l script) (spec.script_pairs l script) chosen
+    → spec.HasMultipliers script → All (λ (c : Command). spec.HasFewSets c.what) script.commands
+    → AreThose (spec.IsSelected l script) (spec.script_pairs l script) chosen
     → map Some claims ≡ map (spec.claim_of l script judging) chosen → All (Fits l.design) claims
 claims_fit l script judging chosen claims usable short kinds sets those is =
     all_from_in (Fits l.design) claims (λ claim has.
