@@ -10,9 +10,9 @@ use Rattle.texts.proofs.NameLemmas.{bytes_eq-comm}
 use Rattle.netlist_types.specs.declared.sources.Dir.{Dir}
 use Rattle.verilog_syntax.specs.declared.declarations.ModuleDecl.{ModuleDecl}
 use Rattle.verilog_scope.specs.declared.scopes.Scope.{Scope}
-use Rattle.verilog_scope.specs.Folds.{fold_ok, fold_both, pushing}
+use Rattle.verilog_scope.specs.Folds.{fold_both}
 use Rattle.verilog_scope.specs.Ranges.{width}
-use Rattle.verilog_scope.specs.Scopes.{scope_of, net_names, decl_of, all_bits}
+use Rattle.verilog_scope.specs.Scopes.{net_names, decl_of, all_bits}
 use Rattle.verilog_scope.proofs.KeepLemmas.{step_gave}
 use Rattle.texts.proofs.NameLemmas.{distinct_by_test}
 use Rattle.verilog_scope.proofs.NewLemmas.{new_distinct}
@@ -25,30 +25,14 @@ use Rattle.netlist_types.specs.declared.sources.Module.{Module}
 use Rattle.netlist_types.specs.declared.sources.Source.{Source}
 use Rattle.verilog_net.specs.declared.hierarchies.Hierarchy.{Hierarchy}
 use Rattle.verilog_net.specs.Hierarchies.{inner_of, fits, hierarchy_of}
-use Rattle.verilog_net.specs.Modules.{module_made, add_module, modules_made}
+use Rattle.verilog_net.specs.Modules.{whole_module, module_made, add_module, modules_made}
+use Rattle.verilog_net.specs.Uses.{with_used_nets}
 use Rattle.netlist_types.specs.Lawful.{module_of, HasWidths, IsLawfulItem, IsLawfulModule, IsLawful}
-use Rattle.verilog_net.proofs.SourceLemmas.{hierarchy_parts}
+use Rattle.verilog_net.proofs.SourceLemmas.{Scoped, hierarchy_parts, scopes_are}
 use Rattle.verilog_net.proofs.ItemLemmas.{FitsPin, IsGood}
 use Rattle.verilog_net.proofs.PortLemmas.{IsPortOf, ports_below, ports_apart, port_name}
 use Rattle.verilog_net.proofs.ModuleLemmas.{IsModuleOf, module_is}
-
--- each declaration has its scope
-abbrev Scoped : List ModuleDecl → List Scope → Type 0
-Scoped [] [] = Unit {0}
-Scoped [] (s ∷ ss) = false ≡ true
-Scoped (m ∷ ms) [] = false ≡ true
-Scoped (m ∷ ms) (s ∷ ss) = (scope_of m ≡ Ok s) × Scoped ms ss
-
-scopes_are : (found : List Scope) (ms : List ModuleDecl) (last : List Scope) → fold_ok (pushing scope_of) found ms ≡ Ok last
-    → (rest : List Scope) × ((last ≡ found ++ rest) × Scoped ms rest)
-unfolding fold_ok
-scopes_are found [] last e = let same : found ≡ last = cc in ([], (sym same ∙ sym (append-nil found), tt))
-scopes_are found (m ∷ ms) last e =
-    let (next, one, more) = step_gave (pushing scope_of found m) _ last e in
-    let (s, gives, made) = step_gave (scope_of m) _ next one in
-    let same : found ++ s ∷ [] ≡ next = cc in
-    let (rest, (is, scoped)) = scopes_are next ms last more in
-    (s ∷ rest, (is ∙ ap (λ (l : List Scope). l ++ rest) (sym same) ∙ append_assoc found (s ∷ []) rest, (gives, scoped)))
+use Rattle.verilog_net.proofs.UsedLemmas.{used_lawful}
 
 -- each declaration has its scope and its module
 abbrev Made : Hierarchy → List ModuleDecl → List Scope → List Module → Type 0
@@ -60,17 +44,24 @@ Made h (m ∷ ms) (s ∷ ss) [] = false ≡ true
 Made h (m ∷ ms) (s ∷ ss) (x ∷ xs) = IsModuleOf h s m x × Made h ms ss xs
 
 modules_are : (h : Hierarchy) (found : List Module) (ms : List ModuleDecl) (ss : List Scope) (last : List Module) → Scoped ms ss
-    → fold_both (add_module h) found ss ms ≡ Ok last → (rest : List Module) × ((last ≡ found ++ rest) × Made h ms ss rest)
-unfolding fold_both add_module
+    → fold_both (add_module h) found ss ms ≡ Ok last → (rest : List Module) × ((last ≡ found ++ map with_used_nets rest) × Made h ms ss rest)
+unfolding fold_both add_module module_made
 modules_are h found [] [] last scoped e = let same : found ≡ last = cc in ([], (sym same ∙ sym (append-nil found), tt))
 modules_are h found [] (s ∷ ss) last scoped e = absurd cc
 modules_are h found (m ∷ ms) [] last scoped e = absurd cc
 modules_are h found (m ∷ ms) (s ∷ ss) last scoped e =
     let (next, one, more) = step_gave (add_module h found s m) _ last e in
-    let (x, gives, made) = step_gave (module_made h s m) _ next one in
-    let same : found ++ x ∷ [] ≡ next = cc in
-    let (rest, (is, all)) = modules_are h next ms ss last scoped.1 more in
-    (x ∷ rest, (is ∙ ap (λ (l : List Module). l ++ rest) (sym same) ∙ append_assoc found (x ∷ []) rest, (module_is h s m x scoped.0 gives, all)))
+    let (made, gives, added) = step_gave (module_made h s m) _ next one in
+    let (x, whole, less) = step_gave (whole_module h s m) _ made gives in
+    let is : with_used_nets x ≡ made = cc in
+    let same : found ++ with_used_nets x ∷ [] ≡ next = ap (λ (y : Module). found ++ y ∷ []) is ∙ cc in
+    let (rest, (all_is, all)) = modules_are h next ms ss last scoped.1 more in (
+      x ∷ rest,
+      (
+        all_is ∙ ap (λ (l : List Module). l ++ map with_used_nets rest) (sym same) ∙ append_assoc found (with_used_nets x ∷ []) (map with_used_nets rest),
+        (module_is h s m x scoped.0 whole, all),
+      ),
+    )
 
 abbrev decl_name : ModuleDecl → List ℕ
 decl_name m = m.name
@@ -175,16 +166,15 @@ module _ (h : Hierarchy) (ms : List ModuleDecl) (xs : List Module) (names : h.na
       All-cons (IsLawfulModule source) y ys (module_lawful s m y part.0) (all_lawful ns ss ys part.1)
 
 -- the modules of a hierarchy are a lawful source
-pub made_lawful : (ms : List ModuleDecl) (h : Hierarchy) (xs : List Module) → hierarchy_of ms ≡ Ok h → modules_made h ms ≡ Ok xs
-    → IsLawful (record { modules = xs })
-made_lawful ms h xs first second =
+pub made_lawful : (ms : List ModuleDecl) (h : Hierarchy) (made : List Module) → hierarchy_of ms ≡ Ok h → modules_made h ms ≡ Ok made
+    → IsLawful (record { modules = made })
+made_lawful ms h made first second =
     let (names, scopes) = hierarchy_parts ms h first in
     let (is, differ) = new_distinct (map decl_name ms) h.names names in
-    let (ss, (all, scoped)) = scopes_are [] ms h.scopes scopes in
-    let scoped_here : Scoped ms h.scopes = subst (Scoped ms) (sym all) scoped in
-    let (ys, (found, made)) = modules_are h [] ms h.scopes xs scoped_here second in
-    let made_here : Made h ms h.scopes xs = subst (Made h ms h.scopes) (sym found) made in
-    record {
-      names = rw (names_same h ms h.scopes xs made_here) (distinct_by_test (map decl_name ms) differ);
-      modules = all_lawful h ms xs is made_here ms h.scopes xs made_here;
-    }
+    let scoped = scopes_are ms h.scopes scopes in
+    let (xs, (found, all)) = modules_are h [] ms h.scopes made scoped second in
+    let whole : IsLawful (record { modules = xs }) = record {
+      names = rw (names_same h ms h.scopes xs all) (distinct_by_test (map decl_name ms) differ);
+      modules = all_lawful h ms xs is all ms h.scopes xs all;
+    } in
+    subst (λ (l : List Module). IsLawful (record { modules = l })) (sym found) (used_lawful (record { modules = xs }) whole)

@@ -5,3 +5,5 @@ pub mod ItemLemmas
 pub mod PortLemmas
 pub mod ModuleLemmas
 pub mod LawfulLemmas
+pub mod UseLemmas
+pub mod UsedLemmas

@@ -24,7 +24,7 @@ use Rattle.verilog_scope.proofs.ScopeLemmas.{IsScope, scope_is}
 use Rattle.verilog_scope.proofs.RunLemmas.{HasPlace, place_among}
 use Rattle.netlist_types.specs.declared.sources.Module.{Module}
 use Rattle.verilog_net.specs.declared.hierarchies.Hierarchy.{Hierarchy}
-use Rattle.verilog_net.specs.Modules.{spelled, ports_of, module_made}
+use Rattle.verilog_net.specs.Modules.{spelled, ports_of, whole_module}
 use Rattle.verilog_net.specs.Items.{add_item}
 use Rattle.verilog_net.proofs.ItemLemmas.{IsGood, Places, items_good}
 use Rattle.verilog_net.proofs.PortLemmas.{IsPortOf, IsNamed, ports_are, port_name}
@@ -100,8 +100,8 @@ pub record IsModuleOf (h : Hierarchy) (s : Scope) (m : ModuleDecl) (x : Module) 
   pub differ : are_distinct (map port_name x.ports) ≡ true
   pub items : All (IsGood h (length (net_names s))) x.items
 
-pub module_is : (h : Hierarchy) (s : Scope) (m : ModuleDecl) (x : Module) → scope_of m ≡ Ok s → module_made h s m ≡ Ok x → IsModuleOf h s m x
-unfolding module_made
+pub module_is : (h : Hierarchy) (s : Scope) (m : ModuleDecl) (x : Module) → scope_of m ≡ Ok s → whole_module h s m ≡ Ok x → IsModuleOf h s m x
+unfolding whole_module
 module_is h s m x scope e =
     let is = scope_is m s scope in
     let (ports, e1, rest) = step_gave (ports_of s m.head) _ x e in

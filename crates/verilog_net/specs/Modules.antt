@@ -17,6 +17,7 @@ use Rattle.netlist_types.specs.declared.sources.Module.{Module}
 use Rattle.verilog_net.specs.declared.hierarchies.Hierarchy.{Hierarchy}
 use Rattle.verilog_net.specs.Wires.{numbers}
 use Rattle.verilog_net.specs.Items.{add_item}
+use Rattle.verilog_net.specs.Uses.{with_used_nets}
 
 abbrev pub port_as : Scope → List ℕ → Dir → Port
 port_as scope n dir = record { name = n; dir = dir; bits = numbers (all_bits scope n); bus = is_some (decl_of scope n).range }
@@ -37,12 +38,16 @@ spelled (head.Ports ports) = map (λ (p : PortDecl). p.name) ports
 abbrev pub ports_of : Scope → Head → Result (List Port) VerFault
 ports_of scope h = fold_ok (add_port scope) [] (spelled h)
 
--- the module that declarations make
-unfoldable pub module_made : Hierarchy → Scope → ModuleDecl → Result Module VerFault
-module_made h scope m =
+-- a module with all nets that stand in its text
+unfoldable pub whole_module : Hierarchy → Scope → ModuleDecl → Result Module VerFault
+whole_module h scope m =
     ports_of scope m.head >>= λ ports.
     fold_ok (add_item h scope) [] m.items >>= λ items.
     Ok (record { name = m.name; ports = ports; nets = net_names scope; items = items })
+
+-- the module that declarations make: a net that stands in no port and in no item has no number
+unfoldable pub module_made : Hierarchy → Scope → ModuleDecl → Result Module VerFault
+module_made h scope m = whole_module h scope m >>= λ whole. Ok (with_used_nets whole)
 
 unfoldable pub add_module : Hierarchy → List Module → Scope → ModuleDecl → Result (List Module) VerFault
 add_module h found scope m = module_made h scope m >>= λ made. Ok (found ++ made ∷ [])

@@ -1,16 +1,21 @@
 //! Modules, with nets in place of names.
-ghost use Rattle.std.specs.Prelude.{◌≡◌, ◌++◌, [], length, map, OnOk};
+ghost use Rattle.std.specs.Prelude.{◌≡◌, ◌<◌, ◌++◌, [], All, length, map, IfOk, OnOk, Ok};
 ghost use Rattle.texts.specs.Rules.{Gives};
 ghost use Rattle.verilog_syntax.specs.declared.declarations.Spelled.{Spelled};
 ghost use Rattle.verilog_scope.specs.Fails.{Fails};
-ghost use Rattle.verilog_scope.specs.Folds.{fold_ok};
+ghost use Rattle.verilog_scope.specs.Folds.{fold_ok, each};
+ghost use Rattle.verilog_scope.specs.Scopes.{scope_of, net_names, IsNumbered};
 ghost use Rattle.verilog_net.specs.Wires.{numbers};
 ghost use Rattle.verilog_net.specs.Modules as spec;
+ghost use Rattle.verilog_net.specs.Uses as uses;
+ghost use Rattle.verilog_net.specs.Uses.{standing_nets};
 
 use crate::hierarchies::Hierarchy;
 use crate::items::items_of;
-use netlist_types::{Module, Port};
-use sdcv_base::Seq;
+use crate::numbers::{numbered_items, numbered_ports};
+use crate::uses::used_nets;
+use netlist_types::{Item, Module, Port};
+use sdcv_base::{Name, Seq};
 use std::alloc::{AllocError, Global};
 use verilog_scope::{Run, Scope, VerFault};
 use verilog_syntax::{Head, ModuleDecl, PortDecl, Spelled};
@@ -45,7 +50,7 @@ pub fn modules_of(
     hierarchy: &Hierarchy,
     decls: &[ModuleDecl],
 ) -> Result<Seq<Module>, VerFault>
-    requires { length hierarchy.now.scopes ≡ length decls.now }
+    requires { each scope_of decls.now ≡ Ok hierarchy.now.scopes }
     ensures { Gives Fails (λ made. made) result (spec.modules_made hierarchy.now decls.now) }
 {
     let scopes = hierarchy.scopes.as_slice();
@@ -64,6 +69,7 @@ fn add_module(
     scope: &Scope,
     decl: &ModuleDecl,
 ) -> Result<(), VerFault>
+    requires { scope_of decl.now ≡ Ok scope.now }
     ensures { Gives Fails (λ _. found.new) result (spec.add_module hierarchy.now found.old scope.now decl.now) }
 {
     let made = module(alloc, hierarchy, scope, decl)?;
@@ -71,19 +77,40 @@ fn add_module(
     Ok(())
 }
 
-#[tactic(auto, unfolding(crate::specs::Modules::module_made))]
+#[tactic(auto, unfolding(crate::specs::Modules::module_made, crate::specs::Modules::whole_module))]
 fn module(
     alloc: Global,
     hierarchy: &Hierarchy,
     scope: &Scope,
     decl: &ModuleDecl,
 ) -> Result<Module, VerFault>
+    requires { scope_of decl.now ≡ Ok scope.now }
     ensures { Gives Fails (λ made. made) result (spec.module_made hierarchy.now scope.now decl.now) }
 {
     let ports = ports_of(alloc, scope, &decl.head)?;
     let items = items_of(alloc, hierarchy, scope, decl.items.as_slice())?;
     let name = decl.name.copy(alloc)?;
-    let nets = scope.net_names(alloc)?;
+    let made = with_used_nets(alloc, scope, name, ports, items)?;
+    Ok(made)
+}
+
+/// The module of these ports and items, with those nets alone that stand in them.
+#[tactic(auto, unfolding(crate::specs::Uses::with_used_nets))]
+fn with_used_nets(
+    alloc: Global,
+    scope: &Scope,
+    name: Name,
+    ports: Seq<Port>,
+    items: Seq<Item>,
+) -> Result<Module, AllocError>
+    requires numbered { IsNumbered scope.now }
+    requires nets { All (λ net. net < length (net_names scope.now)) (standing_nets ports items) }
+    ensures { IfOk result (λ made. made ≡ uses.with_used_nets (record { name = name; ports = ports; nets = net_names scope.now; items = items })) }
+{
+    let used = used_nets(alloc, ports.as_slice(), items.as_slice())?;
+    let nets = scope.net_names(alloc, used.as_slice())?;
+    let ports = numbered_ports(alloc, used.as_slice(), ports)?;
+    let items = numbered_items(alloc, used.as_slice(), items)?;
     Ok(Module {
         name,
         ports,

@@ -1,16 +1,15 @@
 -- How many nets a module has.
-use Rattle.std.proofs.Common.{arith, ◌≡◌, ℕ, zero, suc, ◌+◌, ◌≤◌, ◌<◌, List, [], ◌∷◌, ◌++◌, length, drop, get_or, map, Option, Some, None, refl, sym}
-use Rattle.std.proofs.Common.{ap, ◌∙◌, length-append}
+use Rattle.std.proofs.Common.{arith, ◌≡◌, ℕ, zero, suc, ◌+◌, ◌≤◌, ◌<◌, List, [], ◌∷◌, length, drop, get_or, Option, Some, None, refl, sym}
+use Rattle.std.proofs.Common.{length-append}
 use Rattle.std.proofs.lemmas.List.{drop_all, get_or_default}
 use Rattle.std.proofs.lemmas.List.FromFn.{length-map-range_with_len}
 use Rattle.texts.proofs.ReadLemmas.{split_at}
 use Rattle.verilog_syntax.specs.declared.declarations.Range.{Range}
 use Rattle.verilog_scope.specs.declared.decls.Decl.{Decl}
 use Rattle.verilog_scope.specs.Ranges.{width}
-use Rattle.verilog_scope.specs.Decls.{blank, decl_at}
+use Rattle.verilog_scope.specs.Decls.{blank}
 use Rattle.verilog_scope.specs.Scopes.{bases_from, nets_from, bit_names, bit_name, index_at}
 use Rattle.verilog_scope.proofs.NetLemmas.{nets_more, nets_none}
-use Rattle.verilog_scope.proofs.BaseLemmas.{bases_more}
 
 -- the number after the last net of these names, from n on
 unfoldable pub last_from : ℕ → List Decl → ℕ
@@ -29,7 +28,8 @@ bases_within n [] k below = absurd (omega arith)
 bases_within n (d ∷ ds) zero below = at_least (n + width d.range) ds
 bases_within n (d ∷ ds) (suc k) below = bases_within (n + width d.range) ds k (omega arith)
 
-length-bit_names : (x : List ℕ) (range : Option Range) → length (bit_names x range) ≡ width range
+-- a name has as many nets as bits
+pub length-bit_names : (x : List ℕ) (range : Option Range) → length (bit_names x range) ≡ width range
 length-bit_names x None = refl
 length-bit_names x (Some r) = length-map-range_with_len (λ (i : ℕ). bit_name x (index_at r i)) 0 (width (Some r))
 

@@ -1,5 +1,5 @@
 -- The wires without a declaration.
-use Rattle.std.proofs.Common.{arith, ◌≡◌, ℕ, ◌<◌, Bool, true, false, not, ◌||◌, List, [], ◌∷◌, length, filter, get_or, if◌then◌else◌, refl, sym, ap, ◌∙◌, subst}
+use Rattle.std.proofs.Common.{arith, ◌≡◌, ℕ, ◌<◌, Bool, true, false, not, ◌||◌, List, [], ◌∷◌, length, filter, get_or, if◌then◌else◌, refl, sym, ◌∙◌, subst}
 use Rattle.std.specs.List.{list_all}
 use Rattle.std.specs.Str.{bytes_eq}
 use Rattle.std.proofs.lemmas.Bool.{and_parts, or_parts, not-true, false≢true}
@@ -11,7 +11,7 @@ use Rattle.texts.proofs.NameLemmas.{slice_get-place_of, are_distinct-each_once, 
 use Rattle.verilog_syntax.specs.declared.declarations.ModuleDecl.{ModuleDecl}
 use Rattle.verilog_scope.specs.declared.decls.Decl.{Decl}
 use Rattle.verilog_scope.specs.Standing.{standing, implied}
-use Rattle.verilog_scope.specs.Decls.{blank, decl_at, is_declared}
+use Rattle.verilog_scope.specs.Decls.{blank, is_declared}
 use Rattle.verilog_scope.specs.Scopes.{is_undeclared, implied_wires}
 use Rattle.verilog_scope.proofs.StandLemmas.{standing_implied}
 

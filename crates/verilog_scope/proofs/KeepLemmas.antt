@@ -1,5 +1,5 @@
 -- What is kept along a list, and what a value says of the steps that gave it.
-use Rattle.std.proofs.Common.{◌≡◌, ℕ, ◌+◌, List, [], ◌∷◌, ◌++◌, length, Result, Ok, Err, refl, sym, ap, ◌∙◌, arith, length-append, subst, All}
+use Rattle.std.proofs.Common.{◌≡◌, ◌+◌, List, [], ◌∷◌, ◌++◌, length, Result, Ok, Err, refl, sym, ap, ◌∙◌, arith, length-append, subst, All}
 use Rattle.std.proofs.lemmas.List.Elements.{All-nil, All-head, All-tail, All-push}
 use Rattle.texts.specs.Rules.{◌>>=◌}
 use Rattle.verilog_scope.specs.Folds.{fold_ok, fold_both, pushing}

@@ -12,3 +12,4 @@ pub mod StandLemmas
 pub mod RunLemmas
 pub mod NewLemmas
 pub mod ImpliedLemmas
+pub mod NumberLemmas

@@ -1,9 +1,8 @@
 -- Names that all are new.
-use Rattle.std.proofs.Common.{◌≡◌, ℕ, Bool, true, false, not, ◌&&◌, if◌then◌else◌, List, [], ◌∷◌, ◌++◌, Result, Ok, Err, refl, sym, ap, ◌∙◌}
+use Rattle.std.proofs.Common.{◌≡◌, ℕ, Bool, true, false, if◌then◌else◌, List, [], ◌∷◌, ◌++◌, Ok, Err, refl, sym, ap, ◌∙◌}
 use Rattle.std.proofs.Common.{append_assoc, append-nil, subst}
 use Rattle.texts.specs.Names.{is_among, are_distinct}
 use Rattle.texts.proofs.NameLemmas.{are_distinct-push}
-use Rattle.verilog_scope.specs.declared.faults.VerFault.{VerFault}
 use Rattle.verilog_scope.specs.declared.faults.VerFault.TheVariants as fault
 use Rattle.verilog_scope.specs.Folds.{fold_ok}
 use Rattle.verilog_scope.specs.Decls.{with_new}

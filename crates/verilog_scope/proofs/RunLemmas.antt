@@ -1,6 +1,6 @@
 -- The nets of names are nets of the module, and no net is a bit of two names.
-use Rattle.std.proofs.Common.{arith, ◌≡◌, ℕ, ◌+◌, ◌≤◌, ◌<◌, Bool, true, false, ◌||◌, List, [], ◌∷◌, length, get_or, if◌then◌else◌, Option, Some, None}
-use Rattle.std.proofs.Common.{is_some, refl, sym, ap, ◌∙◌, subst, inl, inr, ◌⊎◌, ◌≢◌}
+use Rattle.std.proofs.Common.{arith, ◌≡◌, ℕ, ◌+◌, ◌≤◌, ◌<◌, Bool, true, false, List, length, get_or, if◌then◌else◌, Option, Some, None}
+use Rattle.std.proofs.Common.{refl, ap, subst, inl, inr, ◌⊎◌, ◌≢◌}
 use Rattle.std.proofs.lemmas.Bool.{cases_lt}
 use Rattle.std.proofs.lemmas.List.{get_or_past}
 use Rattle.std.proofs.lemmas.Option.{slice_get_within}
@@ -8,12 +8,11 @@ use Rattle.texts.specs.Names.{is_among, place_of, each_once}
 use Rattle.texts.proofs.NameLemmas.{slice_get-place_of}
 use Rattle.verilog_syntax.specs.declared.declarations.Select.{Select}
 use Rattle.verilog_syntax.specs.declared.declarations.ModuleDecl.{ModuleDecl}
-use Rattle.verilog_scope.specs.declared.decls.Decl.{Decl}
 use Rattle.verilog_scope.specs.declared.ranges.Run.{Run}
 use Rattle.verilog_scope.specs.declared.scopes.Scope.{Scope}
 use Rattle.verilog_scope.specs.Standing.{implied}
-use Rattle.verilog_scope.specs.Ranges.{width, selected}
-use Rattle.verilog_scope.specs.Decls.{blank, decl_at}
+use Rattle.verilog_scope.specs.Ranges.{selected}
+use Rattle.verilog_scope.specs.Decls.{blank}
 use Rattle.verilog_scope.specs.Scopes.{bases_from, net_names, is_known, decl_of, base_of, all_bits, as_nets, run_of}
 use Rattle.verilog_scope.proofs.BaseLemmas.{bases_apart}
 use Rattle.verilog_scope.proofs.CountLemmas.{last_from, bases_within, nets_length}

@@ -1,9 +1,8 @@
 -- What a scope that was made is like.
-use Rattle.std.proofs.Common.{arith, ◌≡◌, ℕ, ◌+◌, ◌≤◌, ◌<◌, Bool, true, false, ◌||◌, List, [], ◌∷◌, ◌++◌, length, map, replicate, slice_set}
-use Rattle.std.proofs.Common.{if◌then◌else◌, Option, Some, None, is_some, Result, Ok, Err, refl, sym, ap, ◌∙◌, subst, All}
+use Rattle.std.proofs.Common.{◌≡◌, ℕ, Bool, true, false, List, length, replicate, slice_set}
+use Rattle.std.proofs.Common.{if◌then◌else◌, Option, Ok, Err, refl, sym, ap, ◌∙◌, subst}
 use Rattle.std.proofs.lemmas.List.{length-set, length-replicate}
-use Rattle.texts.specs.Names.{is_among, place_of, each_once}
-use Rattle.texts.specs.Rules.{◌>>=◌}
+use Rattle.texts.specs.Names.{is_among, place_of}
 use Rattle.verilog_syntax.specs.declared.declarations.Range.{Range}
 use Rattle.verilog_syntax.specs.declared.declarations.NetKind.{NetKind}
 use Rattle.verilog_syntax.specs.declared.declarations.PortDecl.{PortDecl}
@@ -15,8 +14,7 @@ use Rattle.verilog_syntax.specs.declared.declarations.ModuleDecl.{ModuleDecl}
 use Rattle.verilog_scope.specs.declared.decls.Decl.{Decl}
 use Rattle.verilog_scope.specs.declared.faults.VerFault.{VerFault}
 use Rattle.verilog_scope.specs.declared.scopes.Scope.{Scope}
-use Rattle.verilog_scope.specs.Folds.{fold_ok}
-use Rattle.verilog_scope.specs.Standing.{standing, implied}
+use Rattle.verilog_scope.specs.Standing.{standing}
 use Rattle.verilog_scope.specs.Decls.{blank, decl_at, takes_port, takes_net, declare_port, declare_net, declare_listed, declare_item, declare_head}
 use Rattle.verilog_scope.specs.Decls.{declares, listed_in, inst_names}
 use Rattle.verilog_scope.specs.Scopes.{scope_of, bases_from, implied_wires}

@@ -1,10 +1,9 @@
 -- Each name that is a wire without a declaration stands in the module.
-use Rattle.std.proofs.Common.{◌≡◌, ℕ, Bool, true, false, ◌||◌, List, [], ◌∷◌, ◌++◌, flat_map, refl, sym, ap, ◌∙◌}
+use Rattle.std.proofs.Common.{◌≡◌, ℕ, Bool, true, false, ◌||◌, List, [], ◌∷◌, ◌++◌, flat_map, refl, sym, ◌∙◌}
 use Rattle.std.proofs.lemmas.List.Folds.{list_any-append}
 use Rattle.std.specs.Str.{bytes_eq}
 use Rattle.texts.specs.Names.{is_among, each_once}
 use Rattle.texts.proofs.NameLemmas.{is_among-with_names}
-use Rattle.verilog_syntax.specs.declared.declarations.AssignDecl.{AssignDecl}
 use Rattle.verilog_syntax.specs.declared.declarations.ItemDecl.{ItemDecl}
 use Rattle.verilog_syntax.specs.declared.declarations.ItemDecl.TheVariants.{Ports, Nets, Assigns, Prims, Insts}
 use Rattle.verilog_syntax.specs.declared.declarations.ModuleDecl.{ModuleDecl}

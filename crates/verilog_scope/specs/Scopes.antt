@@ -2,8 +2,8 @@
 --
 -- The nets are numbered from 0 name by name, in the order in which the names first stand in the module's text; the bits of
 -- a bus stand together, the most significant first.
-use Rattle.std.specs.Prelude.{ℕ, Bool, ◌+◌, ◌-◌, ◌||◌, not, nat_le, if◌then◌else◌, List, []}
-use Rattle.std.specs.Prelude.{◌∷◌, ◌++◌, map, filter, slice_index_or, Option, Some, None, Result, Ok}
+use Rattle.std.specs.Prelude.{◌≡◌, ℕ, Bool, ◌+◌, ◌-◌, ◌<◌, ◌≤◌, ◌||◌, not, nat_le, if◌then◌else◌, List, []}
+use Rattle.std.specs.Prelude.{◌∷◌, ◌++◌, length, map, filter, slice_index_or, Option, Some, None, Result, Ok}
 use Rattle.std.specs.List.{range_with_len}
 use Rattle.std.specs.Fmt.{decimal}
 use Rattle.texts.specs.Names.{is_among, place_of, each_once}
@@ -41,14 +41,24 @@ unfoldable pub nets_from : List Decl → ℕ → List (List ℕ) → List (List 
 nets_from decls place [] = []
 nets_from decls place (n ∷ names) = bit_names n (decl_at decls place).range ++ nets_from decls (place + 1) names
 
--- the names of the nets of the name at a place, if there is one
-abbrev pub named_nets : List Decl → ℕ → Option (List ℕ) → List (List ℕ)
-named_nets decls place None = []
-named_nets decls place (Some n) = bit_names n (decl_at decls place).range
-
 -- the names of the nets of a scope, each at its number
 abbrev pub net_names : Scope → List (List ℕ)
 net_names s = nets_from s.decls 0 s.names
+
+-- the name of a net
+abbrev pub net_name : Scope → ℕ → List ℕ
+net_name s net = slice_index_or (net_names s) net []
+
+-- each name has a declaration, if a blank one, and its nets are numbered after those of the names before it
+pub record IsNumbered (s : Scope) : Type 0 where
+  pub bases : s.bases ≡ bases_from 0 s.decls
+  pub counted : length s.decls ≡ length s.names
+
+-- the net is a bit of the name at a place
+pub record IsBitOf (s : Scope) (place net : ℕ) : Type 0 where
+  pub there : place < length s.names
+  pub from : slice_index_or s.bases place 0 ≤ net
+  pub before : net < slice_index_or s.bases place 0 + width (decl_at s.decls place).range
 
 -- what is declared of a name
 abbrev pub decl_of : Scope → List ℕ → Decl

@@ -1,12 +1,13 @@
 //! The nets of a module by number.
-ghost use Rattle.std.specs.Prelude.{◌≡◌, ◌||◌, slice_index_or, IfOk};
+ghost use Rattle.std.specs.Prelude.{◌≡◌, ◌<◌, ◌||◌, ◌∷◌, ◌++◌, [], All, length, map, slice_index_or, IfOk, OnOk};
 ghost use Rattle.texts.specs.Names.{is_among};
 ghost use Rattle.texts.specs.Rules.{Gives};
 ghost use Rattle.verilog_scope.specs.Decls.{is_declared};
 ghost use Rattle.verilog_scope.specs.Fails.{Fails};
 ghost use Rattle.verilog_scope.specs.Scopes as spec;
+ghost use Rattle.verilog_scope.specs.Scopes.{IsNumbered};
 
-use crate::bits::push_nets;
+use crate::bits::bit_name;
 use crate::decls::{Decl, check_insts, decl_at, declares, listed_in};
 use crate::faults::VerFault;
 use crate::implied::implied_wires;
@@ -121,13 +122,50 @@ impl Scope {
         }
     }
 
-    /// The names of the nets, each at its number.
-    pub fn net_names(&self, alloc: Global) -> Result<Seq<Name>, AllocError>
-        ensures { IfOk result (λ nets. nets ≡ spec.net_names self.now) }
+    /// The names of these nets, which are told by their numbers.
+    pub fn net_names(&self, alloc: Global, nets: &[usize]) -> Result<Seq<Name>, AllocError>
+        requires numbered { IsNumbered self.now }
+        requires nets { All (λ net. net < length (spec.net_names self.now)) nets.now }
+        ensures { IfOk result (λ names. names ≡ map (spec.net_name self.now) nets.now) }
     {
-        let mut nets = Seq::new(alloc);
-        push_nets(alloc, &mut nets, &self.decls, &self.names)?;
-        Ok(nets)
+        let mut names = Seq::from_vec(Vec::with_capacity(alloc, nets.len())?);
+        for net in nets {
+            self.push_net_name(alloc, &mut names, *net)?;
+        }
+        Ok(names)
+    }
+
+    fn push_net_name(
+        &self,
+        alloc: Global,
+        names: &mut Seq<Name>,
+        net: usize,
+    ) -> Result<(), AllocError>
+        requires numbered { IsNumbered self.now }
+        requires net { net < length (spec.net_names self.now) }
+        ensures { OnOk result (names.new ≡ names.old ++ spec.net_name self.now net ∷ []) }
+    {
+        let place = self.place_of_net(net);
+        match self.names.name(place) {
+            None => Ok(()),
+            Some(name) => {
+                let bit = net - self.base_at(place);
+                names.push(bit_name(alloc, name, &decl_at(&self.decls, place).range, bit)?)?;
+                Ok(())
+            }
+        }
+    }
+
+    /// The place of the name that a net is a bit of.
+    fn place_of_net(&self, net: usize) -> usize
+        requires numbered { IsNumbered self.now }
+        requires net { net < length (spec.net_names self.now) }
+        ensures { spec.IsBitOf self.now result net }
+    {
+        match self.bases.as_slice().binary_search(&net) {
+            Ok(place) => place,
+            Err(after) => after - 1,
+        }
     }
 }
 

@@ -161,6 +161,10 @@ const TEXTS: &[(&str, &str)] = &[
         "/m: input a 0 1 bus; a[1] a[0] |",
     ),
     (
+        "module m (output y); wire [3:0] u, n; wire k; BUF b (.A(n[2]), .Y(y)), c (.A(), .Y(n[0])); endmodule",
+        "/m: output y 0; y n[2] n[0] | BUF b A=1 Y=0; BUF c A Y=2;",
+    ),
+    (
         "module m (output y); assign y = q; buf (q, 1'b0); endmodule",
         "/m: output y 0; y q | 0 < 1; Buf - 1 < '0;",
     ),

@@ -7,9 +7,11 @@ fn told(alloc: Global, decl: &ModuleDecl) -> Result<String, Fail> {
     match Scope::of(alloc, decl) {
         Ok(scope) => {
             let mut text = String::new(alloc);
-            let nets = scope.net_names(alloc)?;
-            for net in nets.as_slice() {
-                write!(text, " {net}")?;
+            for name in scope.names.names(alloc)? {
+                let run = scope.bits(&name);
+                let first = run.first;
+                let count = run.count;
+                write!(text, " {name} {first}+{count}")?;
             }
             Ok(text)
         }
@@ -17,17 +19,18 @@ fn told(alloc: Global, decl: &ModuleDecl) -> Result<String, Fail> {
     }
 }
 
-// A module in each text, and the names of its nets by number, or how its fault is told; by hand, offsets counted.
+// A module in each text, and its names with the number of the first net of each and how many they are, or how its fault is
+// told; by hand, offsets counted.
 const MODULES: &[(&str, &str)] = &[
     (
         "module m (input [2:0] a, b, output [0:1] y); wire [3:3] n; endmodule",
-        " a[2] a[1] a[0] b[2] b[1] b[0] y[0] y[1] n[3]",
+        " a 0+3 b 3+3 y 6+2 n 8+1",
     ),
     (
         "module m (y); INV u (.A(n), .Y(y)); buf (k, n[1]); wire [1:0] n; output y; wire y; endmodule",
-        " y n[1] n[0] k",
+        " y 0+1 n 1+2 k 3+1",
     ),
-    ("module m; assign y = {q, y}; endmodule", " y q"),
+    ("module m; assign y = {q, y}; endmodule", " y 0+1 q 1+1"),
     (
         "module m (a, b, a); input a, b; endmodule",
         "`a` is declared twice",
@@ -67,7 +70,7 @@ const MODULES: &[(&str, &str)] = &[
 ];
 
 #[test]
-fn nets_of_a_module_have_their_names(rt: HostRuntime) -> Result<(), Fail> {
+fn names_of_a_module_have_their_nets(rt: HostRuntime) -> Result<(), Fail> {
     let alloc = rt.alloc();
     for (text, want) in MODULES {
         let decls = read_modules(alloc, text.as_bytes())?;

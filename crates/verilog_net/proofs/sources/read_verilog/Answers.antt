@@ -1,11 +1,11 @@
-use Rattle.std.proofs.Common.{◌∙◌, length, ap, sym}
-use Rattle.verilog_net.proofs.SourceLemmas.{scopes_length}
+use Rattle.verilog_net.proofs.SourceLemmas.{hierarchy_parts}
 use Rattle.verilog_net.proofs.LawfulLemmas.{made_lawful}
 use Rattle.verilog_net.proofs.sources.read_verilog.Goals as goal
 
 pub modules_of-requires : goal.modules_of-requires
 modules_of-requires c =
-    scopes_length c.as_slice.result.now c.in_ok-hierarchy.hierarchy c.in_ok-hierarchy.ensures ∙ ap length (c.as_slice.ensures ∙ sym c.as_slice-2.ensures)
+    let ms = c.in_ok-decls.decls in
+    rw c.as_slice-2.ensures ((hierarchy_parts ms c.in_ok-hierarchy.hierarchy (rw c.as_slice.ensures at c.in_ok-hierarchy.ensures)).1)
 
 pub returns-clause-lawful : goal.returns-clause-lawful
 returns-clause-lawful c =
