@@ -38,39 +38,59 @@ fn held(rt: &HostRuntime, name: &str) -> Result<Vec<u8>, ReadFault> {
     teller(rt.alloc(), rt, &mut told).read_file(rt.alloc(), name, 2_000_000)
 }
 
+// Whether it is saved, and what is told of it.
+fn save(rt: &HostRuntime, name: &str, bytes: &[u8]) -> (bool, Vec<u8>) {
+    let mut told = Vec::new(rt.alloc());
+    let saved = teller(rt.alloc(), rt, &mut told).save(name, bytes);
+    (saved.is_ok(), told)
+}
+
+// Whether the file is these bytes, and no part of it is left.
+fn stands(rt: &HostRuntime, name: &str, part: &str, bytes: &[u8]) -> Result<bool, Fail> {
+    let held = held(rt, name)?;
+    Ok(held.as_slice() == bytes && !fs::exists(rt, part)?)
+}
+
+// Whether so many bytes are saved whole, and nothing is told of it.
+fn is_saved(rt: &HostRuntime, count: u32) -> Result<bool, Fail> {
+    let bytes = many(rt.alloc(), count)?;
+    let (saved, told) = save(rt, "large.bin", &bytes);
+    Ok(saved && told.is_empty() && stands(rt, "large.bin", "large.bin.sdcv-part", &bytes)?)
+}
+
 // The first is larger than each buffer and than a megabyte. The second leaves nothing of the first.
 #[test]
 fn a_file_gives_back_what_was_saved(rt: HostRuntime) -> Result<(), Fail> {
-    let alloc = rt.alloc();
-    let mut told = Vec::new(alloc);
     for count in [1_200_000, 100_000, 0] {
-        let bytes = many(alloc, count)?;
-        teller(alloc, &rt, &mut told).save("large.bin", &bytes)?;
-        assert!(rt;
-            held(&rt, "large.bin")?.as_slice() == bytes.as_slice(),
-            "{count} bytes"
-        );
-        let part = fs::exists(&rt, "large.bin.sdcv-part")?;
-        assert!(rt; !part, "a part of {count} bytes is left");
+        assert!(rt; is_saved(&rt, count)?, "{count} bytes");
     }
-    assert!(rt; told.is_empty());
     clear(&rt, &["large.bin"]);
     Ok(())
 }
 
-// 100,000 bytes are printed in two pieces, and read back with their exact number as the limit, and with one less.
-#[test]
-fn all_pieces_are_printed(rt: HostRuntime) -> Result<(), Fail> {
-    let alloc = rt.alloc();
-    let bytes = many(alloc, 100_000)?;
+// Prints the bytes in two pieces.
+fn print(rt: &HostRuntime, bytes: &[u8]) -> Result<(), Fail> {
     let first = bytes.len().min(70_000);
-    let out = File::create(&rt, "printed.bin")?;
-    let mut host = RealHost::new(alloc, "sdcv", &rt, out, io::sink());
+    let out = File::create(rt, "printed.bin")?;
+    let mut host = RealHost::new(rt.alloc(), "sdcv", rt, out, io::sink());
     host.print(&bytes[..first])?;
     host.print(&bytes[first..])?;
-    assert!(rt; host.read_file(alloc, "printed.bin", 100_000)?.as_slice() == bytes.as_slice());
-    let short = host.read_file(alloc, "printed.bin", 99_999);
-    assert_eq!(rt; short.err(), Some(ReadFault::TooLong));
+    Ok(())
+}
+
+// What is read of them, at most so many.
+fn printed(rt: &HostRuntime, limit: usize) -> Result<Vec<u8>, ReadFault> {
+    let mut told = Vec::new(rt.alloc());
+    teller(rt.alloc(), rt, &mut told).read_file(rt.alloc(), "printed.bin", limit)
+}
+
+// 100,000 bytes are read back with their exact number as the limit, and with one less.
+#[test]
+fn all_pieces_are_printed(rt: HostRuntime) -> Result<(), Fail> {
+    let bytes = many(rt.alloc(), 100_000)?;
+    print(&rt, &bytes)?;
+    assert!(rt; printed(&rt, 100_000)?.as_slice() == bytes.as_slice());
+    assert_eq!(rt; printed(&rt, 99_999).err(), Some(ReadFault::TooLong));
     clear(&rt, &["printed.bin"]);
     Ok(())
 }
@@ -90,13 +110,19 @@ const UNSAVED: &[(&str, &str)] = &[
     ("two\0words", "sdcv: two\0words: can't be saved\n"),
 ];
 
+// Why the name is not read, and what is told of it.
+fn read(rt: &HostRuntime, name: &str) -> (Option<ReadFault>, Vec<u8>) {
+    let mut told = Vec::new(rt.alloc());
+    let fault = teller(rt.alloc(), rt, &mut told)
+        .read_file(rt.alloc(), name, 9)
+        .err();
+    (fault, told)
+}
+
 #[test]
 fn a_failed_read_is_told(rt: HostRuntime) {
     for (name, line) in UNREAD {
-        let mut told = Vec::new(rt.alloc());
-        let fault = teller(rt.alloc(), &rt, &mut told)
-            .read_file(rt.alloc(), name, 9)
-            .err();
+        let (fault, told) = read(&rt, name);
         assert_eq!(rt; fault, Some(ReadFault::Failed), "{name}");
         assert!(rt; told.as_slice() == line.as_bytes(), "{name}");
     }
@@ -105,12 +131,8 @@ fn a_failed_read_is_told(rt: HostRuntime) {
 #[test]
 fn a_failed_save_is_told(rt: HostRuntime) {
     for (name, line) in UNSAVED {
-        let mut told = Vec::new(rt.alloc());
-        let fault = teller(rt.alloc(), &rt, &mut told)
-            .save(name, b"some bytes")
-            .err();
-        assert_eq!(rt; fault, Some(HostFault::Failed), "{name}");
-        assert!(rt; told.as_slice() == line.as_bytes(), "{name}");
+        let (saved, told) = save(&rt, name, b"some bytes");
+        assert!(rt; !saved && told.as_slice() == line.as_bytes(), "{name}");
     }
 }
 
@@ -127,88 +149,96 @@ fn a_failed_print_is_told(rt: HostRuntime) -> Result<(), Fail> {
     Ok(())
 }
 
+// Whether it is saved by a host that has read a file, and what is told of it.
+fn save_after_read(rt: &HostRuntime, name: &str) -> Result<(bool, Vec<u8>), Fail> {
+    let mut told = Vec::new(rt.alloc());
+    let mut host = teller(rt.alloc(), rt, &mut told);
+    host.read_file(rt.alloc(), "kept.v", 9)?;
+    let saved = host.save(name, b"certificate").is_ok();
+    drop(host);
+    Ok((saved, told))
+}
+
+// Whether it is not, by its name, and the file stands.
+fn is_kept(rt: &HostRuntime, name: &str) -> Result<bool, Fail> {
+    let (saved, told) = save_after_read(rt, name)?;
+    let line = format!(in rt.alloc(); "sdcv: {name} was read in this run and is not saved over\n")?;
+    let is_told = told.as_slice() == line.as_bytes();
+    Ok(!saved && is_told && held(rt, "kept.v")?.as_slice() == b"module".as_slice())
+}
+
 // Three names of one file that was read: none of them is saved over.
 #[test]
 fn a_file_that_was_read_is_not_saved_over(rt: HostRuntime) -> Result<(), Fail> {
-    let alloc = rt.alloc();
     let made = ["kept.v", "also_kept.v"];
     clear(&rt, &made);
     fs::write(&rt, "kept.v", b"module")?;
     symlink(&rt, "kept.v", "also_kept.v")?;
     for name in ["kept.v", "./kept.v", "also_kept.v"] {
-        let mut told = Vec::new(alloc);
-        let mut host = teller(alloc, &rt, &mut told);
-        host.read_file(alloc, "kept.v", 9)?;
-        assert_eq!(rt;
-            host.save(name, b"certificate"),
-            Err(HostFault::Failed),
-            "{name}"
-        );
-        drop(host);
-        let line = format!(in alloc; "sdcv: {name} was read in this run and is not saved over\n")?;
-        assert!(rt; told.as_slice() == line.as_bytes(), "{name}");
-        assert!(rt;
-            held(&rt, "kept.v")?.as_slice() == b"module".as_slice(),
-            "{name}"
-        );
+        assert!(rt; is_kept(&rt, name)?, "{name}");
     }
     clear(&rt, &made);
     Ok(())
+}
+
+// Whether a save under the link leaves the link and stands under its target.
+fn is_followed(rt: &HostRuntime, target: &str, link: &str) -> Result<bool, Fail> {
+    symlink(rt, target, link)?;
+    let (saved, _) = save(rt, link, b"saved");
+    let is_link = fs::symlink_metadata(rt, link)?.file_type().is_symlink();
+    Ok(saved && is_link && held(rt, target)?.as_slice() == b"saved".as_slice())
 }
 
 // A link to a file, and one to a file that is not there yet.
 #[test]
 fn a_link_is_followed(rt: HostRuntime) -> Result<(), Fail> {
-    let alloc = rt.alloc();
     let made = ["real_old", "real_new", "old_link", "new_link"];
     clear(&rt, &made);
     fs::write(&rt, "real_old", b"old")?;
     for (target, link) in [("real_old", "old_link"), ("real_new", "new_link")] {
-        symlink(&rt, target, link)?;
-        let mut told = Vec::new(alloc);
-        teller(alloc, &rt, &mut told).save(link, b"saved")?;
-        assert!(rt;
-            fs::symlink_metadata(&rt, link)?.file_type().is_symlink(),
-            "{link}"
-        );
-        assert!(rt;
-            held(&rt, target)?.as_slice() == b"saved".as_slice(),
-            "{target}"
-        );
+        assert!(rt; is_followed(&rt, target, link)?, "{link}");
     }
     clear(&rt, &made);
     Ok(())
 }
 
-// The rights of the old file are those of the new one; a device stays one.
+// The rights of a new file, which are those of the old one.
+fn saved_mode(rt: &HostRuntime) -> Result<u32, Fail> {
+    fs::write(rt, "own.cert", b"old")?;
+    fs::set_permissions(rt, "own.cert", Permissions::from_mode(0o640))?;
+    let (saved, _) = save(rt, "own.cert", b"new");
+    let mode = fs::metadata(rt, "own.cert")?.permissions().mode();
+    Ok(if saved { mode & 0o777 } else { 0 })
+}
+
+// A device stays one.
 #[test]
 fn what_stands_there_keeps_its_kind(rt: HostRuntime) -> Result<(), Fail> {
-    let alloc = rt.alloc();
-    let mut told = Vec::new(alloc);
-    fs::write(&rt, "own.cert", b"old")?;
-    fs::set_permissions(&rt, "own.cert", Permissions::from_mode(0o640))?;
-    teller(alloc, &rt, &mut told).save("own.cert", b"new")?;
-    let mode = fs::metadata(&rt, "own.cert")?.permissions().mode();
-    assert_eq!(rt; mode & 0o777, 0o640);
-    teller(alloc, &rt, &mut told).save("/dev/null", b"new")?;
-    assert!(rt; !fs::metadata(&rt, "/dev/null")?.is_file());
+    assert_eq!(rt; saved_mode(&rt)?, 0o640);
     clear(&rt, &["own.cert"]);
+    let (saved, _) = save(&rt, "/dev/null", b"new");
+    assert!(rt; saved && !fs::metadata(&rt, "/dev/null")?.is_file());
     Ok(())
 }
 
-// What a pipe gets is all that is saved, with nothing beside it: it is written as it is.
+// What a pipe gets of a save.
+fn piped(rt: &HostRuntime, bytes: &[u8]) -> Result<Vec<u8>, Fail> {
+    let (mut reader, writer) = io::pipe(rt)?;
+    let name = format!(in rt.alloc(); "/proc/self/fd/{}", writer.as_raw_fd())?;
+    let (saved, _) = save(rt, name.as_str(), bytes);
+    drop(writer);
+    let mut got = Vec::new(rt.alloc());
+    if saved {
+        reader.read_to_end(&mut got)?;
+    }
+    Ok(got)
+}
+
+// It is all that is saved, with nothing beside it: it is written as it is.
 #[test]
 fn a_pipe_is_written_as_it_is(rt: HostRuntime) -> Result<(), Fail> {
-    let alloc = rt.alloc();
-    let bytes = many(alloc, 10_000)?;
-    let (mut reader, writer) = io::pipe(&rt)?;
-    let name = format!(in alloc; "/proc/self/fd/{}", writer.as_raw_fd())?;
-    let mut told = Vec::new(alloc);
-    teller(alloc, &rt, &mut told).save(name.as_str(), &bytes)?;
-    drop(writer);
-    let mut got = Vec::new(alloc);
-    reader.read_to_end(&mut got)?;
-    assert!(rt; got.as_slice() == bytes.as_slice());
+    let bytes = many(rt.alloc(), 10_000)?;
+    assert!(rt; piped(&rt, &bytes)?.as_slice() == bytes.as_slice());
     Ok(())
 }
 
@@ -219,24 +249,26 @@ const STEPS: &[(Step, &str)] = &[
     (Step::Rename, "sdcv: old.cert: permission denied\n"),
 ];
 
+// Whether it is saved where the step fails, and what is told of it.
+fn save_failing(rt: &HostRuntime, step: Step, bytes: &[u8]) -> (bool, Vec<u8>) {
+    let mut told = Vec::new(rt.alloc());
+    let files = FaultyFiles { files: rt, step };
+    let saved = teller(rt.alloc(), files, &mut told).save("old.cert", bytes);
+    (saved.is_ok(), told)
+}
+
 // After any of them the old file stands, and no part is left.
 #[test]
 fn a_failed_save_leaves_the_old_file(rt: HostRuntime) -> Result<(), Fail> {
-    let alloc = rt.alloc();
     fs::write(&rt, "old.cert", b"old")?;
-    let bytes = many(alloc, 10_000)?;
+    let bytes = many(rt.alloc(), 10_000)?;
     for (step, line) in STEPS {
-        let step = *step;
-        let mut told = Vec::new(alloc);
-        let files = FaultyFiles { files: &rt, step };
-        let saved = teller(alloc, files, &mut told).save("old.cert", &bytes);
-        assert_eq!(rt; saved, Err(HostFault::Failed), "{step:?}");
-        assert!(rt; told.as_slice() == line.as_bytes(), "{step:?}");
+        let (saved, told) = save_failing(&rt, *step, &bytes);
+        assert!(rt; !saved && told.as_slice() == line.as_bytes(), "{step:?}");
         assert!(rt;
-            held(&rt, "old.cert")?.as_slice() == b"old".as_slice(),
+            stands(&rt, "old.cert", "old.cert.sdcv-part", b"old")?,
             "{step:?}"
         );
-        assert!(rt; !fs::exists(&rt, "old.cert.sdcv-part")?, "{step:?}");
     }
     clear(&rt, &["old.cert"]);
     Ok(())

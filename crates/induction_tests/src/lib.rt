@@ -1,4 +1,5 @@
-//! Verdicts on claims of small designs and the clauses that are kept for them, beside those worked out by hand.
+//! Claims of small designs, beside what is worked out by hand: the registers near them, the clauses that an induction tries
+//! and those that it keeps, and the verdicts.
 //!
 //! This crate has tests alone.
 #![tactic(auto)]
@@ -11,3 +12,5 @@ mod designs;
 mod judged_claims;
 #[cfg(test)]
 mod kept_clauses;
+#[cfg(test)]
+mod lists;

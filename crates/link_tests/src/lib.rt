@@ -1,4 +1,6 @@
-//! Orders, flat netlists with and without names, and the designs that they are, against what is worked out by hand.
+//! Orders, flat netlists with and without names, and the designs that they are; Verilog texts linked with the cells of Liberty
+//! texts, or with those that are known without a file: designs with all their names, and refusals with the full name of what
+//! they speak of. All stand beside what is worked out by hand.
 //!
 //! This crate has tests alone.
 #![tactic(auto)]
@@ -6,6 +8,18 @@
 #[cfg(test)]
 mod circuits;
 #[cfg(test)]
+mod givens;
+#[cfg(test)]
 mod names;
 #[cfg(test)]
+mod netlist_rows;
+#[cfg(test)]
+mod netlists;
+#[cfg(test)]
 mod orders;
+#[cfg(test)]
+mod refusal_rows;
+#[cfg(test)]
+mod refusals;
+#[cfg(test)]
+mod shown;

@@ -1,4 +1,6 @@
 //! Watches and variables that wait.
+ghost use Rattle.std.specs.Prelude.{◌≡◌};
+
 use decision_heap::Heap;
 use std::test::Fail;
 use watch_lists::Watches;
@@ -30,36 +32,55 @@ fn a_watch_moves_from_literal_to_literal(rt: HostRuntime) -> Result<(), Fail> {
     Ok(())
 }
 
-// Counted by hand: the scores are 3, 2 and 1 for the variables 2, 4 and 3, since each rise counts
-// one more than that before; then 6 for 2, which is raised while it does not wait, and 4 for 3.
-#[test]
-fn the_most_raised_comes_first(rt: HostRuntime) -> Result<(), Fail> {
-    let mut heap = Heap::new(rt.alloc(), 4)?;
+// Raises 3, 4 and 2, each by one more than the one before.
+fn raise_three(heap: &mut Heap)
+    requires { heap.old.vars ≡ 4 }
+    ensures { heap.new.vars ≡ 4 }
+{
     heap.raise(3);
     heap.age();
     heap.raise(4);
     heap.age();
     heap.raise(2);
-    assert_eq!(rt; heap.pop(), Some(2));
+}
+
+// Raises 2 and 3, and lets 2 and 4 wait; the answer is whether 2 waited before.
+fn let_wait(heap: &mut Heap) -> bool
+    requires { heap.old.vars ≡ 4 }
+{
     heap.raise(2);
     heap.raise(3);
-    assert!(rt; !heap.contains(2));
+    let waited = heap.contains(2);
     heap.insert(2);
     heap.insert(4);
+    waited
+}
+
+// Whether they come first, one after the other, and no other waits.
+fn come(heap: &mut Heap, vars: &[u32]) -> bool {
+    for var in vars {
+        if heap.pop() != Some(*var) {
+            return false;
+        }
+    }
+    heap.pop().is_none()
+}
+
+// Counted by hand: the scores are 3, 2 and 1 for the variables 2, 4 and 3, since each rise counts
+// one more than that before; then 6 for 2, which is raised while it does not wait, and 4 for 3.
+#[test]
+fn the_most_raised_comes_first(rt: HostRuntime) -> Result<(), Fail> {
+    let mut heap = Heap::new(rt.alloc(), 4)?;
+    raise_three(&mut heap);
     assert_eq!(rt; heap.pop(), Some(2));
-    assert_eq!(rt; heap.pop(), Some(3));
-    assert_eq!(rt; heap.pop(), Some(4));
-    assert_eq!(rt; heap.pop(), Some(1));
-    assert_eq!(rt; heap.pop(), None);
+    assert!(rt; !let_wait(&mut heap));
+    assert!(rt; come(&mut heap, &[2, 3, 4, 1]));
     Ok(())
 }
 
 #[test]
 fn of_equal_scores_the_lower_comes_first(rt: HostRuntime) -> Result<(), Fail> {
     let mut heap = Heap::new(rt.alloc(), 4)?;
-    assert_eq!(rt; heap.pop(), Some(1));
-    assert_eq!(rt; heap.pop(), Some(2));
-    assert_eq!(rt; heap.pop(), Some(3));
-    assert_eq!(rt; heap.pop(), Some(4));
+    assert!(rt; come(&mut heap, &[1, 2, 3, 4]));
     Ok(())
 }

@@ -152,6 +152,45 @@ pub(crate) const CHAINS: &[(usize, &str, &str)] = &[
     (257, "assign y = a;", ""),
 ];
 
+/// A text with a piece so often, each time with its number; the clock (none: the empty name), and what is told.
+pub(crate) struct Counted {
+    pub clock: &'static str,
+    pub front: &'static str,
+    /// Before and after the number.
+    pub piece: (&'static str, &'static str),
+    pub count: usize,
+    pub want: &'static str,
+}
+
+/// Each ends with ` endmodule`.
+pub(crate) const COUNTS: &[Counted] = &[
+    Counted {
+        clock: "",
+        front: "module top (input a, output [20000:0] y);",
+        piece: (" assign y[", "] = a;"),
+        count: 20_001,
+        want: "limit of outputs: 20001",
+    },
+    Counted {
+        clock: "clk",
+        front: "module top (input clk, a);",
+        piece: (" DFF r", " (.D(a), .CK(clk), .Q());"),
+        count: 20_001,
+        want: "limit of registers: 20001",
+    },
+    // Each instance has a hundred gates.
+    Counted {
+        clock: "",
+        front: "module s (input a); buf (b0, a), (b1, a), (b2, a), (b3, a), (b4, a), (b5, a), (b6, a), (b7, a), (b8, a), (b9, a); endmodule
+            module t (input a); s u0 (.a(a)), u1 (.a(a)), u2 (.a(a)), u3 (.a(a)), u4 (.a(a)), u5 (.a(a)), u6 (.a(a)), u7 (.a(a)),
+            u8 (.a(a)), u9 (.a(a)); endmodule
+            module top (input a);",
+        piece: (" t u", " (.a(a));"),
+        count: 2_000,
+        want: "limit of nets: 200001",
+    },
+];
+
 /// Cells in Liberty, a netlist over them, and what is told.
 pub(crate) const CELLS: &[(&str, &str, &str)] = &[
     (

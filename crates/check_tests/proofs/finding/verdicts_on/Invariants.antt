@@ -1,7 +1,7 @@
 use Rattle.std.proofs.Common.{All, take}
 use Rattle.verdict_types.specs.Forms.{IsVerdictInForm}
 use Rattle.cert_defs.specs.Accepted.{AreRightVerdicts}
-use Rattle.found_tests.proofs.finding.verdicts_on.Given as goal
+use Rattle.check_tests.proofs.finding.verdicts_on.Given as goal
 
 abbrev pub invariant-loop-place : goal.invariant-loop-place
 invariant-loop-place l = record {

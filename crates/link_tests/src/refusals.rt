@@ -1,62 +1,10 @@
 //! Texts linked, row by row.
-ghost use Rattle.std.specs.Prelude.{◌≡◌, IfOk};
-ghost use Rattle.cell_types.specs.Libraries.{IsLawful as IsLawfulLibrary};
-
-use crate::rows::{CELLS, CHAINS, NETLISTS, SETTINGS};
-use cell_lib::read_lib;
-use cell_types::{Library, builtin};
-use net_link::{LinkOptions, link};
-use sdcv_base::{Name, Seq, Setting};
-use std::alloc::{AllocError, Global};
+use crate::givens::{Given, library, options};
+use crate::refusal_rows::{CELLS, CHAINS, COUNTS, Counted, NETLISTS, SETTINGS};
+use net_link::link;
+use std::alloc::Global;
 use std::test::Fail;
 use verilog_net::read_verilog;
-
-/// The clock, and inputs that are fixed at 0 or a reset; none has the empty name.
-#[derive(Clone, Copy)]
-struct Given<'a> {
-    clock: &'a str,
-    fixed: &'a str,
-    reset: &'a str,
-}
-
-/// The cells of a Liberty text, or those that are known without a file.
-fn library(alloc: Global, cells: &str) -> Result<Library, Fail>
-    ensures { IfOk result (λ library. IsLawfulLibrary library.cells) }
-{
-    if cells.is_empty() {
-        return Ok(builtin(alloc)?);
-    }
-    Ok(read_lib(alloc, cells.as_bytes())?)
-}
-
-fn name_if_any(alloc: Global, name: &str) -> Result<Option<Name>, AllocError> {
-    if name.is_empty() {
-        return Ok(None);
-    }
-    Ok(Some(Name::new(alloc, name.as_bytes())?))
-}
-
-/// The input of that name, if there is one, with the value 0.
-fn at_zero(alloc: Global, name: &str) -> Result<Seq<Setting>, AllocError> {
-    match name_if_any(alloc, name)? {
-        Some(name) => Seq::one(alloc, Setting { name, value: false }),
-        None => Ok(Seq::new(alloc)),
-    }
-}
-
-fn options(alloc: Global, given: &Given) -> Result<LinkOptions, AllocError>
-    ensures { IfOk result (λ made. made.reset_len ≡ 1) }
-{
-    let clock = name_if_any(alloc, given.clock)?;
-    let fixed = at_zero(alloc, given.fixed)?;
-    let resets = at_zero(alloc, given.reset)?;
-    Ok(LinkOptions {
-        clock,
-        fixed,
-        resets,
-        reset_len: 1,
-    })
-}
 
 /// How the refusal is told, and nothing where there is a design.
 fn told(alloc: Global, netlist: &str, cells: &str, given: &Given) -> Result<String, Fail> {
@@ -107,6 +55,33 @@ fn modules_stand_in_modules_to_a_limit(rt: HostRuntime) -> Result<(), Fail> {
         let netlist = chain(rt.alloc(), *depth, body)?;
         let told = told(rt.alloc(), netlist.as_str(), "", &given)?;
         assert_eq!(rt; told.as_str(), *want, "{depth} {body}");
+    }
+    Ok(())
+}
+
+/// The text of a row.
+fn counted(alloc: Global, row: &Counted) -> Result<String, Fail> {
+    let (before, after) = row.piece;
+    let mut text = String::new(alloc);
+    text.push_str(row.front)?;
+    for number in 0..row.count {
+        write!(&mut text, "{before}{number}{after}")?;
+    }
+    text.push_str(" endmodule")?;
+    Ok(text)
+}
+
+#[test]
+fn what_there_is_more_of_than_may_be_is_refused(rt: HostRuntime) -> Result<(), Fail> {
+    for row in COUNTS {
+        let given = Given {
+            clock: row.clock,
+            fixed: "",
+            reset: "",
+        };
+        let netlist = counted(rt.alloc(), row)?;
+        let told = told(rt.alloc(), netlist.as_str(), "", &given)?;
+        assert_eq!(rt; told.as_str(), row.want);
     }
     Ok(())
 }

@@ -1,62 +1,24 @@
 //! Texts linked, row by row.
-ghost use Rattle.std.specs.Prelude.{◌≡◌, IfOk};
-ghost use Rattle.cell_types.specs.Libraries.{IsLawful as IsLawfulLibrary};
 ghost use Rattle.netlist_types.specs.Lawful.{IsLawful};
 
-use crate::rows::{ROWS, Row};
+use crate::givens::{Given, library, options};
+use crate::netlist_rows::{ROWS, Row};
 use crate::shown::{design_text, names_text, ports_text};
-use cell_lib::read_lib;
-use cell_types::{Library, builtin};
-use net_link::{LinkOptions, Linked, link, top_inputs};
-use sdcv_base::{Name, Seq, Setting};
-use std::alloc::{AllocError, Global};
+use net_link::{Linked, link, top_inputs};
+use std::alloc::Global;
 use std::test::Fail;
 use verilog_net::{Source, read_verilog};
-
-/// The cells of a Liberty text, or those that are known without a file.
-fn library(alloc: Global, cells: &str) -> Result<Library, Fail>
-    ensures { IfOk result (λ library. IsLawfulLibrary library.cells) }
-{
-    if cells.is_empty() {
-        return Ok(builtin(alloc)?);
-    }
-    Ok(read_lib(alloc, cells.as_bytes())?)
-}
-
-fn name_if_any(alloc: Global, name: &str) -> Result<Option<Name>, AllocError> {
-    if name.is_empty() {
-        return Ok(None);
-    }
-    Ok(Some(Name::new(alloc, name.as_bytes())?))
-}
-
-/// The input of that name, if there is one, with the value 0.
-fn at_zero(alloc: Global, name: &str) -> Result<Seq<Setting>, AllocError> {
-    match name_if_any(alloc, name)? {
-        Some(name) => Seq::one(alloc, Setting { name, value: false }),
-        None => Ok(Seq::new(alloc)),
-    }
-}
-
-fn options(alloc: Global, row: &Row) -> Result<LinkOptions, AllocError>
-    ensures { IfOk result (λ made. made.reset_len ≡ 1) }
-{
-    let clock = name_if_any(alloc, row.clock)?;
-    let fixed = at_zero(alloc, row.fixed)?;
-    let resets = at_zero(alloc, row.reset)?;
-    Ok(LinkOptions {
-        clock,
-        fixed,
-        resets,
-        reset_len: 1,
-    })
-}
 
 fn linked_source(alloc: Global, row: &Row, source: &Source) -> Result<Linked, Fail>
     requires { IsLawful source.now }
 {
     let library = library(alloc, row.cells)?;
-    let options = options(alloc, row)?;
+    let given = Given {
+        clock: row.clock,
+        fixed: row.fixed,
+        reset: row.reset,
+    };
+    let options = options(alloc, &given)?;
     Ok(link(alloc, source, &library, &options)?)
 }
 

@@ -1,7 +1,7 @@
 use Rattle.std.proofs.lemmas.List.Elements.{All-nil, All-push}
 use Rattle.verdict_types.specs.Forms.{IsVerdictInForm}
 use Rattle.cert_defs.proofs.Gathering.{right_none, right_more}
-use Rattle.found_tests.proofs.finding.verdicts_on.Goals as goal
+use Rattle.check_tests.proofs.finding.verdicts_on.Goals as goal
 
 pub loop-place-init : goal.loop-place-init
 loop-place-init c = record {
