@@ -23,11 +23,11 @@ use Rattle.link_defs.specs.declared.circuits.Part.TheVariants as part
 use Rattle.link_defs.specs.Circuits.{regs_of, part_gates}
 use Rattle.link_defs.specs.Designs.{moved, moved_out, moved_reg, number_by, drivers_by, equations, kept_gates, is_on_tree, IsDesignOf}
 use Rattle.link_defs.specs.Links.{source_count}
-use Rattle.circuit_link.specs.Lawful.{IsLawfulCircuit, IsLawfulPart, IsLawfulGate}
-use Rattle.circuit_link.specs.Rows.{IsDriverRow}
-use Rattle.circuit_link.proofs.DriverPlaces.{number_cases, number_within, number_at, counted_twice}
-use Rattle.circuit_link.proofs.Leading.{map_at}
-use Rattle.circuit_link.proofs.Parted.{all_in, all_from_in, data_sources_are, data_sources_below}
+use Rattle.link_design.specs.Lawful.{IsLawfulCircuit, IsLawfulPart, IsLawfulGate}
+use Rattle.link_design.specs.Rows.{IsDriverRow}
+use Rattle.link_design.proofs.DriverPlaces.{number_cases, number_within, number_at, counted_twice}
+use Rattle.link_design.proofs.Leading.{map_at}
+use Rattle.link_design.proofs.Parted.{all_in, all_from_in, data_sources_are, data_sources_below}
 use Rattle.link_cells.specs.Numbers.{number_in}
 
 -- the output nets of a register with other numbers

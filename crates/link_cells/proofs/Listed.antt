@@ -14,11 +14,11 @@ use Rattle.link_defs.specs.Links.{source_count}
 use Rattle.link_defs.specs.Parts.{parts_of}
 use Rattle.cell_types.specs.declared.libraries.Library.{Library}
 use Rattle.netlist_types.specs.declared.sources.Source.{Source}
-use Rattle.circuit_link.specs.declared.designs.Held.{Held}
-use Rattle.circuit_link.specs.declared.designs.CircuitDesign.{CircuitDesign}
-use Rattle.circuit_link.specs.Lawful.{IsLawfulCircuit}
-use Rattle.circuit_link.specs.Made.{IsMade}
-use Rattle.circuit_link.proofs.Leading.{map_at}
+use Rattle.link_design.specs.declared.designs.Held.{Held}
+use Rattle.link_design.specs.declared.designs.CircuitDesign.{CircuitDesign}
+use Rattle.link_design.specs.Lawful.{IsLawfulCircuit}
+use Rattle.link_design.specs.Made.{IsMade}
+use Rattle.link_design.proofs.Leading.{map_at}
 use Rattle.link_items.specs.declared.made.LeafPlace.{LeafPlace}
 use Rattle.link_items.specs.Items.{AreLeavesAt}
 use Rattle.link_clashes.specs.Clashes.{leaf_names}

@@ -21,9 +21,9 @@ use Rattle.link_defs.specs.Designs.{moved, moved_reg, number_by, drivers_by, is_
 use Rattle.link_defs.specs.Links.{source_count}
 use Rattle.link_defs.specs.Usable.{IsPinOf, IsRoleOf, IsCellOf}
 use Rattle.link_items.proofs.Listing.{all_at}
-use Rattle.circuit_link.specs.Lawful.{IsLawfulCircuit, IsLawfulPart, IsLawfulGate}
-use Rattle.circuit_link.proofs.Leading.{map_at}
-use Rattle.circuit_link.proofs.Parted.{all_in, all_from_in}
+use Rattle.link_design.specs.Lawful.{IsLawfulCircuit, IsLawfulPart, IsLawfulGate}
+use Rattle.link_design.proofs.Leading.{map_at}
+use Rattle.link_design.proofs.Parted.{all_in, all_from_in}
 use Rattle.link_circuit.proofs.Lawfully.{all_none}
 use Rattle.link_cells.specs.Places.{data_roles}
 use Rattle.link_cells.proofs.Driving.{reg_nets_moved, gate_stands}

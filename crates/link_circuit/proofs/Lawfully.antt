@@ -17,7 +17,7 @@ use Rattle.cell_types.specs.declared.libraries.FlopOut.{FlopOut}
 use Rattle.link_defs.specs.Hierarchy.{wires_of}
 use Rattle.link_defs.specs.Parts.{wire_net, wire_nets, constant, ties, pin_net, pin_nets, pin_ties, bit_ties, folded, prim_form, comb_gates, reg_outs}
 use Rattle.link_items.proofs.Pinned.{wires_below, narrow}
-use Rattle.circuit_link.specs.Lawful.{IsLawfulPart, IsLawfulGate}
+use Rattle.link_design.specs.Lawful.{IsLawfulPart, IsLawfulGate}
 
 -- what holds of none
 pub all_none : {X : Type 0} (P : X → Type 0) → All P []

@@ -40,7 +40,7 @@ use Rattle.link_items.specs.Faults.{IsInstFault, IsCellFault, IsFaultless}
 use Rattle.link_items.proofs.Listing.{all_at}
 use Rattle.link_items.proofs.Along.{length_wire_nets}
 use Rattle.link_items.proofs.Pinned.{port_bits, narrow}
-use Rattle.circuit_link.specs.Lawful.{IsLawfulPart, IsLawfulGate}
+use Rattle.link_design.specs.Lawful.{IsLawfulPart, IsLawfulGate}
 use Rattle.link_circuit.proofs.Lawfully.{all_none, all_flat, ties_lawful, pin_ties_lawful, bit_ties_lawful, wire_below, wire_nets_below, pin_below}
 use Rattle.link_circuit.proofs.Lawfully.{pin_nets_below, length_pin_nets, comb_gates_lawful, reg_outs_below, over_more, option_more, prim_over}
 

@@ -3,7 +3,7 @@
 ghost use Rattle.std.specs.Prelude.{ℕ, List, Option};
 ghost use Rattle.netlist_types.specs.Lawful.{IsLawful, IsLawfulModule};
 ghost use Rattle.cell_types.specs.Libraries.{IsLawful as IsLawfulLibrary};
-ghost use Rattle.circuit_link.specs.Lawful.{IsLawfulCircuit};
+ghost use Rattle.link_design.specs.Lawful.{IsLawfulCircuit};
 ghost use Rattle.link_defs.specs.Circuits.{circuit_of};
 ghost use Rattle.link_defs.specs.Flatten.{flat_of};
 ghost use Rattle.link_flat.specs.Flats.{AreFine};

@@ -1,7 +1,7 @@
 //! The circuit of a flat netlist: its nets and parts, and the nets of the top module's ports, the clock's apart.
 //!
 //! Read `circuits.rt` first. `laws.rt` says that a design can be made of the circuit where no item of the flat netlist is
-//! refused: its parts are over nets of the flat netlist, with at most six pins each, as `circuit_link` asks.
+//! refused: its parts are over nets of the flat netlist, with at most six pins each, as `link_design` asks.
 #![tactic(auto)]
 
 mod circuits;

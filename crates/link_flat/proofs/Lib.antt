@@ -1,3 +1,4 @@
+pub mod Placed
 pub mod Ranking
 pub mod Pended
 pub mod Growing

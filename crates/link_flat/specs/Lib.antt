@@ -1,3 +1,4 @@
+pub mod Orders
 pub mod Flats
 pub mod Pending
 pub mod Frames

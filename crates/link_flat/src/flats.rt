@@ -9,11 +9,11 @@ ghost use Rattle.link_flat.specs.Flats.{IsFlattened, AreFine, IsCauseBelow, IsUn
 ghost use Rattle.link_flat.specs.Frames.{HasRanks};
 
 use crate::frames::Frame;
+use crate::orders::module_order;
 use crate::steps::step;
 use graph_order::Stack;
 use link_defs::LinkFault;
 use link_items::{Instance, Made, Netlist};
-use link_order::module_order;
 use sdcv_base::{Name, Seq};
 use std::alloc::{AllocError, Global};
 

@@ -13,11 +13,11 @@ use Rattle.netlist_types.specs.declared.sources.Module.{Module}
 use Rattle.netlist_types.specs.Lawful.{IsLawful, IsLawfulModule}
 use Rattle.cell_types.specs.declared.libraries.Library.{Library}
 use Rattle.cell_types.specs.Libraries.{IsLawful as IsLawfulLibrary}
-use Rattle.circuit_link.specs.Faults.{IsCause, IsAboveLimit as IsAboveCircuit}
-use Rattle.circuit_link.specs.Faults as above
-use Rattle.circuit_link.specs.declared.faults.CircuitFault.{CircuitFault}
-use Rattle.circuit_link.specs.declared.faults.CircuitFault.TheVariants as circuit
-use Rattle.circuit_link.proofs.Clocked.{position_some, position_none}
+use Rattle.link_design.specs.Faults.{IsCause, IsAboveLimit as IsAboveCircuit}
+use Rattle.link_design.specs.Faults as above
+use Rattle.link_design.specs.declared.faults.CircuitFault.{CircuitFault}
+use Rattle.link_design.specs.declared.faults.CircuitFault.TheVariants as circuit
+use Rattle.link_design.proofs.Clocked.{position_some, position_none}
 use Rattle.link_defs.specs.declared.circuits.Circuit.{Circuit}
 use Rattle.link_defs.specs.declared.circuits.Part.{Part}
 use Rattle.link_defs.specs.declared.circuits.Part.TheVariants as part

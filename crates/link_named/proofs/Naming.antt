@@ -25,10 +25,10 @@ use Rattle.cell_types.specs.declared.libraries.Cell.{Cell}
 use Rattle.cell_types.specs.declared.libraries.CellKind.{CellKind}
 use Rattle.cell_types.specs.declared.libraries.CellKind.TheVariants as kind
 use Rattle.cell_types.specs.Libraries.{IsLawful as IsLawfulLibrary}
-use Rattle.circuit_link.specs.Faults.{IsCause}
-use Rattle.circuit_link.specs.Lawful.{IsLawfulPart, IsLawfulGate, IsLawfulCircuit}
-use Rattle.circuit_link.specs.declared.faults.CircuitFault.{CircuitFault}
-use Rattle.circuit_link.specs.declared.faults.CircuitFault.TheVariants as fault
+use Rattle.link_design.specs.Faults.{IsCause}
+use Rattle.link_design.specs.Lawful.{IsLawfulPart, IsLawfulGate, IsLawfulCircuit}
+use Rattle.link_design.specs.declared.faults.CircuitFault.{CircuitFault}
+use Rattle.link_design.specs.declared.faults.CircuitFault.TheVariants as fault
 use Rattle.link_defs.specs.declared.circuits.Part.{Part}
 use Rattle.link_defs.specs.declared.circuits.Part.TheVariants as part
 use Rattle.link_defs.specs.CellNames.{Leaf, leaves, leaves_of, last_part, leaf_if_any}

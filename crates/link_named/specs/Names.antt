@@ -16,8 +16,8 @@ use Rattle.link_items.specs.declared.made.LeafPlace.{LeafPlace}
 use Rattle.link_items.specs.Items.{scope_of, AreLeavesAt}
 use Rattle.link_flat.specs.Flats.{AreScopes}
 use Rattle.link_circuit.specs.declared.circuits.FlatCircuit.{FlatCircuit}
-use Rattle.circuit_link.specs.declared.faults.CircuitFault.{CircuitFault}
-use Rattle.circuit_link.specs.declared.faults.CircuitFault.TheVariants as fault
+use Rattle.link_design.specs.declared.faults.CircuitFault.{CircuitFault}
+use Rattle.link_design.specs.declared.faults.CircuitFault.TheVariants as fault
 
 -- one of the instances has the net, and so the net has a full name
 abbrev pub HasNet : List Scope → ℕ → Type 0

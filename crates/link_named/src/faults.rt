@@ -3,7 +3,7 @@ ghost use Rattle.std.specs.Prelude.{◌≡◌, ◌<◌, ℕ, Contains, length, m
 ghost use Rattle.netlist_types.specs.Lawful.{IsLawful};
 ghost use Rattle.cell_types.specs.Libraries.{IsLawful as IsLawfulLibrary};
 ghost use Rattle.net_model.specs.declared.netlist.Reg.{Reg as RegRecord};
-ghost use Rattle.circuit_link.specs.Faults.{IsCause};
+ghost use Rattle.link_design.specs.Faults.{IsCause};
 ghost use Rattle.link_defs.specs.declared.circuits.Part.TheVariants as kinds;
 ghost use Rattle.link_defs.specs.Faults.{IsFlatCause};
 ghost use Rattle.link_defs.specs.Flatten.{flat_of, scope_names};
@@ -13,9 +13,9 @@ ghost use Rattle.link_flat.specs.Flats.{AreFine, AreScopes};
 ghost use Rattle.link_named.specs.Names.{HasNet, IsCircuitBelow, IsNameOn, HasLeafOn};
 
 use crate::finds::{instance_with, leaf_on, place_in};
-use circuit_link::CircuitFault;
 use link_circuit::FlatCircuit;
 use link_defs::{LinkFault, LinkOptions, Part};
+use link_design::CircuitFault;
 use link_items::{Instance, LeafPlace, Netlist, full_name};
 use sdcv_base::{Name, Seq};
 use std::alloc::{AllocError, Global};

@@ -2,8 +2,8 @@
 ghost use Rattle.std.specs.Prelude.{ℕ, List, Option, Contains};
 ghost use Rattle.netlist_types.specs.Lawful.{IsLawful, IsLawfulModule};
 ghost use Rattle.cell_types.specs.Libraries.{IsLawful as IsLawfulLibrary};
-ghost use Rattle.circuit_link.specs.declared.faults.CircuitFault.{CircuitFault};
-ghost use Rattle.circuit_link.specs.Faults.{IsCause};
+ghost use Rattle.link_design.specs.declared.faults.CircuitFault.{CircuitFault};
+ghost use Rattle.link_design.specs.Faults.{IsCause};
 ghost use Rattle.link_defs.specs.Circuits.{circuit_of};
 ghost use Rattle.link_defs.specs.Flatten.{flat_of};
 ghost use Rattle.link_flat.specs.Flats.{AreFine};

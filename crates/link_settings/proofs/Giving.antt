@@ -19,7 +19,7 @@ use Rattle.link_defs.specs.declared.faults.LinkFault.TheVariants as fault
 use Rattle.link_defs.specs.Circuits.{PortBit}
 use Rattle.link_defs.specs.Faults.{bit_names}
 use Rattle.link_defs.specs.Links.{IsSet}
-use Rattle.circuit_link.proofs.Leading.{map_from}
+use Rattle.link_design.proofs.Leading.{map_from}
 use Rattle.link_items.proofs.Listing.{contains_at, kept_at, last_at, take_next}
 use Rattle.link_items.proofs.Searching.{place_of_item, in_among, not_both}
 use Rattle.link_clashes.proofs.Clashing.{added_twice, names_split}

@@ -9,8 +9,8 @@ use Rattle.net_model.specs.Netlist.{AllBelow}
 use Rattle.net_model.specs.declared.netlist.Fixed.{Fixed}
 use Rattle.netlist_types.specs.declared.sources.Module.{Module}
 use Rattle.texts.proofs.NameLemmas.{distinct_by_test}
-use Rattle.circuit_link.specs.declared.designs.Held.{Held}
-use Rattle.circuit_link.specs.Made.{IsHeldBy}
+use Rattle.link_design.specs.declared.designs.Held.{Held}
+use Rattle.link_design.specs.Made.{IsHeldBy}
 use Rattle.link_defs.specs.declared.faults.LinkFault.{LinkFault}
 use Rattle.link_defs.specs.declared.faults.LinkFault.TheVariants as fault
 use Rattle.link_defs.specs.declared.names.PortName.{PortName}

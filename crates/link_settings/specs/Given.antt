@@ -7,7 +7,7 @@ use Rattle.link_defs.specs.declared.options.LinkOptions.{LinkOptions}
 use Rattle.link_defs.specs.declared.faults.LinkFault.{LinkFault}
 use Rattle.link_defs.specs.declared.faults.LinkFault.TheVariants as fault
 use Rattle.link_defs.specs.Faults.{StandsTwice}
-use Rattle.circuit_link.specs.declared.designs.Held.{Held}
+use Rattle.link_design.specs.declared.designs.Held.{Held}
 
 -- the names of settings
 abbrev pub setting_names : List Setting → List (List ℕ)

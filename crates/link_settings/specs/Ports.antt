@@ -10,7 +10,7 @@ use Rattle.link_defs.specs.declared.options.LinkOptions.{LinkOptions}
 use Rattle.link_defs.specs.Circuits.{input_bits, output_bits, data_bits, bit_nets}
 use Rattle.link_defs.specs.Faults.{StandsTwice, bit_names, IsBadSetting}
 use Rattle.link_defs.specs.Links.{ports_of, IsSet}
-use Rattle.circuit_link.specs.Made.{IsHeldBy}
+use Rattle.link_design.specs.Made.{IsHeldBy}
 use Rattle.link_settings.specs.declared.ports.TopPorts.{TopPorts}
 
 -- the data inputs and outputs by name, and the settings by places among the data inputs

@@ -11,9 +11,9 @@ ghost use Rattle.link_settings.specs.Ports.{AreTopPorts, IsPortCause, IsNameFaul
 
 use crate::given::held_of;
 use crate::inputs::{data_names, data_table};
-use circuit_link::Held;
 use link_clashes::add_ports;
 use link_defs::{LinkFault, LinkOptions, PortName};
+use link_design::Held;
 use link_tops::{input_names, output_names};
 use netlist_types::Module;
 use sdcv_base::{Name, Seq};

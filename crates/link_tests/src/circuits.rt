@@ -2,10 +2,10 @@
 ghost use Rattle.std.specs.Prelude.{◌≡◌, ◌<◌, ◌≤◌, true, IfOk, IfSome, OnOk, All, length};
 ghost use Rattle.net_model.specs.Form.{IsOver};
 ghost use Rattle.net_model.specs.Netlist.{AllBelow};
-ghost use Rattle.circuit_link.specs.Lawful.{IsLawfulPart, IsLawfulCircuit};
+ghost use Rattle.link_design.specs.Lawful.{IsLawfulPart, IsLawfulCircuit};
 
-use circuit_link::{CircuitDesign, CircuitFault, Held, design_of};
 use link_defs::{Circuit, Part};
+use link_design::{CircuitDesign, CircuitFault, Held, design_of};
 use net_model::{Func, Gate, Reg, RegOut};
 use sdcv_base::Seq;
 use std::alloc::{AllocError, Global};

@@ -13,9 +13,9 @@ use Rattle.netlist_types.specs.declared.sources.Item.TheVariants as item
 use Rattle.netlist_types.specs.Lawful.{module_of}
 use Rattle.cell_types.specs.declared.libraries.Library.{Library}
 use Rattle.cell_types.specs.declared.libraries.Cell.{Cell}
-use Rattle.circuit_link.specs.declared.faults.CircuitFault.TheVariants as circuit
-use Rattle.circuit_link.specs.Faults.{IsFaultless as IsFaultlessCircuit, IsAboveLimit as IsAboveCircuit}
-use Rattle.circuit_link.specs.Faults as above
+use Rattle.link_design.specs.declared.faults.CircuitFault.TheVariants as circuit
+use Rattle.link_design.specs.Faults.{IsFaultless as IsFaultlessCircuit, IsAboveLimit as IsAboveCircuit}
+use Rattle.link_design.specs.Faults as above
 use Rattle.link_clashes.specs.Clashes.{leaf_names, IsApart, IsClash}
 use Rattle.link_defs.specs.declared.circuits.Circuit.{Circuit}
 use Rattle.link_defs.specs.declared.circuits.Part.{Part}
@@ -35,7 +35,7 @@ use Rattle.link_items.specs.Items.{AreLeavesAt}
 use Rattle.link_flat.specs.Flats.{AreFine, IsUnrecursive, IsCauseIn}
 use Rattle.link_settings.specs.Ports.{IsPortCause}
 use Rattle.link_tops.specs.Tops.{IsTopCause}
-use Rattle.circuit_link.proofs.Parted.{all_in}
+use Rattle.link_design.proofs.Parted.{all_in}
 use Rattle.net_link.specs.Nets.{IsOfTwoNets, IsNetCause}
 
 -- a cause below the only top module is one of the source

@@ -8,10 +8,10 @@ use Rattle.net_model.specs.declared.netlist.Fixed.{Fixed}
 use Rattle.netlist_types.specs.declared.sources.Source.{Source}
 use Rattle.netlist_types.specs.declared.sources.Module.{Module}
 use Rattle.cell_types.specs.declared.libraries.Library.{Library}
-use Rattle.circuit_link.specs.declared.designs.CircuitDesign.{CircuitDesign}
-use Rattle.circuit_link.specs.declared.designs.Held.{Held}
-use Rattle.circuit_link.specs.Lawful.{IsLawfulCircuit}
-use Rattle.circuit_link.specs.Made.{IsHeldBy, IsMade}
+use Rattle.link_design.specs.declared.designs.CircuitDesign.{CircuitDesign}
+use Rattle.link_design.specs.declared.designs.Held.{Held}
+use Rattle.link_design.specs.Lawful.{IsLawfulCircuit}
+use Rattle.link_design.specs.Made.{IsHeldBy, IsMade}
 use Rattle.link_defs.specs.declared.circuits.Circuit.{Circuit}
 use Rattle.link_defs.specs.declared.faults.LinkFault.{LinkFault}
 use Rattle.link_defs.specs.declared.names.CellName.{CellName}

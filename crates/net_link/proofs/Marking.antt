@@ -13,13 +13,13 @@ use Rattle.net_model.specs.Form.{xor}
 use Rattle.net_model.specs.Netlist.{AllBelow, gate_nets, reg_nets}
 use Rattle.net_model.specs.declared.netlist.Gate.{Gate}
 use Rattle.net_model.proofs.Members.{In, In-cases, In-left, In-right, In-map, In-flat, from_flat, from_map, In-from_Contains, Contains-from_In}
-use Rattle.circuit_link.specs.declared.designs.CircuitDesign.{CircuitDesign}
-use Rattle.circuit_link.specs.declared.designs.Held.{Held}
-use Rattle.circuit_link.specs.Lawful.{IsLawfulCircuit, IsLawfulComb}
-use Rattle.circuit_link.specs.Made.{IsMade}
-use Rattle.circuit_link.specs.Rows.{IsDriverRow}
-use Rattle.circuit_link.proofs.DriverPlaces.{number_cases, number_within, number_at}
-use Rattle.circuit_link.proofs.Parted.{gate_of_part, drivers_are, drivers_below, all_in}
+use Rattle.link_design.specs.declared.designs.CircuitDesign.{CircuitDesign}
+use Rattle.link_design.specs.declared.designs.Held.{Held}
+use Rattle.link_design.specs.Lawful.{IsLawfulCircuit, IsLawfulComb}
+use Rattle.link_design.specs.Made.{IsMade}
+use Rattle.link_design.specs.Rows.{IsDriverRow}
+use Rattle.link_design.proofs.DriverPlaces.{number_cases, number_within, number_at}
+use Rattle.link_design.proofs.Parted.{gate_of_part, drivers_are, drivers_below, all_in}
 use Rattle.link_defs.proofs.Permuting.{order_permutes}
 use Rattle.link_defs.specs.declared.circuits.Circuit.{Circuit}
 use Rattle.link_defs.specs.declared.circuits.Part.{Part}

@@ -9,8 +9,8 @@ use Rattle.netlist_types.specs.declared.sources.Module.{Module}
 use Rattle.netlist_types.specs.Lawful.{IsLawful, IsLawfulModule}
 use Rattle.cell_types.specs.declared.libraries.Library.{Library}
 use Rattle.cell_types.specs.Libraries.{IsLawful as IsLawfulLibrary}
-use Rattle.circuit_link.specs.Faults.{IsFaultless as IsFaultlessCircuit}
-use Rattle.circuit_link.specs.Lawful.{IsLawfulCircuit}
+use Rattle.link_design.specs.Faults.{IsFaultless as IsFaultlessCircuit}
+use Rattle.link_design.specs.Lawful.{IsLawfulCircuit}
 use Rattle.link_circuit.proofs.Circuited.{circuit_lawful}
 use Rattle.link_circuit.specs.declared.circuits.FlatCircuit.{FlatCircuit}
 use Rattle.link_clashes.specs.Clashes.{leaf_names, IsApart}

@@ -7,10 +7,10 @@ use Rattle.std.specs.Str.{bytes_eq}
 use Rattle.std.proofs.lemmas.List.Folds.{flat_map-map}
 use Rattle.std.proofs.lemmas.Slice.Eq.{bytes_eq-Decides}
 use Rattle.net_model.proofs.Members.{In, In-from_Contains, Contains-from_In, from_flat, In-flat}
-use Rattle.circuit_link.specs.declared.designs.CircuitDesign.{CircuitDesign}
-use Rattle.circuit_link.specs.declared.designs.Held.{Held}
-use Rattle.circuit_link.specs.Lawful.{IsLawfulCircuit}
-use Rattle.circuit_link.specs.Made.{IsMade}
+use Rattle.link_design.specs.declared.designs.CircuitDesign.{CircuitDesign}
+use Rattle.link_design.specs.declared.designs.Held.{Held}
+use Rattle.link_design.specs.Lawful.{IsLawfulCircuit}
+use Rattle.link_design.specs.Made.{IsMade}
 use Rattle.link_defs.specs.declared.circuits.Circuit.{Circuit}
 use Rattle.link_defs.specs.declared.names.NetName.{NetName}
 use Rattle.link_defs.specs.Circuits.{all_drivers}

@@ -2,7 +2,7 @@
 use Rattle.std.specs.Prelude.{◌≡◌, ◌≢◌, ℕ, ◌<◌, Bool, true, ◌&&◌, ◌||◌, nat_lt, List, length, flat_map, Contains, slice_index_or}
 use Rattle.sdcv_base.specs.Seqs.{is_marked}
 use Rattle.netlist_types.specs.declared.sources.Source.{Source}
-use Rattle.circuit_link.specs.declared.designs.CircuitDesign.{CircuitDesign}
+use Rattle.link_design.specs.declared.designs.CircuitDesign.{CircuitDesign}
 use Rattle.link_defs.specs.declared.circuits.Circuit.{Circuit}
 use Rattle.link_defs.specs.declared.faults.LinkFault.{LinkFault}
 use Rattle.link_defs.specs.declared.faults.LinkFault.TheVariants as fault

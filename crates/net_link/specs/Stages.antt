@@ -5,10 +5,10 @@ use Rattle.std.specs.Str.{bytes_eq}
 use Rattle.netlist_types.specs.declared.sources.Source.{Source}
 use Rattle.netlist_types.specs.declared.sources.Module.{Module}
 use Rattle.cell_types.specs.declared.libraries.Library.{Library}
-use Rattle.circuit_link.specs.declared.designs.CircuitDesign.{CircuitDesign}
-use Rattle.circuit_link.specs.declared.designs.Held.{Held}
-use Rattle.circuit_link.specs.Lawful.{IsLawfulCircuit}
-use Rattle.circuit_link.specs.Made.{IsMade}
+use Rattle.link_design.specs.declared.designs.CircuitDesign.{CircuitDesign}
+use Rattle.link_design.specs.declared.designs.Held.{Held}
+use Rattle.link_design.specs.Lawful.{IsLawfulCircuit}
+use Rattle.link_design.specs.Made.{IsMade}
 use Rattle.link_defs.specs.declared.names.CellName.{CellName}
 use Rattle.link_defs.specs.declared.names.NetName.{NetName}
 use Rattle.link_defs.specs.declared.options.LinkOptions.{LinkOptions}

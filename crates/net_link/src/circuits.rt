@@ -2,8 +2,8 @@
 ghost use Rattle.std.specs.Prelude.{◌≡◌, ◌<◌, length, IfOk, IfErr, OnOk};
 ghost use Rattle.netlist_types.specs.Lawful.{IsLawful};
 ghost use Rattle.cell_types.specs.Libraries.{IsLawful as IsLawfulLibrary};
-ghost use Rattle.circuit_link.specs.Faults.{IsFaultless};
-ghost use Rattle.circuit_link.specs.Made.{IsHeldBy, IsMade};
+ghost use Rattle.link_design.specs.Faults.{IsFaultless};
+ghost use Rattle.link_design.specs.Made.{IsHeldBy, IsMade};
 ghost use Rattle.link_defs.specs.Faults.{IsFlatCause};
 ghost use Rattle.link_defs.specs.Flatten.{flat_of};
 ghost use Rattle.link_flat.specs.Flats.{AreFine, IsCauseBelow, IsUnrecursive};
@@ -12,10 +12,10 @@ ghost use Rattle.link_items.specs.Tables.{module_names, cell_names};
 ghost use Rattle.link_named.specs.Names.{IsCircuitBelow};
 ghost use Rattle.net_link.specs.Stages.{IsFlatCircuit};
 
-use circuit_link::{CircuitDesign, Held, design_of};
 use link_circuit::{FlatCircuit, circuit_of};
 use link_clashes::check_cells;
 use link_defs::{LinkFault, LinkOptions};
+use link_design::{CircuitDesign, Held, design_of};
 use link_flat::flatten;
 use link_items::Netlist;
 use link_named::named_fault;

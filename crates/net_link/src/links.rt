@@ -7,9 +7,9 @@ ghost use Rattle.link_defs.specs.Links.{IsLinked};
 ghost use Rattle.link_defs.specs.Usable.{IsUsable};
 ghost use Rattle.link_items.specs.Tables.{module_names, cell_names as library_names};
 ghost use Rattle.link_tops.specs.Tops.{IsTop};
-ghost use Rattle.circuit_link.specs.declared.designs.Held.{Held as HeldRecord};
-ghost use Rattle.circuit_link.specs.Lawful.{IsLawfulCircuit};
-ghost use Rattle.circuit_link.specs.Made.{IsMade};
+ghost use Rattle.link_design.specs.declared.designs.Held.{Held as HeldRecord};
+ghost use Rattle.link_design.specs.Lawful.{IsLawfulCircuit};
+ghost use Rattle.link_design.specs.Made.{IsMade};
 ghost use Rattle.link_defs.specs.CellNames.{Leaf as LeafRecord};
 ghost use Rattle.link_flat.specs.Flats.{AreScopes, IsUnrecursive};
 ghost use Rattle.link_items.specs.Items.{module_at, AreLeavesAt};
@@ -20,10 +20,10 @@ ghost use Rattle.net_link.specs.Stages.{AreInner, IsFitting, IsFlatCircuit};
 use crate::circuits::{flat_circuit, made_design};
 use crate::nets::net_names;
 use cell_types::Library;
-use circuit_link::CircuitDesign;
 use link_cells::cell_names;
 use link_circuit::FlatCircuit;
 use link_defs::{CellName, LinkFault, LinkOptions, Linked, Names, NetName};
+use link_design::CircuitDesign;
 use link_items::Netlist;
 use link_settings::{TopPorts, top_ports};
 use link_tops::one_top;
@@ -94,7 +94,7 @@ fn inner_names(
 }
 
 /// The design of the circuit below the top module, with all its names.
-fn link_circuit(
+fn named_design(
     alloc: Global,
     netlist: &Netlist,
     top: usize,
@@ -149,5 +149,5 @@ fn link_below(
 {
     let ports = top_ports(alloc, netlist.source.modules.item(top), options)?;
     let c = flat_circuit(alloc, netlist, top, &options.clock)?;
-    link_circuit(alloc, netlist, top, options, &c, ports)
+    named_design(alloc, netlist, top, options, &c, ports)
 }

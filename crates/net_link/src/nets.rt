@@ -1,9 +1,9 @@
 //! The full names of the nets of a design.
 ghost use Rattle.std.specs.Prelude.{◌≡◌, ◌<◌, ℕ, List, length, IfOk, IfErr, OnOk};
 ghost use Rattle.sdcv_base.specs.Seqs.{is_marked};
-ghost use Rattle.circuit_link.specs.declared.designs.Held.{Held as HeldRecord};
-ghost use Rattle.circuit_link.specs.Lawful.{IsLawfulCircuit};
-ghost use Rattle.circuit_link.specs.Made.{IsMade};
+ghost use Rattle.link_design.specs.declared.designs.Held.{Held as HeldRecord};
+ghost use Rattle.link_design.specs.Lawful.{IsLawfulCircuit};
+ghost use Rattle.link_design.specs.Made.{IsMade};
 ghost use Rattle.link_defs.specs.CellNames.{AreNetNames};
 ghost use Rattle.link_defs.specs.Designs.{drivers_by, number_by};
 ghost use Rattle.link_defs.specs.Flatten.{Flat, full_names};
@@ -11,9 +11,9 @@ ghost use Rattle.link_flat.specs.Flats.{AreScopes};
 ghost use Rattle.link_names.specs.Scopes.{IsTableOf, IsTwice};
 ghost use Rattle.net_link.specs.Nets.{has_number as numbered, is_driven as driven, AreMarks, names_in, IsOfTwoNets, IsNetCause};
 
-use circuit_link::CircuitDesign;
 use link_circuit::FlatCircuit;
 use link_defs::{LinkFault, NetName};
+use link_design::CircuitDesign;
 use link_items::{Instance, Netlist};
 use link_names::{NameFault, NetTable};
 use sdcv_base::Seq;

@@ -1,7 +1,7 @@
 use Rattle.std.proofs.Common.{subst}
-use Rattle.circuit_link.specs.Faults.{IsCause}
-use Rattle.circuit_link.specs.declared.faults.CircuitFault.{CircuitFault}
-use Rattle.circuit_link.specs.declared.faults.CircuitFault.TheVariants as circuit
+use Rattle.link_design.specs.Faults.{IsCause}
+use Rattle.link_design.specs.declared.faults.CircuitFault.{CircuitFault}
+use Rattle.link_design.specs.declared.faults.CircuitFault.TheVariants as circuit
 use Rattle.link_defs.specs.Flatten.{flat_of}
 use Rattle.link_items.specs.Items.{module_at}
 use Rattle.link_named.proofs.Finding.{named_below, net_below, name_below, limit_is, twice_is, leaf_there, off_named}

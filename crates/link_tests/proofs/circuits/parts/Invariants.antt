@@ -1,5 +1,5 @@
 use Rattle.std.proofs.Common.{All}
-use Rattle.circuit_link.specs.Lawful.{IsLawfulPart}
+use Rattle.link_design.specs.Lawful.{IsLawfulPart}
 use Rattle.link_tests.proofs.circuits.parts.Given as goal
 
 abbrev pub invariant-loop-short : goal.invariant-loop-short

@@ -46,12 +46,12 @@ returns-in_err-c-clause-err c =
     rw (p.1, p.2) (cause_of s lib o top c.in_err-c.field-0.0 (top_is s c.args.top c.requires.top)
     (c.in_err-c.ensures.err o top (circuit_of s lib top o.clock)))
 
-pub link_circuit-requires-clause-ports : goal.link_circuit-requires-clause-ports
-link_circuit-requires-clause-ports c =
+pub named_design-requires-clause-ports : goal.named_design-requires-clause-ports
+named_design-requires-clause-ports c =
     subst (λ (m : Module). AreTopPorts m c.args.options.now c.in_ok-ports.ports)
     (module_is c.args.netlist.now.source.now c.args.top c.item.result.now c.item.ensures) c.in_ok-ports.ensures.ok
 
-pub link_circuit-requires-clause-fitting : goal.link_circuit-requires-clause-fitting
-link_circuit-requires-clause-fitting c =
+pub named_design-requires-clause-fitting : goal.named_design-requires-clause-fitting
+named_design-requires-clause-fitting c =
     let fitting : IsFitting c.item.result.now c.args.options.now = record { ports = c.in_ok-ports.ensures.names; settings = c.in_ok-ports.ensures.settings } in
     subst (λ (m : Module). IsFitting m c.args.options.now) (module_is c.args.netlist.now.source.now c.args.top c.item.result.now c.item.ensures) fitting

@@ -1,7 +1,0 @@
-use Rattle.std.proofs.Common.{◌≡◌, ◌++◌, take}
-use Rattle.std.specs.Prelude.{flat_map}
-use Rattle.circuit_link.specs.Lists.{part_reg_nets}
-use Rattle.circuit_link.proofs.lists.data_sources.Given as goal
-
-abbrev pub invariant-loop-part : goal.invariant-loop-part
-invariant-loop-part l = l.nets ≡ l.circuit.inputs ++ flat_map part_reg_nets (take l.part-index l.circuit.parts)

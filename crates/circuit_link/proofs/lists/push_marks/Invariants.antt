@@ -1,6 +1,0 @@
-use Rattle.std.proofs.Common.{◌≡◌, ◌++◌, take, map}
-use Rattle.net_model.specs.declared.netlist.Gate.{Gate}
-use Rattle.circuit_link.proofs.lists.push_marks.Given as goal
-
-abbrev pub invariant-loop-gate : goal.invariant-loop-gate
-invariant-loop-gate l = l.marks ≡ l.fn.marks ++ map (λ (_ : Gate). l.buffer) (take l._gate-index l.gates)

@@ -1,6 +1,0 @@
-use Rattle.std.proofs.Common.{◌≡◌, ◌++◌, take, map}
-use Rattle.net_model.specs.declared.netlist.Gate.{Gate}
-use Rattle.circuit_link.proofs.lists.with_gate_nets.Given as goal
-
-abbrev pub invariant-loop-gate : goal.invariant-loop-gate
-invariant-loop-gate l = l.nets ≡ l.sources ++ map (λ (g : Gate). g.out) (take l.gate-index l.gates)

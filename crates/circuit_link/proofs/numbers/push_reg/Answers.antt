@@ -1,5 +1,0 @@
-use Rattle.circuit_link.proofs.Making.{outs_below}
-use Rattle.circuit_link.proofs.numbers.push_reg.Goals as goal
-
-pub numbered_reg-requires-clause-outs : goal.numbered_reg-requires-clause-outs
-numbered_reg-requires-clause-outs c = outs_below c.in-Flop.reg.outs (rw c.in-Flop.is at c.requires.part).outs

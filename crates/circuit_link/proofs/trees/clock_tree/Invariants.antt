@@ -1,5 +1,0 @@
-use Rattle.circuit_link.proofs.Treed.{IsTreeTo}
-use Rattle.circuit_link.proofs.trees.clock_tree.Given as goal
-
-abbrev pub invariant-loop-i : goal.invariant-loop-i
-invariant-loop-i l = IsTreeTo l.circuit l.ordered.order l.i l.tree l.odd

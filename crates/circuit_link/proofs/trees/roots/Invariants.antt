@@ -1,5 +1,0 @@
-use Rattle.circuit_link.proofs.Treed.{IsRootsTo}
-use Rattle.circuit_link.proofs.trees.roots.Given as goal
-
-abbrev pub invariant-loop-k : goal.invariant-loop-k
-invariant-loop-k l = IsRootsTo l.circuit l.k l.tree

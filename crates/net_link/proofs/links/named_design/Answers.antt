@@ -1,0 +1,73 @@
+use Rattle.std.proofs.lemmas.Result.{err_from_is_err_and}
+use Rattle.link_defs.specs.CellNames.{leaves}
+use Rattle.link_defs.specs.Flatten.{flat_of}
+use Rattle.link_items.specs.Items.{module_at}
+use Rattle.net_link.proofs.Joining.{held_below, circuit_cause, nets_cause, top_within, joined_linked, joined_usable}
+use Rattle.net_link.proofs.Staging.{top_is, lawful_below, free_below}
+use Rattle.net_link.proofs.links.named_design.Goals as goal
+
+pub made_design-requires-clause-top : goal.made_design-requires-clause-top
+made_design-requires-clause-top c = top_within c.args.netlist.now.source.now c.args.top c.requires.top
+
+pub made_design-requires-clause-held : goal.made_design-requires-clause-held
+made_design-requires-clause-held c =
+    let s = c.args.netlist.now.source.now in
+    held_below s c.args.netlist.now.library.now c.args.options.now (module_at s c.args.top) c.args.ports c.args.c.now c.requires.ports c.requires.circuit
+
+pub returns-in_err-made-clause-err : goal.returns-in_err-made-clause-err
+returns-in_err-made-clause-err c =
+    let p = err_from_is_err_and c.from_residual.result c.from_residual.ensures.1 in
+    let s = c.args.netlist.now.source.now in
+    rw (p.1, p.2) (circuit_cause s c.args.netlist.now.library.now c.args.options.now (module_at s c.args.top) c.args.c.now c.in_err-made.field-0.0
+    (top_is s c.args.top c.requires.top) c.requires.circuit c.in_err-made.ensures.err)
+
+pub inner_names-requires-clause-scopes : goal.inner_names-requires-clause-scopes
+inner_names-requires-clause-scopes c = c.requires.circuit.below.are_scopes
+
+pub inner_names-requires-clause-lawful : goal.inner_names-requires-clause-lawful
+inner_names-requires-clause-lawful c =
+    let s = c.args.netlist.now.source.now in
+    lawful_below s c.args.netlist.now.library.now c.args.top c.args.options.now.clock c.args.c.now c.requires.source c.requires.library
+    (top_within s c.args.top c.requires.top) c.requires.circuit
+
+pub inner_names-requires-clause-leaves : goal.inner_names-requires-clause-leaves
+inner_names-requires-clause-leaves c =
+    let s = c.args.netlist.now.source.now in
+    let lib = c.args.netlist.now.library.now in
+    (leaves s lib (flat_of s lib (module_at s c.args.top)), c.requires.circuit.below.leaves)
+
+pub inner_names-requires-clause-made : goal.inner_names-requires-clause-made
+inner_names-requires-clause-made c = (c.args.ports.held, c.in_ok-made.ensures.ok)
+
+pub returns-in_err-inner-clause-err : goal.returns-in_err-inner-clause-err
+returns-in_err-inner-clause-err c =
+    let p = err_from_is_err_and c.from_residual-in_err-inner.result c.from_residual-in_err-inner.ensures.1 in
+    let s = c.args.netlist.now.source.now in
+    rw (p.1, p.2) (nets_cause s c.args.netlist.now.library.now c.args.options.now (module_at s c.args.top) c.args.c.now c.in_err-inner.field-0.0
+    (top_is s c.args.top c.requires.top) c.requires.circuit c.in_err-inner.ensures.err)
+
+pub returns-clause-ok : goal.returns-clause-ok
+returns-clause-ok c =
+    let s = c.args.netlist.now.source.now in
+    let lib = c.args.netlist.now.library.now in
+    let inner = c.in_ok-inner.inner in
+    joined_linked s lib c.args.options.now (module_at s c.args.top) c.args.ports c.args.c.now c.in_ok-made.made inner.nets inner.cells inner.clock
+    (top_is s c.args.top c.requires.top) c.requires.circuit
+    (lawful_below s lib c.args.top c.args.options.now.clock c.args.c.now c.requires.source c.requires.library
+    (top_within s c.args.top c.requires.top) c.requires.circuit) c.requires.ports c.in_ok-made.ensures.ok c.in_ok-inner.ensures.ok c.in_ok-inner.ensures.clock
+
+pub returns-clause-usable : goal.returns-clause-usable
+returns-clause-usable c =
+    let s = c.args.netlist.now.source.now in
+    let lib = c.args.netlist.now.library.now in
+    let inner = c.in_ok-inner.inner in
+    joined_usable s lib c.args.options.now (module_at s c.args.top) c.args.ports c.args.c.now c.in_ok-made.made inner.nets inner.cells inner.clock
+    c.requires.circuit
+    (lawful_below s lib c.args.top c.args.options.now.clock c.args.c.now c.requires.source c.requires.library
+    (top_within s c.args.top c.requires.top) c.requires.circuit) c.requires.ports c.in_ok-made.ensures.ok c.in_ok-inner.ensures.ok c.in_ok-inner.ensures.clock
+
+pub returns-clause-none : goal.returns-clause-none
+returns-clause-none c =
+    let s = c.args.netlist.now.source.now in
+    free_below s c.args.netlist.now.library.now c.args.options.now (module_at s c.args.top) c.args.c.now (top_is s c.args.top c.requires.top) c.requires.circuit
+    c.requires.ordered c.in_ok-made.ensures.none c.requires.fitting.ports c.in_ok-inner.ensures.none c.requires.fitting.settings
