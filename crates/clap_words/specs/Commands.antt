@@ -32,22 +32,22 @@ abbrev pub verify_row : CommandRow
 verify_row = record {
   name = codes "verify";
   positions = codes "V" ∷ codes "L" ∷ codes "S" ∷ [];
-  options = needed (codes "out") ∷ flag (codes "hazard") ∷ flag (codes "json") ∷ valued (codes "reset") ∷ valued (codes "reset-cycles")
-      ∷ valued (codes "depth") ∷ valued (codes "budget") ∷ valued (codes "inv-depth") ∷ [];
+  options = needed (codes "out") ∷ flag (codes "hazard") ∷ valued (codes "lag") ∷ flag (codes "json") ∷ valued (codes "reset")
+      ∷ valued (codes "reset-cycles") ∷ valued (codes "depth") ∷ valued (codes "budget") ∷ valued (codes "inv-depth") ∷ [];
 }
 
 abbrev pub check_row : CommandRow
 check_row = record {
   name = codes "check";
   positions = codes "V" ∷ codes "L" ∷ codes "S" ∷ codes "CERT" ∷ [];
-  options = flag (codes "hazard") ∷ valued (codes "reset") ∷ valued (codes "reset-cycles") ∷ [];
+  options = flag (codes "hazard") ∷ valued (codes "lag") ∷ valued (codes "reset") ∷ valued (codes "reset-cycles") ∷ [];
 }
 
 abbrev pub replay_row : CommandRow
 replay_row = record {
   name = codes "replay";
   positions = codes "V" ∷ codes "L" ∷ codes "S" ∷ codes "REPORT" ∷ codes "PAIR" ∷ [];
-  options = flag (codes "hazard") ∷ valued (codes "reset") ∷ valued (codes "reset-cycles") ∷ [];
+  options = flag (codes "hazard") ∷ valued (codes "lag") ∷ valued (codes "reset") ∷ valued (codes "reset-cycles") ∷ [];
 }
 
 abbrev pub demo_row : CommandRow

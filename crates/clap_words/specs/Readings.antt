@@ -21,7 +21,8 @@ pub record Reading : Type 0 where
 abbrev pub argument_ids : List Text
 argument_ids =
     codes "V" ∷ codes "L" ∷ codes "S" ∷ codes "CERT" ∷ codes "REPORT" ∷ codes "PAIR" ∷ codes "SEED" ∷ codes "SIZE"
-    ∷ codes "out" ∷ codes "hazard" ∷ codes "json" ∷ codes "reset" ∷ codes "reset-cycles" ∷ codes "depth" ∷ codes "budget" ∷ codes "inv-depth" ∷ []
+    ∷ codes "out" ∷ codes "hazard" ∷ codes "lag" ∷ codes "json" ∷ codes "reset" ∷ codes "reset-cycles"
+    ∷ codes "depth" ∷ codes "budget" ∷ codes "inv-depth" ∷ []
 
 -- an argument with its text, if it has one
 abbrev pub given_as : Text → Option Text → List Given

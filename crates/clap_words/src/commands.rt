@@ -35,6 +35,11 @@ const HAZARD: OptionRow = OptionRow {
     form: Flag,
 };
 
+const LAG: OptionRow = OptionRow {
+    id: "lag",
+    form: Valued,
+};
+
 const JSON: OptionRow = OptionRow {
     id: "json",
     form: Flag,
@@ -77,6 +82,7 @@ const ROWS: [CommandRow; 4] = [
         options: &[
             OUT,
             HAZARD,
+            LAG,
             JSON,
             RESET,
             RESET_CYCLES,
@@ -88,12 +94,12 @@ const ROWS: [CommandRow; 4] = [
     CommandRow {
         name: "check",
         positions: &["V", "L", "S", "CERT"],
-        options: &[HAZARD, RESET, RESET_CYCLES],
+        options: &[HAZARD, LAG, RESET, RESET_CYCLES],
     },
     CommandRow {
         name: "replay",
         positions: &["V", "L", "S", "REPORT", "PAIR"],
-        options: &[HAZARD, RESET, RESET_CYCLES],
+        options: &[HAZARD, LAG, RESET, RESET_CYCLES],
     },
     CommandRow {
         name: "demo",

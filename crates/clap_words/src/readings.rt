@@ -23,7 +23,7 @@ pub struct Reading<'a> {
 }
 
 // The ids of all arguments.
-const IDS: [&str; 16] = [
+const IDS: [&str; 17] = [
     "V",
     "L",
     "S",
@@ -34,6 +34,7 @@ const IDS: [&str; 16] = [
     "SIZE",
     "out",
     "hazard",
+    "lag",
     "json",
     "reset",
     "reset-cycles",

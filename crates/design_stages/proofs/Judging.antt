@@ -1,20 +1,21 @@
 -- What those rely on who judge the pairs of a selection.
-use Rattle.std.proofs.Common.{◌≡◌, Bool, length, ap, sym, ◌∙◌}
+use Rattle.std.proofs.Common.{◌≡◌, length, ap, sym, ◌∙◌}
 use Rattle.std.proofs.lemmas.List.{length-map}
 use Rattle.link_defs.specs.declared.names.Linked.{Linked}
 use Rattle.link_defs.specs.Usable.{IsUsable}
 use Rattle.script_types.specs.declared.scripts.Script.{Script}
+use Rattle.exception_expand.specs.declared.claims.Judging.{Judging}
 use Rattle.exception_expand.specs.declared.selections.Selected.{Selected}
 use Rattle.exception_expand.specs.Selections.{IsSelectionOf}
 use Rattle.design_stages.specs.Designs.{CanBeJudged}
 
 -- each pair that is selected has a claim
-as_many : (l : Linked) (script : Script) (hazard : Bool) (s : Selected) → IsSelectionOf l script hazard s → length s.claims ≡ length s.pairs
-as_many l script hazard s selects =
+as_many : (l : Linked) (script : Script) (judging : Judging) (s : Selected) → IsSelectionOf l script judging s → length s.claims ≡ length s.pairs
+as_many l script judging s selects =
     sym (length-map s.claims _) ∙ ap length selects.claims ∙ length-map selects.chosen _ ∙ sym (length-map selects.chosen _)
     ∙ sym (ap length selects.pairs)
 
-pub can_be_judged : (l : Linked) (script : Script) (hazard : Bool) (s : Selected) → IsUsable l → IsSelectionOf l script hazard s
+pub can_be_judged : (l : Linked) (script : Script) (judging : Judging) (s : Selected) → IsUsable l → IsSelectionOf l script judging s
     → CanBeJudged (record { linked = l; selected = s })
-can_be_judged l script hazard s usable selects =
-    record { sound = usable.sound; each = as_many l script hazard s selects; fit = selects.fit }
+can_be_judged l script judging s usable selects =
+    record { sound = usable.sound; each = as_many l script judging s selects; fit = selects.fit }

@@ -1,5 +1,5 @@
 -- What is found of texts that were read: their design, and the pairs that are selected in it.
-use Rattle.std.specs.Prelude.{◌≡◌, Bool, List, [], ◌∷◌, length, All, Result, Ok, Err}
+use Rattle.std.specs.Prelude.{◌≡◌, List, [], ◌∷◌, length, All, Result, Ok, Err}
 use Rattle.net_model.specs.Netlist.{IsSound}
 use Rattle.net_model.specs.Fits.{Fits}
 use Rattle.sdcv_base.specs.declared.settings.Setting.{Setting}
@@ -23,6 +23,7 @@ use Rattle.sdc_settings.specs.declared.values.Settings.{Settings}
 use Rattle.sdc_settings.specs.declared.faults.ExpandFault.{ExpandFault}
 use Rattle.sdc_settings.specs.Settings.{AreSettings}
 use Rattle.sdc_settings.specs.Causes.{IsSettingsCause}
+use Rattle.exception_expand.specs.declared.claims.Judging.{Judging}
 use Rattle.exception_expand.specs.declared.selections.Selected.{Selected}
 use Rattle.exception_expand.specs.Selections.{IsSelectionOf, HasMultipliers}
 use Rattle.exception_expand.specs.Causes.{IsExpandCause}
@@ -54,21 +55,21 @@ Links s lib o (Ok l) = IsLinked s lib o l × IsUsable l × IsFaultless s lib o
 Links s lib o (Err fault) = IsCause s lib o fault
 
 -- the pairs that a script selects, or why it selects none
-abbrev pub Selects : Linked → Script → Bool → Result Selected ExpandFault → Type 0
-Selects l script hazard (Ok s) = IsSelectionOf l script hazard s
-Selects l script hazard (Err fault) = IsExpandCause l script hazard fault
+abbrev pub Selects : Linked → Script → Judging → Result Selected ExpandFault → Type 0
+Selects l script judging (Ok s) = IsSelectionOf l script judging s
+Selects l script judging (Err fault) = IsExpandCause l script judging fault
 
 -- what is set from outside
 abbrev pub options_of : Settings → Reset → LinkOptions
 options_of s reset = record { clock = s.clock; fixed = s.fixed; resets = reset.ports; reset_len = reset.len }
 
 -- the design with its names, and the selected pairs, or the line of the first fault
-unfoldable pub Designs : ReadTexts → Reset → Bool → Found Designed → Type 0
-Designs t reset hazard = do
+unfoldable pub Designs : ReadTexts → Reset → Judging → Found Designed → Type 0
+Designs t reset judging = do
   inputs ← Staged (HasInputs t.source) link_line
   settings ← Staged (HasSettings t.script inputs reset.ports) expand_line
   linked ← Staged (Links t.source t.library (options_of settings reset)) link_line
-  selected ← Staged (Selects linked t.script hazard) expand_line
+  selected ← Staged (Selects linked t.script judging) expand_line
   λ found. found ≡ Ok (record { linked = linked; selected = selected })
 
 -- what those rely on who judge the pairs of a design: it is sound, each pair has a claim, and each claim fits

@@ -11,7 +11,7 @@ ghost use Rattle.design_stages.specs.Designs.{HasInputs, HasSettings, Links, Sel
 use crate::designs::{Designed, ReadTexts, Reset};
 use crate::refusals::Refusal;
 use cell_types::Library;
-use exception_expand::{Selected, expand};
+use exception_expand::{Judging, Selected, expand};
 use fault_lines::{expand_line, link_line};
 use net_link::{LinkOptions, Linked, PortName, link, top_inputs};
 use netlist_types::Source;
@@ -21,23 +21,24 @@ use sdcv_base::{Seq, Setting};
 use std::alloc::Global;
 
 /// Links the netlist with its cells, as the constraints and the reset set its inputs, and selects the pairs that the constraints
-/// make exceptions of. With `hazard` their claims allow no glitch either.
+/// make exceptions of, each with a claim that is judged in this manner. The lag is at most 8.
 pub fn designed(
     alloc: Global,
     texts: &ReadTexts,
     reset: Reset,
-    hazard: bool,
+    judging: Judging,
 ) -> Result<Designed, Refusal>
     requires lawful { AreLawful texts.now }
     requires reset { reset.len ≤ 64 }
-    ensures found { Finds (Designs texts.now reset hazard) result }
+    requires lag { judging.lag ≤ 8 }
+    ensures found { Finds (Designs texts.now reset judging) result }
     ensures judged { IfOk result CanBeJudged }
 {
     let inputs = inputs(alloc, &texts.source)?;
     let settings = settings_of(alloc, &texts.script, &inputs, &reset.ports)?;
     let options = options_of(settings, reset);
     let linked = linked(alloc, &texts.source, &texts.library, &options)?;
-    let selected = selected(alloc, &linked, &texts.script, hazard)?;
+    let selected = selected(alloc, &linked, &texts.script, judging)?;
     Ok(Designed { linked, selected })
 }
 
@@ -105,13 +106,14 @@ fn selected(
     alloc: Global,
     linked: &Linked,
     script: &Script,
-    hazard: bool,
+    judging: Judging,
 ) -> Result<Selected, Refusal>
     requires linked { IsUsable linked.now }
     requires script { HasMultipliers script.now }
-    ensures { Finds (Staged (Selects linked.now script.now hazard) expand_line) result }
+    requires lag { judging.lag ≤ 8 }
+    ensures { Finds (Staged (Selects linked.now script.now judging) expand_line) result }
 {
-    match expand(alloc, linked, script, hazard) {
+    match expand(alloc, linked, script, judging.hazard, judging.lag) {
         Ok(selected) => Ok(selected),
         Err(fault) => Err(Refusal::Line(expand_line(alloc, &fault)?)),
     }

@@ -1,6 +1,7 @@
 -- What is known of a design that is found of texts.
-use Rattle.std.proofs.Common.{◌≡◌, ◌≤◌, ℕ, Bool, length, Ok, Err, ap, sym, ◌∙◌, subst, arith}
+use Rattle.std.proofs.Common.{◌≡◌, ◌≤◌, ℕ, length, Ok, Err, ap, sym, ◌∙◌, subst, arith}
 use Rattle.std.proofs.lemmas.List.{length-map}
+use Rattle.exception_expand.specs.declared.claims.Judging.{Judging}
 use Rattle.design_stages.specs.declared.designs.ReadTexts.{ReadTexts}
 use Rattle.design_stages.specs.declared.designs.Reset.{Reset}
 use Rattle.design_stages.specs.declared.designs.Designed.{Designed}
@@ -15,15 +16,15 @@ pub record IsKnown (d : Designed) (reset_len : ℕ) : Type 0 where
   pub len : d.linked.design.reset_len ≡ reset_len
 
 -- so is a design that is found
-pub known : (texts : ReadTexts) (reset : Reset) (hazard : Bool) (d : Designed) → Designs texts reset hazard (Ok d) → IsKnown d reset.len
+pub known : (texts : ReadTexts) (reset : Reset) (judging : Judging) (d : Designed) → Designs texts reset judging (Ok d) → IsKnown d reset.len
 unfolding Designs Then
-known texts reset hazard d (inputs, has, (settings, set, (linked, links, (selected, selects, is)))) =
+known texts reset judging d (inputs, has, (settings, set, (linked, links, (selected, selects, is)))) =
     let made : Designed = record { linked = linked; selected = selected } in
     let same : made ≡ d = sym (ap (λ (r : Found Designed). elim r [ Ok found ↦ found | Err line ↦ d ]) is) in
     let count : length selected.claims ≡ length selects.chosen =
     sym (length-map selected.claims _) ∙ ap length selects.claims ∙ length-map selects.chosen _ in
     subst (λ (found : Designed). IsKnown found reset.len) same (record {
-      judged = can_be_judged linked texts.script hazard selected links.1 selects;
+      judged = can_be_judged linked texts.script judging selected links.1 selects;
       few = omega (arith, selects.few, count);
       len = links.0.reset_len;
     })

@@ -32,7 +32,7 @@ use Rattle.sdcv_top.specs.Outcomes.{Outcome}
 use Rattle.sdcv_top.specs.Jobs.{HasPair, ReadsStimulus, Replays, RunAgain, Replayed, replayed, run_options}
 use Rattle.sdcv_top.specs.Reads.{Text}
 use Rattle.sdcv_top.specs.Texts.{ReportText}
-use Rattle.sdcv_top.specs.Due.{reset_of}
+use Rattle.sdcv_top.specs.Due.{judging_of, reset_of}
 use Rattle.replay_law.specs.Laws.{HasRefuted, ReportReplays, ReplayIsDue}
 use Rattle.replay_law.proofs.Finding.{known}
 use Rattle.replay_law.proofs.Going.{goes_on, goes_on_text, leads_on, leads_on_text, text_alone, never_refused}
@@ -80,7 +80,7 @@ told : (texts : ReadTexts) (o : Options) (d : Designed) (due : Outcome) (number 
     → IsTold d number offset due.printed
 told texts o d due zero offset refuted = absurd (none-some (Refuted offset refuted.stimulus) refuted.verdict)
 told texts o d due (suc place) offset refuted =
-    let found = known texts (reset_of o) o.hazard d refuted.found in
+    let found = known texts (reset_of o) (judging_of o) d refuted.found in
     let reported = refuted.report in
     let verdicts : List Verdict = reported.judged.verdicts in
     let all = reported.right.right in
@@ -93,7 +93,7 @@ told texts o d due (suc place) offset refuted =
       claim_at = claim.1;
       stimulus = refuted.stimulus;
       least = reported.right.violated place offset claim.0 refuted.stimulus claim.1 refuted.verdict;
-      first = first_in (run_options o.hazard o.reset_len refuted.proving) d.selected verdicts place offset refuted.stimulus due.printed rows small
+      first = first_in (run_options (judging_of o) o.reset_len refuted.proving) d.selected verdicts place offset refuted.stimulus due.printed rows small
           refuted.verdict reported.printed;
     }
 
@@ -131,7 +131,7 @@ pub due_alone : (texts : ReadTexts) (o : Options) → ReportReplays texts o
 unfolding Replayed
 due_alone texts o d due again number offset refuted replay =
     let is = told texts o d due number offset refuted in
-    let found = known texts (reset_of o) o.hazard d refuted.found in
+    let found = known texts (reset_of o) (judging_of o) d refuted.found in
     let paired = goes_on (HasPair d.selected.claims number) _ is.claim (Text due.printed ∷ []) again
     (λ other at. same_Some other is.claim (sym at ∙ is.claim_at)) (λ line none. none-some is.claim (sym none.0 ∙ is.claim_at)) replay in
     let read = goes_on_text ReportText _ due.printed (Text due.printed) [] again (λ other same. text_alone due.printed other same)
@@ -143,7 +143,7 @@ pub is_due : (texts : ReadTexts) (o : Options) → ReplayIsDue texts o
 unfolding Replayed
 is_due texts o d due number offset refuted small =
     let is = told texts o d due number offset refuted in
-    let found = known texts (reset_of o) o.hazard d refuted.found in
+    let found = known texts (reset_of o) (judging_of o) d refuted.found in
     let run = run_due d number offset due.printed is found.judged.sound small in
     let held = subst (λ (len : ℕ). RunAgain number d.linked.design is.claim due.printed [] (replayed number (Violated (len + 1 + offset)))) found.len run in
     leads_on (HasPair d.selected.claims number) _ is.claim (Text due.printed ∷ []) _ is.claim_at

@@ -13,15 +13,15 @@ use Rattle.sdcv_top.specs.Outcomes.{Outcome}
 use Rattle.sdcv_top.specs.Headline.{IsReported}
 use Rattle.sdcv_top.specs.Jobs.{run_options, Replayed, replayed}
 use Rattle.sdcv_top.specs.Reads.{Text}
-use Rattle.sdcv_top.specs.Due.{reset_of}
+use Rattle.sdcv_top.specs.Due.{judging_of, reset_of}
 
 -- a design and its pairs are found of these texts with these options; what is due for its verification prints the report by lines, and
 -- its verdict on the pair of this number is that it is refuted at this offset
 pub record HasRefuted (texts : ReadTexts) (o : Options) (d : Designed) (due : Outcome) (number offset : ℕ) : Type 0 where
-  pub found : Designs texts (reset_of o) o.hazard (Ok d)
+  pub found : Designs texts (reset_of o) (judging_of o) (Ok d)
   pub out : Option (List ℕ)
   pub proving : Proving
-  pub report : IsReported out false (run_options o.hazard o.reset_len proving) d due
+  pub report : IsReported out false (run_options (judging_of o) o.reset_len proving) d due
   pub stimulus : Stimulus
   pub verdict : item_numbered report.judged.verdicts number ≡ Some (Refuted offset stimulus)
 

@@ -1,6 +1,6 @@
 -- A report as JSON: the value, and its text.
-use Rattle.std.specs.Prelude.{ℕ, ◌+◌, Bool, List, [], ◌∷◌, ◌++◌, map, codes}
-use Rattle.serde_json.specs.Data.{Data, null, number, unsigned, string, array, object, member, no_members}
+use Rattle.std.specs.Prelude.{ℕ, ◌+◌, ◌==◌, if◌then◌else◌, Bool, List, [], ◌∷◌, ◌++◌, map, codes}
+use Rattle.serde_json.specs.Data.{Data, Members, null, number, unsigned, string, array, object, member, no_members}
 use Rattle.serde_json.specs.View.{items_of}
 use Rattle.serde_json.specs.Written.{compact_text}
 use Rattle.sdcv_base.specs.Shown.{shown}
@@ -18,7 +18,7 @@ use Rattle.verdict_types.specs.declared.outcomes.Verdict.TheVariants.{Justified,
 use Rattle.witness_replay.specs.StimulusTexts.{digits_of}
 use Rattle.report_text.specs.declared.options.RunOptions.{RunOptions}
 use Rattle.report_text.specs.Rows.{each_pair}
-use Rattle.report_text.specs.Words.{mode_text, kind_text, what_text, warning_text, verdict_word, why_text, tally_of}
+use Rattle.report_text.specs.Words.{mode_text, claim_text, what_text, warning_text, verdict_word, why_text, tally_of}
 
 -- a number that is written without a sign
 abbrev pub count_data : ℕ → Data
@@ -30,7 +30,7 @@ texts_data text xs = array (items_of (map (λ x. string (text x)) xs))
 
 -- of how many pairs an exception claims something
 abbrev pub pairs_of : Listing → ℕ
-pairs_of (Claiming kind pairs) = pairs
+pairs_of (Claiming kind edge pairs) = pairs
 pairs_of Hold = 0
 pairs_of (Aside option) = 0
 
@@ -69,7 +69,7 @@ abbrev pub pair_data : ℕ → ℕ → PairLine → Claim → Verdict → Data
 pair_data limit n p claim v =
     object (member (codes "command") (count_data p.command)
     (member (codes "end") (string (shown p.end))
-    (member (codes "kind") (string (kind_text claim.kind))
+    (member (codes "kind") (string (claim_text claim.kind claim.edge))
     (member (codes "number") (count_data n)
     (member (codes "start") (string (shown p.start))
     (member (codes "stimulus") (evidence_data v)
@@ -90,16 +90,21 @@ total_data vs =
     (member (codes "refuted") (count_data (tally_of vs).refuted)
     (member (codes "undecided") (count_data (tally_of vs).undecided) no_members))))
 
+-- the member of the lag, where there is any, before those that follow it
+abbrev pub lag_member : ℕ → Members → Members
+lag_member lag following = if lag == 0 then following else member (codes "lag") (count_data lag) following
+
 abbrev pub report_data : RunOptions → Selected → List Verdict → Data
 report_data o selected verdicts =
     object (member (codes "budget") (count_data o.budget)
     (member (codes "commands") (commands_data selected.commands)
     (member (codes "depth") (count_data o.depth)
     (member (codes "inv") (count_data o.inv_depth)
+    (lag_member o.lag
     (member (codes "mode") (string (mode_text o.hazard))
     (member (codes "pairs") (pairs_data o.depth selected verdicts)
     (member (codes "reset") (count_data o.reset_len)
-    (member (codes "total") (total_data verdicts) no_members))))))))
+    (member (codes "total") (total_data verdicts) no_members)))))))))
 
 -- the text without spaces, and a newline
 abbrev pub json_text : RunOptions → Selected → List Verdict → List ℕ

@@ -19,7 +19,7 @@ fn pairs_of(listing: &Listing) -> u64
     ensures { result ≡ pairs_of listing.now }
 {
     match listing {
-        Listing::Claiming(_kind, pairs) => *pairs,
+        Listing::Claiming(_kind, _edge, pairs) => *pairs,
         Listing::Hold | Listing::Aside(_) => 0,
     }
 }

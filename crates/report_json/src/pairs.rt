@@ -4,7 +4,7 @@ ghost use Rattle.serde_json.specs.Data.{string};
 ghost use Rattle.serde_json.specs.Data.{put as with_member};
 ghost use Rattle.sdcv_base.specs.Shown.{shown};
 ghost use Rattle.serde_json.specs.View.{view};
-ghost use Rattle.report_text.specs.Words.{kind_text, why_text};
+ghost use Rattle.report_text.specs.Words.{claim_text, why_text};
 ghost use Rattle.report_text.specs.Rows.{HasRows};
 ghost use Rattle.report_json.specs.Objects.{made};
 ghost use Rattle.report_json.specs.Reports.{evidence_data, pair_data, pairs_data};
@@ -12,8 +12,9 @@ ghost use Rattle.report_json.specs.Reports.{evidence_data, pair_data, pairs_data
 use crate::objects::{Object, array_of};
 use crate::stimuli::evidence_value;
 use exception_expand::Selected;
-use report_text::{PairRow, kind_text, row_at, verdict_word, why_text};
-use sdcv_base::{Kind, Name};
+use net_model::Claim;
+use report_text::{PairRow, claim_text, row_at, verdict_word, why_text};
+use sdcv_base::Name;
 use serde_json::Value;
 use std::alloc::{AllocError, Global};
 use verdict_types::Verdict;
@@ -25,10 +26,10 @@ fn put_name(alloc: Global, object: &mut Object, key: &str, name: &Name) -> Resul
     object.put_text(alloc, key, &shown)
 }
 
-fn put_kind(alloc: Global, object: &mut Object, kind: Kind) -> Result<(), AllocError>
-    ensures { OnOk result (made object.new ≡ with_member (codes "kind") (string (kind_text kind)) (made object.old)) }
+fn put_kind(alloc: Global, object: &mut Object, claim: &Claim) -> Result<(), AllocError>
+    ensures { OnOk result (made object.new ≡ with_member (codes "kind") (string (claim_text claim.now.kind claim.now.edge)) (made object.old)) }
 {
-    object.put_text(alloc, "kind", &kind_text(alloc, kind)?)
+    object.put_text(alloc, "kind", &claim_text(alloc, claim.kind, claim.edge)?)
 }
 
 fn put_evidence(alloc: Global, object: &mut Object, verdict: &Verdict) -> Result<(), AllocError>
@@ -54,7 +55,7 @@ fn pair_value(alloc: Global, limit: usize, row: &PairRow<'_>) -> Result<Value, A
     let mut object = Object::new(alloc);
     object.put_count(alloc, "command", row.pair.command)?;
     put_name(alloc, &mut object, "end", &row.pair.end)?;
-    put_kind(alloc, &mut object, row.claim.kind)?;
+    put_kind(alloc, &mut object, row.claim)?;
     object.put_count(alloc, "number", row.number)?;
     put_name(alloc, &mut object, "start", &row.pair.start)?;
     put_evidence(alloc, &mut object, row.verdict)?;

@@ -3,7 +3,7 @@ ghost use Rattle.std.specs.Prelude.{◌≡◌, codes, IfOk, OnOk};
 ghost use Rattle.serde_json.specs.Data.{put as with_member};
 ghost use Rattle.serde_json.specs.View.{view};
 ghost use Rattle.report_text.specs.Rows.{HasRows};
-ghost use Rattle.report_json.specs.Objects.{made};
+ghost use Rattle.report_json.specs.Objects.{made, with_lag};
 ghost use Rattle.report_json.specs.Reports.{commands_data, pairs_data, total_data, report_data, json_text};
 
 use crate::commands::commands_value;
@@ -60,6 +60,17 @@ fn put_total(alloc: Global, object: &mut Object, verdicts: &[Verdict]) -> Result
     object.put_value(alloc, "total", total_value(alloc, verdicts)?)
 }
 
+// Puts the lag, where there is any.
+fn put_lag(alloc: Global, object: &mut Object, lag: u8) -> Result<(), AllocError>
+    ensures { OnOk result (made object.new ≡ with_lag lag (made object.old)) }
+{
+    if lag == 0 {
+        Ok(())
+    } else {
+        object.put_count(alloc, "lag", lag as u64)
+    }
+}
+
 fn report_value(
     alloc: Global,
     options: &RunOptions,
@@ -78,6 +89,7 @@ fn report_value(
     put_pairs(alloc, &mut object, options.depth, selected, verdicts)?;
     object.put_count(alloc, "reset", options.reset_len as u64)?;
     put_total(alloc, &mut object, verdicts)?;
+    put_lag(alloc, &mut object, options.lag)?;
     Ok(object.into_value())
 }
 

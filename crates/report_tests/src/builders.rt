@@ -13,7 +13,7 @@ use verdict_types::{Cause, Proof, Verdict};
 
 #[derive(Clone, Copy)]
 pub enum Does {
-    Claims(Kind, u64),
+    Claims(Kind, Edge, u64),
     Holds,
     Aside(&'static str),
 }
@@ -42,11 +42,11 @@ pub enum Found {
     Spent(Phase, usize),
 }
 
-/// A pair: its exception's number, the kind of the claim, the names of its start and its end, and what is found.
+/// A pair: its exception's number, the kind and the edge of the claim, the names of its start and its end, and what is found.
 #[derive(Clone, Copy)]
 pub struct Pair(
     pub u64,
-    pub Kind,
+    pub (Kind, Edge),
     pub &'static [u8],
     pub &'static [u8],
     pub Found,
@@ -64,7 +64,7 @@ pub struct Case {
 
 fn listing_of(alloc: Global, does: Does) -> Result<Listing, AllocError> {
     match does {
-        Does::Claims(kind, pairs) => Ok(Listing::Claiming(kind, pairs)),
+        Does::Claims(kind, edge, pairs) => Ok(Listing::Claiming(kind, edge, pairs)),
         Does::Holds => Ok(Listing::Hold),
         Does::Aside(option) => Ok(Listing::Aside(Name::new(alloc, option.as_bytes())?)),
     }
@@ -116,8 +116,8 @@ fn claims_of(alloc: Global, rows: &[Pair], hazard: bool) -> Result<Seq<Claim>, A
     let mut claims = Seq::new(alloc);
     for row in rows {
         claims.push(Claim {
-            kind: row.1,
-            edge: Edge::Any,
+            kind: row.1.0,
+            edge: row.1.1,
             lag: 0,
             hazard,
             start: Start::Reg(0),

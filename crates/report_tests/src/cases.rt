@@ -5,6 +5,7 @@ use crate::builders::Warns::{Dropped, Nothing};
 use crate::builders::{Bits, Case, Exception, Pair};
 use net_model::Phase::{Base, Step};
 use report_text::RunOptions;
+use sdcv_base::Edge::{Any, Fall, Rise};
 use sdcv_base::Kind::{False, Multi};
 
 // A reset cycle, and two live ones; the data input is 1 in the second.
@@ -22,6 +23,7 @@ const DEFAULTS: RunOptions = RunOptions {
     depth: 8,
     budget: 20_000,
     inv_depth: 1,
+    lag: 0,
 };
 
 const NO_RESET: RunOptions = RunOptions {
@@ -42,7 +44,7 @@ total 0 justified 0 refuted 0 undecided 0
 
 const NO_CELL: Case = Case {
     options: NO_RESET,
-    exceptions: &[Exception(1, Claims(False, 0), &[Nothing("zz*")])],
+    exceptions: &[Exception(1, Claims(False, Any, 0), &[Nothing("zz*")])],
     pairs: &[],
     text: "sdcv 1 mode plain reset 0 depth 8 budget 20000 inv 1
 command 1 line 1 false pairs 0
@@ -58,20 +60,20 @@ total 0 justified 0 refuted 0 undecided 0
 pub const EACH: Case = Case {
     options: DEFAULTS,
     exceptions: &[
-        Exception(2, Claims(False, 3), &[Nothing("zz*"), Dropped("u1/g?", 2)]),
+        Exception(2, Claims(False, Any, 3), &[Nothing("zz*"), Dropped("u1/g?", 2)]),
         Exception(3, Holds, &[]),
         Exception(5, Aside("-rise"), &[]),
-        Exception(6, Claims(Multi(2), 3), &[]),
-        Exception(7, Claims(Multi(1), 1), &[]),
+        Exception(6, Claims(Multi(2), Any, 3), &[]),
+        Exception(7, Claims(Multi(1), Any, 1), &[]),
     ],
     pairs: &[
-        Pair(1, False, b"rst", b"a", Fixed),
-        Pair(1, False, b"a", b"b", Depth(0)),
-        Pair(1, False, b"\xffq\"", b"b", Refuted(0, TOGGLES)),
-        Pair(4, Multi(2), b"a", b"b", Stays),
-        Pair(4, Multi(2), b"a", b"c", Spent(Base, 0)),
-        Pair(4, Multi(2), b"b", b"c", Spent(Step, 3)),
-        Pair(5, Multi(1), b"a", b"b", Single),
+        Pair(1, (False, Any), b"rst", b"a", Fixed),
+        Pair(1, (False, Any), b"a", b"b", Depth(0)),
+        Pair(1, (False, Any), b"\xffq\"", b"b", Refuted(0, TOGGLES)),
+        Pair(4, (Multi(2), Any), b"a", b"b", Stays),
+        Pair(4, (Multi(2), Any), b"a", b"c", Spent(Base, 0)),
+        Pair(4, (Multi(2), Any), b"b", b"c", Spent(Step, 3)),
+        Pair(5, (Multi(1), Any), b"a", b"b", Single),
     ],
     text: "sdcv 1 mode plain reset 1 depth 8 budget 20000 inv 1
 command 1 line 2 false pairs 3
@@ -127,9 +129,10 @@ const HAZARDS: Case = Case {
         depth: 12,
         budget: 1,
         inv_depth: 0,
+        lag: 0,
     },
-    exceptions: &[Exception(2, Claims(Multi(2), 1), &[])],
-    pairs: &[Pair(1, Multi(2), b"r", b"r", Refuted(0, ALONE))],
+    exceptions: &[Exception(2, Claims(Multi(2), Any, 1), &[])],
+    pairs: &[Pair(1, (Multi(2), Any), b"r", b"r", Refuted(0, ALONE))],
     text: "sdcv 1 mode hazard reset 0 depth 12 budget 1 inv 0
 command 1 line 2 multi 2 pairs 1
 pair 1 command 1 multi 2 r -> r refuted offset 0
@@ -147,4 +150,53 @@ total 1 justified 0 refuted 1 undecided 0
 \"reset\":0,\"total\":{\"justified\":0,\"pairs\":1,\"refuted\":1,\"undecided\":0}}\n",
 };
 
-pub const CASES: [Case; 4] = [NOTHING, NO_CELL, EACH, HAZARDS];
+// Three cycles and one more, at which a false path is judged too.
+const LATE: Bits = Bits(
+    &[false, false],
+    &[&[true, false], &[false, true], &[false, true], &[false, false]],
+);
+
+const EDGES: Case = Case {
+    options: RunOptions { lag: 1, ..DEFAULTS },
+    exceptions: &[
+        Exception(2, Claims(False, Rise, 1), &[Dropped("ck", 1)]),
+        Exception(3, Claims(Multi(3), Fall, 1), &[]),
+        Exception(4, Claims(False, Any, 1), &[]),
+    ],
+    pairs: &[
+        Pair(1, (False, Rise), b"a", b"b", Refuted(0, LATE)),
+        Pair(2, (Multi(3), Fall), b"a", b"b", Depth(0)),
+        Pair(3, (False, Any), b"b", b"a", Fixed),
+    ],
+    text: "sdcv 1 mode plain reset 1 depth 8 budget 20000 inv 1 lag 1
+command 1 line 2 false rise pairs 1
+warning command 1 dropped ck 1
+command 2 line 3 multi 3 fall pairs 1
+command 3 line 4 false pairs 1
+pair 1 command 1 false rise a -> b refuted offset 0
+stimulus 1 cycles 4
+state 00
+input 10
+input 01
+input 01
+input 00
+end
+pair 2 command 2 multi 3 fall a -> b justified depth 0
+pair 3 command 3 false b -> a justified fixed
+total 3 justified 2 refuted 1 undecided 0
+",
+    json: "{\"budget\":20000,\"commands\":[\
+{\"line\":2,\"number\":1,\"pairs\":1,\"warnings\":[\"dropped ck 1\"],\"what\":\"false rise\"},\
+{\"line\":3,\"number\":2,\"pairs\":1,\"warnings\":[],\"what\":\"multi 3 fall\"},\
+{\"line\":4,\"number\":3,\"pairs\":1,\"warnings\":[],\"what\":\"false\"}],\
+\"depth\":8,\"inv\":1,\"lag\":1,\"mode\":\"plain\",\"pairs\":[\
+{\"command\":1,\"end\":\"b\",\"kind\":\"false rise\",\"number\":1,\"start\":\"a\",\
+\"stimulus\":{\"inputs\":[\"10\",\"01\",\"01\",\"00\"],\"state\":\"00\"},\"verdict\":\"refuted\",\"why\":\"offset 0\"},\
+{\"command\":2,\"end\":\"b\",\"kind\":\"multi 3 fall\",\"number\":2,\"start\":\"a\",\"stimulus\":null,\
+\"verdict\":\"justified\",\"why\":\"depth 0\"},\
+{\"command\":3,\"end\":\"a\",\"kind\":\"false\",\"number\":3,\"start\":\"b\",\"stimulus\":null,\
+\"verdict\":\"justified\",\"why\":\"fixed\"}],\
+\"reset\":1,\"total\":{\"justified\":2,\"pairs\":3,\"refuted\":1,\"undecided\":0}}\n",
+};
+
+pub const CASES: [Case; 5] = [NOTHING, NO_CELL, EACH, HAZARDS, EDGES];

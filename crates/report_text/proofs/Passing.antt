@@ -1,6 +1,7 @@
 -- The lines of a report that are of no stimulus: each is one line, and begins none.
 use Rattle.std.proofs.Common.{◌≡◌, ◌≢◌, ℕ, ◌+◌, ◌<◌, ◌^◌, ◌==◌, Bool, true, false, not, ◌&&◌, List, [], ◌∷◌, ◌++◌, map, refl, ◌∙◌, arith}
-use Rattle.std.specs.Prelude.{nat_le}
+use Rattle.std.specs.Prelude.{nat_le, codes}
+use Rattle.std.specs.Fmt.{decimal}
 use Rattle.std.specs.List.{list_all}
 use Rattle.std.proofs.lemmas.Bool.{and_parts, and_from, cond_both, leb-true}
 use Rattle.std.proofs.lemmas.Bool.Decides.{nat_tests}
@@ -8,6 +9,8 @@ use Rattle.std.proofs.lemmas.List.Folds.{list_all-append}
 use Rattle.sdcv_base.specs.Shown.{shown, shown_byte}
 use Rattle.sdcv_base.specs.declared.kinds.Kind.{Kind}
 use Rattle.sdcv_base.specs.declared.kinds.Kind.TheVariants.{False, Multi}
+use Rattle.sdcv_base.specs.declared.kinds.Edge.{Edge}
+use Rattle.sdcv_base.specs.declared.kinds.Edge.TheVariants.{Any, Rise, Fall}
 use Rattle.net_model.specs.declared.claims.Claim.{Claim}
 use Rattle.net_model.specs.declared.queries.Phase.{Phase}
 use Rattle.net_model.specs.declared.queries.Phase.TheVariants.{Base, Step}
@@ -29,7 +32,7 @@ use Rattle.witness_replay.proofs.LineLemmas.{is_inline}
 use Rattle.witness_replay.proofs.WrittenLemmas.{inline_decimal}
 use Rattle.witness_replay.proofs.PassedLemmas.{passes, passes_block}
 use Rattle.report_text.specs.declared.options.RunOptions.{RunOptions}
-use Rattle.report_text.specs.Words.{mode_text, header_text, kind_text, what_text, count_text, command_text, warning_text, warning_line}
+use Rattle.report_text.specs.Words.{mode_text, lag_text, header_text, kind_text, edge_text, claim_text, what_text, count_text, command_text, warning_text, warning_line}
 use Rattle.report_text.specs.Words.{verdict_word, proof_text, phase_text, cause_text, why_text, pair_text}
 use Rattle.report_text.specs.Reports.{command_texts, pair_texts, stimulus_texts}
 
@@ -54,13 +57,25 @@ inline_kind : (kind : Kind) → is_inline (kind_text kind) ≡ true
 inline_kind False = refl
 inline_kind (Multi multiplier) = inline_decimal multiplier
 
+inline_edge : (edge : Edge) → is_inline (edge_text edge) ≡ true
+inline_edge Any = refl
+inline_edge Rise = refl
+inline_edge Fall = refl
+
+inline_claim : (kind : Kind) (edge : Edge) → is_inline (claim_text kind edge) ≡ true
+inline_claim kind edge = simp (inline-append, inline_kind, inline_edge)
+
+inline_lag : (lag : ℕ) → is_inline (lag_text lag) ≡ true
+inline_lag lag =
+    cond_both (lag == 0) [] (codes " lag " ++ decimal lag) (λ (text : List ℕ). is_inline text ≡ true) (λ none. refl) (λ some. inline_decimal lag)
+
 inline_what : (listing : Listing) → is_inline (what_text listing) ≡ true
-inline_what (Claiming kind pairs) = inline_kind kind
+inline_what (Claiming kind edge pairs) = inline_claim kind edge
 inline_what Hold = refl
 inline_what (Aside option) = inline_shown option
 
 inline_count : (listing : Listing) → is_inline (count_text listing) ≡ true
-inline_count (Claiming kind pairs) = inline_decimal pairs
+inline_count (Claiming kind edge pairs) = inline_decimal pairs
 inline_count Hold = refl
 inline_count (Aside option) = refl
 
@@ -93,7 +108,7 @@ inline_why limit (Undecided cause) = inline_cause limit cause
 
 -- a line whose first letters are others than those of a stimulus
 pub passes_header : (number : ℕ) (o : RunOptions) → passes (title_of number) (header_text o) ≡ true
-passes_header number o = simp (inline-append, inline_mode, inline_decimal)
+passes_header number o = simp (inline-append, inline_mode, inline_decimal, inline_lag)
 
 passes_command : (number place : ℕ) (c : CommandLine) → passes (title_of number) (command_text place c) ≡ true
 passes_command number place c = simp (inline-append, inline_what, inline_count, inline_decimal)
@@ -102,7 +117,7 @@ passes_warning : (number place : ℕ) (warning : Warning) → passes (title_of n
 passes_warning number place warning = simp (inline-append, inline_warning, inline_decimal)
 
 passes_pair : (number limit other : ℕ) (p : PairLine) (claim : Claim) (v : Verdict) → passes (title_of number) (pair_text limit other p claim v) ≡ true
-passes_pair number limit other p claim v = simp (inline-append, inline_kind, inline_shown, inline_word, inline_why, inline_decimal)
+passes_pair number limit other p claim v = simp (inline-append, inline_kind, inline_edge, inline_shown, inline_word, inline_why, inline_decimal)
 
 passes_warnings : (number place : ℕ) (warnings : List Warning) → list_all (passes (title_of number)) (map (warning_line place) warnings) ≡ true
 passes_warnings number place [] = refl

@@ -1,10 +1,12 @@
 -- The texts of a report's lines, each without its newline. A name, a pattern or a word is shown with a `?` for each byte outside
 -- 32 to 126.
-use Rattle.std.specs.Prelude.{ℕ, Bool, true, false, if◌then◌else◌, List, [], ◌++◌, length, count_by, codes}
+use Rattle.std.specs.Prelude.{ℕ, ◌==◌, Bool, true, false, if◌then◌else◌, List, [], ◌++◌, length, count_by, codes}
 use Rattle.std.specs.Fmt.{decimal}
 use Rattle.sdcv_base.specs.Shown.{shown}
 use Rattle.sdcv_base.specs.declared.kinds.Kind.{Kind}
 use Rattle.sdcv_base.specs.declared.kinds.Kind.TheVariants.{False, Multi}
+use Rattle.sdcv_base.specs.declared.kinds.Edge.{Edge}
+use Rattle.sdcv_base.specs.declared.kinds.Edge.TheVariants.{Any, Rise, Fall}
 use Rattle.net_model.specs.declared.claims.Claim.{Claim}
 use Rattle.net_model.specs.declared.queries.Phase.{Phase}
 use Rattle.net_model.specs.declared.queries.Phase.TheVariants.{Base, Step}
@@ -31,26 +33,40 @@ first ⁀ next = first ++ next
 abbrev pub mode_text : Bool → List ℕ
 mode_text hazard = if hazard then codes "hazard" else codes "plain"
 
+-- at how many captures more than the first a false path is judged, where it is at any
+abbrev pub lag_text : ℕ → List ℕ
+lag_text lag = if lag == 0 then [] else codes " lag " ⁀ decimal lag
+
 -- the options of the run
 abbrev pub header_text : RunOptions → List ℕ
 header_text o =
     codes "sdcv 1 mode " ⁀ mode_text o.hazard ⁀ codes " reset " ⁀ decimal o.reset_len ⁀ codes " depth " ⁀ decimal o.depth ⁀ codes " budget "
-    ⁀ decimal o.budget ⁀ codes " inv " ⁀ decimal o.inv_depth
+    ⁀ decimal o.budget ⁀ codes " inv " ⁀ decimal o.inv_depth ⁀ lag_text o.lag
 
--- what is claimed of a pair
+-- the kind of what is claimed
 abbrev pub kind_text : Kind → List ℕ
 kind_text False = codes "false"
 kind_text (Multi multiplier) = codes "multi " ⁀ decimal multiplier
 
+-- which change of the start counts, where it is not each
+abbrev pub edge_text : Edge → List ℕ
+edge_text Any = []
+edge_text Rise = codes " rise"
+edge_text Fall = codes " fall"
+
+-- what is claimed of a pair
+abbrev pub claim_text : Kind → Edge → List ℕ
+claim_text kind edge = kind_text kind ⁀ edge_text edge
+
 -- what an exception does
 abbrev pub what_text : Listing → List ℕ
-what_text (Claiming kind pairs) = kind_text kind
+what_text (Claiming kind edge pairs) = claim_text kind edge
 what_text Hold = codes "hold"
 what_text (Aside option) = codes "aside " ⁀ shown option
 
 -- how many pairs it claims something of
 abbrev pub count_text : Listing → List ℕ
-count_text (Claiming kind pairs) = codes " pairs " ⁀ decimal pairs
+count_text (Claiming kind edge pairs) = codes " pairs " ⁀ decimal pairs
 count_text Hold = []
 count_text (Aside option) = []
 
@@ -101,8 +117,8 @@ found_text limit v = verdict_word v ⁀ codes " " ⁀ why_text limit v
 
 abbrev pub pair_text : ℕ → ℕ → PairLine → Claim → Verdict → List ℕ
 pair_text limit number p claim v =
-    codes "pair " ⁀ decimal number ⁀ codes " command " ⁀ decimal p.command ⁀ codes " " ⁀ kind_text claim.kind ⁀ codes " " ⁀ ends_text p ⁀ codes " "
-    ⁀ found_text limit v
+    codes "pair " ⁀ decimal number ⁀ codes " command " ⁀ decimal p.command ⁀ codes " " ⁀ claim_text claim.kind claim.edge ⁀ codes " "
+    ⁀ ends_text p ⁀ codes " " ⁀ found_text limit v
 
 abbrev pub is_justified : Verdict → Bool
 is_justified (Justified proof) = true

@@ -24,4 +24,4 @@ pub use outcomes::{verdict_word, why_text};
 pub use reports::write_report;
 pub use rows::{PairRow, row_at};
 pub use tallies::{Tally, tally_of};
-pub use words::{kind_text, mode_text, warning_text, what_text};
+pub use words::{claim_text, mode_text, warning_text, what_text};

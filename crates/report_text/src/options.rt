@@ -8,4 +8,6 @@ pub struct RunOptions {
     pub depth: usize,
     pub budget: u64,
     pub inv_depth: usize,
+    /// At how many captures more than the first a false path is judged, 0 to 8.
+    pub lag: u8,
 }

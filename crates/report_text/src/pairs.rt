@@ -8,7 +8,7 @@ use crate::blocks::add_block;
 use crate::lines::ReportLines;
 use crate::outcomes::{verdict_word, why_text};
 use crate::rows::{PairRow, row_at};
-use crate::words::kind_text;
+use crate::words::claim_text;
 use exception_expand::{PairLine, Selected};
 use std::alloc::{AllocError, Global};
 use verdict_types::Verdict;
@@ -34,10 +34,10 @@ fn pair_text(alloc: Global, limit: usize, row: &PairRow<'_>) -> Result<String, A
 {
     let number = row.number;
     let command = row.pair.command;
-    let kind = kind_text(alloc, row.claim.kind)?;
+    let claim = claim_text(alloc, row.claim.kind, row.claim.edge)?;
     let ends = ends_text(alloc, row.pair)?;
     let found = found_text(alloc, limit, row.verdict)?;
-    format!(in alloc; "pair {number} command {command} {kind} {ends} {found}")
+    format!(in alloc; "pair {number} command {command} {claim} {ends} {found}")
 }
 
 fn add_pair(

@@ -9,7 +9,7 @@ use crate::lines::ReportLines;
 use crate::options::RunOptions;
 use crate::pairs::add_pairs;
 use crate::tallies::total_text;
-use crate::words::mode_text;
+use crate::words::{lag_text, mode_text};
 use exception_expand::Selected;
 use std::alloc::{AllocError, Global};
 use verdict_types::Verdict;
@@ -22,7 +22,10 @@ fn header_text(alloc: Global, options: &RunOptions) -> Result<String, AllocError
     let depth = options.depth;
     let budget = options.budget;
     let inv = options.inv_depth;
-    format!(in alloc; "sdcv 1 mode {mode} reset {reset} depth {depth} budget {budget} inv {inv}")
+    let lag = lag_text(alloc, options.lag)?;
+    format!(in alloc;
+        "sdcv 1 mode {mode} reset {reset} depth {depth} budget {budget} inv {inv}{lag}"
+    )
 }
 
 /// The lines of the report of a selection and its verdicts, each with the newline that ends it.

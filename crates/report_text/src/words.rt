@@ -1,10 +1,10 @@
 //! The words of an option, of an exception and of a warning.
 ghost use Rattle.std.specs.Prelude.{◌≡◌, IfOk, string_bytes};
-ghost use Rattle.report_text.specs.Words.{mode_text, kind_text, what_text, count_text, warning_text};
+ghost use Rattle.report_text.specs.Words.{mode_text, lag_text, kind_text, edge_text, claim_text, what_text, count_text, warning_text};
 
 use exception_expand::Listing;
 use sdc_objects::Warning;
-use sdcv_base::Kind;
+use sdcv_base::{Edge, Kind};
 use std::alloc::{AllocError, Global};
 
 /// Whether glitches count.
@@ -14,8 +14,19 @@ pub fn mode_text(hazard: bool) -> &'static str
     if hazard { "hazard" } else { "plain" }
 }
 
-/// The kind of an exception, with its multiplier.
-pub fn kind_text(alloc: Global, kind: Kind) -> Result<String, AllocError>
+/// At how many captures more than the first a false path is judged, where it is at any.
+pub(crate) fn lag_text(alloc: Global, lag: u8) -> Result<String, AllocError>
+    ensures { IfOk result (λ text. string_bytes text ≡ lag_text lag) }
+{
+    if lag == 0 {
+        Ok(String::new(alloc))
+    } else {
+        format!(in alloc; " lag {lag}")
+    }
+}
+
+// The kind of an exception, with its multiplier.
+fn kind_text(alloc: Global, kind: Kind) -> Result<String, AllocError>
     ensures { IfOk result (λ text. string_bytes text ≡ kind_text kind) }
 {
     match kind {
@@ -24,12 +35,32 @@ pub fn kind_text(alloc: Global, kind: Kind) -> Result<String, AllocError>
     }
 }
 
+// Which change of the start counts, where it is not each.
+fn edge_text(edge: Edge) -> &'static str
+    ensures { result.now ≡ edge_text edge }
+{
+    match edge {
+        Edge::Any => "",
+        Edge::Rise => " rise",
+        Edge::Fall => " fall",
+    }
+}
+
+/// What is claimed of a pair: the kind, with its multiplier, and which change of the start counts.
+pub fn claim_text(alloc: Global, kind: Kind, edge: Edge) -> Result<String, AllocError>
+    ensures { IfOk result (λ text. string_bytes text ≡ claim_text kind edge) }
+{
+    let kind = kind_text(alloc, kind)?;
+    let edge = edge_text(edge);
+    format!(in alloc; "{kind}{edge}")
+}
+
 /// What an exception does.
 pub fn what_text(alloc: Global, listing: &Listing) -> Result<String, AllocError>
     ensures { IfOk result (λ text. string_bytes text ≡ what_text listing.now) }
 {
     match listing {
-        Listing::Claiming(kind, _pairs) => kind_text(alloc, *kind),
+        Listing::Claiming(kind, edge, _pairs) => claim_text(alloc, *kind, *edge),
         Listing::Hold => String::from_str(alloc, "hold"),
         Listing::Aside(option) => format!(in alloc; "aside {option}"),
     }
@@ -40,7 +71,7 @@ pub(crate) fn count_text(alloc: Global, listing: &Listing) -> Result<String, All
     ensures { IfOk result (λ text. string_bytes text ≡ count_text listing.now) }
 {
     match listing {
-        Listing::Claiming(_kind, pairs) => format!(in alloc; " pairs {pairs}"),
+        Listing::Claiming(_kind, _edge, pairs) => format!(in alloc; " pairs {pairs}"),
         Listing::Hold | Listing::Aside(_) => Ok(String::new(alloc)),
     }
 }

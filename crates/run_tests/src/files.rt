@@ -24,6 +24,18 @@ endmodule
 endmodule
 ",
     ),
+    // `b` takes a 1 that `a` holds in its second cycle at least.
+    (
+        "steady",
+        "module top (input clk, input rst, input d, output y);
+  wire qa, qp, n1;
+  DFFC a (.D(d), .C(rst), .CK(clk), .Q(qa));
+  DFFC p (.D(qa), .C(rst), .CK(clk), .Q(qp));
+  AND2 g1 (.A(qa), .B(qp), .Y(n1));
+  DFFC b (.D(n1), .C(rst), .CK(clk), .Q(y));
+endmodule
+",
+    ),
     // A counter of two bits lets `a` load in phase 0 and `b` in phase 2.
     (
         "phases",

@@ -9,6 +9,8 @@ mod calls;
 #[cfg(test)]
 mod demonstrations;
 #[cfg(test)]
+mod edge_rows;
+#[cfg(test)]
 mod files;
 #[cfg(test)]
 mod frozen;

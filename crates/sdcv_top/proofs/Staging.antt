@@ -6,6 +6,7 @@ use Rattle.design_stages.specs.declared.refusals.Refusal.{Refusal}
 use Rattle.design_stages.specs.declared.refusals.Refusal.TheVariants as refusal
 use Rattle.netlist_types.specs.declared.sources.Source.{Source}
 use Rattle.script_types.specs.declared.scripts.Script.{Script}
+use Rattle.exception_expand.specs.declared.claims.Judging.{Judging}
 use Rattle.design_stages.specs.declared.designs.Reset.{Reset}
 use Rattle.design_stages.specs.declared.designs.Designed.{Designed}
 use Rattle.design_stages.specs.Designs.{Designs}
@@ -196,12 +197,12 @@ pub finds_text : {A : Type 0} (R : List ℕ → Found A → Type 0) (text other 
 finds_text {A} R text other result same found = subst (λ (t : List ℕ). Finds (R t) result) same found
 
 -- a design is found over the cells that are known without a file, in the reset of generated designs
-pub demo_designs : (source : Source) (library : Library) (script : Script) (reset : Reset) (result : Result Designed Refusal) → library ≡ builtin_library
-    → reset ≡ demo_reset → Finds (Designs (record { source = source; library = library; script = script }) reset false) result
-    → Finds (Designs (record { source = source; library = builtin_library; script = script }) demo_reset false) result
-demo_designs source library script reset result cells held found =
-    let with_cells = subst (λ (l : Library). Finds (Designs (record { source = source; library = l; script = script }) reset false) result) cells found in
-    subst (λ (r : Reset). Finds (Designs (record { source = source; library = builtin_library; script = script }) r false) result) held with_cells
+pub demo_designs : (source : Source) (library : Library) (script : Script) (reset : Reset) (judging : Judging) (result : Result Designed Refusal) → library ≡ builtin_library
+    → reset ≡ demo_reset → Finds (Designs (record { source = source; library = library; script = script }) reset judging) result
+    → Finds (Designs (record { source = source; library = builtin_library; script = script }) demo_reset judging) result
+demo_designs source library script reset judging result cells held found =
+    let with_cells = subst (λ (l : Library). Finds (Designs (record { source = source; library = l; script = script }) reset judging) result) cells found in
+    subst (λ (r : Reset). Finds (Designs (record { source = source; library = builtin_library; script = script }) r judging) result) held with_cells
 
 -- what is planned by a text is planned by an equal one
 pub planned_text : (R : List ℕ → Due) (text other : List ℕ) (result : Result Plan Refusal) → text ≡ other → IsPlanned (R text) result

@@ -5,6 +5,7 @@ use Rattle.sdcv_words.specs.Commands.{Texts, Job, Command, Over, Demo}
 use Rattle.sdcv_gen.specs.Draws.{drawn}
 use Rattle.sdcv_gen.specs.Texts.{verilog_text, sdc_text}
 use Rattle.report_text.specs.declared.options.RunOptions.{RunOptions}
+use Rattle.exception_expand.specs.declared.claims.Judging.{Judging}
 use Rattle.design_stages.specs.declared.designs.Reset.{Reset}
 use Rattle.design_stages.specs.Designs.{Designs}
 use Rattle.design_stages.specs.Texts as texts
@@ -18,29 +19,37 @@ use Rattle.sdcv_top.specs.Texts.{Netlist, Constraints, AfterCells, builtin_libra
 abbrev pub reset_of : Options → Reset
 reset_of o = record { ports = o.resets; len = o.reset_len }
 
+-- how claims are judged
+abbrev pub judging_of : Options → Judging
+judging_of o = record { hazard = o.hazard; lag = o.lag }
+
 -- a job over three texts: they are read, the netlist is linked, pairs are selected, and the job is done on them
 unfoldable pub Worked : Texts → Options → Job → Due
 Worked files o job = do
   source ← AfterText Netlist
   library ← AfterCells files.cells
   script ← AfterText Constraints
-  designed ← After (Designs (record { source = source; library = library; script = script }) (reset_of o) o.hazard)
-  IsDone o.hazard o.reset_len job designed
+  designed ← After (Designs (record { source = source; library = library; script = script }) (reset_of o) (judging_of o))
+  IsDone (judging_of o) o.reset_len job designed
 
 -- the reset of generated designs: its port is 1 in the first cycle
 abbrev pub demo_reset : Reset
 demo_reset = record { ports = record { name = codes "rst"; value = true } ∷ []; len = 1 }
 
+-- their claims are judged without hazards, and each false path at the first capture
+abbrev pub demo_judging : Judging
+demo_judging = record { hazard = false; lag = 0 }
+
 -- the options of their runs
 abbrev pub demo_options : RunOptions
-demo_options = record { hazard = false; reset_len = 1; depth = 8; budget = 20000; inv_depth = 1 }
+demo_options = record { hazard = false; reset_len = 1; depth = 8; budget = 20000; inv_depth = 1; lag = 0 }
 
 -- a verification of generated texts: nothing is read, and no certificate is saved
 unfoldable pub Demonstrated : ℕ → ℕ → Due
 Demonstrated seed size = do
   source ← After (texts.Netlist (verilog_text (drawn seed size)))
   script ← After (texts.Constraints (sdc_text (drawn seed size)))
-  designed ← After (Designs (record { source = source; library = builtin_library; script = script }) demo_reset false)
+  designed ← After (Designs (record { source = source; library = builtin_library; script = script }) demo_reset demo_judging)
   Last (IsReported None false demo_options designed)
 
 -- what is due for a command, and where the words name none: the usage line is printed, and nothing is read

@@ -1,5 +1,5 @@
 -- What is done with the pairs that are selected.
-use Rattle.std.specs.Prelude.{◌≡◌, ℕ, Bool, List, length, None, Some, Result, Ok, Err, IfOk, IfErr}
+use Rattle.std.specs.Prelude.{◌≡◌, ℕ, List, length, None, Some, Result, Ok, Err, IfOk, IfErr}
 use Rattle.std.specs.List.{concat}
 use Rattle.net_model.specs.declared.netlist.Design.{Design}
 use Rattle.net_model.specs.declared.claims.Claim.{Claim}
@@ -20,6 +20,7 @@ use Rattle.sdcv_words.specs.declared.commands.Proving.{Proving}
 use Rattle.sdcv_words.specs.Commands.{Job, Verify, Check, Replay as ReplayJob}
 use Rattle.answer_lines.specs.Certs.{accepted_lines, rejected_line}
 use Rattle.answer_lines.specs.Stimuli.{no_pair_line, stimulus_line, replay_line, replayed_line}
+use Rattle.exception_expand.specs.declared.claims.Judging.{Judging}
 use Rattle.design_stages.specs.declared.designs.Designed.{Designed}
 use Rattle.design_stages.specs.Stages.{Found, Staged}
 use Rattle.sdcv_top.specs.declared.statuses.Ending.{Ending}
@@ -30,8 +31,15 @@ use Rattle.sdcv_top.specs.Stages.{Due, After, AfterText, Last, ◌>>=◌}
 use Rattle.sdcv_top.specs.Texts.{CertText, ReportText}
 
 -- the options that a report tells
-abbrev pub run_options : Bool → ℕ → Proving → RunOptions
-run_options hazard reset_len p = record { hazard = hazard; reset_len = reset_len; depth = p.depth; budget = p.budget; inv_depth = p.inv_depth }
+abbrev pub run_options : Judging → ℕ → Proving → RunOptions
+run_options judging reset_len p = record {
+  hazard = judging.hazard;
+  reset_len = reset_len;
+  depth = p.depth;
+  budget = p.budget;
+  inv_depth = p.inv_depth;
+  lag = judging.lag;
+}
 
 -- a certificate is accepted with exactly these numbers of claims, each of which holds in all runs; or it is rejected with its cause
 pub record Checks (d : Design) (claims : List Claim) (text : List ℕ) (result : Result (List ℕ) CertFault) : Type 0 where
@@ -95,7 +103,7 @@ Checked d = do
   Last (IsChecked d.linked.design d.selected.claims text)
 
 -- a job is done
-abbrev pub IsDone : Bool → ℕ → Job → Designed → Due
-IsDone hazard reset_len (Verify out json proving) d = Last (IsReported (Some out) json (run_options hazard reset_len proving) d)
-IsDone hazard reset_len (Check cert) d = Checked d
-IsDone hazard reset_len (ReplayJob report number) d = Replayed number d
+abbrev pub IsDone : Judging → ℕ → Job → Designed → Due
+IsDone judging reset_len (Verify out json proving) d = Last (IsReported (Some out) json (run_options judging reset_len proving) d)
+IsDone judging reset_len (Check cert) d = Checked d
+IsDone judging reset_len (ReplayJob report number) d = Replayed number d

@@ -7,6 +7,7 @@ use crate::plans::Plan;
 use crate::verifying::verified;
 use cell_types::builtin;
 use design_stages::{ReadTexts, Refusal, Reset, constraints, designed, netlist};
+use exception_expand::Judging;
 use report_text::RunOptions;
 use sdcv_base::{Name, Seq, Setting};
 use sdcv_gen::generate;
@@ -19,6 +20,13 @@ const OPTIONS: RunOptions = RunOptions {
     depth: 8,
     budget: 20_000,
     inv_depth: 1,
+    lag: 0,
+};
+
+/// How their claims are judged.
+const JUDGING: Judging = Judging {
+    hazard: false,
+    lag: 0,
 };
 
 /// Judges the pairs of the design of a seed, of so many blocks.
@@ -35,7 +43,7 @@ pub fn demonstrated<'a>(alloc: Global, seed: u64, size: usize) -> Result<Plan<'a
         script,
     };
     let reset = demo_reset(alloc)?;
-    let designed = designed(alloc, &texts, reset, false)?;
+    let designed = designed(alloc, &texts, reset, JUDGING)?;
     let plan = verified(alloc, &designed, &OPTIONS, None, false)?;
     Ok(plan)
 }

@@ -1,7 +1,7 @@
 //! The run on one screen: its stages in their order, each of which ends with its own value.
-ghost use Rattle.std.specs.Prelude.{◌≡◌, ◌≤◌, Some};
+ghost use Rattle.std.specs.Prelude.{◌≡◌, Some};
 ghost use Rattle.sdcv_words.specs.Commands.{seen_command, seen_texts, seen_job, Over};
-ghost use Rattle.sdcv_words.specs.Ranges.{IsInRange, IsJobInRange};
+ghost use Rattle.sdcv_words.specs.Ranges.{AreOptionsInRange, IsInRange, IsJobInRange};
 ghost use Rattle.design_stages.specs.Designs.{CanBeJudged};
 ghost use Rattle.sdcv_top.specs.Due.{IsDueFor, Worked};
 ghost use Rattle.sdcv_top.specs.Jobs.{IsDone};
@@ -15,6 +15,7 @@ use crate::readers::{cells, constraints, netlist};
 use crate::replaying::replayed;
 use crate::verifying::verified;
 use design_stages::{Designed, ReadTexts, Reset, designed};
+use exception_expand::Judging;
 use report_text::RunOptions;
 use sdcv_base::Host;
 use sdcv_words::{Command, Job, Options, Texts};
@@ -52,7 +53,7 @@ fn worked<'a, H: Host>(
     options: Options,
     job: Job<'a>,
 ) -> Result<Plan<'a>, Stop>
-    requires reset { options.reset_len ≤ 64 }
+    requires options { AreOptionsInRange options }
     requires job { IsJobInRange (seen_job job) }
     ensures planned { Plans (Worked (seen_texts files.entry) options (seen_job job.entry))
         (reads_of (Some (Over (seen_texts files.entry) options (seen_job job.entry))))
@@ -72,6 +73,7 @@ fn worked<'a, H: Host>(
     };
     let Options {
         hazard,
+        lag,
         resets,
         reset_len,
     } = options;
@@ -79,15 +81,16 @@ fn worked<'a, H: Host>(
         ports: resets,
         len: reset_len,
     };
-    let designed = designed(alloc, &texts, reset, hazard)?;
-    let done = done(alloc, host, &designed, Manner { hazard, reset_len }, job)?;
+    let judging = Judging { hazard, lag };
+    let designed = designed(alloc, &texts, reset, judging)?;
+    let done = done(alloc, host, &designed, Manner { judging, reset_len }, job)?;
     Ok(done)
 }
 
-/// How runs are judged, and how long they are held in reset.
+/// How claims are judged, and how long runs are held in reset.
 #[derive(Clone, Copy)]
 pub struct Manner {
-    pub hazard: bool,
+    pub judging: Judging,
     pub reset_len: usize,
 }
 
@@ -101,7 +104,7 @@ fn done<'a, H: Host>(
 ) -> Result<Plan<'a>, Stop>
     requires judged { CanBeJudged designed.now }
     requires job { IsJobInRange (seen_job job) }
-    ensures planned { Plans (IsDone manner.hazard manner.reset_len (seen_job job.entry) designed.now) (job_reads (seen_job job.entry)) (H.files host.old)
+    ensures planned { Plans (IsDone manner.judging manner.reset_len (seen_job job.entry) designed.now) (job_reads (seen_job job.entry)) (H.files host.old)
         (H.asked host.old) (H.asked host.new) result }
     ensures count { StopCounts (H.faults host.old) (H.faults host.new) result }
     ensures files { H.files host.new ≡ H.files host.old }
@@ -111,11 +114,12 @@ fn done<'a, H: Host>(
     match job {
         Job::Verify { out, json, proving } => {
             let options = RunOptions {
-                hazard: manner.hazard,
+                hazard: manner.judging.hazard,
                 reset_len: manner.reset_len,
                 depth: proving.depth,
                 budget: proving.budget,
                 inv_depth: proving.inv_depth,
+                lag: manner.judging.lag,
             };
             Ok(verified(alloc, designed, &options, Some(out), json)?)
         }

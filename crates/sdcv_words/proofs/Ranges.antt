@@ -13,11 +13,11 @@ use Rattle.sdcv_words.specs.declared.commands.Proving.{Proving}
 use Rattle.sdcv_words.specs.Commands.{Command, Demo, Job, Check, Over, Replay, Text, Verify}
 use Rattle.sdcv_words.specs.Givens.{stands}
 use Rattle.sdcv_words.specs.Numbers.{are_digits, number_in, number_or}
-use Rattle.sdcv_words.specs.Options.{default_cycles, options_of, proving_of, resets_of}
+use Rattle.sdcv_words.specs.Options.{default_cycles, lag_of, options_of, proving_of, resets_of}
 use Rattle.sdcv_words.specs.Jobs.{check_of, demo_of, job_of, judged_if, over_of, replay_of, texts_of, verify_of}
 use Rattle.sdcv_words.specs.Places.{by_place}
 use Rattle.sdcv_words.specs.Words.{command, or_else}
-use Rattle.sdcv_words.specs.Ranges.{IsInRange, IsJobInRange, IsProvingInRange}
+use Rattle.sdcv_words.specs.Ranges.{AreOptionsInRange, IsInRange, IsJobInRange, IsProvingInRange}
 
 -- a number that is read lies in its range
 high_enough : (least value n : ℕ) (above : Bool) → nat_le least value ≡ above → (if above then Some value else None) ≡ Some n → least ≤ n
@@ -55,15 +55,20 @@ few_cycles : (list : Option (List ℕ)) → default_cycles list ≤ 64
 few_cycles None = omega arith
 few_cycles (Some text) = omega arith
 
-options_range : (given : List Given) (options : Options) → options_of given ≡ Some options → options.reset_len ≤ 64
+-- how many captures after the first a false path is judged
+pub lag_range : (given : List Given) (lag : ℕ) → lag_of given ≡ Some lag → lag ≤ 8
+lag_range given lag is = (number_or_range 0 0 8 lag (in_table given (codes "lag")) (omega arith) (omega arith) is).1
+
+options_range : (given : List Given) (options : Options) → options_of given ≡ Some options → AreOptionsInRange options
 options_range given options is =
     let list = in_table given (codes "reset") in
     let cycles_of = number_or (default_cycles list) 0 64 (in_table given (codes "reset-cycles")) in
     let (cycles, held, rest) = bind_gave cycles_of _ options is in
-    let (resets, of, made) = bind_gave (resets_of list) _ options rest in
+    let (lag, late, with_lag) = bind_gave (lag_of given) _ options rest in
+    let (resets, of, made) = bind_gave (resets_of list) _ options with_lag in
     let range = number_or_range (default_cycles list) 0 64 cycles (in_table given (codes "reset-cycles")) (omega arith) (few_cycles list) held in
-    let opened : Options = record { hazard = stands given (codes "hazard"); resets = resets; reset_len = cycles } in
-    let same : opened ≡ options = cc in subst (λ (o : Options). o.reset_len ≤ 64) same range.1
+    let opened : Options = record { hazard = stands given (codes "hazard"); lag = lag; resets = resets; reset_len = cycles } in
+    let same : opened ≡ options = cc in subst AreOptionsInRange same (record { lag = lag_range given lag late; reset_len = range.1 })
 
 -- how far proofs are sought
 proving_range : (given : List Given) (proving : Proving) → proving_of given ≡ Some proving → IsProvingInRange proving

@@ -19,12 +19,17 @@ abbrev pub default_cycles : Option (List ℕ) → ℕ
 default_cycles None = 0
 default_cycles (Some text) = 1
 
+-- at how many captures more than the first a false path is judged; at none where no word says so
+abbrev pub lag_of : List Given → Option ℕ
+lag_of given = number_or 0 0 8 (in_table given (codes "lag"))
+
 abbrev pub options_of : List Given → Option Options
 options_of given =
     let list = in_table given (codes "reset") in
     number_or (default_cycles list) 0 64 (in_table given (codes "reset-cycles")) >>= λ cycles.
+    lag_of given >>= λ lag.
     resets_of list >>= λ resets.
-    Some (record { hazard = stands given (codes "hazard"); resets = resets; reset_len = cycles })
+    Some (record { hazard = stands given (codes "hazard"); lag = lag; resets = resets; reset_len = cycles })
 
 abbrev pub proving_of : List Given → Option Proving
 proving_of given =

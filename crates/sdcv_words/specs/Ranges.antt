@@ -1,5 +1,6 @@
 -- The ranges in which the numbers of a command lie.
 use Rattle.std.specs.Prelude.{◌≤◌}
+use Rattle.sdcv_words.specs.declared.commands.Options.{Options}
 use Rattle.sdcv_words.specs.declared.commands.Proving.{Proving}
 use Rattle.sdcv_words.specs.Commands.{Command, Demo, Job, Check, Over, Replay, Verify}
 
@@ -16,7 +17,12 @@ IsJobInRange (Verify out json proving) = IsProvingInRange proving
 IsJobInRange (Check cert) = Unit {0}
 IsJobInRange (Replay report pair) = 1 ≤ pair
 
--- reset is held for at most 64 cycles, and a generated design has 1 to 160 blocks
+-- false paths are judged at most eight captures after the first, and reset is held for at most 64 cycles
+pub record AreOptionsInRange (options : Options) : Type 0 where
+  pub lag : options.lag ≤ 8
+  pub reset_len : options.reset_len ≤ 64
+
+-- a generated design has 1 to 160 blocks
 abbrev pub IsInRange : Command → Type 0
-IsInRange (Over texts options job) = (options.reset_len ≤ 64) × IsJobInRange job
+IsInRange (Over texts options job) = AreOptionsInRange options × IsJobInRange job
 IsInRange (Demo seed size) = (1 ≤ size) × (size ≤ 160)

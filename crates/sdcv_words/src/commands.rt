@@ -15,6 +15,8 @@ pub struct Texts<'a> {
 #[derive(Drop)]
 pub struct Options {
     pub hazard: bool,
+    /// At how many captures more than the first a false path is judged, 0 to 8.
+    pub lag: u8,
     /// The values of the reset ports. The names of no two are equal, and none is empty.
     pub resets: Seq<Setting>,
     pub reset_len: usize,

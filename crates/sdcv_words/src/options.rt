@@ -2,7 +2,7 @@
 ghost use Rattle.std.specs.Prelude.{◌≡◌, IfOk, Some, map};
 ghost use Rattle.std.specs.Option.{option_map};
 ghost use Rattle.clap_words.specs.Readings.{seen_given};
-ghost use Rattle.sdcv_words.specs.Options.{options_of, proving_of, resets_of};
+ghost use Rattle.sdcv_words.specs.Options.{lag_of, options_of, proving_of, resets_of};
 
 use crate::commands::{Options, Proving};
 use crate::givens::{stands, text_of};
@@ -21,6 +21,14 @@ fn resets_of(alloc: Global, list: Option<&str>) -> Result<Option<Seq<Setting>>, 
     }
 }
 
+// At how many captures more than the first a false path is judged.
+fn lag_of(given: &[Given<'_>]) -> Option<u8>
+    ensures { result ≡ lag_of (map seen_given given.now) }
+{
+    let lag = number_or(text_of(given, "lag"), 0, 0, 8)?;
+    Some(lag as u8)
+}
+
 /// The options of a run, if their texts keep the rules.
 pub fn options_of(alloc: Global, given: &[Given<'_>]) -> Result<Option<Options>, AllocError>
     ensures { IfOk result (λ found. found ≡ options_of (map seen_given given.now)) }
@@ -30,11 +38,15 @@ pub fn options_of(alloc: Global, given: &[Given<'_>]) -> Result<Option<Options>,
     let Some(cycles) = number_or(text_of(given, "reset-cycles"), default, 0, 64) else {
         return Ok(None);
     };
+    let Some(lag) = lag_of(given) else {
+        return Ok(None);
+    };
     let Some(resets) = resets_of(alloc, list)? else {
         return Ok(None);
     };
     Ok(Some(Options {
         hazard: stands(given, "hazard"),
+        lag,
         resets,
         reset_len: cycles as usize,
     }))

@@ -26,8 +26,9 @@ fn resets_text(alloc: Global, resets: &Seq<Setting>) -> Result<String, AllocErro
 fn options_text(alloc: Global, options: &Options) -> Result<String, AllocError> {
     let mode = if options.hazard { "hazard" } else { "plain" };
     let resets = resets_text(alloc, &options.resets)?;
+    let lag = options.lag;
     let cycles = options.reset_len;
-    format!(in alloc; "{mode}{resets} cycles {cycles}")
+    format!(in alloc; "{mode} lag {lag}{resets} cycles {cycles}")
 }
 
 fn job_text(alloc: Global, job: &Job<'_>) -> Result<String, AllocError> {
@@ -75,32 +76,32 @@ fn named(alloc: Global, text: &str) -> Result<String, AllocError> {
 const BY_PLACE: [(&str, &str); 9] = [
     (
         "verify|v|builtin|s|--out|c",
-        "<v> <builtin> <s> plain cycles 0 verify <c> json false depth 8 budget 20000 inv 1",
+        "<v> <builtin> <s> plain lag 0 cycles 0 verify <c> json false depth 8 budget 20000 inv 1",
     ),
     (
         "verify|v|l|s|--out|c|--reset|rst=1",
-        "<v> <l> <s> plain rst=true cycles 1 verify <c> json false depth 8 budget 20000 inv 1",
+        "<v> <l> <s> plain lag 0 rst=true cycles 1 verify <c> json false depth 8 budget 20000 inv 1",
     ),
     (
-        "verify|v|l|s|--json|--hazard|--reset|a=0,b=1|--reset-cycles|64|--depth|64|--budget|10000000|--inv-depth|8|--out|c",
-        "<v> <l> <s> hazard a=false b=true cycles 64 verify <c> json true depth 64 budget 10000000 inv 8",
+        "verify|v|l|s|--json|--hazard|--lag|8|--reset|a=0,b=1|--reset-cycles|64|--depth|64|--budget|10000000|--inv-depth|8|--out|c",
+        "<v> <l> <s> hazard lag 8 a=false b=true cycles 64 verify <c> json true depth 64 budget 10000000 inv 8",
     ),
     (
         "verify|v|l|s|--out|c|--reset-cycles|2|--budget|01|--depth|0|--inv-depth|0",
-        "<v> <l> <s> plain cycles 2 verify <c> json false depth 0 budget 1 inv 0",
+        "<v> <l> <s> plain lag 0 cycles 2 verify <c> json false depth 0 budget 1 inv 0",
     ),
     (
-        "check|v|l|s|c|--reset|a=b=1|--hazard",
-        "<v> <l> <s> hazard a=b=true cycles 1 check <c>",
+        "check|v|l|s|c|--reset|a=b=1|--lag|02|--hazard",
+        "<v> <l> <s> hazard lag 2 a=b=true cycles 1 check <c>",
     ),
-    ("check|v|l|s|c", "<v> <l> <s> plain cycles 0 check <c>"),
+    ("check|v|l|s|c", "<v> <l> <s> plain lag 0 cycles 0 check <c>"),
     (
-        "replay|v|l|s|r|1|--reset|rst=1",
-        "<v> <l> <s> plain rst=true cycles 1 replay <r> pair 1",
+        "replay|v|l|s|r|1|--lag|0|--reset|rst=1",
+        "<v> <l> <s> plain lag 0 rst=true cycles 1 replay <r> pair 1",
     ),
     (
         "replay|v|l|s|r|18446744073709551615",
-        "<v> <l> <s> plain cycles 0 replay <r> pair 18446744073709551615",
+        "<v> <l> <s> plain lag 0 cycles 0 replay <r> pair 18446744073709551615",
     ),
     ("demo|007|160", "demo 7 160"),
 ];
@@ -109,37 +110,37 @@ const BY_PLACE: [(&str, &str); 9] = [
 const BY_CLAP: [(&str, &str); 8] = [
     (
         "verify|v|l|s|--out=c",
-        "<v> <l> <s> plain cycles 0 verify <c> json false depth 8 budget 20000 inv 1",
+        "<v> <l> <s> plain lag 0 cycles 0 verify <c> json false depth 8 budget 20000 inv 1",
     ),
     (
         "verify|--out|c|v|--json|l|s",
-        "<v> <l> <s> plain cycles 0 verify <c> json true depth 8 budget 20000 inv 1",
+        "<v> <l> <s> plain lag 0 cycles 0 verify <c> json true depth 8 budget 20000 inv 1",
     ),
     (
         "verify|--out|c|--|-v|l|s",
-        "<-v> <l> <s> plain cycles 0 verify <c> json false depth 8 budget 20000 inv 1",
+        "<-v> <l> <s> plain lag 0 cycles 0 verify <c> json false depth 8 budget 20000 inv 1",
     ),
     (
         "verify|v|l|s|--out=-c",
-        "<v> <l> <s> plain cycles 0 verify <-c> json false depth 8 budget 20000 inv 1",
+        "<v> <l> <s> plain lag 0 cycles 0 verify <-c> json false depth 8 budget 20000 inv 1",
     ),
     (
         "verify|v||s|--out=",
-        "<v> <> <s> plain cycles 0 verify <> json false depth 8 budget 20000 inv 1",
+        "<v> <> <s> plain lag 0 cycles 0 verify <> json false depth 8 budget 20000 inv 1",
     ),
     (
         "check|--hazard|v|-|s|c",
-        "<v> <-> <s> hazard cycles 0 check <c>",
+        "<v> <-> <s> hazard lag 0 cycles 0 check <c>",
     ),
     (
-        "replay|--reset=a=0|v|l|s|r|2",
-        "<v> <l> <s> plain a=false cycles 1 replay <r> pair 2",
+        "replay|--reset=a=0|v|l|s|r|2|--lag=1",
+        "<v> <l> <s> plain lag 1 a=false cycles 1 replay <r> pair 2",
     ),
     ("demo|--|7|20", "demo 7 20"),
 ];
 
 // Words that name no command, each with what is wrong with it.
-const NONE: [(&str, &str); 36] = [
+const NONE: [(&str, &str); 40] = [
     ("", "an empty word"),
     ("verify|v|l", "too few positions"),
     ("verify|v|l|s", "no certificate is named"),
@@ -158,6 +159,10 @@ const NONE: [(&str, &str); 36] = [
         "verify|v|l|s|--out|c|--reset-cycles|65",
         "more cycles than reset is held",
     ),
+    ("verify|v|l|s|--out|c|--lag|9", "a lag past its range"),
+    ("replay|v|l|s|r|1|--lag", "no value for a lag"),
+    ("check|v|l|s|c|--lag|1|--lag|1", "a lag twice"),
+    ("demo|7|20|--lag|1", "a lag of a generated design"),
     ("verify|v|l|s|--out|c|--depth|+1", "a sign"),
     ("verify|v|l|s|--out|c|--depth|", "a number without digits"),
     (

@@ -55,7 +55,7 @@ returns-in_err-designed c =
     let source = finds_text Netlist _ _ (Ok c.in_ok-source.source) (c.deref.ensures.value ∙ c.in_ok-texts.ensures.verilog) c.in_ok-source.ensures.found in
     let script = finds_text Constraints _ _ (Ok c.in_ok-script.script) (c.deref-2.ensures.value ∙ c.in_ok-texts.ensures.sdc) c.in_ok-script.ensures.found in
     let cells = builtin_is c.in_ok-library.library c.in_ok-library.ensures.table in
-    let designed = demo_designs _ _ _ _ (Err c.in_err-designed.field-0.0) cells c.in_ok-reset.ensures c.in_err-designed.ensures.found in
+    let designed = demo_designs _ _ _ _ _ (Err c.in_err-designed.field-0.0) cells c.in_ok-reset.ensures c.in_err-designed.ensures.found in
     let p = err_from_is_err_and c.from_residual-in_err-designed.result c.from_residual-in_err-designed.ensures.1 in
     planned_by _ _ _ (p.1 ∙ ap Err p.2)
     (after_ok _ _ _ _ source (after_ok _ _ _ _ script (after_err _ _ _ designed)))
@@ -66,7 +66,7 @@ returns-in_err-plan c =
     let source = finds_text Netlist _ _ (Ok c.in_ok-source.source) (c.deref.ensures.value ∙ c.in_ok-texts.ensures.verilog) c.in_ok-source.ensures.found in
     let script = finds_text Constraints _ _ (Ok c.in_ok-script.script) (c.deref-2.ensures.value ∙ c.in_ok-texts.ensures.sdc) c.in_ok-script.ensures.found in
     let cells = builtin_is c.in_ok-library.library c.in_ok-library.ensures.table in
-    let designed = demo_designs _ _ _ _ (Ok c.in_ok-designed.designed) cells c.in_ok-reset.ensures c.in_ok-designed.ensures.found in
+    let designed = demo_designs _ _ _ _ _ (Ok c.in_ok-designed.designed) cells c.in_ok-reset.ensures c.in_ok-designed.ensures.found in
     let p = err_from_is_err_and c.from_residual-in_err-plan.result c.from_residual-in_err-plan.ensures.1 in
     planned_by _ _ _ (p.1 ∙ ap Err p.2)
     (after_ok _ _ _ _ source (after_ok _ _ _ _ script (after_ok _ _ _ _ designed (planned_memory _))))
@@ -77,5 +77,5 @@ returns c =
     let source = finds_text Netlist _ _ (Ok c.in_ok-source.source) (c.deref.ensures.value ∙ c.in_ok-texts.ensures.verilog) c.in_ok-source.ensures.found in
     let script = finds_text Constraints _ _ (Ok c.in_ok-script.script) (c.deref-2.ensures.value ∙ c.in_ok-texts.ensures.sdc) c.in_ok-script.ensures.found in
     let cells = builtin_is c.in_ok-library.library c.in_ok-library.ensures.table in
-    let designed = demo_designs _ _ _ _ (Ok c.in_ok-designed.designed) cells c.in_ok-reset.ensures c.in_ok-designed.ensures.found in
+    let designed = demo_designs _ _ _ _ _ (Ok c.in_ok-designed.designed) cells c.in_ok-reset.ensures c.in_ok-designed.ensures.found in
     after_ok _ _ _ _ source (after_ok _ _ _ _ script (after_ok _ _ _ _ designed (last_planned _ _ c.in_ok-plan.ensures)))
