@@ -21,4 +21,5 @@ mod sets;
 
 pub use aims::Aims;
 pub use paths::has_path;
+pub use readers::Readers;
 pub use searches::Search;

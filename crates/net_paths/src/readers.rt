@@ -11,8 +11,8 @@ use std::alloc::{AllocError, Global};
 
 /// The pins that read each net: input pins of gates and registers, and output ports, in that order.
 #[derive(Drop)]
-pub(crate) struct Readers {
-    rows: Vec<Seq<PinRef>>,
+pub struct Readers {
+    pub rows: Vec<Seq<PinRef>>,
 }
 
 impl Readers {
