@@ -60,7 +60,11 @@ total 0 justified 0 refuted 0 undecided 0
 pub const EACH: Case = Case {
     options: DEFAULTS,
     exceptions: &[
-        Exception(2, Claims(False, Any, 3), &[Nothing("zz*"), Dropped("u1/g?", 2)]),
+        Exception(
+            2,
+            Claims(False, Any, 3),
+            &[Nothing("zz*"), Dropped("u1/g?", 2)],
+        ),
         Exception(3, Holds, &[]),
         Exception(5, Aside("-rise"), &[]),
         Exception(6, Claims(Multi(2), Any, 3), &[]),
@@ -153,7 +157,12 @@ total 1 justified 0 refuted 1 undecided 0
 // Three cycles and one more, at which a false path is judged too.
 const LATE: Bits = Bits(
     &[false, false],
-    &[&[true, false], &[false, true], &[false, true], &[false, false]],
+    &[
+        &[true, false],
+        &[false, true],
+        &[false, true],
+        &[false, false],
+    ],
 );
 
 const EDGES: Case = Case {

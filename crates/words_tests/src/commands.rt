@@ -94,7 +94,10 @@ const BY_PLACE: [(&str, &str); 9] = [
         "check|v|l|s|c|--reset|a=b=1|--lag|02|--hazard",
         "<v> <l> <s> hazard lag 2 a=b=true cycles 1 check <c>",
     ),
-    ("check|v|l|s|c", "<v> <l> <s> plain lag 0 cycles 0 check <c>"),
+    (
+        "check|v|l|s|c",
+        "<v> <l> <s> plain lag 0 cycles 0 check <c>",
+    ),
     (
         "replay|v|l|s|r|1|--lag|0|--reset|rst=1",
         "<v> <l> <s> plain lag 0 rst=true cycles 1 replay <r> pair 1",
