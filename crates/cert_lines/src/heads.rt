@@ -1,8 +1,7 @@
 //! The first line, the line of kept clauses, and the first line of a derivation.
-ghost use Rattle.std.specs.Prelude.{◌≡◌, ◌≢◌, ◌∷◌, ◌<◌, ℕ, true, false, IfOk, IfErr, OnOk, length};
+ghost use Rattle.std.specs.Prelude.{◌≡◌, ◌≢◌, ◌∷◌, [], ◌<◌, false, IfOk, IfErr, OnOk};
 ghost use Rattle.cert_words.specs.Lines.{Spells, IsLineStop};
-ghost use Rattle.cert_words.specs.Numbers.{IsDue};
-ghost use Rattle.cert_words.specs.Parts.{left, IsOneStop};
+ghost use Rattle.cert_words.specs.Parts.{one, Passes, IsPartStop};
 ghost use Rattle.cert_lines.specs.Kinds.{first_words, IsVersion, inv_words, IsInvHead, phase_word, head_words, IsCount};
 
 use cert_words::{Stop, Words, take_end, take_number, take_word};
@@ -12,7 +11,7 @@ use net_model::Phase;
 const MOST: u64 = 9_223_372_036_854_775_807;
 
 /// The greatest depth of kept clauses.
-const MOST_DEPTH: u64 = 8;
+const MOST_KEPT_DEPTH: u64 = 8;
 
 /// The depth of the kept clauses, and how many there are.
 #[derive(Clone, Copy, Debug, PartialEq, Eq)]
@@ -52,7 +51,7 @@ pub fn read_inv(line: &[u8], cut: bool) -> Result<InvHead, Stop>
 {
     let mut words = Words::new(line, cut);
     take_word(&mut words, b"inv")?;
-    let depth = take_number(&mut words, MOST_DEPTH)?;
+    let depth = take_number(&mut words, MOST_KEPT_DEPTH)?;
     let count = take_number(&mut words, most_kept(depth))?;
     take_end(&words)?;
     Ok(InvHead {
@@ -63,10 +62,8 @@ pub fn read_inv(line: &[u8], cut: bool) -> Result<InvHead, Stop>
 
 /// Passes the word of a derivation.
 fn take_phase(words: &mut Words<'_>, phase: Phase) -> Result<(), Stop>
-    ensures ok { OnOk result (left words.old ≡ phase_word phase ∷ left words.new) }
-    ensures more { OnOk result (words.old.cut ≡ true → 0 < length (left words.new)) }
-    ensures cut { words.new.cut ≡ words.old.cut }
-    ensures err { IfErr result (IsOneStop (IsDue (phase_word phase)) words.old.cut (left words.old)) }
+    ensures ok { OnOk result (Passes (phase_word phase ∷ []) words.old words.new) }
+    ensures err { IfErr result (IsPartStop (λ w. w ≡ phase_word phase) (one (λ w. w)) words.old) }
     ensures told { IfErr result (λ e. e ≢ Stop.Memory) }
 {
     match phase {

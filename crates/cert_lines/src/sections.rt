@@ -1,12 +1,11 @@
 //! The first line of a pair, and the last line.
-ghost use Rattle.std.specs.Prelude.{◌≡◌, ◌≢◌, ◌∷◌, ◌++◌, ◌<◌, ◌↔◌, ℕ, List, true, false, IfOk, IfErr, OnOk, IsTrue};
-ghost use Rattle.std.specs.Prelude.{MatchOption, length};
+ghost use Rattle.std.specs.Prelude.{◌≡◌, ◌≢◌, ◌++◌, ◌↔◌, ℕ, List, false, IfOk, IfErr, OnOk, IsTrue, MatchOption};
 ghost use Rattle.cert_words.specs.Lines.{Spells, IsLineStop};
-ghost use Rattle.cert_words.specs.Parts.{left, HasOne, IsPartStop};
+ghost use Rattle.cert_words.specs.Parts.{one, Passes, IsPartStop};
 ghost use Rattle.cert_lines.specs.Kinds.{section_words, IsSection};
-ghost use Rattle.cert_lines.specs.SectionWords.{pair_or_end, IsFirstWord, IsFirstBefore, proof_word, IsProofWord, IsProofBefore};
+ghost use Rattle.cert_lines.specs.SectionWords.{pair_or_end, IsFirstWord, proof_word, IsProofWord, IsAny, how_words, IsHow, section_of};
 
-use cert_words::{Stop, Words, cut_off, take_end, take_number};
+use cert_words::{NextWord, Stop, Words, cut_off, take_end, take_number};
 
 /// The greatest number of a pair.
 const MOST: u64 = 9_223_372_036_854_775_807;
@@ -24,12 +23,20 @@ pub enum Section {
     End,
 }
 
-/// How a pair is proved.
+/// The word that says how a pair is proved.
 #[derive(Clone, Copy)]
 enum ProofWord {
     Single,
     Fixed,
     Depth,
+}
+
+/// How a pair is proved.
+#[derive(Clone, Copy)]
+enum How {
+    Single,
+    Fixed,
+    Depth(usize),
 }
 
 /// Whether these bytes are the beginning of a word.
@@ -47,25 +54,31 @@ fn may_be_first(word: &[u8]) -> bool
 
 /// Passes `pair` or `end`; the answer is whether it is `pair`.
 fn take_first(words: &mut Words<'_>) -> Result<bool, Stop>
-    ensures ok { IfOk result (λ pair. left words.old ≡ pair_or_end pair ∷ left words.new) }
-    ensures more { OnOk result (words.old.cut ≡ true → 0 < length (left words.new)) }
-    ensures cut { words.new.cut ≡ words.old.cut }
-    ensures err { IfErr result (IsPartStop (HasOne IsFirstWord) (λ tail. IsFirstBefore) words.old.cut (left words.old)) }
+    ensures ok { IfOk result (λ pair. Passes (one pair_or_end pair) words.old words.new) }
+    ensures err { IfErr result (IsPartStop IsAny (one pair_or_end) words.old) }
     ensures told { IfErr result (λ e. e ≢ Stop.Memory) }
 {
-    let Some(word) = words.next() else {
-        return Err(Stop::Bad);
-    };
-    if words.is_at_cut() {
-        return Err(cut_off(may_be_first(word)));
+    match words.next() {
+        NextWord::Missing => Err(Stop::Bad),
+        NextWord::Cut(word) => Err(cut_off(may_be_first(word))),
+        NextWord::Whole(word) => match is_pair(word) {
+            Some(pair) => Ok(pair),
+            None => Err(Stop::Bad),
+        },
     }
+}
+
+/// Whether the word is `pair`, where it is that or `end`.
+fn is_pair(word: &[u8]) -> Option<bool>
+    ensures { MatchOption result (¬ IsFirstWord word.now) (λ pair. word.now ≡ pair_or_end pair) }
+{
     if word == b"pair".as_slice() {
-        return Ok(true);
+        return Some(true);
     }
     if word == b"end".as_slice() {
-        return Ok(false);
+        return Some(false);
     }
-    Err(Stop::Bad)
+    None
 }
 
 fn proof_word_of(word: &[u8]) -> Option<ProofWord>
@@ -91,21 +104,44 @@ fn may_be_proof_word(word: &[u8]) -> bool
 
 /// Passes the word that says how a pair is proved.
 fn take_proof_word(words: &mut Words<'_>) -> Result<ProofWord, Stop>
-    ensures ok { IfOk result (λ k. left words.old ≡ proof_word k ∷ left words.new) }
-    ensures more { OnOk result (words.old.cut ≡ true → 0 < length (left words.new)) }
-    ensures cut { words.new.cut ≡ words.old.cut }
-    ensures err { IfErr result (IsPartStop (HasOne IsProofWord) (λ tail. IsProofBefore) words.old.cut (left words.old)) }
+    ensures ok { IfOk result (λ k. Passes (one proof_word k) words.old words.new) }
+    ensures err { IfErr result (IsPartStop IsAny (one proof_word) words.old) }
     ensures told { IfErr result (λ e. e ≢ Stop.Memory) }
 {
-    let Some(word) = words.next() else {
-        return Err(Stop::Bad);
-    };
-    if words.is_at_cut() {
-        return Err(cut_off(may_be_proof_word(word)));
+    match words.next() {
+        NextWord::Missing => Err(Stop::Bad),
+        NextWord::Cut(word) => Err(cut_off(may_be_proof_word(word))),
+        NextWord::Whole(word) => match proof_word_of(word) {
+            Some(kind) => Ok(kind),
+            None => Err(Stop::Bad),
+        },
     }
-    match proof_word_of(word) {
-        Some(kind) => Ok(kind),
-        None => Err(Stop::Bad),
+}
+
+/// Passes what says how a pair is proved.
+fn take_how(words: &mut Words<'_>) -> Result<How, Stop>
+    ensures ok { IfOk result (λ how. IsHow how × Passes (how_words how) words.old words.new) }
+    ensures err { IfErr result (IsPartStop IsHow how_words words.old) }
+    ensures told { IfErr result (λ e. e ≢ Stop.Memory) }
+{
+    match take_proof_word(words)? {
+        ProofWord::Single => Ok(How::Single),
+        ProofWord::Fixed => Ok(How::Fixed),
+        ProofWord::Depth => {
+            let depth = take_number(words, MOST_DEPTH)?;
+            Ok(How::Depth(depth as usize))
+        }
+    }
+}
+
+/// The pair of a number.
+fn section_of(number: u64, how: How) -> Section
+    ensures { result ≡ section_of number how }
+{
+    match how {
+        How::Single => Section::Single(number),
+        How::Fixed => Section::Fixed(number),
+        How::Depth(depth) => Section::Depth(number, depth),
     }
 }
 
@@ -122,19 +158,7 @@ pub fn read_section(line: &[u8], cut: bool) -> Result<Section, Stop>
         return Ok(Section::End);
     }
     let number = take_number(&mut words, MOST)?;
-    match take_proof_word(&mut words)? {
-        ProofWord::Single => {
-            take_end(&words)?;
-            Ok(Section::Single(number))
-        }
-        ProofWord::Fixed => {
-            take_end(&words)?;
-            Ok(Section::Fixed(number))
-        }
-        ProofWord::Depth => {
-            let depth = take_number(&mut words, MOST_DEPTH)?;
-            take_end(&words)?;
-            Ok(Section::Depth(number, depth as usize))
-        }
-    }
+    let how = take_how(&mut words)?;
+    take_end(&words)?;
+    Ok(section_of(number, how))
 }

@@ -5,11 +5,12 @@ use Rattle.cert_words.specs.declared.stops.Stop.{Stop}
 use Rattle.cert_words.specs.declared.stops.Stop.TheVariants.{Bad, Early, Memory}
 use Rattle.cert_words.specs.Words.{words, spaced, tailed}
 use Rattle.cert_words.specs.Growth.{Grows, Fails}
-use Rattle.cert_words.specs.Parts.{IsPartStop, no_words}
+use Rattle.cert_words.specs.declared.words.Words.{Words}
+use Rattle.cert_words.specs.Parts.{left, is_cut, IsAt, Passes, HasPart, HasPartBefore, IsPartStop, no_words}
 use Rattle.cert_words.specs.Lines.{Spells, Begins, IsLineStop}
 use Rattle.cert_words.proofs.WordLemmas.{some_words, spaced-words, words-spaced}
 use Rattle.cert_words.proofs.Tokens.{is_token, tokens_words}
-use Rattle.cert_words.proofs.RowLemmas.{Grows-map, Grows-after, Grows-before, Fails-map, Fails-after, never}
+use Rattle.cert_words.proofs.RowLemmas.{Grows-map, Grows-after, Fails-map, Fails-after, never, left_some, part_bad, part_early, part_memory}
 
 -- no word of the kind has a space or a newline, a line has a word, and the words tell the value
 pub record IsKind {V : Type 0} (Fits : V → Type 0) (ws : V → List (List ℕ)) : Type 0 where
@@ -110,29 +111,85 @@ pub stop_memory : {V : Type 0} (Fits : V → Type 0) (ws : V → List (List ℕ)
 stop_memory Fits ws true line = tt
 stop_memory Fits ws false line = tt
 
--- the words of a line that were passed, and those that are left
-pub record IsAt (line : List ℕ) (cut : Bool) (pre rest : List (List ℕ)) : Type 0 where
-  pub is : words line ≡ pre ++ rest
-  pub more : cut ≡ true → 0 < length rest
+-- one more part was passed
+pub at_next : {line : List ℕ} {cut : Bool} {pre part : List (List ℕ)} {a b : Words} → IsAt line cut pre a → Passes part a b → IsAt line cut (pre ++ part) b
+at_next {line} {cut} {pre} {part} {a} {b} at passes =
+    record { is = at.is ∙ ap (λ y. pre ++ y) passes.is ∙ sym (append_assoc pre part (left b)); same = passes.same ∙ at.same }
 
--- a part is missing: where lines go on so, what they go on with has the part, and a part before some tail makes such a line
-pub stop_part : {V : Type 0} (Fits : V → Type 0) (ws : V → List (List ℕ)) → IsKind Fits ws
-    → (Has : List (List ℕ) → Type 0) (Before : List (List ℕ) → List (List ℕ) → Type 0) (pre tail : List (List ℕ))
-    → ((x : List (List ℕ)) (v : V) → Fits v → pre ++ x ≡ ws v → Has x)
-    → ((x : List (List ℕ)) → Before tail x → HasWords Fits ws (pre ++ x))
-    → (line : List ℕ) (cut : Bool) (rest : List (List ℕ)) → IsAt line cut pre rest → (stop : Stop) → IsPartStop Has Before cut rest stop
-    → IsLineStop Fits ws cut line stop
-stop_part Fits ws kind Has Before pre tail into onto line cut rest at Bad fails =
+-- what a stop says of the words that are left, said of the line
+stop_at : {V : Type 0} {Fits : V → Type 0} {ws : V → List (List ℕ)} {line : List ℕ} {cut : Bool} {pre : List (List ℕ)} {w : Words} (stop : Stop)
+    → IsKind Fits ws → IsAt line cut pre w → (stop ≡ Bad → Fails cut (λ x. HasWords Fits ws (pre ++ x)) (left w))
+    → (stop ≡ Early → (cut ≡ true) × Grows (λ x. HasWords Fits ws (pre ++ x)) (left w)) → IsLineStop Fits ws cut line stop
+stop_at {V} {Fits} {ws} {line} {cut} {pre} {w} Bad kind at bad early =
     line_bad Fits ws kind cut line
     (subst (λ (y : List (List ℕ)). Fails cut (HasWords Fits ws) y) (sym at.is)
-    (Fails-after cut (HasWords Fits ws) pre rest at.more
-    (Fails-map cut Has (λ x. HasWords Fits ws (pre ++ x)) (λ x m. into x m.0 m.1 m.2) rest fails)))
-stop_part Fits ws kind Has Before pre tail into onto line cut rest at Early e =
+    (Fails-after cut (HasWords Fits ws) pre (left w) (λ e. left_some w (at.same ∙ e)) (bad refl)))
+stop_at {V} {Fits} {ws} {line} {cut} {pre} {w} Early kind at bad early =
+    let e = early refl in
     stop_early Fits ws cut line e.0
     (line_early Fits ws line
     (subst (λ (y : List (List ℕ)). Grows (HasWords Fits ws) y) (sym at.is)
-    (Grows-after (HasWords Fits ws) pre rest (at.more e.0) (Grows-map (Before tail) (λ x. HasWords Fits ws (pre ++ x)) onto rest (e.1 tail)))))
-stop_part Fits ws kind Has Before pre tail into onto line cut rest at Memory m = stop_memory Fits ws cut line
+    (Grows-after (HasWords Fits ws) pre (left w) (left_some w (at.same ∙ e.0)) e.1)))
+stop_at {V} {Fits} {ws} {line} {cut} {pre} {w} Memory kind at bad early = stop_memory Fits ws cut line
+
+-- what a part that is cut off grows to
+part_grows : {V P : Type 0} {Fits : V → Type 0} {ws : V → List (List ℕ)} {Part : P → Type 0} {part : P → List (List ℕ)} {line : List ℕ} {cut : Bool}
+    {pre : List (List ℕ)} {w : Words} {stop : Stop} → IsAt line cut pre w → IsPartStop Part part w stop
+    → (tail : P → List (List ℕ)) → ((p : P) → Part p → HasWords Fits ws (pre ++ (part p ++ tail p)))
+    → stop ≡ Early → (cut ≡ true) × Grows (λ x. HasWords Fits ws (pre ++ x)) (left w)
+part_grows {V} {P} {Fits} {ws} {Part} {part} {line} {cut} {pre} {w} at why tail onto e = (
+  sym at.same ∙ why.cut e,
+  Grows-map (HasPartBefore Part part tail) (λ x. HasWords Fits ws (pre ++ x))
+      (λ x m. subst (λ (y : List (List ℕ)). HasWords Fits ws (pre ++ y)) (sym m.is) (onto m.value m.fits)) (left w) (why.grows e tail),
+)
+
+-- a part is missing: lines of the kind have it there, and each that fits makes one with what is to follow it
+pub stop_part : {V P : Type 0} {Fits : V → Type 0} {ws : V → List (List ℕ)} {Part : P → Type 0} {part : P → List (List ℕ)} {line : List ℕ} {cut : Bool}
+    {pre : List (List ℕ)} {w : Words} {stop : Stop} → IsKind Fits ws → IsAt line cut pre w → IsPartStop Part part w stop
+    → ((x : List (List ℕ)) (v : V) → Fits v → pre ++ x ≡ ws v → HasPart Part part x)
+    → (tail : P → List (List ℕ)) → ((p : P) → Part p → HasWords Fits ws (pre ++ (part p ++ tail p))) → IsLineStop Fits ws cut line stop
+stop_part {V} {P} {Fits} {ws} {Part} {part} {line} {cut} {pre} {w} {stop} kind at why into tail onto =
+    stop_at stop kind at
+    (λ e.
+    Fails-map cut (HasPart Part part) (λ x. HasWords Fits ws (pre ++ x)) (λ x m. into x m.0 m.1 m.2) (left w)
+    (subst (λ (c : Bool). Fails c (HasPart Part part) (left w)) at.same (why.bad e))) (part_grows at why tail onto)
+
+-- a part of a part is missing: each whole has it there, and each one that fits makes a whole with what is to follow it
+pub part_after : {V P : Type 0} {Fits : V → Type 0} {ws : V → List (List ℕ)} {Part : P → Type 0} {part : P → List (List ℕ)} {pre : List (List ℕ)}
+    {was now : Words} {stop : Stop} → Passes pre was now → IsPartStop Part part now stop
+    → ((x y : List (List ℕ)) (v : V) → Fits v → pre ++ x ≡ ws v ++ y → HasPart Part part x)
+    → (to : P → V) (rest : P → List (List ℕ)) → ((p : P) → Part p → Fits (to p) × (pre ++ (part p ++ rest p) ≡ ws (to p)))
+    → IsPartStop Fits ws was stop
+part_after {V} {P} {Fits} {ws} {Part} {part} {pre} {was} {now} {stop} passes why into to rest onto = by stop why
+  where
+    grown : (tail : V → List (List ℕ)) (x : List (List ℕ)) → HasPartBefore Part part (λ p. rest p ++ tail (to p)) x → HasPartBefore Fits ws tail (pre ++ x)
+    grown tail x m =
+        let p = m.value in
+        let after = tail (to p) in
+        let (fits, is) = onto p m.fits in
+        record {
+          value = to p;
+          fits = fits;
+          is =
+              ap (λ y. pre ++ y) (m.is ∙ sym (append_assoc (part p) (rest p) after)) ∙ sym (append_assoc pre (part p ++ rest p) after)
+              ∙ ap (λ y. y ++ after) is;
+        }
+
+    by : (s : Stop) → IsPartStop Part part now s → IsPartStop Fits ws was s
+    by Bad why =
+        part_bad Fits ws was
+        (subst (λ (c : Bool). Fails c (HasPart Fits ws) (left was)) passes.same
+        (subst (λ (y : List (List ℕ)). Fails (is_cut now) (HasPart Fits ws) y) (sym passes.is)
+        (Fails-after (is_cut now) (HasPart Fits ws) pre (left now) (left_some now)
+        (Fails-map (is_cut now) (HasPart Part part) (λ x. HasPart Fits ws (pre ++ x)) (λ x m. into x m.tail m.value m.fits m.is) (left now) (why.bad refl)))))
+    by Early why =
+        part_early Fits ws was (sym passes.same ∙ why.cut refl)
+        (λ tail.
+        subst (λ (y : List (List ℕ)). Grows (HasPartBefore Fits ws tail) y) (sym passes.is)
+        (Grows-after (HasPartBefore Fits ws tail) pre (left now) (left_some now (why.cut refl))
+        (Grows-map (HasPartBefore Part part (λ p. rest p ++ tail (to p))) (λ x. HasPartBefore Fits ws tail (pre ++ x)) (grown tail)
+        (left now) (why.grows refl (λ p. rest p ++ tail (to p))))))
+    by Memory why = part_memory Fits ws was
 
 Grows-some : (L M : List (List ℕ) → Type 0) → ((ws : List (List ℕ)) → 0 < length ws → L ws → M ws) → (ws : List (List ℕ)) → Grows L ws → Grows M ws
 Grows-some L M f [] g = absurd g
@@ -144,64 +201,50 @@ Fails-some : (cut : Bool) (L M : List (List ℕ) → Type 0) → ((ws : List (Li
 Fails-some false L M f ws some fails = λ m. fails (f ws some m)
 Fails-some true L M f ws some fails = λ g. fails (Grows-some M L f ws g)
 
--- a part is missing where words are left, which need not be so in each line
-pub stop_more : {V : Type 0} (Fits : V → Type 0) (ws : V → List (List ℕ)) → IsKind Fits ws
-    → (Has : List (List ℕ) → Type 0) (Before : List (List ℕ) → List (List ℕ) → Type 0) (pre tail : List (List ℕ))
-    → ((x : List (List ℕ)) (v : V) → 0 < length x → Fits v → pre ++ x ≡ ws v → Has x)
-    → ((x : List (List ℕ)) → Before tail x → HasWords Fits ws (pre ++ x))
-    → (line : List ℕ) (cut : Bool) (rest : List (List ℕ)) → IsAt line cut pre rest → 0 < length rest → (stop : Stop)
-    → IsPartStop Has Before cut rest stop → IsLineStop Fits ws cut line stop
-stop_more Fits ws kind Has Before pre tail into onto line cut rest at some Bad fails =
-    line_bad Fits ws kind cut line
-    (subst (λ (y : List (List ℕ)). Fails cut (HasWords Fits ws) y) (sym at.is)
-    (Fails-after cut (HasWords Fits ws) pre rest at.more
-    (Fails-some cut Has (λ x. HasWords Fits ws (pre ++ x)) (λ x l m. into x m.0 l m.1 m.2) rest some fails)))
-stop_more Fits ws kind Has Before pre tail into onto line cut rest at some Early e =
-    stop_early Fits ws cut line e.0
-    (line_early Fits ws line
-    (subst (λ (y : List (List ℕ)). Grows (HasWords Fits ws) y) (sym at.is)
-    (Grows-after (HasWords Fits ws) pre rest (at.more e.0) (Grows-map (Before tail) (λ x. HasWords Fits ws (pre ++ x)) onto rest (e.1 tail)))))
-stop_more Fits ws kind Has Before pre tail into onto line cut rest at some Memory m = stop_memory Fits ws cut line
-
-grows_some : (L : List (List ℕ) → Type 0) → (ws : List (List ℕ)) → Grows L ws → (x : List (List ℕ)) × (0 < length x) × L x
-grows_some L [] g = absurd g
-grows_some L (p ∷ []) g = ((p ++ g.0) ∷ g.1, omega arith, g.2)
-grows_some L (p ∷ (q ∷ ws)) g = let more = grows_some (λ rest. L (p ∷ rest)) (q ∷ ws) g in (p ∷ more.0, omega arith, more.2)
-
-too_long : {V : Type 0} (Fits : V → Type 0) (ws : V → List (List ℕ)) (pre rest : List (List ℕ))
-    → ((x : List (List ℕ)) (v : V) → Fits v → pre ++ x ≡ ws v → x ≡ []) → 0 < length rest → (cut : Bool) → Fails cut (HasWords Fits ws) (pre ++ rest)
-too_long Fits ws pre rest into some false = λ m. let e = ap length (into rest m.0 m.1 m.2) in absurd (omega arith)
-too_long Fits ws pre rest into some true = λ g.
-    let found = grows_some (λ x. HasWords Fits ws (pre ++ x)) rest (Grows-before (HasWords Fits ws) pre rest some g) in
-    let m = found.2 in
-    let e = ap length (into found.0 m.0 m.1 m.2) in
-    let long = found.1 in
-    absurd (omega arith)
+-- the same where words are left, which need not be so in each line
+pub stop_more : {V P : Type 0} {Fits : V → Type 0} {ws : V → List (List ℕ)} {Part : P → Type 0} {part : P → List (List ℕ)} {line : List ℕ} {cut : Bool}
+    {pre : List (List ℕ)} {w : Words} {stop : Stop} → IsKind Fits ws → IsAt line cut pre w → IsPartStop Part part w stop → 0 < length (left w)
+    → ((x : List (List ℕ)) (v : V) → 0 < length x → Fits v → pre ++ x ≡ ws v → HasPart Part part x)
+    → (tail : P → List (List ℕ)) → ((p : P) → Part p → HasWords Fits ws (pre ++ (part p ++ tail p))) → IsLineStop Fits ws cut line stop
+stop_more {V} {P} {Fits} {ws} {Part} {part} {line} {cut} {pre} {w} {stop} kind at why some into tail onto =
+    stop_at stop kind at
+    (λ e.
+    Fails-some cut (HasPart Part part) (λ x. HasWords Fits ws (pre ++ x)) (λ x l m. into x m.0 l m.1 m.2) (left w) some
+    (subst (λ (c : Bool). Fails c (HasPart Part part) (left w)) at.same (why.bad e))) (part_grows at why tail onto)
 
 -- words are left where each line has ended
-pub stop_end : {V : Type 0} (Fits : V → Type 0) (ws : V → List (List ℕ)) → IsKind Fits ws → (pre : List (List ℕ))
-    → ((x : List (List ℕ)) (v : V) → Fits v → pre ++ x ≡ ws v → x ≡ [])
-    → (line : List ℕ) (cut : Bool) (rest : List (List ℕ)) → IsAt line cut pre rest → (stop : Stop) → stop ≡ Bad → 0 < length rest
-    → IsLineStop Fits ws cut line stop
-stop_end Fits ws kind pre into line cut rest at stop is some =
-    subst (λ (s : Stop). IsLineStop Fits ws cut line s) (sym is)
-    (line_bad Fits ws kind cut line
-    (subst (λ (y : List (List ℕ)). Fails cut (HasWords Fits ws) y) (sym at.is) (too_long Fits ws pre rest into some cut)))
+pub stop_end : {V : Type 0} {Fits : V → Type 0} {ws : V → List (List ℕ)} {line : List ℕ} {cut : Bool} {pre : List (List ℕ)} {w : Words} {stop : Stop}
+    → IsKind Fits ws → IsAt line cut pre w → (stop ≡ Bad) × (0 < length (left w))
+    → ((x : List (List ℕ)) (v : V) → Fits v → pre ++ x ≡ ws v → x ≡ []) → IsLineStop Fits ws cut line stop
+stop_end {V} {Fits} {ws} {line} {cut} {pre} {w} {stop} kind at why into =
+    stop_at stop kind at
+    (λ e. Fails-some cut (λ x. ⊥) (λ x. HasWords Fits ws (pre ++ x)) long (left w) why.1 (none cut (left w)))
+    (λ e. let is = why.0 in absurd cc)
+  where
+    long : (x : List (List ℕ)) → 0 < length x → HasWords Fits ws (pre ++ x) → ⊥
+    long x some m = let e = ap length (into x m.0 m.1 m.2) in absurd (omega arith)
+
+    nothing : (ws : List (List ℕ)) → Grows (λ x. ⊥) ws → ⊥
+    nothing [] g = g
+    nothing (p ∷ []) g = g.2
+    nothing (p ∷ (q ∷ ws)) g = nothing (q ∷ ws) g
+
+    none : (cut : Bool) (ws : List (List ℕ)) → Fails cut (λ x. ⊥) ws
+    none false ws = λ m. m
+    none true ws = nothing ws
 
 -- no word is left, so the line spells the value, and is not cut off
-pub whole : {V : Type 0} (Fits : V → Type 0) (ws : V → List (List ℕ)) (line : List ℕ) (cut : Bool) (pre rest : List (List ℕ)) (v : V)
-    → IsAt line cut pre rest → rest ≡ [] → pre ++ [] ≡ ws v → Fits v → Spells Fits ws line v
-whole Fits ws line cut pre rest v at none is fits = record { is = sym (spaced-words line) ∙ ap spaced (at.is ∙ ap (λ y. pre ++ y) none ∙ is); fits = fits }
+pub whole : {V : Type 0} {Fits : V → Type 0} {ws : V → List (List ℕ)} {line : List ℕ} {cut : Bool} {pre : List (List ℕ)} {w : Words} (v : V)
+    → IsAt line cut pre w → left w ≡ [] → pre ++ [] ≡ ws v → Fits v → Spells Fits ws line v
+whole {V} {Fits} {ws} {line} {cut} {pre} {w} v at none is fits =
+    record { is = sym (spaced-words line) ∙ ap spaced (at.is ∙ ap (λ y. pre ++ y) none ∙ is); fits = fits }
 
-pub not_cut : (line : List ℕ) (cut : Bool) (pre rest : List (List ℕ)) → IsAt line cut pre rest → rest ≡ [] → cut ≡ false
-not_cut line false pre rest at none = refl
-not_cut line true pre rest at none = let some = at.more refl in let e = ap length none in absurd (omega arith)
-
--- one more part was passed
-pub at_next : (line : List ℕ) (cut was now : Bool) (pre before part rest : List (List ℕ)) → IsAt line cut pre before → before ≡ part ++ rest
-    → was ≡ cut → now ≡ was → (was ≡ true → 0 < length rest) → IsAt line cut (pre ++ part) rest
-at_next line cut was now pre before part rest at is same kept more =
-    record { is = at.is ∙ ap (λ y. pre ++ y) is ∙ sym (append_assoc pre part rest); more = λ e. more (same ∙ e) }
+pub not_cut : {line : List ℕ} {cut : Bool} {pre : List (List ℕ)} {w : Words} → IsAt line cut pre w → left w ≡ [] → cut ≡ false
+not_cut {line} {cut} {pre} {w} at none = by (is_cut w) refl
+  where
+    by : (b : Bool) → is_cut w ≡ b → cut ≡ false
+    by false is = sym at.same ∙ is
+    by true is = let some = left_some w is in let e = ap length none in absurd (omega arith)
 
 pub none_is : (ls : List (List ℕ)) → no_words ls ≡ true → ls ≡ []
 none_is [] e = refl

@@ -318,9 +318,9 @@ pub option_number : (word : List ℕ) (most : ℕ) (o : Option ℕ) → most < 2
 option_number word most None few some none = (λ t. cc, λ b. absurd (no b))
   where
     no : BeginsNumber most word → ⊥
-    no (more, (n, within, is)) = let front = number_begun word more n (omega arith) some is in none front.0 (omega (arith, front.1)) front.2
-option_number word most (Some n) few some is = (λ t. ([], (n, is.1, append-nil word ∙ is.0)), λ b. refl)
+    no (more, n, within, is) = let front = number_begun word more n (omega arith) some is in none front.0 (omega (arith, front.1)) front.2
+option_number word most (Some n) few some is = (λ t. ([], n, is.1, append-nil word ∙ is.0), λ b. refl)
 
 pub empty_number : (word : List ℕ) (most : ℕ) → length word ≡ 0 → BeginsNumber most word
-empty_number [] most none = (decimal 0, (0, omega arith, refl))
+empty_number [] most none = (decimal 0, 0, omega arith, refl)
 empty_number (x ∷ word) most none = absurd (omega arith)

@@ -1,10 +1,16 @@
 -- Rows of items, and words that may grow.
-use Rattle.std.proofs.Common.{◌&&◌, if◌then◌else◌, ◌⊎◌, inl, inr, append-nil, ◌≡◌, ◌≢◌, ℕ, ◌<◌, Bool, true, false, List, [], ◌∷◌, ◌++◌, map}
+use Rattle.std.proofs.Common.{if◌then◌else◌, ◌⊎◌, inl, inr, append-nil, ◌≡◌, ◌≢◌, ℕ, ◌<◌, Bool, true, false, List, [], ◌∷◌, ◌++◌, map}
 use Rattle.std.proofs.Common.{length, refl, sym, ap, ◌∙◌, subst, append_assoc, arith}
 use Rattle.cert_words.specs.Numbers.{zero_word}
-use Rattle.cert_words.specs.declared.stops.Stop.TheVariants.{Bad, Early}
-use Rattle.cert_words.specs.Parts.{IsRowStop, no_words}
-use Rattle.cert_words.specs.Growth.{Grows, Fails, Chain, HasRow, HasRowBefore}
+use Rattle.cert_words.specs.declared.words.Words.{Words}
+use Rattle.cert_words.specs.declared.words.Words.TheVariants.{Done, Whole, Cut}
+use Rattle.cert_words.specs.declared.stops.Stop.TheVariants.{Bad, Early, Memory}
+use Rattle.cert_words.specs.Parts.{left, is_cut, Passes, HasPart, HasPartBefore, IsPartStop, row}
+use Rattle.cert_words.specs.Growth.{Grows, Fails, Chain}
+use Rattle.cert_words.proofs.WordLemmas.{some_words}
+
+pub never : false ≡ true → ⊥
+never e = cc
 
 -- words of one kind are words of another
 pub Grows-map : (L M : List (List ℕ) → Type 0) → ((ws : List (List ℕ)) → L ws → M ws) → (ws : List (List ℕ)) → Grows L ws → Grows M ws
@@ -40,6 +46,53 @@ pub Fails-after : (cut : Bool) (L : List (List ℕ) → Type 0) → (pre ws : Li
     → Fails cut (λ x. L (pre ++ x)) ws → Fails cut L (pre ++ ws)
 Fails-after false L pre ws some fails = fails
 Fails-after true L pre ws some fails = λ g. fails (Grows-before L pre ws (some refl) g)
+
+-- a line that is cut off has a word left
+pub left_some : (w : Words) → is_cut w ≡ true → 0 < length (left w)
+left_some Done e = absurd (never e)
+left_some (Whole text) e = absurd (never e)
+left_some (Cut text) e = some_words text.now
+
+-- why no part comes next, by the kind of stop
+pub part_bad : {V : Type 0} (Fits : V → Type 0) (ws : V → List (List ℕ)) (was : Words) → Fails (is_cut was) (HasPart Fits ws) (left was)
+    → IsPartStop Fits ws was Bad
+part_bad Fits ws was fails = record { bad = λ e. fails; cut = λ e. absurd cc; grows = λ e. absurd cc }
+
+pub part_early : {V : Type 0} (Fits : V → Type 0) (ws : V → List (List ℕ)) (was : Words) → is_cut was ≡ true
+    → ((tail : V → List (List ℕ)) → Grows (HasPartBefore Fits ws tail) (left was)) → IsPartStop Fits ws was Early
+part_early Fits ws was cut grows = record { bad = λ e. absurd cc; cut = λ e. cut; grows = λ e. grows }
+
+pub part_memory : {V : Type 0} (Fits : V → Type 0) (ws : V → List (List ℕ)) (was : Words) → IsPartStop Fits ws was Memory
+part_memory Fits ws was = record { bad = λ e. absurd cc; cut = λ e. absurd cc; grows = λ e. absurd cc }
+
+-- no words of the kind begin with those that were passed
+pub Fails-front : (L : List (List ℕ) → Type 0) (front : List (List ℕ)) (was now : Words) → Passes front was now → ((x : List (List ℕ)) → L (front ++ x) → ⊥)
+    → Fails (is_cut was) L (left was)
+Fails-front L front was now passes none = by (is_cut was) refl
+  where
+    by : (cut : Bool) → is_cut was ≡ cut → Fails cut L (left was)
+    by false e = λ l. none (left now) (subst L passes.is l)
+    by true e = λ g.
+        let found =
+        Grows-words (λ x. L (front ++ x)) (left now)
+        (Grows-before L front (left now) (left_some now (passes.same ∙ e)) (subst (λ (y : List (List ℕ)). Grows L y) passes.is g)) in
+        none found.0 found.1
+
+-- nor are they words of the kind themselves, where no other is left
+pub Fails-end : (L : List (List ℕ) → Type 0) (front : List (List ℕ)) (was now : Words) → Passes front was now → left now ≡ [] → (L front → ⊥)
+    → Fails (is_cut was) L (left was)
+Fails-end L front was now passes end none = by (is_cut was) refl
+  where
+    by : (cut : Bool) → is_cut was ≡ cut → Fails cut L (left was)
+    by false e = λ l. none (subst L (passes.is ∙ ap (λ y. front ++ y) end ∙ append-nil front) l)
+    by true e = let some = left_some now (passes.same ∙ e) in let none_left = ap length end in absurd (omega arith)
+
+pub Passes-none : (w : Words) → Passes [] w w
+Passes-none w = record { is = refl; same = refl }
+
+pub Passes-next : {p q : List (List ℕ)} {a b c : Words} → Passes p a b → Passes q b c → Passes (p ++ q) a c
+Passes-next {p} {q} {a} {b} {c} first second =
+    record { is = first.is ∙ ap (λ y. p ++ y) second.is ∙ sym (append_assoc p q (left c)); same = second.same ∙ first.same }
 
 -- the words of items tell them, and none is the word 0
 pub record Tells (word : ℕ → List ℕ) (Fits : ℕ → ℕ → Type 0) : Type 0 where
@@ -111,66 +164,89 @@ abbrev pub MayGoOn : (ℕ → List ℕ) → (ℕ → ℕ → Type 0) → (ℕ �
 MayGoOn word Fits key done p =
     ((more : List ℕ) × (p ++ more ≡ zero_word)) ⊎ ((more : List ℕ) × (x : ℕ) × Fits (last_key key 0 done) x × (p ++ more ≡ word x))
 
-goes_on : (word : ℕ → List ℕ) (Fits : ℕ → ℕ → Type 0) (key : ℕ → ℕ) (done : List ℕ) (p : List ℕ) (tail : List (List ℕ)) → Chain Fits key 0 done
-    → MayGoOn word Fits key done p → Grows (λ x. HasRowBefore word Fits key tail (map word done ++ x)) (p ∷ [])
-goes_on word Fits key done p tail cd (inl g) = (g.0, tail, (done, record { is = ap (λ y. map word done ++ y ∷ tail) g.1; fit = cd }))
-goes_on word Fits key done p tail cd (inr g) = (
-  g.0,
-  zero_word ∷ tail,
-  (done ++ g.1 ∷ [], record { is = row_more word done g.1 (p ++ g.0) (zero_word ∷ tail) g.3; fit = Chain-push Fits key 0 done g.1 cd g.2 }),
-)
+-- what a row is, with what follows it
+row_after : (word : ℕ → List ℕ) (items : List ℕ) (x tail : List (List ℕ)) → x ≡ row word items ++ tail → x ≡ map word items ++ zero_word ∷ tail
+row_after word items x tail is = is ∙ append_assoc (map word items) (zero_word ∷ []) tail
 
-pub never : false ≡ true → ⊥
-never e = cc
+goes_on : (word : ℕ → List ℕ) (Fits : ℕ → ℕ → Type 0) (key : ℕ → ℕ) (done : List ℕ) (p : List ℕ) (tail : List ℕ → List (List ℕ)) → Chain Fits key 0 done
+    → MayGoOn word Fits key done p → Grows (λ x. HasPartBefore (Chain Fits key 0) (row word) tail (map word done ++ x)) (p ∷ [])
+goes_on word Fits key done p tail cd (inl g) = (
+  g.0,
+  tail done,
+  record { value = done; fits = cd; is = ap (λ y. map word done ++ y ∷ tail done) g.1 ∙ sym (append_assoc (map word done) (zero_word ∷ []) (tail done)) },
+)
+goes_on word Fits key done p tail cd (inr g) =
+    let items : List ℕ = done ++ g.1 ∷ [] in (
+      g.0,
+      zero_word ∷ tail items,
+      record {
+        value = items;
+        fits = Chain-push Fits key 0 done g.1 cd g.2;
+        is = row_more word done g.1 (p ++ g.0) (zero_word ∷ tail items) g.3 ∙ sym (append_assoc (map word items) (zero_word ∷ []) (tail items));
+      },
+    )
 
 -- the last word is cut off
-pub row_cut : (word : ℕ → List ℕ) (Fits : ℕ → ℕ → Type 0) (key : ℕ → ℕ) → Tells word Fits
-    → (ws : List (List ℕ)) (done : List ℕ) (p : List ℕ) (b : Bool) → ws ≡ map word done ++ p ∷ [] → Chain Fits key 0 done
+pub row_cut : (word : ℕ → List ℕ) (Fits : ℕ → ℕ → Type 0) (key : ℕ → ℕ) → Tells word Fits → (was now : Words) (done : List ℕ) (p : List ℕ) (b : Bool)
+    → Passes (map word done) was now → (is_cut now ≡ true) × (left now ≡ p ∷ []) → Chain Fits key 0 done
     → (b ≡ true → MayGoOn word Fits key done p) → (MayGoOn word Fits key done p → b ≡ true)
-    → IsRowStop word Fits key true ws (if b then Early else Bad)
-row_cut word Fits key tells ws done p true is cd to from = (
-  refl,
-  λ tail.
-      subst (λ (y : List (List ℕ)). Grows (HasRowBefore word Fits key tail) y) (sym is)
-      (Grows-after (HasRowBefore word Fits key tail) (map word done) (p ∷ []) (omega arith) (goes_on word Fits key done p tail cd (to refl))),
-)
-row_cut word Fits key tells ws done p false is cd to from = λ g.
-    let (w, others, found) =
-    Grows-before (HasRow word Fits key) (map word done) (p ∷ []) (omega arith)
-    (subst (λ (y : List (List ℕ)). Grows (HasRow word Fits key) y) is g) in
-    row_breaks word Fits key tells 0 done (p ++ w) others cd (λ e. never (from (inl (w, e))))
-    (λ x f e. never (from (inr (w, x, f, e)))) found.0 found.1 found.2.fit found.2.is
+    → IsPartStop (Chain Fits key 0) (row word) was (if b then Early else Bad)
+row_cut word Fits key tells was now done p b passes next cd to from = by b to from
+  where
+    cut : is_cut was ≡ true
+    cut = sym passes.same ∙ next.0
+
+    is : left was ≡ map word done ++ p ∷ []
+    is = passes.is ∙ ap (λ y. map word done ++ y) next.1
+
+    by : (b : Bool) → (b ≡ true → MayGoOn word Fits key done p) → (MayGoOn word Fits key done p → b ≡ true)
+        → IsPartStop (Chain Fits key 0) (row word) was (if b then Early else Bad)
+    by true to from =
+        part_early (Chain Fits key 0) (row word) was cut
+        (λ tail.
+        subst (λ (y : List (List ℕ)). Grows (HasPartBefore (Chain Fits key 0) (row word) tail) y) (sym is)
+        (Grows-after (HasPartBefore (Chain Fits key 0) (row word) tail) (map word done) (p ∷ []) (omega arith) (goes_on word Fits key done p tail cd (to refl))))
+    by false to from =
+        part_bad (Chain Fits key 0) (row word) was
+        (subst (λ (c : Bool). Fails c (HasPart (Chain Fits key 0) (row word)) (left was)) (sym cut)
+        (λ g.
+        let (w, others, found) =
+        Grows-before (HasPart (Chain Fits key 0) (row word)) (map word done) (p ∷ []) (omega arith)
+        (subst (λ (y : List (List ℕ)). Grows (HasPart (Chain Fits key 0) (row word)) y) is g) in
+        row_breaks word Fits key tells 0 done (p ++ w) others cd (λ e. never (from (inl (w, e))))
+        (λ x f e. never (from (inr (w, x, f, e)))) found.value found.tail found.fits (row_after word found.value _ found.tail found.is)))
 
 -- a whole word is none that may come next
-pub row_bad : (cut : Bool) (word : ℕ → List ℕ) (Fits : ℕ → ℕ → Type 0) (key : ℕ → ℕ) → Tells word Fits
-    → (ws : List (List ℕ)) (done : List ℕ) (w : List ℕ) (rest : List (List ℕ)) → ws ≡ map word done ++ w ∷ rest → (cut ≡ true → 0 < length rest)
-    → Chain Fits key 0 done → w ≢ zero_word → ((x : ℕ) → Fits (last_key key 0 done) x → w ≢ word x) → Fails cut (HasRow word Fits key) ws
-row_bad false word Fits key tells ws done w rest is more cd nz ni = λ l.
-    row_breaks word Fits key tells 0 done w rest cd nz ni l.0 l.1 l.2.fit (sym is ∙ l.2.is)
-row_bad true word Fits key tells ws done w rest is more cd nz ni = λ g.
-    let cut_at : ws ≡ (map word done ++ w ∷ []) ++ rest = is ∙ sym (append_assoc (map word done) (w ∷ []) rest) in
-    let (x, found) =
-    Grows-words (λ y. HasRow word Fits key ((map word done ++ w ∷ []) ++ y)) rest
-    (Grows-before (HasRow word Fits key) (map word done ++ w ∷ []) rest (more refl)
-    (subst (λ (y : List (List ℕ)). Grows (HasRow word Fits key) y) cut_at g))
-    in
-    row_breaks word Fits key tells 0 done w x cd nz ni found.0 found.1 found.2.fit (sym (append_assoc (map word done) (w ∷ []) x) ∙ found.2.is)
+pub row_bad : (word : ℕ → List ℕ) (Fits : ℕ → ℕ → Type 0) (key : ℕ → ℕ) → Tells word Fits → (was mid now : Words) (done : List ℕ) (w : List ℕ)
+    → Passes (map word done) was mid → Passes (w ∷ []) mid now → Chain Fits key 0 done → w ≢ zero_word
+    → ((x : ℕ) → Fits (last_key key 0 done) x → w ≢ word x) → IsPartStop (Chain Fits key 0) (row word) was Bad
+row_bad word Fits key tells was mid now done w passes next cd nz ni =
+    part_bad (Chain Fits key 0) (row word) was
+    (Fails-front (HasPart (Chain Fits key 0) (row word)) (map word done ++ w ∷ []) was now (Passes-next passes next)
+    (λ x found.
+    row_breaks word Fits key tells 0 done w x cd nz ni found.value found.tail found.fits
+    (sym (append_assoc (map word done) (w ∷ []) x) ∙ row_after word found.value _ found.tail found.is)))
 
 -- a line ends after some items
-pub row_short : (cut : Bool) (word : ℕ → List ℕ) (Fits : ℕ → ℕ → Type 0) (key : ℕ → ℕ) → Tells word Fits
-    → (ws : List (List ℕ)) (done : List ℕ) (rest : List (List ℕ)) → ws ≡ map word done ++ rest → rest ≡ [] → (cut ≡ true → 0 < length rest)
-    → Chain Fits key 0 done → Fails cut (HasRow word Fits key) ws
-row_short true word Fits key tells ws done rest is none more cd = let some = more refl in let e = ap length none in absurd (omega arith)
-row_short false word Fits key tells ws done rest is none more cd = λ l.
-    row_ends word Fits key tells 0 done cd l.0 l.1 l.2.fit (sym (append-nil (map word done)) ∙ ap (λ y. map word done ++ y) (sym none) ∙ sym is ∙ l.2.is)
+pub row_short : (word : ℕ → List ℕ) (Fits : ℕ → ℕ → Type 0) (key : ℕ → ℕ) → Tells word Fits → (was now : Words) (done : List ℕ)
+    → Passes (map word done) was now → left now ≡ [] → Chain Fits key 0 done → IsPartStop (Chain Fits key 0) (row word) was Bad
+row_short word Fits key tells was now done passes end cd =
+    part_bad (Chain Fits key 0) (row word) was
+    (Fails-end (HasPart (Chain Fits key 0) (row word)) (map word done) was now passes end
+    (λ found. row_ends word Fits key tells 0 done cd found.value found.tail found.fits (row_after word found.value _ found.tail found.is)))
 
--- a line that is cut off has no word after the last one
-pub at_cut_parts : (cut : Bool) (ls : List (List ℕ)) → (cut && no_words ls) ≡ true → (cut ≡ true) × (ls ≡ [])
-at_cut_parts true [] e = (refl, refl)
-at_cut_parts true (l ∷ ls) e = absurd (never e)
-at_cut_parts false ls e = absurd (never e)
+-- one more item was passed
+pub row_next : (word : ℕ → List ℕ) (done more : List ℕ) (x : ℕ) (w : List ℕ) (was mid now : Words) → Passes (map word done) was mid
+    → Passes (w ∷ []) mid now → w ≡ word x → more ≡ done ++ x ∷ [] → Passes (map word more) was now
+row_next word done more x w was mid now passes next is pushed = record {
+  is =
+      passes.is ∙ ap (λ y. map word done ++ y) next.is ∙ row_more word done x w (left now) is
+      ∙ ap (λ (y : List ℕ). map word y ++ left now) (sym pushed);
+  same = next.same ∙ passes.same;
+}
 
-pub not_at_cut : (cut : Bool) (ls : List (List ℕ)) → (cut && no_words ls) ≡ false → cut ≡ true → 0 < length ls
-not_at_cut true [] e is = absurd (never (sym e))
-not_at_cut true (l ∷ ls) e is = omega arith
-not_at_cut false ls e is = absurd (never is)
+-- the word 0 was passed
+pub row_all : (word : ℕ → List ℕ) (items : List ℕ) (w : List ℕ) (was mid now : Words) → Passes (map word items) was mid → Passes (w ∷ []) mid now
+    → w ≡ zero_word → Passes (row word items) was now
+row_all word items w was mid now passes next is =
+    subst (λ (y : List ℕ). Passes (map word items ++ y ∷ []) was now) is (Passes-next passes next)

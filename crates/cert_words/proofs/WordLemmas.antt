@@ -1,11 +1,10 @@
 -- The words of a line.
-use Rattle.std.proofs.Common.{Option, None, Some, Bor, ◌≡◌, ℕ, suc, ◌+◌, ◌<◌, ◌==◌, Bool, true, false, not, cond, List, [], ◌∷◌, ◌++◌}
+use Rattle.std.proofs.Common.{◌≡◌, ℕ, suc, ◌+◌, ◌<◌, ◌==◌, Bool, true, false, not, cond, List, [], ◌∷◌, ◌++◌}
 use Rattle.std.proofs.Common.{length, take, drop, refl, sym, ap, ◌∙◌, append-nil, arith}
 use Rattle.std.specs.List.{onto_first, prefix_len, list_all}
 use Rattle.std.proofs.lemmas.Bool.{and_parts, not-true}
 use Rattle.std.proofs.lemmas.Bool.Decides.{nat_tests}
 use Rattle.cert_words.specs.Parts.{no_words}
-use Rattle.std.specs.Prelude.{is_some}
 use Rattle.cert_words.specs.Words.{words, spaced}
 
 -- how many bytes come before the first space
@@ -127,8 +126,3 @@ no_words_of (l ∷ ls) some = refl
 
 pub has_words : (s : List ℕ) → no_words (words s) ≡ false
 has_words s = no_words_of (words s) (some_words s)
-
--- no words are left exactly where no text is
-pub none_left : (o : Option (Bor (List ℕ))) → not (is_some o) ≡ no_words (elim o [ None ↦ [] | Some text ↦ words text.now ])
-none_left None = refl
-none_left (Some text) = sym (has_words text.now)

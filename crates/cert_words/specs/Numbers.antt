@@ -55,18 +55,6 @@ pub record IsGreatestWith (number greatest : ℕ) : Type 0 where
   pub begins : decimal number ++ more ≡ decimal greatest
   pub most : (w : List ℕ) (n : ℕ) → n < 2 ^ 31 → decimal number ++ w ≡ decimal n → n ≤ greatest
 
--- the word of a number that is at most so large
-abbrev pub IsNumberWord : ℕ → List ℕ → Type 0
-IsNumberWord most word = (n : ℕ) × (n ≤ most) × (word ≡ decimal n)
-
--- the word of a literal whose variable is above another one
-abbrev pub IsLitWord : ℕ → List ℕ → Type 0
-IsLitWord above word = (l : ℕ) × IsLitAbove above l × (word ≡ lit_word l)
-
--- this word
-abbrev pub IsDue : List ℕ → List ℕ → Type 0
-IsDue due word = word ≡ due
-
 -- the bytes are the beginning of the word of a number that is at most so large
 abbrev pub BeginsNumber : ℕ → List ℕ → Type 0
-BeginsNumber most piece = (more : List ℕ) × IsNumberWord most (piece ++ more)
+BeginsNumber most piece = (more : List ℕ) × (n : ℕ) × (n ≤ most) × (piece ++ more ≡ decimal n)

@@ -16,5 +16,5 @@ pub use numbers::number_of;
 pub use parts::{take_end, take_lit, take_number, take_word};
 pub use rows::{take_hints, take_lits};
 pub use stops::{Stop, cut_off};
-pub use words::Words;
+pub use words::{NextWord, Words};
 pub use writing::{push_hints, push_lit, push_lits};

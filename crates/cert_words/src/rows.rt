@@ -1,14 +1,14 @@
 //! Rows of items that the word 0 ends.
-ghost use Rattle.std.specs.Prelude.{◌⊎◌, ◌≡◌, ◌<◌, true, IfOk, IfErr, OnOk, IsTrue, ◌↔◌, length};
+ghost use Rattle.std.specs.Prelude.{◌⊎◌, ◌≡◌, IfOk, IfErr, IsTrue, ◌↔◌};
 ghost use Rattle.std.specs.Fmt.{decimal};
 ghost use Rattle.proof_log.specs.Literals.{lit_var};
 ghost use Rattle.cert_words.specs.Numbers.{lit_word, IsLitAbove, IsHint, MayBeZero, BeginsLit, BeginsHint};
-ghost use Rattle.cert_words.specs.Growth.{IsRow};
-ghost use Rattle.cert_words.specs.Parts.{left, IsRowStop};
+ghost use Rattle.cert_words.specs.Growth.{Chain};
+ghost use Rattle.cert_words.specs.Parts.{row, Passes, IsPartStop};
 
 use crate::numbers::{lit_of, may_be_lit, number_of};
 use crate::stops::{Stop, cut_off};
-use crate::words::Words;
+use crate::words::{NextWord, Words};
 use proof_log::Lit;
 use sdcv_base::Seq;
 use std::alloc::Global;
@@ -39,18 +39,17 @@ fn may_be_hint(word: &[u8]) -> bool
 
 /// Passes literals of ascending variables, and the 0 after them.
 pub fn take_lits(alloc: Global, words: &mut Words<'_>) -> Result<Seq<Lit>, Stop>
-    requires { words.old.cut ≡ true → 0 < length (left words.old) }
-    ensures ok { IfOk result (λ lits. IsRow lit_word IsLitAbove lit_var (left words.old) lits (left words.new)) }
-    ensures more { OnOk result (words.old.cut ≡ true → 0 < length (left words.new)) }
-    ensures cut { words.new.cut ≡ words.old.cut }
-    ensures err { IfErr result (IsRowStop lit_word IsLitAbove lit_var words.old.cut (left words.old)) }
+    ensures ok { IfOk result (λ lits. Chain IsLitAbove lit_var 0 lits × Passes (row lit_word lits) words.old words.new) }
+    ensures err { IfErr result (IsPartStop (Chain IsLitAbove lit_var 0) (row lit_word) words.old) }
 {
     let mut lits: Seq<Lit> = Seq::new(alloc);
     let mut above = 0;
-    while let Some(word) = words.next() {
-        if words.is_at_cut() {
-            return Err(cut_off(may_end_or_go_on(word, above)));
-        }
+    loop {
+        let word = match words.next() {
+            NextWord::Missing => return Err(Stop::Bad),
+            NextWord::Cut(word) => return Err(cut_off(may_end_or_go_on(word, above))),
+            NextWord::Whole(word) => word,
+        };
         if word == b"0".as_slice() {
             return Ok(lits);
         }
@@ -60,22 +59,20 @@ pub fn take_lits(alloc: Global, words: &mut Words<'_>) -> Result<Seq<Lit>, Stop>
         above = lit.var();
         lits.push(lit)?;
     }
-    Err(Stop::Bad)
 }
 
 /// Passes hints, and the 0 after them.
 pub fn take_hints(alloc: Global, words: &mut Words<'_>) -> Result<Seq<u64>, Stop>
-    requires { words.old.cut ≡ true → 0 < length (left words.old) }
-    ensures ok { IfOk result (λ hints. IsRow decimal IsHint (λ h. h) (left words.old) hints (left words.new)) }
-    ensures more { OnOk result (words.old.cut ≡ true → 0 < length (left words.new)) }
-    ensures cut { words.new.cut ≡ words.old.cut }
-    ensures err { IfErr result (IsRowStop decimal IsHint (λ h. h) words.old.cut (left words.old)) }
+    ensures ok { IfOk result (λ hints. Chain IsHint (λ h. h) 0 hints × Passes (row decimal hints) words.old words.new) }
+    ensures err { IfErr result (IsPartStop (Chain IsHint (λ h. h) 0) (row decimal) words.old) }
 {
     let mut hints: Seq<u64> = Seq::new(alloc);
-    while let Some(word) = words.next() {
-        if words.is_at_cut() {
-            return Err(cut_off(may_be_hint(word)));
-        }
+    loop {
+        let word = match words.next() {
+            NextWord::Missing => return Err(Stop::Bad),
+            NextWord::Cut(word) => return Err(cut_off(may_be_hint(word))),
+            NextWord::Whole(word) => word,
+        };
         let Some(hint) = number_of(word, MOST_HINT) else {
             return Err(Stop::Bad);
         };
@@ -84,5 +81,4 @@ pub fn take_hints(alloc: Global, words: &mut Words<'_>) -> Result<Seq<u64>, Stop
         }
         hints.push(hint)?;
     }
-    Err(Stop::Bad)
 }

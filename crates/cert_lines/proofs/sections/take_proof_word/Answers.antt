@@ -1,23 +1,18 @@
-use Rattle.std.proofs.Common.{◌≡◌, ◌∷◌, sym, ap, ◌∙◌, true}
-use Rattle.cert_words.specs.Parts.{left}
-use Rattle.cert_words.proofs.RowLemmas.{at_cut_parts, not_at_cut}
-use Rattle.cert_words.proofs.Ones.{choice_cut, one_bad}
-use Rattle.cert_lines.specs.SectionWords.{proof_rest, IsProofWord, IsProofBefore}
+use Rattle.cert_words.proofs.Ones.{one_cut, one_bad, one_none}
+use Rattle.cert_lines.specs.SectionWords.{IsAny, proof_word}
 use Rattle.cert_lines.proofs.sections.take_proof_word.Goals as goal
 
-pub returns-then-is_at_cut-clause-err : goal.returns-then-is_at_cut-clause-err
-returns-then-is_at_cut-clause-err c =
-    let p = c.in-Some.word.now in
-    let (cut, none) = at_cut_parts c.next.new.self.cut (left c.next.new.self) (sym c.is_at_cut.ensures ∙ c.if-is_at_cut.true) in
-    let was : c.args.words.now.cut ≡ true = sym c.next.ensures.cut ∙ cut in
-    let is = c.in-Some.ensures.word ∙ ap (λ y. p ∷ y) none in
+pub returns-in-Missing-clause-err : goal.returns-in-Missing-clause-err
+returns-in-Missing-clause-err c = one_none IsAny proof_word c.args.words.now c.in-Missing.ensures
+
+pub returns-in-Cut-clause-err : goal.returns-in-Cut-clause-err
+returns-in-Cut-clause-err c =
     let may = c.may_be_proof_word.ensures in
-    rw (was, c.cut_off.ensures) (choice_cut IsProofWord IsProofBefore p (left c.args.words.now) c.may_be_proof_word.result is
-    (λ t. let (more, (kind, same)) = may.0 t in (more, proof_rest kind, (kind, ap (λ y. y ∷ proof_rest kind) same))) (λ more k. may.1 (more, k)))
+    rw c.cut_off.ensures
+    (one_cut IsAny proof_word c.args.words.now c.in-Cut.word.now c.may_be_proof_word.result c.in-Cut.ensures
+    (λ t. let b = may.0 t in (b.0, b.1.0, tt, b.1.1), λ m. may.1 (m.0, (m.1, m.3))))
 
 pub returns-in-None-clause-err : goal.returns-in-None-clause-err
 returns-in-None-clause-err c =
-    let more = not_at_cut c.next.new.self.cut (left c.next.new.self) (sym c.is_at_cut.ensures ∙ c.if-is_at_cut.false) in
     let none = rw c.in-None.is at c.proof_word_of.ensures in
-    one_bad c.args.words.now.cut IsProofWord c.in-Some.word.now (left c.args.words.now) (left c.next.new.self) c.in-Some.ensures.word
-    (λ e. more (c.next.ensures.cut ∙ e)) none
+    one_bad IsAny proof_word c.in-Whole.word.now c.args.words.now c.next.new.self c.in-Whole.ensures (λ v any e. none (v, e))

@@ -1,24 +1,17 @@
-use Rattle.std.proofs.Common.{◌≡◌, ◌∷◌, sym, ap, ◌∙◌, true}
-use Rattle.cert_words.specs.Numbers.{IsLitWord}
-use Rattle.cert_words.specs.Parts.{left}
-use Rattle.cert_words.proofs.RowLemmas.{at_cut_parts, not_at_cut}
-use Rattle.cert_words.proofs.Ones.{one_cut, one_bad}
+use Rattle.cert_words.specs.Numbers.{lit_word, IsLitAbove}
+use Rattle.cert_words.proofs.Ones.{one_cut, one_bad, one_none}
 use Rattle.cert_words.proofs.parts.take_lit.Goals as goal
 
-pub returns-then-is_at_cut-clause-err : goal.returns-then-is_at_cut-clause-err
-returns-then-is_at_cut-clause-err c =
-    let p = c.in-Some.word.now in
-    let (cut, none) = at_cut_parts c.next.new.self.cut (left c.next.new.self) (sym c.is_at_cut.ensures ∙ c.if-is_at_cut.true) in
-    let was : c.args.words.now.cut ≡ true = sym c.next.ensures.cut ∙ cut in
-    let is = c.in-Some.ensures.word ∙ ap (λ y. p ∷ y) none in
+pub returns-in-Missing-clause-err : goal.returns-in-Missing-clause-err
+returns-in-Missing-clause-err c = one_none (IsLitAbove c.args.above) lit_word c.args.words.now c.in-Missing.ensures
+
+pub returns-in-Cut-clause-err : goal.returns-in-Cut-clause-err
+returns-in-Cut-clause-err c =
     let may = c.may_be_lit.ensures in
-    rw (was, c.cut_off.ensures)
-    (one_cut (IsLitWord c.args.above) p (left c.args.words.now) c.may_be_lit.result is (λ t. let b = may.0 t in (b.more, (b.lit, b.fits, b.is)))
-    (λ more k. may.1 (record { more = more; lit = k.0; fits = k.1; is = k.2 })))
+    rw c.cut_off.ensures
+    (one_cut (IsLitAbove c.args.above) lit_word c.args.words.now c.in-Cut.word.now c.may_be_lit.result c.in-Cut.ensures
+    (λ t. let b = may.0 t in (b.more, b.lit, b.fits, b.is), λ m. may.1 (record { more = m.0; lit = m.1; fits = m.2; is = m.3 })))
 
 pub returns-in-None-clause-err : goal.returns-in-None-clause-err
 returns-in-None-clause-err c =
-    let more = not_at_cut c.next.new.self.cut (left c.next.new.self) (sym c.is_at_cut.ensures ∙ c.if-is_at_cut.false) in
-    let none = rw c.in-None.is at c.lit_of.ensures in
-    one_bad c.args.words.now.cut (IsLitWord c.args.above) c.in-Some.word.now (left c.args.words.now) (left c.next.new.self) c.in-Some.ensures.word
-    (λ e. more (c.next.ensures.cut ∙ e)) (λ k. none k.0 k.1 k.2)
+    one_bad (IsLitAbove c.args.above) lit_word c.in-Whole.word.now c.args.words.now c.next.new.self c.in-Whole.ensures (rw c.in-None.is at c.lit_of.ensures)
