@@ -13,11 +13,11 @@ use Rattle.query_model.specs.declared.keys.Key.{Key}
 use Rattle.cnf_encode.specs.Coned.{has_point, Covers}
 
 -- the numbers rise, from s or more on
-Rises : ℕ → List ℕ → Type 0
+pub Rises : ℕ → List ℕ → Type 0
 Rises s [] = Unit
 Rises s (x ∷ xs) = (s ≤ x) × Rises (x + 1) xs
 
-Rises-from_pairs : (s : ℕ) (xs : List ℕ) → AllPairs (λ x y. x < y) xs → ((k : ℕ) → In k xs → s ≤ k) → Rises s xs
+pub Rises-from_pairs : (s : ℕ) (xs : List ℕ) → AllPairs (λ x y. x < y) xs → ((k : ℕ) → In k xs → s ≤ k) → Rises s xs
 unfolding Rises
 Rises-from_pairs s [] pairs low = tt
 Rises-from_pairs s (x ∷ xs) pairs low = (
@@ -36,7 +36,7 @@ not_before s (x ∷ xs) k up (inl here) = let low : s ≤ x = up.0 in omega arit
 not_before s (x ∷ xs) k up (inr later) = let low : s ≤ x = up.0 in let more = not_before (x + 1) xs k up.1 later in omega arith
 
 -- the numbers from s on, one by one
-through : {X : Type 0} (f : ℕ → List X) (n s : ℕ) (xs : List ℕ) → Rises s xs → ((k : ℕ) → In k xs → k < s + n)
+pub through : {X : Type 0} (f : ℕ → List X) (n s : ℕ) (xs : List ℕ) → Rises s xs → ((k : ℕ) → In k xs → k < s + n)
     → ((k : ℕ) → s ≤ k → k < s + n → In k xs ⊎ (f k ≡ [])) → flat_map f xs ≡ flat_map f (range_with_len s n)
 unfolding Rises
 through f zero s [] up low has = refl

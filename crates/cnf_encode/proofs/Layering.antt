@@ -1,7 +1,12 @@
 -- The definitions of a gate's net and of the start's nets in a layer.
-use Rattle.std.proofs.Common.{◌≡◌, ℕ, suc, ◌+◌, ◌≤◌, Bool, true, false, not, cond, Some, List, [], ◌∷◌, ◌++◌, length, refl, ap, sym, ◌∙◌, subst, arith, add-one}
-use Rattle.std.specs.Prelude.{filter, slice_get}
-use Rattle.sdcv_base.specs.Seqs.{is_marked}
+use Rattle.std.proofs.Common.{◌≡◌, ℕ, suc, ◌+◌, ◌<◌, ◌≤◌, inl, inr, Bool, true, false, not, cond, Some, List, [], ◌∷◌, ◌++◌, length, refl, ap, sym, ◌∙◌, subst, arith, add-one}
+use Rattle.std.specs.Prelude.{filter, flat_map, slice_get, Contains, ◌==◌}
+use Rattle.std.specs.List.{list_any}
+use Rattle.std.proofs.lemmas.Bool.{cases_Bool, eq-eqb, eqb-true}
+use Rattle.std.proofs.lemmas.List.Folds.{list_any_at}
+use Rattle.std.proofs.lemmas.List.Kept.{AllPairs-from_increasing}
+use Rattle.std.proofs.lemmas.Map.Views.{Contains-from_any}
+use Rattle.net_model.proofs.Members.{In, In-from_Contains, Contains-from_In}
 use Rattle.net_model.specs.Form.{value, IsOver}
 use Rattle.net_model.specs.Netlist.{IsGateInRange, IsSound}
 use Rattle.net_model.proofs.Settling.{All-at}
@@ -9,21 +14,22 @@ use Rattle.net_model.specs.declared.netlist.Design.{Design}
 use Rattle.net_model.specs.declared.netlist.Gate.{Gate}
 use Rattle.net_model.specs.declared.claims.Claim.{Claim}
 use Rattle.net_model.specs.declared.claims.PinRef.TheVariants.{GateIn}
-use Rattle.std.proofs.lemmas.List.{append-nil}
-use Rattle.std.proofs.lemmas.List.Elements.{filter-append}
 use Rattle.std.proofs.lemmas.Option.{get_or_from_slice_get}
 use Rattle.query_model.specs.Keys.{key, below}
 use Rattle.query_model.specs.Reads.{read_pin, is_start_net}
+use Rattle.net_model.specs.Fits.{IsStartIn}
+use Rattle.net_model.specs.Pins.{start_nets}
+use Rattle.frame_unroll.proofs.Starting.{start_low}
 use Rattle.query_model.specs.Defined.{plain, rails, has_own, layer_gate}
 use Rattle.query_model.specs.declared.keys.Key.{Key}
 use Rattle.query_model.specs.declared.keys.KeyLit.{KeyLit}
 use Rattle.query_model.specs.declared.keys.Coding.TheVariants.{Rows}
 use Rattle.query_model.proofs.Lists.{length-numbered}
-use Rattle.frame_unroll.specs.Reading.{IsSubject}
-use Rattle.frame_unroll.specs.declared.subjects.Subject.{Subject}
 use Rattle.cnf_encode.specs.Listed.{at_place, alone}
 use Rattle.query_model.specs.Defined.{gate_reads, plain_gate, rails_gate}
 use Rattle.cnf_encode.proofs.Captures.{plain_equal, rails_equal}
+use Rattle.cnf_encode.specs.Placed.{IsInOrder}
+use Rattle.cnf_encode.proofs.Covered.{through, Rises-from_pairs, below_is}
 use Rattle.cnf_encode.proofs.Covering.{at_place_is}
 
 -- a gate of a sound design
@@ -95,27 +101,49 @@ pub layer_none_at : (d : Design) (claim : Claim) (moved : List (List Bool)) (c l
 layer_none_at d claim moved c l k g at own =
     at_place_is (layer_gate Rows d claim moved c l) d.gates k g at ∙ by_own d claim moved c l k g false claim.hazard own refl
 
--- the marked numbers, by one more number
-pub marked_more : (p : ℕ → Bool) (n : ℕ) → p n ≡ true → filter p (below (n + 1)) ≡ filter p (below n) ++ n ∷ []
-marked_more p n is =
-    ap (λ (m : ℕ). filter p (below m)) (add-one n) ∙ filter-append p (below n) (n ∷ []) ∙ ap (λ (b : Bool). filter p (below n) ++ cond b (n ∷ []) []) is
+-- the numbers that pass a test, one by one
+filter_each : (p : ℕ → Bool) (xs : List ℕ) → flat_map (λ n. cond (p n) (n ∷ []) []) xs ≡ filter p xs
+filter_each p [] = refl
+filter_each p (x ∷ xs) = by (p x) (filter_each p xs)
+  where
+    by : (b : Bool) → flat_map (λ n. cond (p n) (n ∷ []) []) xs ≡ filter p xs → cond b (x ∷ []) [] ++ flat_map (λ n. cond (p n) (n ∷ []) []) xs ≡ cond b
+        (x ∷ filter p xs) (filter p xs)
+    by true rest = ap (λ (ys : List ℕ). x ∷ ys) rest
+    by false rest = rest
 
-pub marked_skip : (p : ℕ → Bool) (n : ℕ) → p n ≡ false → filter p (below (n + 1)) ≡ filter p (below n)
-marked_skip p n is =
-    ap (λ (m : ℕ). filter p (below m)) (add-one n) ∙ filter-append p (below n) (n ∷ []) ∙ ap (λ (b : Bool). filter p (below n) ++ cond b (n ∷ []) []) is
-    ∙ append-nil (filter p (below n))
+-- all of them
+each_kept : (p : ℕ → Bool) (xs : List ℕ) → ((n : ℕ) → In n xs → p n ≡ true) → flat_map (λ n. cond (p n) (n ∷ []) []) xs ≡ xs
+each_kept p [] all = refl
+each_kept p (x ∷ xs) all =
+    ap (λ (b : Bool). cond b (x ∷ []) [] ++ flat_map (λ n. cond (p n) (n ∷ []) []) xs) (all x (inl refl))
+    ∙ ap (λ (ys : List ℕ). x ∷ ys) (each_kept p xs (λ n has. all n (inr has)))
 
-pub mark_is : (marks : List Bool) (n : ℕ) (b : Bool) → slice_get marks n ≡ Some b → is_marked marks n ≡ b
-mark_is marks n b at = get_or_from_slice_get marks n b false at
+-- some numbers below a limit, each once and ascending, are those below it that are among them
+pub in_order_is : (found row : List ℕ) (limit : ℕ) → IsInOrder found row → ((n : ℕ) → Contains found n → n < limit)
+    → row ≡ filter (λ n. list_any (λ m. m == n) found) (below limit)
+in_order_is found row limit ordered low =
+    sym (each_kept among row (λ n has. listed n (ordered.only n (Contains-from_In row n has))))
+    ∙ (through (λ n. cond (among n) (n ∷ []) []) limit 0 row
+    (Rises-from_pairs 0 row (AllPairs-from_increasing row ordered.ascending) (λ n has. omega arith))
+    (λ n has. let lt = low n (ordered.only n (Contains-from_In row n has)) in omega arith)
+    (λ n a b. elim (cases_Bool (among n)) [
+      | inl is ↦ inl (In-from_Contains row n (ordered.all n (from_listed n is)))
+      | inr is_not ↦ inr (ap (λ (b : Bool). cond b (n ∷ []) []) is_not)
+    ])
+    ∙ (sym (ap (flat_map (λ n. cond (among n) (n ∷ []) [])) (below_is limit)) ∙ filter_each among (below limit)))
+  where
+    among : ℕ → Bool
+    among n = list_any (λ m. m == n) found
 
-filter_same : {X : Type 0} (p q : X → Bool) → ((x : X) → p x ≡ q x) → (xs : List X) → filter p xs ≡ filter q xs
-filter_same p q same [] = refl
-filter_same {X} p q same (x ∷ xs) = ap (λ (b : Bool). cond b (x ∷ filter p xs) (filter p xs)) (same x) ∙ ap (λ (ys : List X). cond (q x) (x ∷ ys) ys)
-    (filter_same p q same xs)
+    listed : (n : ℕ) → Contains found n → among n ≡ true
+    listed n has = list_any_at (λ m. m == n) found has.0 n has.1 (ap (λ m. m == n) has.2 ∙ eq-eqb n n refl)
 
--- the marked nets are those of the start
-pub starts_are : (s : Subject) (nets : List ℕ) → IsSubject s → nets ≡ filter (is_marked s.starts) (below (length s.starts))
-    → nets ≡ filter (is_start_net s.design.now s.claim.now) (below s.design.now.nets)
-starts_are s nets are is =
-    is ∙ ap (λ (n : ℕ). filter (is_marked s.starts) (below n)) are.starts_len ∙ filter_same (is_marked s.starts)
-    (is_start_net s.design.now s.claim.now) are.starts (below s.design.now.nets)
+    from_listed : (n : ℕ) → among n ≡ true → Contains found n
+    from_listed n is = Contains-from_any {eq = λ (q m : ℕ). m == q} (λ x y e. sym (eqb-true y x e)) n found is
+
+-- the nets of a start, in order
+pub starts_are : (d : Design) (claim : Claim) (found nets : List ℕ) → IsSound d → IsStartIn d claim.start → found ≡ start_nets d claim.start
+    → IsInOrder found nets → nets ≡ filter (is_start_net d claim) (below d.nets)
+starts_are d claim found nets sound is same ordered =
+    in_order_is (start_nets d claim.start) nets d.nets (subst (λ (ns : List ℕ). IsInOrder ns nets) same ordered)
+    (λ n has. start_low d claim n sound is has)

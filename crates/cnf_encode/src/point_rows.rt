@@ -41,6 +41,16 @@ pub fn places_by_point(
     Ok(places)
 }
 
+/// The same numbers, each once, ascending.
+pub fn in_order(alloc: Global, found: &[usize]) -> Result<Seq<usize>, AllocError>
+    ensures { IfOk result (IsInOrder found.now) }
+{
+    let mut row = Vec::from_slice(alloc, found)?;
+    row.sort_unstable();
+    row.dedup();
+    Ok(Seq::from_vec(row))
+}
+
 /// The places of what the keys are about, cycle by cycle, in whatever order.
 fn by_cycle(
     alloc: Global,
@@ -94,14 +104,4 @@ fn all_in_order(alloc: Global, found: &[Vec<usize>]) -> Result<Seq<Seq<usize>>, 
         rows.push(in_order(alloc, row)?)?;
     }
     Ok(rows)
-}
-
-/// The same numbers, each once, ascending.
-fn in_order(alloc: Global, found: &[usize]) -> Result<Seq<usize>, AllocError>
-    ensures { IfOk result (IsInOrder found.now) }
-{
-    let mut row = Vec::from_slice(alloc, found)?;
-    row.sort_unstable();
-    row.dedup();
-    Ok(Seq::from_vec(row))
 }

@@ -1,6 +1,7 @@
 //! A design with all that queries need of it alone.
 ghost use Rattle.std.specs.Prelude.{◌≡◌, IfOk};
 ghost use Rattle.net_model.specs.Netlist.{IsSound};
+ghost use Rattle.net_paths.specs.Readers.{AreReaders};
 ghost use Rattle.frame_unroll.specs.Drivers.{AreDrivers};
 ghost use Rattle.frame_unroll.specs.Found.{AreNetGates};
 ghost use Rattle.cnf_encode.specs.Prepared.{ArePointTables};
@@ -8,12 +9,13 @@ ghost use Rattle.cnf_encode.specs.Prepared.{ArePointTables};
 use crate::point_tables::PointTables;
 use frame_unroll::{Driver, net_drivers, net_gates};
 use net_model::Design;
+use net_paths::Readers;
 use sdcv_base::Seq;
 use std::alloc::{AllocError, Global};
 use std::marker::Model;
 
 /// A design and the tables that depend on it alone, made once and lent to each query: what drives each net, which gate does,
-/// and where each point stands.
+/// which pins read it, and where each point stands.
 ///
 /// Contracts see the design.
 #[derive(Drop)]
@@ -21,6 +23,7 @@ pub struct Prepared<'a> {
     design: &'a Design,
     drivers: Seq<Driver>,
     gates: Seq<Option<usize>>,
+    readers: Readers,
     points: PointTables,
 }
 
@@ -35,7 +38,7 @@ impl<'a> Model for Prepared<'a> {
 
     ghost view = { λ p. p.design.now };
 
-    ghost invariant = { λ p. IsPrepared p.design.now p.drivers p.gates p.points };
+    ghost invariant = { λ p. IsPrepared p.design.now p.drivers p.gates p.readers.rows.items p.points };
 }
 
 impl<'a> Prepared<'a> {
@@ -48,6 +51,7 @@ impl<'a> Prepared<'a> {
             design,
             drivers: net_drivers(alloc, design)?,
             gates: net_gates(alloc, design)?,
+            readers: Readers::of(alloc, design)?,
             points: PointTables::of(alloc, design)?,
         })
     }
@@ -71,6 +75,13 @@ impl<'a> Prepared<'a> {
         ensures { AreNetGates self.now result.now }
     {
         &self.gates
+    }
+
+    /// Which pins read each net.
+    pub(crate) fn readers(&self) -> &Readers
+        ensures { AreReaders self.now result.now.rows.items }
+    {
+        &self.readers
     }
 
     /// Where each point stands.

@@ -3,9 +3,10 @@ ghost use Rattle.std.specs.Prelude.{IfOk};
 ghost use Rattle.net_model.specs.Netlist.{IsSound};
 ghost use Rattle.net_model.specs.Fits.{Fits};
 
-use frame_unroll::{Frames, Subject, moved_nets, net_drivers, net_gates, net_lit, pin_lit};
+use frame_unroll::{Frames, MovedNets, Subject, net_drivers, net_gates, net_lit, pin_lit};
 use net_model::PinRef::{GateIn, Net, RegIn};
 use net_model::{Design, InvClause, Phase, PinRef, StateLit};
+use net_paths::Readers;
 use net_samples::Ask::{Either, Hazard, In, To, Via};
 use net_samples::Part::{Drives, Holds, Nets, Outputs};
 use net_samples::{Ask, Case, Controls, Form, Out, Part, case_of};
@@ -77,8 +78,14 @@ fn last_moved(alloc: Global, case: &Case) -> Result<Seq<bool>, AllocError>
     requires sound { IsSound case.now.design }
     requires fits { Fits case.now.design case.now.claim }
 {
-    let rows = moved_nets(alloc, &case.design, &case.claim)?;
-    rows.item(case.claim.through.len()).copy(alloc)
+    let readers = Readers::of(alloc, &case.design)?;
+    let moved = MovedNets::of(alloc, &case.design, &case.claim, &readers)?;
+    let last = case.claim.through.len();
+    let mut row = Seq::new(alloc);
+    for net in 0..case.design.nets {
+        row.push(moved.has(last, net))?;
+    }
+    Ok(row)
 }
 
 #[test]
@@ -143,7 +150,8 @@ fn read_lit(rt: &impl Abort, alloc: Global, case: &Case, row: &Read) -> Result<K
     let key = key(row.2);
     let drivers = net_drivers(alloc, design)?;
     let gates = net_gates(alloc, design)?;
-    let subject = Subject::of(alloc, design, claim, &drivers, &gates)?;
+    let readers = Readers::of(alloc, design)?;
+    let subject = Subject::of(alloc, design, claim, &drivers, &gates, &readers)?;
     assert!(rt; key.point < subject.design.nets);
     assert!(rt; key.layer <= subject.claim.through.len() + 1);
     Ok(match row.1 {

@@ -28,7 +28,7 @@ pub with_clauses-take : (keys : List Key) (cs : List (List KeyLit)) (i : ℕ) (c
     → with_clauses keys (take (i + 1) cs) ≡ with_keys (with_clauses keys (take i cs)) c
 with_clauses-take keys cs i c at = ap (with_clauses keys) ((take_at cs i c at).0) ∙ with_clauses-append keys (take i cs) (c ∷ [])
 
-slice_get-left : {X : Type 0} (xs ys : List X) (i : ℕ) (x : X) → slice_get xs i ≡ Some x → slice_get (xs ++ ys) i ≡ Some x
+pub slice_get-left : {X : Type 0} (xs ys : List X) (i : ℕ) (x : X) → slice_get xs i ≡ Some x → slice_get (xs ++ ys) i ≡ Some x
 slice_get-left [] ys i x at = absurd cc
 slice_get-left (y ∷ xs) ys zero x at = at
 slice_get-left (y ∷ xs) ys (suc i) x at = slice_get-left xs ys i x at

@@ -1,5 +1,7 @@
-pub mod Marked
-pub mod Moving
+pub mod Starting
+mod Listed
+mod Spreading
+mod Moving
 pub mod Driving
 pub mod Reading
 mod Framing

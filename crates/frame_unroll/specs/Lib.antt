@@ -1,4 +1,5 @@
-pub mod Marked
+pub mod Outs
+pub mod Moves
 pub mod Drivers
 pub mod Reading
 pub mod Framed

@@ -1,9 +1,7 @@
 -- What the nets and pins of a query about a claim are read by.
-use Rattle.std.specs.Prelude.{◌≡◌, ℕ, length}
-use Rattle.sdcv_base.specs.Seqs.{is_marked}
 use Rattle.net_model.specs.Netlist.{IsSound}
 use Rattle.net_model.specs.Fits.{Fits}
-use Rattle.query_model.specs.Reads.{is_start_net, AreMoved}
+use Rattle.query_model.specs.Reads.{AreMoved}
 use Rattle.frame_unroll.specs.Drivers.{AreDrivers}
 use Rattle.frame_unroll.specs.Found.{AreNetGates}
 use Rattle.frame_unroll.specs.declared.subjects.Subject.{Subject}
@@ -14,6 +12,4 @@ pub record IsSubject (s : Subject) : Type 0 where
   pub fits : Fits s.design.now s.claim.now
   pub drivers : AreDrivers s.design.now s.drivers.now
   pub gates : AreNetGates s.design.now s.gates.now
-  pub starts_len : length s.starts ≡ s.design.now.nets
-  pub starts : (n : ℕ) → is_marked s.starts n ≡ is_start_net s.design.now s.claim.now n
   pub moved : AreMoved s.design.now s.claim.now s.moved

@@ -2,7 +2,7 @@
 ghost use Rattle.std.specs.Prelude.{◌≡◌, ◌<◌, ℕ, length, IfOk};
 ghost use Rattle.net_model.specs.Netlist.{AllBelow, IsSound};
 ghost use Rattle.query_model.specs.Reads.{read_base, shown_in};
-ghost use Rattle.frame_unroll.specs.Marked.{out_nets};
+ghost use Rattle.frame_unroll.specs.Outs.{out_nets};
 ghost use Rattle.frame_unroll.specs.Drivers.{driver_at, shown_or, AreDrivers};
 
 use net_model::{Design, RegOut};

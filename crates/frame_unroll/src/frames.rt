@@ -21,6 +21,7 @@ use crate::spans::{claim_span, clause_span};
 use crate::subjects::Subject;
 use indexmap::IndexSet;
 use net_model::{Claim, Design, InvClause, Phase};
+use net_paths::Readers;
 use query_model::{Key, KeyLit};
 use sdcv_base::Seq;
 use std::alloc::{AllocError, Global};
@@ -105,7 +106,8 @@ impl Frames {
     {
         let drivers = net_drivers(alloc, design)?;
         let gates = net_gates(alloc, design)?;
-        let subject = Subject::of(alloc, design, claim, &drivers, &gates)?;
+        let readers = Readers::of(alloc, design)?;
+        let subject = Subject::of(alloc, design, claim, &drivers, &gates, &readers)?;
         let asked = claim_asked(alloc, design, claim, phase, depth, inv)?;
         let span = claim_span(design, claim, phase, depth);
         Frames::by_claim(alloc, &subject, span.cycles, &asked)

@@ -1,7 +1,7 @@
 //! What a query asks of its keys, what these read, and which keys it needs: which nets a late start moves, the literal
 //! that stands for a net or a pin, and the keys that are reached from what is asked, numbered.
 //!
-//! Read `subjects` and `moved_rows` first, and `reached_keys` for the needed keys. What it all means is said in
+//! Read `subjects` and `moved_nets` first, and `reached_keys` for the needed keys. What it all means is said in
 //! query_model's `specs/Reads` and `specs/Formula`.
 #![tactic(auto)]
 
@@ -13,13 +13,13 @@ mod frames;
 mod gate_tables;
 mod gathered;
 mod kept;
-mod moved_rows;
+mod moved_nets;
 mod origins;
-mod pins;
 mod reached_keys;
 mod reads;
 mod spans;
-mod start_marks;
+mod spreads;
+mod starts;
 mod subjects;
 mod violations;
 
@@ -31,8 +31,9 @@ pub use gathered::{
     Owner, RailAt, bit_lit, capture_lit, late_capture_lit, pin_literals, pin_literals_at, pin_of,
     push_own, start_lit,
 };
-pub use moved_rows::moved_nets;
+pub use moved_nets::MovedNets;
 pub use origins::has_own;
 pub use reads::{net_lit, pin_lit};
 pub use spans::{Span, claim_span, clause_span};
+pub use starts::start_nets;
 pub use subjects::Subject;

@@ -114,7 +114,7 @@ pub fn has_own(subject: &Subject, layer: usize, net: usize) -> bool
     requires net { net < subject.now.design.now.nets }
     ensures { result ≡ has_own subject.now.claim.now subject.now.moved layer net }
 {
-    subject.moved.item(layer).at(net) && !is_held(&subject.claim.through, layer, PinRef::Net(net))
+    subject.moved.has(layer, net) && !is_held(&subject.claim.through, layer, PinRef::Net(net))
 }
 
 /// What defines a net of a layer, or the late capture, where the layer has come through so many sets.

@@ -5,6 +5,7 @@ ghost use Rattle.query_model.specs.Reads.{read, read_base, read_late, read_pin};
 ghost use Rattle.frame_unroll.specs.Reading.{IsSubject};
 
 use crate::drivers::base_lit;
+use crate::starts::is_start_net;
 use crate::subjects::Subject;
 use net_model::{PinRef, is_held};
 use query_model::{Key, KeyLit};
@@ -30,7 +31,7 @@ fn late_net_lit(subject: &Subject, base: KeyLit, key: Key) -> KeyLit
     requires base { base ≡ read_base subject.now.design.now key.cycle key.point }
     ensures { result ≡ read_late subject.now.design.now subject.now.claim.now key.cycle (key.layer - 1) key.rail key.point }
 {
-    let is_start = subject.starts.at(key.point);
+    let is_start = is_start_net(subject.design, subject.claim, key.point);
     if key.layer == 1 && is_start && !subject.claim.hazard {
         return flip_if(base, true);
     }
@@ -52,7 +53,7 @@ pub fn net_lit(subject: &Subject, key: Key) -> KeyLit
 {
     let net = key.point;
     let base = base_lit(subject.design, subject.drivers, key.cycle, net);
-    if key.layer == 0 || !subject.moved.item(key.layer - 1).at(net) {
+    if key.layer == 0 || !subject.moved.has(key.layer - 1, net) {
         return flip_if(base, key.rail == 1);
     }
     if is_held(&subject.claim.through, key.layer - 1, PinRef::Net(net)) {
