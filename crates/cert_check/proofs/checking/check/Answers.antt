@@ -43,6 +43,22 @@ returns-in_err-prove_pairs-clause-only c numbers accepts =
     (subst (λ (d : Design). IsCause own_coding d c.args.claims.now c.args.cert.now c.in_err-prove_pairs.field-0.0) c.in_ok-prepared.ensures
     c.in_err-prove_pairs.ensures.err) accepts)
 
+pub returns-clause-accepted : goal.returns-clause-accepted
+returns-clause-accepted c =
+    record {
+      accepted =
+          record {
+            listed = c.in_ok-numbers.ensures.listed;
+            kept =
+                subst (λ (d : Design). ProveKept own_coding d c.args.cert.now.kept c.args.cert.now.depth c.args.cert.now.proofs) c.in_ok-prepared.ensures
+                (c.in_ok-prove_kept.ensures.ok refl);
+            proved =
+                subst (λ (d : Design). AreProved own_coding d c.args.claims.now c.args.cert.now) c.in_ok-prepared.ensures
+                (c.in_ok-prove_pairs.ensures.ok refl);
+          };
+      numbers_are = c.in_ok-numbers.ensures.numbers;
+    }
+
 pub returns-clause-holds : goal.returns-clause-holds
 returns-clause-holds c =
     hold_each own_coding c.args.design.now c.args.claims.now c.args.cert.now c.in_ok-numbers.numbers c.requires.sound c.requires.fit
