@@ -29,7 +29,6 @@ pub fn circuit_of(
     clock: &Option<Name>,
     flat: Flattened,
 ) -> Result<FlatCircuit, AllocError>
-    requires source { IsLawful netlist.now.source.now }
     requires top { top < length netlist.now.source.now.modules }
     requires flat { IsFlattened netlist.now.source.now netlist.now.library.now
         (flat_of netlist.now.source.now netlist.now.library.now (module_at netlist.now.source.now top)) flat }

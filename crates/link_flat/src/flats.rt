@@ -27,10 +27,6 @@ pub struct Flattened {
 
 /// The flat netlist of a source below the module at a place.
 pub fn flatten(alloc: Global, netlist: &Netlist, top: usize) -> Result<Flattened, LinkFault>
-    requires source { IsLawful netlist.now.source.now }
-    requires library { IsLawfulLibrary netlist.now.library.now.cells }
-    requires modules { netlist.now.modules ≡ module_names netlist.now.source.now }
-    requires cells { netlist.now.cells ≡ cell_names netlist.now.library.now }
     requires top { top < length netlist.now.source.now.modules }
     ensures ok { IfOk result (IsFlattened netlist.now.source.now netlist.now.library.now
         (flat_of netlist.now.source.now netlist.now.library.now (module_at netlist.now.source.now top))) }
@@ -45,10 +41,6 @@ pub fn flatten(alloc: Global, netlist: &Netlist, top: usize) -> Result<Flattened
 
 /// Goes through all that stands below a module, depth first.
 fn walk(alloc: Global, netlist: &Netlist, top: usize) -> Result<Flattened, LinkFault>
-    requires source { IsLawful netlist.now.source.now }
-    requires library { IsLawfulLibrary netlist.now.library.now.cells }
-    requires modules { netlist.now.modules ≡ module_names netlist.now.source.now }
-    requires cells { netlist.now.cells ≡ cell_names netlist.now.library.now }
     requires top { top < length netlist.now.source.now.modules }
     requires ranks { HasRanks netlist.now.source.now }
     ensures ok { IfOk result (IsFlattened netlist.now.source.now netlist.now.library.now

@@ -16,7 +16,6 @@ use std::alloc::{AllocError, Global};
 /// The places of the modules in an order in which each comes after those that it has instances of. `Recursive` names a module
 /// that contains itself.
 pub fn module_order(alloc: Global, netlist: &Netlist) -> Result<Seq<usize>, LinkFault>
-    requires { netlist.now.modules ≡ module_names netlist.now.source.now }
     ensures ok { IfOk result (IsRightOrder (module_needs netlist.now.source.now)) }
     ensures err { IfErr result (IsOrderCause netlist.now.source.now) }
     ensures none { OnOk result ((name : List ℕ) → IsRecursive netlist.now.source.now name → ⊥) }
@@ -41,7 +40,6 @@ fn module_name(alloc: Global, netlist: &Netlist, place: usize) -> Result<Name, A
 
 /// For each module the places of those that it has instances of.
 fn module_needs(alloc: Global, netlist: &Netlist) -> Result<Vec<Seq<usize>>, AllocError>
-    requires { netlist.now.modules ≡ module_names netlist.now.source.now }
     ensures { IfOk result (λ needs. needs.items ≡ module_needs netlist.now.source.now) }
 {
     let mut needs = Vec::new(alloc);
@@ -53,7 +51,6 @@ fn module_needs(alloc: Global, netlist: &Netlist) -> Result<Vec<Seq<usize>>, All
 
 /// The places of the modules that a module has instances of.
 fn needs_of(alloc: Global, netlist: &Netlist, body: &Module) -> Result<Seq<usize>, AllocError>
-    requires { netlist.now.modules ≡ module_names netlist.now.source.now }
     ensures { IfOk result (λ needs. needs ≡ needs_in netlist.now.source.now body.now) }
 {
     let mut needs = Seq::new(alloc);
@@ -65,7 +62,6 @@ fn needs_of(alloc: Global, netlist: &Netlist, body: &Module) -> Result<Seq<usize
 
 /// Appends the place of the module that an item refers to, if it is an instance.
 fn push_need(netlist: &Netlist, needs: &mut Seq<usize>, item: &Item) -> Result<(), AllocError>
-    requires { netlist.now.modules ≡ module_names netlist.now.source.now }
     ensures { OnOk result (needs.new ≡ needs.old ++ map (place_of_module netlist.now.source.now) (refs item.now)) }
 {
     match item {
@@ -80,7 +76,6 @@ fn push_need(netlist: &Netlist, needs: &mut Seq<usize>, item: &Item) -> Result<(
 
 /// The place of the module of that name, and the number of the modules where none has it.
 fn place_of(netlist: &Netlist, name: &Name) -> usize
-    requires { netlist.now.modules ≡ module_names netlist.now.source.now }
     ensures { result ≡ place_of_module netlist.now.source.now name.now }
 {
     netlist.modules.place(name)

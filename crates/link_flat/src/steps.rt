@@ -36,10 +36,6 @@ pub(crate) fn step(
     stack: &mut Stack<Frame>,
     frame: Frame,
 ) -> Result<(), LinkFault>
-    requires source { IsLawful netlist.now.source.now }
-    requires library { IsLawfulLibrary netlist.now.library.now.cells }
-    requires modules { netlist.now.modules ≡ module_names netlist.now.source.now }
-    requires cells { netlist.now.cells ≡ cell_names netlist.now.library.now }
     requires frame { frame.scope < length flat.old.scopes }
     requires scopes { AreScopes netlist.now.source.now flat.old.scopes }
     ensures ok { OnOk result (Goes netlist.now.source.now netlist.now.library.now frame stack.old flat.old stack.new flat.new) }
@@ -73,10 +69,6 @@ fn take(
     frame: Frame,
     item: &Item,
 ) -> Result<Option<Instance>, LinkFault>
-    requires source { IsLawful netlist.now.source.now }
-    requires library { IsLawfulLibrary netlist.now.library.now.cells }
-    requires modules { netlist.now.modules ≡ module_names netlist.now.source.now }
-    requires cells { netlist.now.cells ≡ cell_names netlist.now.library.now }
     requires frame { frame.scope < length flat.old.scopes }
     requires item { IsLawfulItem netlist.now.source.now (length (instance_at flat.old.scopes frame.scope).nets) item.now }
     ensures ok { IfOk result (λ inner. IsTaken netlist.now.source.now netlist.now.library.now (scope_at netlist.now.source.now flat.old.scopes frame.scope)

@@ -6,3 +6,4 @@ pub mod Fine
 pub mod Tables
 pub mod Items
 pub mod Steps
+pub mod Props

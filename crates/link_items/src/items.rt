@@ -161,7 +161,6 @@ fn add_module_at(
     place: usize,
     made: &mut Made,
 ) -> Result<Option<Instance>, LinkFault>
-    requires source { IsLawful netlist.now.source.now }
     requires item { IsLawfulItem netlist.now.source.now (length at.now.nets) (inst_item inst.now) }
     requires referent { IsReferent netlist.now.source.now netlist.now.library.now inst.now.cell.now (to.Module place) }
     ensures added { OnOk result (IsAdded netlist.now.source.now netlist.now.library.now (scope_of netlist.now.source.now at.now)
@@ -193,7 +192,6 @@ fn add_cell_at(
     place: usize,
     made: &mut Made,
 ) -> Result<(), LinkFault>
-    requires library { IsLawfulLibrary netlist.now.library.now.cells }
     requires item { IsLawfulItem netlist.now.source.now (length at.now.nets) (inst_item inst.now) }
     requires referent { IsReferent netlist.now.source.now netlist.now.library.now inst.now.cell.now (to.Cell place) }
     ensures added { OnOk result (IsAdded netlist.now.source.now netlist.now.library.now (scope_of netlist.now.source.now at.now)
@@ -217,10 +215,6 @@ fn add_inst(
     inst: &Inst,
     made: &mut Made,
 ) -> Result<Option<Instance>, LinkFault>
-    requires source { IsLawful netlist.now.source.now }
-    requires library { IsLawfulLibrary netlist.now.library.now.cells }
-    requires modules { netlist.now.modules ≡ module_names netlist.now.source.now }
-    requires cells { netlist.now.cells ≡ cell_names netlist.now.library.now }
     requires item { IsLawfulItem netlist.now.source.now (length at.now.nets) (inst_item inst.now) }
     ensures added { OnOk result (IsAdded netlist.now.source.now netlist.now.library.now (scope_of netlist.now.source.now at.now)
         (inst_item inst.now) made.old made.new) }
@@ -313,10 +307,6 @@ fn add_any(
     item: &Item,
     made: &mut Made,
 ) -> Result<Option<Instance>, LinkFault>
-    requires source { IsLawful netlist.now.source.now }
-    requires library { IsLawfulLibrary netlist.now.library.now.cells }
-    requires modules { netlist.now.modules ≡ module_names netlist.now.source.now }
-    requires cells { netlist.now.cells ≡ cell_names netlist.now.library.now }
     requires item { IsLawfulItem netlist.now.source.now (length at.now.nets) item.now }
     ensures added { OnOk result (IsAdded netlist.now.source.now netlist.now.library.now (scope_of netlist.now.source.now at.now) item.now made.old made.new) }
     ensures inner { IfOk result (IsInner netlist.now.source.now (scope_of netlist.now.source.now at.now) item.now made.old.count) }
@@ -353,10 +343,6 @@ pub fn add_item(
     item: &Item,
     made: &mut Made,
 ) -> Result<Option<Instance>, LinkFault>
-    requires source { IsLawful netlist.now.source.now }
-    requires library { IsLawfulLibrary netlist.now.library.now.cells }
-    requires modules { netlist.now.modules ≡ module_names netlist.now.source.now }
-    requires cells { netlist.now.cells ≡ cell_names netlist.now.library.now }
     requires item { IsLawfulItem netlist.now.source.now (length at.now.nets) item.now }
     ensures added { OnOk result (IsAdded netlist.now.source.now netlist.now.library.now (scope_of netlist.now.source.now at.now) item.now made.old made.new) }
     ensures inner { IfOk result (IsInner netlist.now.source.now (scope_of netlist.now.source.now at.now) item.now made.old.count) }

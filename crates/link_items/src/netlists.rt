@@ -4,6 +4,7 @@ ghost use Rattle.texts.specs.Names.{with_names};
 ghost use Rattle.netlist_types.specs.Lawful.{IsLawful};
 ghost use Rattle.cell_types.specs.Libraries.{IsLawful as IsLawfulLibrary};
 ghost use Rattle.link_items.specs.Tables.{module_names, cell_names, IsReferent};
+ghost use Rattle.link_items.specs.Props.{lawful_props};
 
 use cell_types::{Cell, Library};
 use netlist_types::{Module, Source};
@@ -11,13 +12,17 @@ use sdcv_base::Name;
 use std::alloc::{AllocError, Global};
 use texts::NameTable;
 
-/// A source and a library, with the names of their modules and cells.
+/// A lawful source and a lawful library, with the tables of the names of their modules and cells.
 #[derive(Drop)]
 pub struct Netlist<'a> {
     pub source: &'a Source,
     pub library: &'a Library,
     pub modules: NameTable,
     pub cells: NameTable,
+    ghost lawful_source: { IsLawful source.now } by { Prim.hlevel lawful_props },
+    ghost lawful_library: { IsLawfulLibrary library.now.cells } by { Prim.hlevel lawful_props },
+    ghost module_table: { modules ≡ module_names source.now },
+    ghost cell_table: { cells ≡ cell_names library.now },
 }
 
 /// What a reference stands for: the module at a place of the source, or else the cell at a place of the library.
@@ -61,8 +66,6 @@ impl<'a> Netlist<'a> {
         requires library { IsLawfulLibrary library.now.cells }
         ensures source { IfOk result (λ n. n.source.now ≡ source.now) }
         ensures library { IfOk result (λ n. n.library.now ≡ library.now) }
-        ensures modules { IfOk result (λ n. n.modules ≡ module_names source.now) }
-        ensures cells { IfOk result (λ n. n.cells ≡ cell_names library.now) }
     {
         let modules = modules_table(alloc, source.modules.as_slice())?;
         let cells = cells_table(alloc, library.cells.as_slice())?;
@@ -76,8 +79,6 @@ impl<'a> Netlist<'a> {
 
     /// What a name stands for as the reference of an instance.
     pub fn referent(&self, name: &Name) -> Referent
-        requires modules { self.now.modules ≡ module_names self.now.source.now }
-        requires cells { self.now.cells ≡ cell_names self.now.library.now }
         ensures { IsReferent self.now.source.now self.now.library.now name.now result }
     {
         let module = self.modules.place(name);

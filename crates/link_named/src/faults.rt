@@ -75,8 +75,6 @@ pub fn named_fault(
     c: &FlatCircuit,
     fault: CircuitFault,
 ) -> Result<LinkFault, AllocError>
-    requires source { IsLawful netlist.now.source.now }
-    requires library { IsLawfulLibrary netlist.now.library.now.cells }
     requires top { top < length netlist.now.source.now.modules }
     requires circuit { IsCircuitBelow netlist.now.source.now netlist.now.library.now (module_at netlist.now.source.now top) options.now.clock c.now }
     requires fine { AreFine netlist.now.source.now netlist.now.library.now

@@ -189,6 +189,19 @@ pub(crate) const COUNTS: &[Counted] = &[
         count: 2_000,
         want: "limit of nets: 200001",
     },
+    // Each instance stands for 1,111 of them: itself, its ten, their hundred, and their thousand gates.
+    Counted {
+        clock: "",
+        front: "module s (input a); buf (b0, a), (b1, a), (b2, a), (b3, a), (b4, a), (b5, a), (b6, a), (b7, a), (b8, a), (b9, a); endmodule
+            module t (input a); s u0 (.a(a)), u1 (.a(a)), u2 (.a(a)), u3 (.a(a)), u4 (.a(a)), u5 (.a(a)), u6 (.a(a)), u7 (.a(a)),
+            u8 (.a(a)), u9 (.a(a)); endmodule
+            module v (input a); t u0 (.a(a)), u1 (.a(a)), u2 (.a(a)), u3 (.a(a)), u4 (.a(a)), u5 (.a(a)), u6 (.a(a)), u7 (.a(a)),
+            u8 (.a(a)), u9 (.a(a)); endmodule
+            module top (input a);",
+        piece: (" v u", " (.a(a));"),
+        count: 901,
+        want: "limit of instances: 1000001",
+    },
 ];
 
 /// Cells in Liberty, a netlist over them, and what is told.

@@ -29,10 +29,6 @@ pub(crate) fn flat_circuit(
     top: usize,
     clock: &Option<Name>,
 ) -> Result<FlatCircuit, LinkFault>
-    requires source { IsLawful netlist.now.source.now }
-    requires library { IsLawfulLibrary netlist.now.library.now.cells }
-    requires modules { netlist.now.modules ≡ module_names netlist.now.source.now }
-    requires cells { netlist.now.cells ≡ cell_names netlist.now.library.now }
     requires top { top < length netlist.now.source.now.modules }
     ensures ok { IfOk result (IsFlatCircuit netlist.now.source.now netlist.now.library.now (module_at netlist.now.source.now top) clock.now) }
     ensures ordered { OnOk result (IsUnrecursive netlist.now.source.now) }
@@ -53,8 +49,6 @@ pub(crate) fn made_design(
     c: &FlatCircuit,
     held: Held,
 ) -> Result<CircuitDesign, LinkFault>
-    requires source { IsLawful netlist.now.source.now }
-    requires library { IsLawfulLibrary netlist.now.library.now.cells }
     requires top { top < length netlist.now.source.now.modules }
     requires circuit { IsFlatCircuit netlist.now.source.now netlist.now.library.now (module_at netlist.now.source.now top) options.now.clock c.now }
     requires held { IsHeldBy (length c.now.circuit.inputs) held }

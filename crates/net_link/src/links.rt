@@ -102,8 +102,6 @@ fn named_design(
     c: &FlatCircuit,
     ports: TopPorts,
 ) -> Result<Linked, LinkFault>
-    requires source { IsLawful netlist.now.source.now }
-    requires library { IsLawfulLibrary netlist.now.library.now.cells }
     requires top { IsTop netlist.now.source.now top }
     requires circuit { IsFlatCircuit netlist.now.source.now netlist.now.library.now (module_at netlist.now.source.now top) options.now.clock c.now }
     requires ordered { IsUnrecursive netlist.now.source.now }
@@ -136,10 +134,6 @@ fn link_below(
     top: usize,
     options: &LinkOptions,
 ) -> Result<Linked, LinkFault>
-    requires source { IsLawful netlist.now.source.now }
-    requires library { IsLawfulLibrary netlist.now.library.now.cells }
-    requires modules { netlist.now.modules ≡ module_names netlist.now.source.now }
-    requires cells { netlist.now.cells ≡ library_names netlist.now.library.now }
     requires top { IsTop netlist.now.source.now top }
     requires resets { options.now.reset_len ≤ 64 }
     ensures ok { IfOk result (IsLinked netlist.now.source.now netlist.now.library.now options.now) }

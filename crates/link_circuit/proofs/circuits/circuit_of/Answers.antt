@@ -9,7 +9,7 @@ use Rattle.link_circuit.proofs.circuits.circuit_of.Goals as goal
 pub port_nets-requires : goal.port_nets-requires
 port_nets-requires c =
     port_bits c.args.netlist.now.source.now c.item.result.now
-    (lawful_at c.args.netlist.now.source.now c.requires.source c.args.top c.item.result.now c.item.ensures)
+    (lawful_at c.args.netlist.now.source.now c.args.netlist.now.lawful_source c.args.top c.item.result.now c.item.ensures)
 
 pub returns-clause-circuit : goal.returns-clause-circuit
 returns-clause-circuit c =

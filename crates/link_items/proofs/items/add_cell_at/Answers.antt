@@ -22,7 +22,7 @@ add_cell-requires-clause-narrow c =
     c.item-cell.result.now c.requires.referent c.item-cell.ensures).0)
 
 pub add_cell-requires-clause-lawful : goal.add_cell-requires-clause-lawful
-add_cell-requires-clause-lawful c = all_at IsLawfulCell c.args.netlist.now.library.now.cells c.requires.library.functions c.args.place c.item-cell.result.now
+add_cell-requires-clause-lawful c = all_at IsLawfulCell c.args.netlist.now.library.now.cells c.args.netlist.now.lawful_library.functions c.args.place c.item-cell.result.now
     c.item-cell.ensures
 
 pub push_leaf-requires : goal.push_leaf-requires

@@ -15,7 +15,7 @@ add_module-requires-clause-below c = rw c.as_slice.ensures (conns_below c.args.n
 
 pub add_module-requires-clause-bits : goal.add_module-requires-clause-bits
 add_module-requires-clause-bits c =
-    port_bits c.args.netlist.now.source.now c.item-body.result.now (lawful_at c.args.netlist.now.source.now c.requires.source c.args.place
+    port_bits c.args.netlist.now.source.now c.item-body.result.now (lawful_at c.args.netlist.now.source.now c.args.netlist.now.lawful_source c.args.place
     c.item-body.result.now c.item-body.ensures)
 
 pub add_module-requires-clause-widths : goal.add_module-requires-clause-widths

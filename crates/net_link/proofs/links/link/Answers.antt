@@ -1,13 +1,10 @@
-use Rattle.std.proofs.Common.{ap, subst, sym, ◌∙◌}
+use Rattle.std.proofs.Common.{subst, sym}
 use Rattle.std.specs.Prelude.{IfOk, IfErr, OnOk}
 use Rattle.std.proofs.lemmas.Result.{err_from_is_err_and}
 use Rattle.netlist_types.specs.declared.sources.Source.{Source}
-use Rattle.netlist_types.specs.Lawful.{IsLawful}
 use Rattle.cell_types.specs.declared.libraries.Library.{Library}
-use Rattle.cell_types.specs.Libraries.{IsLawful as IsLawfulLibrary}
 use Rattle.link_defs.specs.Faults.{IsCause, IsFaultless}
 use Rattle.link_defs.specs.Links.{IsLinked}
-use Rattle.link_items.specs.Tables.{module_names, cell_names}
 use Rattle.link_tops.specs.Tops.{IsTop}
 use Rattle.net_link.proofs.Causing.{top_cause}
 use Rattle.net_link.proofs.links.link.Goals as goal
@@ -16,19 +13,6 @@ pub returns-in_err-top-clause-err : goal.returns-in_err-top-clause-err
 returns-in_err-top-clause-err c =
     let p = err_from_is_err_and c.from_residual-in_err-top.result c.from_residual-in_err-top.ensures.1 in
     rw (p.1, p.2) (top_cause c.args.source.now c.args.library.now c.args.options.now c.in_err-top.field-0.0 c.in_err-top.ensures.err)
-
-pub link_below-requires-clause-source : goal.link_below-requires-clause-source
-link_below-requires-clause-source c = subst (λ (s : Source). IsLawful s) (sym c.in_ok-netlist.ensures.source) c.requires.source
-
-pub link_below-requires-clause-library : goal.link_below-requires-clause-library
-link_below-requires-clause-library c =
-    subst (λ (lib : Library). IsLawfulLibrary lib.cells) (sym c.in_ok-netlist.ensures.library) c.requires.library
-
-pub link_below-requires-clause-modules : goal.link_below-requires-clause-modules
-link_below-requires-clause-modules c = c.in_ok-netlist.ensures.modules ∙ ap (λ (s : Source). module_names s) (sym c.in_ok-netlist.ensures.source)
-
-pub link_below-requires-clause-cells : goal.link_below-requires-clause-cells
-link_below-requires-clause-cells c = c.in_ok-netlist.ensures.cells ∙ ap (λ (lib : Library). cell_names lib) (sym c.in_ok-netlist.ensures.library)
 
 pub link_below-requires-clause-top : goal.link_below-requires-clause-top
 link_below-requires-clause-top c = subst (λ (s : Source). IsTop s c.in_ok-top.top) (sym c.in_ok-netlist.ensures.source) c.in_ok-top.ensures.ok

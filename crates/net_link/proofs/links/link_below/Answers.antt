@@ -19,7 +19,7 @@ item-requires c = top_within c.args.netlist.now.source.now c.args.top c.requires
 pub top_ports-requires-clause-bits : goal.top_ports-requires-clause-bits
 top_ports-requires-clause-bits c =
     let s = c.args.netlist.now.source.now in
-    port_bits s c.item.result.now (lawful_at s c.requires.source c.args.top c.item.result.now c.item.ensures)
+    port_bits s c.item.result.now (lawful_at s c.args.netlist.now.lawful_source c.args.top c.item.result.now c.item.ensures)
 
 pub returns-in_err-ports-clause-err : goal.returns-in_err-ports-clause-err
 returns-in_err-ports-clause-err c =
@@ -33,8 +33,8 @@ returns-in_err-ports-clause-err c =
     (port_cause s lib o top (flat_of s lib top) (circuit_of s lib top o.clock) e
     (subst (λ (m : Module). IsPortCause m o e) (module_is s c.args.top c.item.result.now c.item.ensures) c.in_err-ports.ensures.err)))
 
-pub flat_circuit-requires-clause-top : goal.flat_circuit-requires-clause-top
-flat_circuit-requires-clause-top c = top_within c.args.netlist.now.source.now c.args.top c.requires.top
+pub flat_circuit-requires : goal.flat_circuit-requires
+flat_circuit-requires c = record { top = top_within c.args.netlist.now.source.now c.args.top c.requires.top }
 
 pub returns-in_err-c-clause-err : goal.returns-in_err-c-clause-err
 returns-in_err-c-clause-err c =

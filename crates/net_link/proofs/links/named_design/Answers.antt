@@ -27,7 +27,7 @@ inner_names-requires-clause-scopes c = c.requires.circuit.below.are_scopes
 pub inner_names-requires-clause-lawful : goal.inner_names-requires-clause-lawful
 inner_names-requires-clause-lawful c =
     let s = c.args.netlist.now.source.now in
-    lawful_below s c.args.netlist.now.library.now c.args.top c.args.options.now.clock c.args.c.now c.requires.source c.requires.library
+    lawful_below s c.args.netlist.now.library.now c.args.top c.args.options.now.clock c.args.c.now c.args.netlist.now.lawful_source c.args.netlist.now.lawful_library
     (top_within s c.args.top c.requires.top) c.requires.circuit
 
 pub inner_names-requires-clause-leaves : goal.inner_names-requires-clause-leaves
@@ -53,7 +53,7 @@ returns-clause-ok c =
     let inner = c.in_ok-inner.inner in
     joined_linked s lib c.args.options.now (module_at s c.args.top) c.args.ports c.args.c.now c.in_ok-made.made inner.nets inner.cells inner.clock
     (top_is s c.args.top c.requires.top) c.requires.circuit
-    (lawful_below s lib c.args.top c.args.options.now.clock c.args.c.now c.requires.source c.requires.library
+    (lawful_below s lib c.args.top c.args.options.now.clock c.args.c.now c.args.netlist.now.lawful_source c.args.netlist.now.lawful_library
     (top_within s c.args.top c.requires.top) c.requires.circuit) c.requires.ports c.in_ok-made.ensures.ok c.in_ok-inner.ensures.ok c.in_ok-inner.ensures.clock
 
 pub returns-clause-usable : goal.returns-clause-usable
@@ -63,7 +63,7 @@ returns-clause-usable c =
     let inner = c.in_ok-inner.inner in
     joined_usable s lib c.args.options.now (module_at s c.args.top) c.args.ports c.args.c.now c.in_ok-made.made inner.nets inner.cells inner.clock
     c.requires.circuit
-    (lawful_below s lib c.args.top c.args.options.now.clock c.args.c.now c.requires.source c.requires.library
+    (lawful_below s lib c.args.top c.args.options.now.clock c.args.c.now c.args.netlist.now.lawful_source c.args.netlist.now.lawful_library
     (top_within s c.args.top c.requires.top) c.requires.circuit) c.requires.ports c.in_ok-made.ensures.ok c.in_ok-inner.ensures.ok c.in_ok-inner.ensures.clock
 
 pub returns-clause-none : goal.returns-clause-none
