@@ -30,6 +30,12 @@ pub then_finds : {A B : Type 0} (First : Found A → Type 0) (Next : A → Found
 unfolding Then
 then_finds First Next value b found rest = (value, found, rest)
 
+-- a stage finds a value, and the next one answers
+pub then_goes : {A B : Type 0} (First : Found A → Type 0) (Next : A → Found B → Type 0) (value : A) (result : Result B Refusal) → First (Ok value)
+    → Finds (Next value) result → Finds (Then First Next) result
+then_goes First Next value (Ok b) found rest = then_finds First Next value b found rest
+then_goes First Next value (Err why) found rest = then_refuses First Next value why found rest
+
 -- a stage answers with the refusal of another
 pub stops : {A : Type 0} (R : Found A → Type 0) (result : Result A Refusal) (why : Refusal) → result ≡ Err why → Finds R (Err why) → Finds R result
 stops {A} R result why is found = subst (λ (r : Result A Refusal). Finds R r) (sym is) found

@@ -63,12 +63,17 @@ Selects l script judging (Err fault) = IsExpandCause l script judging fault
 abbrev pub options_of : Settings → Reset → LinkOptions
 options_of s reset = record { clock = s.clock; fixed = s.fixed; resets = reset.ports; reset_len = reset.len }
 
+-- the design with its names, or the line of the first fault
+unfoldable pub LinksTo : ReadTexts → Reset → Found Linked → Type 0
+LinksTo t reset = do
+  inputs ← Staged (HasInputs t.source) link_line
+  settings ← Staged (HasSettings t.script inputs reset.ports) expand_line
+  Staged (Links t.source t.library (options_of settings reset)) link_line
+
 -- the design with its names, and the selected pairs, or the line of the first fault
 unfoldable pub Designs : ReadTexts → Reset → Judging → Found Designed → Type 0
 Designs t reset judging = do
-  inputs ← Staged (HasInputs t.source) link_line
-  settings ← Staged (HasSettings t.script inputs reset.ports) expand_line
-  linked ← Staged (Links t.source t.library (options_of settings reset)) link_line
+  linked ← LinksTo t reset
   selected ← Staged (Selects linked t.script judging) expand_line
   λ found. found ≡ Ok (record { linked = linked; selected = selected })
 

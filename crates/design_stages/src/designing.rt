@@ -6,7 +6,7 @@ ghost use Rattle.exception_expand.specs.Selections.{HasMultipliers};
 ghost use Rattle.link_defs.specs.Usable.{IsUsable};
 ghost use Rattle.fault_lines.specs.Designs.{link_line, expand_line};
 ghost use Rattle.design_stages.specs.Stages.{Finds, Staged};
-ghost use Rattle.design_stages.specs.Designs.{HasInputs, HasSettings, Links, Selects, Designs, AreLawful, CanBeJudged, options_of};
+ghost use Rattle.design_stages.specs.Designs.{HasInputs, HasSettings, Links, Selects, LinksTo, Designs, AreLawful, CanBeJudged, options_of};
 
 use crate::designs::{Designed, ReadTexts, Reset};
 use crate::refusals::Refusal;
@@ -34,12 +34,22 @@ pub fn designed(
     ensures found { Finds (Designs texts.now reset judging) result }
     ensures judged { IfOk result CanBeJudged }
 {
+    let linked = linked(alloc, texts, reset)?;
+    let selected = selected(alloc, &linked, &texts.script, judging)?;
+    Ok(Designed { linked, selected })
+}
+
+/// Links the netlist with its cells, as the constraints and the reset set its inputs.
+pub fn linked(alloc: Global, texts: &ReadTexts, reset: Reset) -> Result<Linked, Refusal>
+    requires lawful { AreLawful texts.now }
+    requires reset { reset.len ≤ 64 }
+    ensures found { Finds (LinksTo texts.now reset) result }
+    ensures usable { IfOk result IsUsable }
+{
     let inputs = inputs(alloc, &texts.source)?;
     let settings = settings_of(alloc, &texts.script, &inputs, &reset.ports)?;
     let options = options_of(settings, reset);
-    let linked = linked(alloc, &texts.source, &texts.library, &options)?;
-    let selected = selected(alloc, &linked, &texts.script, judging)?;
-    Ok(Designed { linked, selected })
+    linked_under(alloc, &texts.source, &texts.library, &options)
 }
 
 /// What is set from outside.
@@ -82,8 +92,8 @@ fn settings_of(
     }
 }
 
-/// The design with its names.
-fn linked(
+/// The design with its names, with these inputs set.
+fn linked_under(
     alloc: Global,
     source: &Source,
     library: &Library,

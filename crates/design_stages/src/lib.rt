@@ -10,7 +10,7 @@ mod designs;
 mod readers;
 mod refusals;
 
-pub use designing::designed;
+pub use designing::{designed, linked};
 pub use designs::{Designed, ReadTexts, Reset};
 pub use readers::{cells, constraints, netlist};
 pub use refusals::Refusal;

@@ -6,7 +6,7 @@ use Rattle.design_stages.specs.declared.designs.ReadTexts.{ReadTexts}
 use Rattle.design_stages.specs.declared.designs.Reset.{Reset}
 use Rattle.design_stages.specs.declared.designs.Designed.{Designed}
 use Rattle.design_stages.specs.Stages.{Found, Then}
-use Rattle.design_stages.specs.Designs.{Designs, CanBeJudged}
+use Rattle.design_stages.specs.Designs.{LinksTo, Designs, CanBeJudged}
 use Rattle.design_stages.proofs.Judging.{can_be_judged}
 
 -- it can be judged, has fewer pairs than a number of 64 bits can count, and is held in reset for as long as is said
@@ -17,8 +17,8 @@ pub record IsKnown (d : Designed) (reset_len : ℕ) : Type 0 where
 
 -- so is a design that is found
 pub known : (texts : ReadTexts) (reset : Reset) (judging : Judging) (d : Designed) → Designs texts reset judging (Ok d) → IsKnown d reset.len
-unfolding Designs Then
-known texts reset judging d (inputs, has, (settings, set, (linked, links, (selected, selects, is)))) =
+unfolding Designs LinksTo Then
+known texts reset judging d (linked, (inputs, has, (settings, set, links)), (selected, selects, is)) =
     let made : Designed = record { linked = linked; selected = selected } in
     let same : made ≡ d = sym (ap (λ (r : Found Designed). elim r [ Ok found ↦ found | Err line ↦ d ]) is) in
     let count : length selected.claims ≡ length selects.chosen =
