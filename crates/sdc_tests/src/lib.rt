@@ -1,9 +1,11 @@
-//! SDC texts as tools write them, and layer by layer their rules: patterns, words, values, scripts and what these set,
-//! against what is worked out by hand.
+//! SDC texts as tools write them, and layer by layer their rules: patterns, words, values, scripts and what these set, and the
+//! text of multicycle pairs, against what is worked out by hand.
 //!
 //! This crate has tests alone.
 #![tactic(auto)]
 
+#[cfg(test)]
+mod multicycles;
 #[cfg(test)]
 mod patterns;
 #[cfg(test)]

@@ -130,7 +130,7 @@ fn fault_text(alloc: Global, fault: &SdcFault) -> Result<String, Fail> {
     })
 }
 
-fn read_text(alloc: Global, text: &str) -> Result<String, Fail> {
+pub(crate) fn read_text(alloc: Global, text: &str) -> Result<String, Fail> {
     match read_sdc(alloc, text.as_bytes()) {
         Ok(script) => script_text(alloc, &script),
         Err(fault) => fault_text(alloc, &fault),

@@ -1,0 +1,54 @@
+use crate::scripts::read_text;
+use multicycle_text::{lines_read_back, push_line, writable};
+use std::test::Fail;
+
+// By the rules of words, lists and patterns: what may not stand there means something in braces, parts a list, matches more
+// than itself or begins an option.
+const NAMES: [(&str, bool); 18] = [
+    ("r1", true),
+    ("_", true),
+    ("u1/cnt_reg[0]", true),
+    ("$x", true),
+    ("a.b:c-d", true),
+    ("[3]", true),
+    ("", false),
+    ("-", false),
+    ("-hier", false),
+    ("w*", false),
+    ("w?", false),
+    ("a b", false),
+    ("a\\b", false),
+    ("{a", false),
+    ("a}", false),
+    ("\"a\"", false),
+    ("a;", false),
+    ("a#", false),
+];
+
+#[test]
+fn a_name_is_written_where_it_means_itself(rt: HostRuntime) {
+    for (name, want) in NAMES {
+        assert_eq!(rt; writable(name.as_bytes()), want, "{name}");
+    }
+}
+
+const LINES: &str = "set_multicycle_path 2 -from [get_cells {r1}] -to [get_cells {r1}]
+set_multicycle_path 16 -from [get_cells {$x}] -to [get_cells {u1/a_reg[0]}]
+";
+
+const COMMANDS: &str = "1 Multi 2 from cells:r1 to cells:r1
+2 Multi 16 from cells:$x to cells:u1/a_reg[0]
+";
+
+// The law says it of all lines; this is that the reader finds memory.
+#[test]
+fn two_pairs_are_written_and_read(rt: HostRuntime) -> Result<(), Fail> {
+    let alloc = rt.alloc();
+    let mut text = Vec::new(alloc);
+    push_line(alloc, &mut text, 2, b"r1", b"r1")?;
+    push_line(alloc, &mut text, 16, b"$x", b"u1/a_reg[0]")?;
+    lines_read_back();
+    assert_eq!(rt; text.as_slice(), LINES.as_bytes());
+    assert_eq!(rt; read_text(alloc, LINES)?.as_str(), COMMANDS);
+    Ok(())
+}
