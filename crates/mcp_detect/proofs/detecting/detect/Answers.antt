@@ -1,0 +1,33 @@
+use Rattle.std.proofs.Common.{arith, sym, subst}
+use Rattle.net_model.specs.declared.netlist.Design.{Design}
+use Rattle.exception_expand.specs.Pairs.{judging_by}
+use Rattle.verdicts.specs.Inductive.{AreAlwaysMet}
+use Rattle.mcp_detect.specs.Detections.{AreTried}
+use Rattle.mcp_detect.proofs.Registers.{all_bare}
+use Rattle.mcp_detect.proofs.Counting.{few_claims}
+use Rattle.mcp_detect.proofs.detecting.detect.Goals as goal
+
+pub all_tried-requires-clause-bare : goal.all_tried-requires-clause-bare
+all_tried-requires-clause-bare c =
+    all_bare c.args.linked.now (judging_by c.args.options.now.hazard 0) c.in_ok-selected.selected c.in_ok-selected.ensures.ok
+
+pub all_tried-requires-clause-met : goal.all_tried-requires-clause-met
+all_tried-requires-clause-met c =
+    subst (λ (d : Design). AreAlwaysMet d c.in_ok-inv.inv.kept) (sym c.in_ok-prepared.ensures) c.in_ok-inv.ensures.met
+
+pub returns-clause-ok : goal.returns-clause-ok
+returns-clause-ok c =
+    let l = c.args.linked.now in
+    let o = c.args.options.now in
+    let s = c.in_ok-selected.selected in
+    let kept = c.in_ok-inv.inv.kept in
+    let tried = c.in_ok-tried.tried in
+    let all : AreTried l.design o kept s tried = subst (λ (d : Design). AreTried d o kept s tried) c.in_ok-prepared.ensures c.in_ok-tried.ensures in
+    record {
+      selected = s;
+      pairs = c.in_ok-selected.ensures.ok;
+      invariants = c.in_ok-inv.ensures.kept;
+      kept_hold = c.in_ok-inv.ensures.met;
+      tried = all;
+      few = omega (arith, all.as_many, few_claims l (judging_by o.hazard 0) s c.in_ok-selected.ensures.ok);
+    }

@@ -1,0 +1,4 @@
+pub mod Options
+pub mod Scripts
+pub mod Detections
+pub mod Causes

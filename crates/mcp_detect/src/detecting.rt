@@ -1,0 +1,69 @@
+//! All pairs of a design.
+ghost use Rattle.std.specs.Prelude.{◌≡◌, All, IfOk, IfErr, OnOk, length};
+ghost use Rattle.net_model.specs.Netlist.{IsSound};
+ghost use Rattle.net_model.specs.Fits.{Fits, NamesRegs};
+ghost use Rattle.verdicts.specs.Inductive.{AreAlwaysMet};
+ghost use Rattle.link_defs.specs.Usable.{IsUsable};
+ghost use Rattle.mcp_detect.specs.Options.{AreInRange};
+ghost use Rattle.mcp_detect.specs.Detections.{AreDetected, AreTried, IsBare};
+ghost use Rattle.mcp_detect.specs.Causes.{IsDetectCause, HasFewPairs};
+
+use crate::detections::{Detected, Tried};
+use crate::faults::DetectFault;
+use crate::options::DetectOptions;
+use crate::selecting::selected;
+use crate::tries::tried;
+use cnf_encode::Prepared;
+use exception_expand::Selected;
+use invariants::invariants;
+use link_defs::Linked;
+use sdcv_base::Seq;
+use std::alloc::{AllocError, Global};
+use verdicts::InvSet;
+
+/// The pairs of registers between which a path leads, each with the largest multiplier up to which its claims are justified, at
+/// most the bound. The clauses over register bits with which they are proved are kept for all pairs together, by the claims of
+/// multiplier 2.
+pub fn detect(
+    alloc: Global,
+    linked: &Linked,
+    options: &DetectOptions,
+) -> Result<Detected, DetectFault>
+    requires linked { IsUsable linked.now }
+    requires range { AreInRange options.now }
+    ensures ok { IfOk result (AreDetected linked.now options.now) }
+    ensures err { IfErr result (IsDetectCause linked.now) }
+    ensures none { OnOk result (HasFewPairs linked.now) }
+{
+    let selected = selected(alloc, linked, options.hazard)?;
+    let (depth, budget) = (options.inv_depth, options.budget);
+    let inv = invariants(alloc, &linked.design, &selected.claims, depth, budget)?;
+    let prepared = Prepared::of(alloc, &linked.design)?;
+    let tried = all_tried(alloc, &prepared, &selected, &inv, options)?;
+    Ok(Detected { inv, tried })
+}
+
+fn all_tried(
+    alloc: Global,
+    design: &Prepared,
+    selected: &Selected,
+    inv: &InvSet,
+    options: &DetectOptions,
+) -> Result<Seq<Tried>, AllocError>
+    requires sound { IsSound design.now }
+    requires as_many { length selected.now.claims ≡ length selected.now.pairs }
+    requires fit { All (Fits design.now) selected.now.claims }
+    requires bare { All IsBare selected.now.claims }
+    requires names { All (NamesRegs design.now) inv.now.kept }
+    requires met { AreAlwaysMet design.now inv.now.kept }
+    requires range { AreInRange options.now }
+    ensures { IfOk result (AreTried design.now options.now inv.now.kept selected.now) }
+{
+    let mut all = Seq::new(alloc);
+    for place in 0..selected.claims.len() {
+        let line = selected.pairs.item(place);
+        let claim = selected.claims.item(place);
+        all.push(tried(alloc, design, line, claim, inv, options)?)?;
+    }
+    Ok(all)
+}
