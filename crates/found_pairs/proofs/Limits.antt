@@ -1,0 +1,91 @@
+-- A script of few lines meets no limit.
+use Rattle.std.proofs.Common.{arith, ◌≡◌, ◌∙◌, ℕ, ◌+◌, ◌≤◌, List, [], ◌∷◌, ◌++◌, length, refl, sym, ap, subst, inl, inr}
+use Rattle.std.specs.Prelude.{Option, Some}
+use Rattle.std.proofs.lemmas.List.{length-map}
+use Rattle.std.proofs.lemmas.List.Sums.{count_by-le-length}
+use Rattle.sdcv_base.specs.declared.limits.LimitName.{LimitName}
+use Rattle.sdcv_base.specs.declared.limits.LimitName.TheVariants as limit
+use Rattle.net_model.specs.declared.claims.Claim.{Claim}
+use Rattle.net_model.proofs.Members.{In, In-from_Contains}
+use Rattle.net_paths.specs.Those.{AreThose, All_seen, Taken, Left_out}
+use Rattle.net_paths.proofs.Sifting.{those_same}
+use Rattle.link_defs.specs.declared.names.Linked.{Linked}
+use Rattle.script_types.specs.declared.scripts.Exception.{Exception}
+use Rattle.script_types.specs.declared.scripts.What.TheVariants.{Claiming}
+use Rattle.script_types.specs.declared.scripts.Command.{Command}
+use Rattle.script_types.specs.declared.scripts.Script.{Script}
+use Rattle.sdc_settings.specs.declared.faults.ExpandFault.{ExpandFault}
+use Rattle.sdc_settings.specs.declared.faults.ExpandFault.TheVariants as fault
+use Rattle.exception_expand.specs.declared.claims.Judging.{Judging}
+use Rattle.exception_expand.specs.Causes.{HasMore, HasMoreJudged, HasManySets, IsOverLimit, IsExpandCause}
+use Rattle.exception_expand.specs.Pairs.{is_judged}
+use Rattle.exception_expand.specs.Selections as spec
+use Rattle.exception_expand.specs.Selections.{Chosen}
+use Rattle.multicycle_text.specs.Lines.{FoundLine}
+use Rattle.multicycle_text.specs.Scripts.{exception_by, commands_from, script_by}
+
+-- no line has through sets
+no_sets : (number : ℕ) (lines : List FoundLine) (c : Command) (e : Exception) → In c (commands_from number lines) → c.what ≡ Claiming e → e.through ≡ []
+no_sets number [] c e has is = absurd has
+no_sets number (x ∷ lines) c e (inl here) is =
+    let same : exception_by x ≡ Claiming e = ap (λ (d : Command). d.what) here ∙ is in
+    cc
+no_sets number (x ∷ lines) c e (inr later) is = no_sets (number + 1) lines c e later is
+
+-- so none of their commands has too many
+few_sets : (lines : List FoundLine) → ¬ HasManySets (script_by lines)
+few_sets lines many =
+    let none = no_sets 1 lines many.command many.exception (In-from_Contains (commands_from 1 lines) many.command many.stands) many.claiming in
+    omega (arith, many.more, ap (λ (xs : List _). length xs) none)
+
+-- those of the first items are no more than those of all
+those_fewer : {A : Type 0} (P : A → Type 0) (xs ys found all : List A) → AreThose P xs found → AreThose P (xs ++ ys) all → length found ≤ length all
+those_fewer P _ ys _ all All_seen those = omega arith
+those_fewer P _ ys _ _ (Taken x xs found holds rest) (Taken x' xs' all holds' rest') = omega (arith, those_fewer P xs ys found all rest rest')
+those_fewer P _ ys _ all (Taken x xs found holds rest) (Left_out x' xs' all' not rest') = absurd (not holds)
+those_fewer P _ ys found _ (Left_out x xs found' not rest) (Taken x' xs' all holds rest') = absurd (not holds)
+those_fewer P _ ys found all (Left_out x xs found' not rest) (Left_out x' xs' all' not' rest') = those_fewer P xs ys found all rest rest'
+
+-- a script that selects few pairs does not select more than its limit of them
+few_pairs : (l : Linked) (script : Script) (chosen : List Chosen) → AreThose (spec.IsSelected l script) (spec.script_pairs l script) chosen
+    → length chosen ≤ 10000 → ¬ HasMore (spec.IsSelected l script) (spec.script_pairs l script) 100000
+few_pairs l script chosen those few many =
+    let all : AreThose (spec.IsSelected l script) (many.first ++ many.rest) chosen =
+    subst (λ (xs : List Chosen). AreThose (spec.IsSelected l script) xs chosen) many.whole those in
+    omega (arith, many.more, few, those_fewer (spec.IsSelected l script) many.first many.rest many.found chosen many.those all)
+
+-- nor makes more claims that need a verdict
+few_judged : (l : Linked) (script : Script) (judging : Judging) (chosen : List Chosen)
+    → AreThose (spec.IsSelected l script) (spec.script_pairs l script) chosen → length chosen ≤ 10000 → ¬ HasMoreJudged l script judging 10000
+few_judged l script judging chosen those few many =
+    let same : many.chosen ≡ chosen = those_same (spec.IsSelected l script) (spec.script_pairs l script) many.chosen chosen many.those those in
+    let claims : length many.claims ≡ length many.chosen =
+    sym (length-map many.claims Some) ∙ ap (λ (os : List (Option Claim)). length os) many.claimed ∙ length-map many.chosen (spec.claim_of l script judging) in
+    omega (arith, many.more, few, claims, ap (λ (xs : List Chosen). length xs) same, count_by-le-length (is_judged l.design) many.claims)
+
+-- whatever limit
+within_limit : (l : Linked) (lines : List FoundLine) (judging : Judging) (chosen : List Chosen) (what : LimitName) (number : ℕ)
+    → AreThose (spec.IsSelected l (script_by lines)) (spec.script_pairs l (script_by lines)) chosen → length chosen ≤ 10000
+    → ¬ IsOverLimit l (script_by lines) judging what number
+within_limit l lines judging chosen limit.Through number those few is = few_sets lines is.1
+within_limit l lines judging chosen limit.Pairs number those few is = few_pairs l (script_by lines) chosen those few is.1
+within_limit l lines judging chosen limit.Judged number those few is = few_judged l (script_by lines) judging chosen those few is.1
+within_limit l lines judging chosen limit.Nets number those few is = is
+within_limit l lines judging chosen limit.Registers number those few is = is
+within_limit l lines judging chosen limit.Inputs number those few is = is
+within_limit l lines judging chosen limit.Outputs number those few is = is
+within_limit l lines judging chosen limit.Instances number those few is = is
+within_limit l lines judging chosen limit.Pins number those few is = is
+within_limit l lines judging chosen limit.Hierarchy number those few is = is
+
+-- a script of few lines is refused for want of memory alone
+pub memory_alone : (l : Linked) (lines : List FoundLine) (judging : Judging) (chosen : List Chosen) (f : ExpandFault)
+    → AreThose (spec.IsSelected l (script_by lines)) (spec.script_pairs l (script_by lines)) chosen → length chosen ≤ 10000
+    → IsExpandCause l (script_by lines) judging f → f ≡ fault.Memory
+memory_alone l lines judging chosen (fault.Limit what number) those few is = absurd (within_limit l lines judging chosen what number those few is)
+memory_alone l lines judging chosen fault.Memory those few is = refl
+memory_alone l lines judging chosen (fault.TwoClocks first second) those few is = absurd is
+memory_alone l lines judging chosen (fault.ClockNotPort line) those few is = absurd is
+memory_alone l lines judging chosen (fault.CaseTwice first second) those few is = absurd is
+memory_alone l lines judging chosen (fault.CaseOnReset line name) those few is = absurd is
+memory_alone l lines judging chosen (fault.CaseOnPin line name) those few is = absurd is

@@ -1,0 +1,131 @@
+-- The commands of a script of lines, as a report lists them: each selects one pair, and none has a warning.
+use Rattle.std.proofs.Common.{arith, ◌≡◌, ◌∙◌, ◌≢◌, ℕ, zero, suc, ◌+◌, ◌<◌, true, List, [], ◌∷◌, ◌++◌, length, refl, sym, ap, subst}
+use Rattle.std.specs.Prelude.{Option, Some, ◌==◌}
+use Rattle.std.specs.List.{AllZip}
+use Rattle.sdcv_base.specs.declared.kinds.Kind.TheVariants.{Multi}
+use Rattle.sdcv_base.specs.declared.kinds.Edge.TheVariants.{Any}
+use Rattle.net_model.specs.declared.claims.Start.TheVariants.{Reg as RegStart}
+use Rattle.net_model.specs.declared.claims.End.TheVariants.{Reg as RegEnd}
+use Rattle.link_defs.specs.declared.names.CellName.{CellName}
+use Rattle.link_defs.specs.declared.names.Linked.{Linked}
+use Rattle.link_defs.specs.Usable.{IsUsable}
+use Rattle.script_types.specs.declared.scripts.Script.{Script}
+use Rattle.sdc_objects.specs.Places.{each_at}
+use Rattle.sdc_objects.specs.Standing.{cell_at_row, reg_start, reg_end, dropped_of, from_column, to_column, warning, warnings}
+use Rattle.sdc_objects.specs.declared.things.Place.TheVariants.{From, To}
+use Rattle.sdc_objects.specs.declared.things.Thing.{Thing}
+use Rattle.sdc_objects.specs.declared.things.Thing.TheVariants as thing
+use Rattle.sdc_objects.specs.declared.warnings.Warning.{Warning}
+use Rattle.exception_expand.specs.declared.pairs.Pair.{Pair}
+use Rattle.exception_expand.specs.declared.selections.CommandLine.{CommandLine}
+use Rattle.exception_expand.specs.declared.selections.Listing.TheVariants.{Claiming as ListsClaims}
+use Rattle.exception_expand.specs.Selections as spec
+use Rattle.exception_expand.specs.Selections.{Chosen, chosen_by, count_at}
+use Rattle.exception_expand.proofs.Counting.{count_append, count_own, count_other}
+use Rattle.multicycle_text.specs.Lines.{FoundLine}
+use Rattle.multicycle_text.specs.Names.{is_writable}
+use Rattle.multicycle_text.specs.Scripts.{cell_named, commands_from}
+use Rattle.found_pairs.specs.Laws.{commands_listed}
+use Rattle.found_pairs.proofs.Names.{from_named, to_named}
+use Rattle.found_pairs.proofs.RegCells.{IsRegCell}
+use Rattle.found_pairs.proofs.Scripts.{IsLineOf, chosen_from}
+
+-- the commands before them select none of these pairs
+none_before : (place other : ℕ) (pairs : List Pair) → other < place → count_at (chosen_from place pairs) other ≡ 0
+none_before place other [] low = refl
+none_before place other (p ∷ pairs) low =
+    let differ : place ≢ other = omega (arith, low) in
+    omega (
+      arith,
+      count_append (λ (x : Chosen). x.command == other) (chosen_by place p ∷ []) (chosen_from (place + 1) pairs),
+      count_other place other (p ∷ []) differ,
+      none_before (place + 1) other pairs (omega (arith, low)),
+    )
+
+-- each of their own commands selects one pair
+pub one_each : (place j : ℕ) (pairs : List Pair) → j < length pairs → count_at (chosen_from place pairs) (place + j) ≡ 1
+one_each place j [] low = absurd (omega (arith, low))
+one_each place zero (p ∷ pairs) low =
+    let at : place + 0 ≡ place = omega arith in
+    let here : count_at (chosen_from place (p ∷ pairs)) place ≡ 1 =
+    omega (
+      arith,
+      count_append (λ (x : Chosen). x.command == place) (chosen_by place p ∷ []) (chosen_from (place + 1) pairs),
+      count_own place (p ∷ []),
+      none_before (place + 1) place pairs (omega arith),
+    ) in
+    ap (count_at (chosen_from place (p ∷ pairs))) at ∙ here
+one_each place (suc j) (p ∷ pairs) low =
+    let at : place + suc j ≡ (place + 1) + j = omega arith in
+    let differ : place ≢ (place + 1) + j = omega arith in
+    let later : count_at (chosen_from place (p ∷ pairs)) ((place + 1) + j) ≡ 1 =
+    omega (
+      arith,
+      count_append (λ (x : Chosen). x.command == (place + 1) + j) (chosen_by place p ∷ []) (chosen_from (place + 1) pairs),
+      count_other place ((place + 1) + j) (p ∷ []) differ,
+      one_each (place + 1) j pairs (omega (arith, low)),
+    ) in
+    ap (count_at (chosen_from place (p ∷ pairs))) at ∙ later
+
+-- one thing that stands for something has no warning
+no_warning : {A : Type 0} (column : Thing → Option (List A)) (text : List ℕ) (t : Thing) (xs : List A) → column t ≡ Some xs
+    → warning text (t ∷ []) (dropped_of column (t ∷ [])) ≡ []
+no_warning column text t xs stands = rw stands refl
+
+-- the name of a register's cell has none after `-from`
+start_warns : (l : Linked) (script : Script) (r : ℕ) (name : List ℕ) → IsUsable l → is_writable name ≡ true → IsRegCell l r name
+    → warnings (from_column Any) l script From (cell_named name) ≡ []
+start_warns l script r name usable can c =
+    let can_cell : is_writable c.cell.name ≡ true = subst (λ (n : List ℕ). is_writable n ≡ true) (sym c.named) can in
+    let stands : from_column Any l (thing.Cell c.place) ≡ Some (RegStart r ∷ []) =
+    ap (λ (o : Option CellName). (cell_at_row o).from) c.here ∙ ap reg_start c.reg in
+    let one : warning c.cell.name (thing.Cell c.place ∷ []) (dropped_of (from_column Any l) (thing.Cell c.place ∷ [])) ≡ [] =
+    no_warning (from_column Any l) c.cell.name (thing.Cell c.place) (RegStart r ∷ []) stands in
+    subst (λ (n : List ℕ). warnings (from_column Any) l script From (cell_named n) ≡ []) c.named
+    (ap (λ (ts : List Thing). warning c.cell.name ts (dropped_of (from_column Any l) ts) ++ []) (from_named l script c.place c.cell usable can_cell c.here)
+    ∙ ap (λ (ws : List Warning). ws ++ []) one)
+
+-- and none after `-to`
+end_warns : (l : Linked) (script : Script) (r : ℕ) (name : List ℕ) → IsUsable l → is_writable name ≡ true → IsRegCell l r name
+    → warnings to_column l script To (cell_named name) ≡ []
+end_warns l script r name usable can c =
+    let can_cell : is_writable c.cell.name ≡ true = subst (λ (n : List ℕ). is_writable n ≡ true) (sym c.named) can in
+    let stands : to_column l (thing.Cell c.place) ≡ Some (RegEnd r ∷ []) =
+    ap (λ (o : Option CellName). (cell_at_row o).to) c.here ∙ ap reg_end c.reg in
+    let one : warning c.cell.name (thing.Cell c.place ∷ []) (dropped_of (to_column l) (thing.Cell c.place ∷ [])) ≡ [] =
+    no_warning (to_column l) c.cell.name (thing.Cell c.place) (RegEnd r ∷ []) stands in
+    subst (λ (n : List ℕ). warnings to_column l script To (cell_named n) ≡ []) c.named
+    (ap (λ (ts : List Thing). warning c.cell.name ts (dropped_of (to_column l) ts) ++ []) (to_named l script c.place c.cell usable can_cell c.here)
+    ∙ ap (λ (ws : List Warning). ws ++ []) one)
+
+-- the commands, where each selects one pair
+pub lines_listed : (l : Linked) (script : Script) (chosen : List Chosen) (place number : ℕ) (lines : List FoundLine) (pairs : List Pair) → IsUsable l
+    → AllZip (IsLineOf l) lines pairs → ((j : ℕ) → j < length lines → count_at chosen (place + j) ≡ 1)
+    → each_at (spec.lines_at l script chosen) place (commands_from number lines) ≡ commands_listed number lines
+lines_listed l script chosen place number [] [] usable are one = refl
+lines_listed l script chosen place number [] (p ∷ pairs) usable are one = absurd are
+lines_listed l script chosen place number (x ∷ lines) [] usable are one = absurd are
+lines_listed l script chosen place number (x ∷ lines) (p ∷ pairs) usable (is, are) one =
+    let at : place + 0 ≡ place = omega arith in
+    let count : count_at chosen place ≡ 1 = subst (λ (n : ℕ). count_at chosen n ≡ 1) at (one 0 (omega arith)) in
+    let from = start_warns l script is.regs.first x.start usable is.readable.start (subst (IsRegCell l is.regs.first) (sym is.start) is.regs.start_cell) in
+    let to = end_warns l script is.regs.second x.end usable is.readable.end (subst (IsRegCell l is.regs.second) (sym is.end_) is.regs.end_cell) in
+    let told = λ (first last : List Warning). (first ++ []) ++ last in
+    let rest = each_at (spec.lines_at l script chosen) (place + 1) (commands_from (number + 1) lines) in
+    let ones : (j : ℕ) → j < length lines → count_at chosen ((place + 1) + j) ≡ 1 =
+    λ j low. let on : place + suc j ≡ (place + 1) + j = omega arith in subst (λ (n : ℕ). count_at chosen n ≡ 1) on (one (suc j) (omega (arith, low))) in
+    let later = lines_listed l script chosen (place + 1) (number + 1) lines pairs usable are ones in
+    let line = λ (n : ℕ) (ws : List Warning). spec.command_line number (ListsClaims (Multi x.k) Any n) ws in
+    let from_told = warnings (from_column Any) l script From (cell_named x.start) in
+    let to_told = warnings to_column l script To (cell_named x.end) in
+    ap (λ (n : ℕ). line n (told from_told to_told) ∷ rest) count
+    ∙ ap (λ (ws : List Warning). line 1 (told ws to_told) ∷ rest) from
+    ∙ ap (λ (ws : List Warning). line 1 (told [] ws) ∷ rest) to
+    ∙ ap (λ (ls : List CommandLine). line 1 [] ∷ ls) later
+
+-- there are as many lines as pairs
+pub length-lines : (l : Linked) (lines : List FoundLine) (pairs : List Pair) → AllZip (IsLineOf l) lines pairs → length lines ≡ length pairs
+length-lines l [] [] are = refl
+length-lines l [] (p ∷ pairs) are = absurd are
+length-lines l (x ∷ lines) [] are = absurd are
+length-lines l (x ∷ lines) (p ∷ pairs) (is, are) = omega (arith, length-lines l lines pairs are)

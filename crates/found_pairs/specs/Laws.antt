@@ -1,0 +1,62 @@
+-- What the text of the found pairs selects.
+use Rattle.std.specs.Prelude.{◌≡◌, ℕ, ◌+◌, List, [], ◌∷◌, ◌++◌, All, Ok}
+use Rattle.sdcv_base.specs.declared.kinds.Kind.TheVariants.{Multi}
+use Rattle.sdcv_base.specs.declared.kinds.Edge.TheVariants.{Any}
+use Rattle.net_model.specs.Judge.{Holds}
+use Rattle.net_model.specs.declared.claims.Claim.{Claim}
+use Rattle.link_defs.specs.declared.names.Linked.{Linked}
+use Rattle.sdc_text.specs.Scripts.{script_of}
+use Rattle.sdc_settings.specs.declared.faults.ExpandFault.{ExpandFault}
+use Rattle.sdc_settings.specs.declared.faults.ExpandFault.TheVariants.{Memory}
+use Rattle.sdc_objects.specs.Places.{where_true}
+use Rattle.exception_expand.specs.declared.claims.Judging.{Judging}
+use Rattle.exception_expand.specs.declared.selections.CommandLine.{CommandLine}
+use Rattle.exception_expand.specs.declared.selections.Listing.TheVariants.{Claiming as ListsClaims}
+use Rattle.exception_expand.specs.declared.selections.PairLine.{PairLine}
+use Rattle.exception_expand.specs.declared.selections.Selected.{Selected}
+use Rattle.exception_expand.specs.Causes.{IsExpandCause}
+use Rattle.exception_expand.specs.Pairs.{judging_by}
+use Rattle.exception_expand.specs.Selections.{IsSelectionOf, command_line}
+use Rattle.mcp_detect.specs.declared.options.DetectOptions.{DetectOptions}
+use Rattle.mcp_detect.specs.declared.detections.Tried.{Tried}
+use Rattle.mcp_detect.specs.declared.detections.Detected.{Detected}
+use Rattle.mcp_detect.specs.Detections.{with_multiplier}
+use Rattle.mcp_detect.specs.Scripts.{registers_script}
+use Rattle.multicycle_text.specs.Lines.{FoundLine}
+use Rattle.found_pairs.specs.Lines.{is_written, found_lines, found_bytes, found_script}
+
+-- the pairs of these lines as a report lists them, each by a command of its own, from this number on
+abbrev pub pairs_listed : ℕ → List FoundLine → List PairLine
+pairs_listed number [] = []
+pairs_listed number (x ∷ more) = record { command = number; start = x.start; end = x.end } ∷ pairs_listed (number + 1) more
+
+-- the commands of these lines as a report lists them, on lines from this number on: each selects one pair, and has no warning
+abbrev pub commands_listed : ℕ → List FoundLine → List CommandLine
+commands_listed number [] = []
+commands_listed number (x ∷ more) = command_line number (ListsClaims (Multi x.k) Any 1) [] ∷ commands_listed (number + 1) more
+
+-- the claims of those pairs that are written, each with its multiplier, where these are the claims of all pairs that were tried
+abbrev pub written_claims : List Tried → List Claim → List Claim
+written_claims [] claims = []
+written_claims (t ∷ tried) [] = []
+written_claims (t ∷ tried) (claim ∷ claims) = where_true (is_written t) (with_multiplier t.k claim) ++ written_claims tried claims
+
+-- exactly the written pairs are selected, in the order in which they were tried, each by a command of its own and without a
+-- warning; what is claimed of each is what was claimed when it was tried, with its multiplier
+pub record AreWritten (f : Detected) (tried selected : Selected) : Type 0 where
+  pub commands : selected.commands ≡ commands_listed 1 (found_lines f)
+  pub pairs : selected.pairs ≡ pairs_listed 1 (found_lines f)
+  pub claims : selected.claims ≡ written_claims f.tried tried.claims
+
+-- how claims were judged when they were tried
+abbrev pub judging_of : DetectOptions → Judging
+judging_of o = judging_by o.hazard 0
+
+-- the text is read as its script, which is refused for want of memory alone, and selects exactly the written pairs; all that it
+-- claims holds in every run
+pub record SelectsFound (l : Linked) (o : DetectOptions) (f : Detected) : Type 0 where
+  pub script : script_of (found_bytes f) ≡ Ok (found_script f)
+  pub cause : (fault : ExpandFault) → IsExpandCause l (found_script f) (judging_of o) fault → fault ≡ Memory
+  pub exactly : (tried selected : Selected) → IsSelectionOf l registers_script (judging_of o) tried
+      → IsSelectionOf l (found_script f) (judging_of o) selected → AreWritten f tried selected
+  pub hold : (selected : Selected) → IsSelectionOf l (found_script f) (judging_of o) selected → All (Holds l.design) selected.claims
