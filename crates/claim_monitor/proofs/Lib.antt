@@ -1,0 +1,12 @@
+pub mod Showing
+pub mod InputLits
+pub mod NetLits
+pub mod CaptureLits
+pub mod LayerLits
+pub mod LateLits
+pub mod LateCaptures
+pub mod Toggling
+pub mod Catching
+pub mod Badness
+pub mod Judging
+pub mod Fronting
