@@ -1,6 +1,5 @@
 -- The command that `clap` is given.
 use Rattle.std.specs.Prelude.{◌≡◌, List, fold, Some, true, false, codes}
-use Rattle.std.specs.Borrow.{Bor}
 use Rattle.clap.specs.declared.builder.Command.{Command}
 use Rattle.clap.specs.declared.builder.Command.TheViews.{out-Command as fields_of}
 use Rattle.clap.specs.declared.builder.ArgAction.TheVariants.{Set, SetTrue}
@@ -9,6 +8,7 @@ use Rattle.clap.specs.Words.{App, Rule, Shape, app_of, new_app, new_rule, with_r
 use Rattle.clap_words.specs.declared.commands.Form.{Form}
 use Rattle.clap_words.specs.declared.commands.Form.TheVariants.{Flag, Valued, Needed}
 use Rattle.clap_words.specs.declared.commands.OptionRow.{OptionRow as TheOptionRow}
+use Rattle.clap_words.specs.declared.commands.PositionRow.{PositionRow as ThePositionRow}
 use Rattle.clap_words.specs.declared.commands.CommandRow.{CommandRow as TheCommandRow}
 use Rattle.clap_words.specs.Commands.{Text, CommandRow, command_rows}
 
@@ -51,8 +51,8 @@ AddsShape old shape new = Makes old (λ a. with_subcommand a shape) new
 abbrev pub IsCommand : App → Command → Type 0
 IsCommand a c = (app_of c ≡ a) × ((fields_of c).has_globals ≡ false)
 
-abbrev pub with_positions : List (Bor Text) → App → App
-with_positions ids a = fold (λ b id. with_rule b (position_rule id.now)) a ids
+abbrev pub with_positions : List ThePositionRow → App → App
+with_positions positions a = fold (λ b row. with_rule b (position_rule row.id.now)) a positions
 
 abbrev pub with_options : List TheOptionRow → App → App
 with_options options a = fold (λ b row. with_rule b (option_rule row.id.now row.form)) a options

@@ -53,8 +53,16 @@ replay_row = record {
 abbrev pub demo_row : CommandRow
 demo_row = record { name = codes "demo"; positions = codes "SEED" ∷ codes "SIZE" ∷ []; options = [] }
 
+abbrev pub detect_row : CommandRow
+detect_row = record {
+  name = codes "detect";
+  positions = codes "V" ∷ codes "L" ∷ codes "S" ∷ [];
+  options = needed (codes "out") ∷ flag (codes "hazard") ∷ valued (codes "reset") ∷ valued (codes "reset-cycles") ∷ valued (codes "depth")
+      ∷ valued (codes "budget") ∷ valued (codes "inv-depth") ∷ valued (codes "bound") ∷ [];
+}
+
 abbrev pub command_rows : List CommandRow
-command_rows = verify_row ∷ check_row ∷ replay_row ∷ demo_row ∷ []
+command_rows = verify_row ∷ check_row ∷ replay_row ∷ demo_row ∷ detect_row ∷ []
 
 -- a row of the program's table without its references
 abbrev pub seen_option : TheOptionRow → OptionRow
@@ -63,6 +71,6 @@ seen_option row = record { id = row.id.now; form = row.form }
 abbrev pub seen_row : TheCommandRow → CommandRow
 seen_row row = record {
   name = row.name.now;
-  positions = map (λ id. id.now) row.positions.now;
+  positions = map (λ position. position.id.now) row.positions.now;
   options = map seen_option row.options.now;
 }

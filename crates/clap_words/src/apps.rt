@@ -5,7 +5,7 @@ ghost use Rattle.clap.specs.declared.builder.Command.TheViews.{out-Command as fi
 ghost use Rattle.clap_words.specs.Apps.{AddsRule, AddsShape, IsCommand, Makes, app_from, option_rule, position_rule};
 ghost use Rattle.clap_words.specs.Apps.{sdcv_app, top_app, with_options, with_positions};
 
-use crate::commands::{CommandRow, Form, OptionRow, rows};
+use crate::commands::{CommandRow, Form, OptionRow, PositionRow, rows};
 use clap::{Arg, ArgAction, Command};
 use std::alloc::{AllocError, Global};
 
@@ -38,13 +38,13 @@ fn with<'a>(command: Command<'a>, arg: Arg<'a>) -> Result<Command<'a>, AllocErro
 fn with_positions<'a>(
     alloc: Global,
     start: Command<'a>,
-    ids: &'static [&'static str],
+    positions: &'static [PositionRow],
 ) -> Result<Command<'a>, AllocError>
-    ensures { IfOk result (Makes start.entry (with_positions ids.now)) }
+    ensures { IfOk result (Makes start.entry (with_positions positions.now)) }
 {
     let mut command = start;
-    for id in ids {
-        command = with(command, position(alloc, *id))?;
+    for row in positions {
+        command = with(command, position(alloc, row.id))?;
     }
     Ok(command)
 }

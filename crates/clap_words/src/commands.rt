@@ -1,8 +1,9 @@
-//! The commands that words may name, each with its positions and its options.
+//! The commands that words may name, each with its positions and its options, and what help says of them.
 ghost use Rattle.std.specs.Prelude.{◌≡◌, map};
 ghost use Rattle.clap_words.specs.Commands.{command_rows, seen_row};
 
 use crate::commands::Form::{Flag, Needed, Valued};
+use crate::rules::ValueRule;
 
 /// How an option stands in the words.
 #[derive(Clone, Copy)]
@@ -15,70 +16,189 @@ pub enum Form {
     Needed,
 }
 
+/// A position, which help calls by its id.
+#[derive(Clone, Copy)]
+pub struct PositionRow {
+    pub id: &'static str,
+    /// What its word has to be. `sdcv_words` judges it.
+    pub rule: ValueRule,
+    pub sentence: &'static str,
+}
+
 /// An option, whose word is its id after `--`.
 #[derive(Clone, Copy)]
 pub struct OptionRow {
     pub id: &'static str,
     pub form: Form,
+    /// What help calls its value. A flag has none.
+    pub value: &'static str,
+    /// What its value has to be. `sdcv_words` judges it.
+    pub rule: ValueRule,
+    pub sentence: &'static str,
 }
 
-/// A command, with the ids of its positions in their order.
+/// A command, with its positions in their order.
 #[derive(Clone, Copy)]
 pub struct CommandRow {
     pub name: &'static str,
-    pub positions: &'static [&'static str],
+    pub sentence: &'static str,
+    pub positions: &'static [PositionRow],
     pub options: &'static [OptionRow],
 }
 
-const HAZARD: OptionRow = OptionRow {
-    id: "hazard",
-    form: Flag,
+const V: PositionRow = PositionRow {
+    id: "V",
+    rule: ValueRule::Text,
+    sentence: "Structural Verilog netlist",
 };
 
-const LAG: OptionRow = OptionRow {
-    id: "lag",
-    form: Valued,
+const L: PositionRow = PositionRow {
+    id: "L",
+    rule: ValueRule::Text,
+    sentence: "Liberty file of its cells, or the word builtin",
 };
 
-const JSON: OptionRow = OptionRow {
-    id: "json",
-    form: Flag,
+const S: PositionRow = PositionRow {
+    id: "S",
+    rule: ValueRule::Text,
+    sentence: "SDC constraints",
 };
 
-const RESET: OptionRow = OptionRow {
-    id: "reset",
-    form: Valued,
+const CERT: PositionRow = PositionRow {
+    id: "CERT",
+    rule: ValueRule::Text,
+    sentence: "Certificate that a verification saved",
 };
 
-const RESET_CYCLES: OptionRow = OptionRow {
-    id: "reset-cycles",
-    form: Valued,
+const REPORT: PositionRow = PositionRow {
+    id: "REPORT",
+    rule: ValueRule::Text,
+    sentence: "Report that a verification printed by lines",
+};
+
+const PAIR: PositionRow = PositionRow {
+    id: "PAIR",
+    rule: ValueRule::Number {
+        least: 1,
+        most: u64::MAX,
+    },
+    sentence: "Number of a refuted pair in the report",
+};
+
+const SEED: PositionRow = PositionRow {
+    id: "SEED",
+    rule: ValueRule::Number {
+        least: 0,
+        most: u64::MAX,
+    },
+    sentence: "Number from which the design is drawn",
+};
+
+const SIZE: PositionRow = PositionRow {
+    id: "SIZE",
+    rule: ValueRule::Number {
+        least: 1,
+        most: 160,
+    },
+    sentence: "Count of its blocks, 1 to 160",
 };
 
 const OUT: OptionRow = OptionRow {
     id: "out",
     form: Needed,
+    value: "CERT",
+    rule: ValueRule::Text,
+    sentence: "Save the certificate of the justified pairs",
+};
+
+const HAZARD: OptionRow = OptionRow {
+    id: "hazard",
+    form: Flag,
+    value: "",
+    rule: ValueRule::Text,
+    sentence: "Judge captures however the start's change glitches through the gates",
+};
+
+const LAG: OptionRow = OptionRow {
+    id: "lag",
+    form: Valued,
+    value: "L",
+    rule: ValueRule::Number { least: 0, most: 8 },
+    sentence: "Judge a false path at L captures more than the first, 0 to 8 (else 0)",
+};
+
+const JSON: OptionRow = OptionRow {
+    id: "json",
+    form: Flag,
+    value: "",
+    rule: ValueRule::Text,
+    sentence: "Print the report as JSON",
+};
+
+const RESET: OptionRow = OptionRow {
+    id: "reset",
+    form: Valued,
+    value: "LIST",
+    rule: ValueRule::Ports,
+    sentence: "Hold input ports in reset: PORT=0 or PORT=1, parted by commas",
+};
+
+const RESET_CYCLES: OptionRow = OptionRow {
+    id: "reset-cycles",
+    form: Valued,
+    value: "N",
+    rule: ValueRule::Number { least: 0, most: 64 },
+    sentence: "Hold them for N cycles, 0 to 64 (else 1 with --reset, 0 without)",
 };
 
 const DEPTH: OptionRow = OptionRow {
     id: "depth",
     form: Valued,
+    value: "D",
+    rule: ValueRule::Number { least: 0, most: 64 },
+    sentence: "Seek proofs by induction up to depth D, 0 to 64 (else 8)",
 };
 
 const BUDGET: OptionRow = OptionRow {
     id: "budget",
     form: Valued,
+    value: "B",
+    rule: ValueRule::Number {
+        least: 1,
+        most: 10_000_000,
+    },
+    sentence: "Learn at most B clauses for a query, 1 to 10000000 (else 20000)",
 };
 
 const INV_DEPTH: OptionRow = OptionRow {
     id: "inv-depth",
     form: Valued,
+    value: "M",
+    rule: ValueRule::Number { least: 0, most: 8 },
+    sentence: "Seek kept clauses by induction of depth M, 0 to 8 (else 1)",
 };
 
-const ROWS: [CommandRow; 4] = [
+const OUT_SDC: OptionRow = OptionRow {
+    id: "out",
+    form: Needed,
+    value: "SDC",
+    rule: ValueRule::Text,
+    sentence: "Save the found pairs as SDC",
+};
+
+const BOUND: OptionRow = OptionRow {
+    id: "bound",
+    form: Valued,
+    value: "K",
+    rule: ValueRule::Number { least: 2, most: 16 },
+    sentence: "Try multipliers up to K, 2 to 16 (else 4)",
+};
+
+const ROWS: [CommandRow; 5] = [
     CommandRow {
         name: "verify",
-        positions: &["V", "L", "S"],
+        sentence: "Judge each register pair that the exceptions select",
+        positions: &[V, L, S],
         options: &[
             OUT,
             HAZARD,
@@ -93,18 +213,36 @@ const ROWS: [CommandRow; 4] = [
     },
     CommandRow {
         name: "check",
-        positions: &["V", "L", "S", "CERT"],
+        sentence: "Check a certificate, without the search that made it",
+        positions: &[V, L, S, CERT],
         options: &[HAZARD, LAG, RESET, RESET_CYCLES],
     },
     CommandRow {
         name: "replay",
-        positions: &["V", "L", "S", "REPORT", "PAIR"],
+        sentence: "Run the stimulus of a refuted pair again",
+        positions: &[V, L, S, REPORT, PAIR],
         options: &[HAZARD, LAG, RESET, RESET_CYCLES],
     },
     CommandRow {
         name: "demo",
-        positions: &["SEED", "SIZE"],
+        sentence: "Verify a generated design, and read no file",
+        positions: &[SEED, SIZE],
         options: &[],
+    },
+    CommandRow {
+        name: "detect",
+        sentence: "Find the multicycle pairs of a netlist, and save them as SDC",
+        positions: &[V, L, S],
+        options: &[
+            OUT_SDC,
+            HAZARD,
+            RESET,
+            RESET_CYCLES,
+            DEPTH,
+            BUDGET,
+            INV_DEPTH,
+            BOUND,
+        ],
     },
 ];
 

@@ -1,7 +1,8 @@
 //! The words of a run as `clap` reads them: the name of a command, and the texts of its arguments.
 //!
 //! `rows` is the table of the commands with their positions and options, from which the command for `clap` is built.
-//! `reading_of` is the call to read first. What a text means, and the reading of words by their places, are left to the
+//! `reading_of` is the call to read first. `told` builds a second command from the same rows, with help and a version, for
+//! what is told of words that name nothing. What a text means, and the reading of words by their places, are left to the
 //! crate above.
 #![tactic(auto)]
 
@@ -9,6 +10,10 @@ mod apps;
 mod commands;
 mod parses;
 mod readings;
+mod rules;
+mod tellings;
 
-pub use commands::{CommandRow, Form, OptionRow, rows};
+pub use commands::{CommandRow, Form, OptionRow, PositionRow, rows};
 pub use readings::{Given, Reading, reading_of};
+pub use rules::ValueRule;
+pub use tellings::told;

@@ -23,7 +23,7 @@ pub struct Reading<'a> {
 }
 
 // The ids of all arguments.
-const IDS: [&str; 17] = [
+const IDS: [&str; 18] = [
     "V",
     "L",
     "S",
@@ -41,6 +41,7 @@ const IDS: [&str; 17] = [
     "depth",
     "budget",
     "inv-depth",
+    "bound",
 ];
 
 fn ids() -> &'static [&'static str]

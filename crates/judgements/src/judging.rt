@@ -7,6 +7,7 @@ ghost use Rattle.verdicts.specs.Inductive.{AreAlwaysMet};
 ghost use Rattle.judgements.specs.Judgements.{AreAllInForm, AreFound, AreJudged};
 
 use crate::judged::Judged;
+use crate::progress::Progress;
 use cnf_encode::Prepared;
 use invariants::invariants;
 use net_model::{Claim, Design};
@@ -16,13 +17,14 @@ use std::alloc::{AllocError, Global};
 use verdicts::{InvSet, Limits, Verdict};
 
 /// The verdicts on some claims about a design, each proved with the clauses over register bits that are kept for all of them,
-/// by an induction of depth `inv_depth`.
-pub fn judge(
+/// by an induction of depth `inv_depth`. How many have one, `progress` is told before the first and after each.
+pub fn judge<P: Progress>(
     alloc: Global,
     design: &Design,
     claims: &Seq<Claim>,
     inv_depth: usize,
     limits: &Limits,
+    progress: &mut P,
 ) -> Result<Judged, AllocError>
     requires sound { IsSound design.now }
     requires fit { All (Fits design.now) claims.now }
@@ -32,19 +34,21 @@ pub fn judge(
     ensures judged { IfOk result (AreJudged design.now claims.now inv_depth limits.now) }
     ensures in_form { IfOk result AreAllInForm }
 {
+    progress.judged(0, claims.len());
     let inv = invariants(alloc, design, claims, inv_depth, limits.budget)?;
     let prepared = Prepared::of(alloc, design)?;
-    let verdicts = verdicts_on(alloc, &prepared, claims, &inv, limits)?;
+    let verdicts = verdicts_on(alloc, &prepared, claims, &inv, limits, progress)?;
     Ok(Judged { inv, verdicts })
 }
 
 // The verdict on each claim.
-fn verdicts_on(
+fn verdicts_on<P: Progress>(
     alloc: Global,
     design: &Prepared,
     claims: &Seq<Claim>,
     inv: &InvSet,
     limits: &Limits,
+    progress: &mut P,
 ) -> Result<Seq<Verdict>, AllocError>
     requires sound { IsSound design.now }
     requires fit { All (Fits design.now) claims.now }
@@ -58,6 +62,7 @@ fn verdicts_on(
     for place in 0..claims.len() {
         let claim = claims.item(place);
         verdicts.push(prove(alloc, design, claim, inv, limits)?)?;
+        progress.judged(place + 1, claims.len());
     }
     Ok(verdicts)
 }

@@ -24,6 +24,8 @@ pub enum Text {
 pub struct Deeds {
     /// Whether it gives verdicts.
     pub judges: bool,
+    /// Whether it gives multicycle pairs.
+    pub finds: bool,
     /// How many files it saves.
     pub saves: usize,
     /// Whether it asks for a file.
@@ -33,6 +35,7 @@ pub struct Deeds {
 /// It reads texts, and gives verdicts and a certificate.
 pub const VERIFIES: Deeds = Deeds {
     judges: true,
+    finds: false,
     saves: 1,
     asks: true,
 };
@@ -40,7 +43,24 @@ pub const VERIFIES: Deeds = Deeds {
 /// It reads texts, and gives neither.
 pub const READS: Deeds = Deeds {
     judges: false,
+    finds: false,
     saves: 0,
+    asks: true,
+};
+
+/// It asks for no file, and gives nothing.
+pub const ASKS_NOTHING: Deeds = Deeds {
+    judges: false,
+    finds: false,
+    saves: 0,
+    asks: false,
+};
+
+/// It reads texts, and gives multicycle pairs and a text of them.
+pub const FINDS: Deeds = Deeds {
+    judges: false,
+    finds: true,
+    saves: 1,
     asks: true,
 };
 
@@ -52,17 +72,29 @@ fn is_text(bytes: &[u8], text: &Text) -> bool {
     }
 }
 
-fn has_done(host: &MemHost, is_judged: bool, deeds: &Deeds) -> bool {
-    is_judged == deeds.judges
+fn has_done(host: &MemHost, given: &Given, deeds: &Deeds) -> bool {
+    given.verdicts == deeds.judges
+        && given.pairs == deeds.finds
         && host.saved().len() == deeds.saves
         && host.asked().is_empty() != deeds.asks
 }
 
-// How the call ends, and whether it gives verdicts.
-fn called(alloc: Global, line: &str, host: &mut MemHost) -> Result<(Status, bool), AllocError> {
+// How a call ends, and whether it gives verdicts or multicycle pairs.
+#[derive(Drop)]
+struct Given {
+    status: Status,
+    verdicts: bool,
+    pairs: bool,
+}
+
+fn called(alloc: Global, line: &str, host: &mut MemHost) -> Result<Given, AllocError> {
     let words = words_of(alloc, line)?;
     let ran = run(alloc, &words, host);
-    Ok((ran.status, ran.judged.is_some()))
+    Ok(Given {
+        status: ran.status,
+        verdicts: ran.judged.is_some(),
+        pairs: ran.detected.is_some(),
+    })
 }
 
 /// The call does on the host what it owes.
@@ -73,10 +105,10 @@ pub fn check_call(
     deeds: &Deeds,
     host: &mut MemHost,
 ) -> Result<(), AllocError> {
-    let (status, is_judged) = called(alloc, row.0, host)?;
-    assert_eq!(rt; status, row.2, "{}", row.0);
+    let given = called(alloc, row.0, host)?;
+    assert_eq!(rt; given.status, row.2, "{}", row.0);
     assert!(rt; is_text(host.printed(), &row.3), "printed by {}", row.0);
-    assert!(rt; has_done(host, is_judged, deeds), "done by {}", row.0);
+    assert!(rt; has_done(host, &given, deeds), "done by {}", row.0);
     Ok(())
 }
 

@@ -6,6 +6,7 @@ use std::alloc::AllocError;
 
 const DEMONSTRATES: Deeds = Deeds {
     judges: true,
+    finds: false,
     saves: 0,
     asks: false,
 };

@@ -1,6 +1,7 @@
 //! Edges at the start, and false paths judged over a lag, worked by hand.
 use crate::calls::Text::{Front, Whole};
-use crate::calls::{Deeds, READS, Row, VERIFIES, check_calls, check_next, host_after};
+use crate::calls::{ASKS_NOTHING, READS, Row, VERIFIES, check_calls, check_next, host_after};
+use crate::other_rows::USAGE;
 use sdcv_top::Status::{Done, Holds, Refused, Refuted, Rejected, Words};
 use std::alloc::AllocError;
 
@@ -190,21 +191,13 @@ const LAG_OF_NINE: Row = Row(
     "verify steady builtin s --out c --reset rst=1 --lag 9",
     RISE_A_B,
     Words,
-    Whole(
-        "usage: sdcv verify V L S --out CERT | check V L S CERT | replay V L S REPORT PAIR | demo SEED SIZE\n",
-    ),
+    Whole(USAGE),
 );
-
-const NOTHING: Deeds = Deeds {
-    judges: false,
-    saves: 0,
-    asks: false,
-};
 
 #[test]
 fn a_second_edge_and_a_lag_of_nine_are_refused(rt: HostRuntime) -> Result<(), AllocError> {
     host_after(&rt, rt.alloc(), &TWO_EDGES, &READS)?;
-    host_after(&rt, rt.alloc(), &LAG_OF_NINE, &NOTHING)?;
+    host_after(&rt, rt.alloc(), &LAG_OF_NINE, &ASKS_NOTHING)?;
     Ok(())
 }
 

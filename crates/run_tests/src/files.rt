@@ -137,6 +137,19 @@ endmodule
         "toggle",
         "module top (input clk, input rst, output q); wire n; INV i (.A(q), .Y(n)); DFFC r (.D(n), .C(rst), .CK(clk), .Q(q)); endmodule",
     ),
+    // `a` holds what it holds, and five registers take it.
+    (
+        "named",
+        r"module top (input clk, input a);
+  wire q1, w0, w1, w2, w3;
+  DFF a (.D(q1), .CK(clk), .Q(q1));
+  DFF \b[0] (.D(q1), .CK(clk), .Q(w0));
+  DFF \$x (.D(q1), .CK(clk), .Q(w1));
+  DFF \-n (.D(q1), .CK(clk), .Q(w2));
+  DFF \w* (.D(q1), .CK(clk), .Q(w3));
+endmodule
+",
+    ),
     // A netlist as a synthesis tool writes it: two bits of `a` go to two bits of `b` by two phases, with a scan chain.
     (
         "blk",

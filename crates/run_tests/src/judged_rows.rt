@@ -239,6 +239,7 @@ fn a_refuted_pair_has_its_stimulus(rt: HostRuntime) -> Result<(), AllocError> {
 // There are verdicts, but nothing is saved.
 const UNSAVED: Deeds = Deeds {
     judges: true,
+    finds: false,
     saves: 0,
     asks: true,
 };

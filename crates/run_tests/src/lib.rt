@@ -13,6 +13,8 @@ mod edge_rows;
 #[cfg(test)]
 mod files;
 #[cfg(test)]
+mod found_rows;
+#[cfg(test)]
 mod frozen;
 #[cfg(test)]
 mod hostile;

@@ -1,11 +1,11 @@
 //! Refusals, checks, replays and empty designs, worked by hand.
 use crate::calls::Text::Whole;
-use crate::calls::{Deeds, READS, Row, VERIFIES, check_calls};
+use crate::calls::{ASKS_NOTHING, READS, Row, VERIFIES, check_calls};
 use sdcv_top::Status::{Done, Holds, Refused, Rejected, Words};
 use std::alloc::AllocError;
 
-const USAGE: &str =
-    "usage: sdcv verify V L S --out CERT | check V L S CERT | replay V L S REPORT PAIR | demo SEED SIZE\n";
+pub const USAGE: &str =
+    "usage: sdcv verify V L S --out CERT | check V L S CERT | replay V L S REPORT PAIR | demo SEED SIZE | detect V L S --out SDC\n";
 
 const FALSE_A_B: &str = "create_clock -name ck -period 10 [get_ports clk]
 set_false_path -from [get_cells a] -to [get_cells b]
@@ -228,14 +228,8 @@ const NO_COMMANDS: &[Row] = &[
     Row("--help", FALSE_A_B, Words, Whole(USAGE)),
 ];
 
-const NOTHING: Deeds = Deeds {
-    judges: false,
-    saves: 0,
-    asks: false,
-};
-
 #[test]
 fn other_words_name_no_command(rt: HostRuntime) -> Result<(), AllocError> {
     assert_eq!(rt; Words.code(), 4);
-    check_calls(&rt, rt.alloc(), NO_COMMANDS, &NOTHING)
+    check_calls(&rt, rt.alloc(), NO_COMMANDS, &ASKS_NOTHING)
 }

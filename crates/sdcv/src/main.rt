@@ -1,10 +1,15 @@
 //! The program: it takes its words from the system, runs them on the system's files and standard output, and ends with
-//! the status of the run. Why it ends with 6 or 9 it tells on standard error.
+//! the status of the run. Why it ends with 4, 6 or 9 it tells on standard error, where a
+//! terminal also sees how many pairs are judged.
 #![tactic(auto)]
 
+mod count_lines;
+
+use crate::count_lines::CountLine;
 use real_host::RealHost;
-use sdcv_top::{Status, run};
-use std::io::ErrorKind;
+use sdcv_top::{Silent, Status, run_told};
+use sdcv_words::told;
+use std::io::{ErrorKind, IsTerminal};
 use std::process::ExitCode;
 use std::{env, io};
 
@@ -33,7 +38,26 @@ fn words(rt: &HostRuntime) -> io::Result<Vec<String>> {
     Ok(args.collect::<Vec<String>>(rt.alloc())?)
 }
 
+// The status of a run over the words. Where they name no command, what is wrong with them is told.
 fn ran(rt: &HostRuntime, words: &[String]) -> Status {
     let mut host = RealHost::new(rt.alloc(), "sdcv", rt, rt.stdout(), rt.stderr());
-    run(rt.alloc(), words, &mut host).status
+    let status = if rt.stderr().is_terminal() {
+        let mut line = CountLine::new(rt.stderr());
+        let ran = run_told(rt.alloc(), words, &mut host, &mut line);
+        line.clear();
+        ran.status
+    } else {
+        run_told(rt.alloc(), words, &mut host, &mut Silent).status
+    };
+    if status == Status::Words {
+        tell(rt, words);
+    }
+    status
+}
+
+// A text that can't be made or written is dropped: the status stands.
+fn tell(rt: &HostRuntime, words: &[String]) {
+    if let Ok(text) = told(rt.alloc(), words) {
+        let _ = eprint!(rt; "{text}");
+    }
 }

@@ -15,11 +15,11 @@ use Rattle.sdcv_top.proofs.Steps.{grown-nil}
 -- the last call answered, and the run ends so
 pub delivers : (saved saved_now : Saved) (printed printed_now : Option (List ℕ)) (due : Outcome) (answered : Result Unit HostFault) (result : Ran)
     → Outputs saved saved_now printed printed_now due.saved due.printed answered → result.status ≡ status_after answered due.ending
-    → result.judged ≡ due.judged → Delivers saved saved_now printed printed_now due result
-delivers saved saved_now printed printed_now due (Ok x) result outputs status judged =
-    record { judged = judged; told = inl (record { status = status; saved_is = outputs.0; printed_is = outputs.1 }) }
-delivers saved saved_now printed printed_now due (Err e) result outputs status judged =
-    record { judged = judged; told = inr (record { status = status; front = outputs }) }
+    → result.judged ≡ due.judged → result.detected ≡ due.detected → Delivers saved saved_now printed printed_now due result
+delivers saved saved_now printed printed_now due (Ok x) result outputs status judged detected =
+    record { judged = judged; detected = detected; told = inl (record { status = status; saved_is = outputs.0; printed_is = outputs.1 }) }
+delivers saved saved_now printed printed_now due (Err e) result outputs status judged detected =
+    record { judged = judged; detected = detected; told = inr (record { status = status; front = outputs }) }
 
 -- nothing was to be saved, and this was printed
 pub outputs_printed : (saved saved_now : Saved) (printed printed_now : Option (List ℕ)) (bytes : List ℕ) (answered : Result Unit HostFault)
@@ -43,8 +43,23 @@ has_run-due named files before mid now due result by_reads asked printed saved d
     let since = subst (λ (o : Saved). Delivers o now.saved mid.printed now.printed due result) saved delivered in
     let all = subst (λ (o : Option (List ℕ)). Delivers before.saved now.saved o now.printed due result) printed since in
     elim all.told [
-      | inl a ↦ inl (record { due = due; by_reads = by_now; status = a.status; saved = a.saved_is; printed = a.printed_is; judged = all.judged })
-      | inr f ↦ inr (inl (record { due = due; by_reads = by_now; status = f.status; cut = f.front; judged = all.judged }))
+      | inl a ↦ inl (record {
+        due = due;
+        by_reads = by_now;
+        status = a.status;
+        saved = a.saved_is;
+        printed = a.printed_is;
+        judged = all.judged;
+        detected = all.detected;
+      })
+      | inr f ↦ inr (inl (record {
+        due = due;
+        by_reads = by_now;
+        status = f.status;
+        cut = f.front;
+        judged = all.judged;
+        detected = all.detected;
+      }))
     ]
 
 -- the words name no command, and the usage line was delivered

@@ -7,20 +7,23 @@ use Rattle.design_stages.specs.declared.refusals.Refusal.TheVariants as refusal
 use Rattle.netlist_types.specs.declared.sources.Source.{Source}
 use Rattle.script_types.specs.declared.scripts.Script.{Script}
 use Rattle.exception_expand.specs.declared.claims.Judging.{Judging}
+use Rattle.design_stages.specs.declared.designs.ReadTexts.{ReadTexts}
 use Rattle.design_stages.specs.declared.designs.Reset.{Reset}
 use Rattle.design_stages.specs.declared.designs.Designed.{Designed}
 use Rattle.design_stages.specs.Designs.{Designs}
 use Rattle.design_stages.specs.Stages.{Found, Finds}
+use Rattle.sdcv_words.specs.Commands.{Texts}
 use Rattle.sdcv_top.specs.Due.{demo_reset}
 use Rattle.sdcv_top.specs.declared.plans.Plan.{Plan}
 use Rattle.sdcv_top.specs.declared.plans.Stop.{Stop}
 use Rattle.sdcv_top.specs.declared.plans.Stop.TheVariants as stop
 use Rattle.sdcv_top.specs.Outcomes.{Outcome, refused}
-use Rattle.sdcv_top.specs.Reads.{ReadOf, Got, Asked, text_of, is_builtin, cell_reads_if, cell_reads}
+use Rattle.sdcv_top.specs.Reads.{ReadOf, Got, Asked, text_of, is_builtin, cell_reads_if, cell_reads, text_reads}
 use Rattle.sdcv_top.specs.Stages.{Due, After, AfterText, Last}
-use Rattle.sdcv_top.specs.Texts.{Cells, AfterCellsIf, AfterCells, builtin_library}
+use Rattle.sdcv_top.specs.Texts.{Netlist, Cells, Constraints, AfterCellsIf, AfterCells, AfterTexts, builtin_library}
 use Rattle.sdcv_top.specs.Runs.{DueByReads}
-use Rattle.sdcv_top.specs.Plans.{outcome_of, stop_of, StopCounts, IsRead, ReadFinds, IsBuiltin, CellsFindIf, CellsFind, IsPlanned, Plans}
+use Rattle.sdcv_top.specs.Plans.{outcome_of, stop_of, StopCounts, IsRead, ReadFinds, IsBuiltin, CellsFindIf, CellsFind}
+use Rattle.sdcv_top.specs.Plans.{AreRead, StopsAt, AtNetlist, AtCells, AtConstraints, IsPlanned, Plans}
 use Rattle.sdcv_top.proofs.Steps.{grown-nil, grown-more, asked_none, asked_more, asked_wider}
 
 due_found : {A : Type 0} (R : Found A → Type 0) (next : A → Due) (files_of : List ReadOf) (files : Option Files) (before now : Asked) (due : Outcome)
@@ -128,6 +131,27 @@ pub cells_err : (name : List ℕ) (next : Library → Due) (more : List ReadOf) 
 unfolding AfterCells cell_reads
 cells_err name = none_if (is_builtin name) name
 
+-- the three texts are found, and the host tells the same files
+pub texts_ok : (names : Texts) (next : ReadTexts → Due) (more : List ReadOf) (files mid_files : Option Files) (before mid now : Asked)
+    (t : ReadTexts) (result : Result Plan Stop) → AreRead names files before mid t → mid_files ≡ files → Plans (next t) more mid_files mid now result
+    → Plans (AfterTexts names next) (text_reads names more) files before now result
+unfolding AfterTexts text_reads
+texts_ok names next more files mid_files before mid now t result read same rest =
+    read_ok Netlist _ _ _ files files before read.after_netlist now t.source result read.netlist refl
+    (cells_ok names.cells _ _ files files read.after_netlist read.after_cells now t.library result read.cells refl
+    (read_ok Constraints _ _ _ files mid_files read.after_cells mid now t.script result read.constraints same rest))
+
+-- the run stops at one of them
+pub texts_err : (names : Texts) (next : ReadTexts → Due) (more : List ReadOf) (files : Option Files) (before now : Asked) (why : Stop)
+    → StopsAt names files before now why → Plans (AfterTexts names next) (text_reads names more) files before now (Err why)
+unfolding AfterTexts text_reads
+texts_err names next more files before now why (AtNetlist stops) = read_err Netlist _ _ _ files before now why stops
+texts_err names next more files before now why (AtCells mid source read stops) =
+    read_ok Netlist _ _ _ files files before mid now source (Err why) read refl (cells_err names.cells _ _ files mid now why stops)
+texts_err names next more files before now why (AtConstraints mid last source library read cells stops) =
+    read_ok Netlist _ _ _ files files before mid now source (Err why) read refl
+    (cells_ok names.cells _ _ files files mid last now library (Err why) cells refl (read_err Constraints _ _ _ files last now why stops))
+
 -- what is planned without a read is planned
 pub planned_ok : (R : Due) (files_of : List ReadOf) (files : Option Files) (before now : Asked) (plan : Plan) → IsPlanned R (Ok plan) → now ≡ before
     → Plans R files_of files before now (Ok plan)
@@ -215,3 +239,12 @@ pub count_stops : {T : Type 0} (before mid now : ℕ) (result : Result T Stop) (
 count_stops {T} before mid now result why is same counts =
     let here = subst (λ (n : ℕ). StopCounts n now (let r : Result T Stop = Err why in r)) same counts in
     subst (λ (r : Result T Stop). StopCounts before now r) (sym is) here
+
+-- a stage that refuses the run counts no fault, and neither does want of memory
+pub refusal_counts : {T : Type 0} (before now : ℕ) (result : Result T Stop) (why : Refusal) → result ≡ Err (stop_of why) → now ≡ before
+    → StopCounts before now result
+refusal_counts {T} before now result (refusal.Line line) is same = subst (λ (r : Result T Stop). StopCounts before now r) (sym is) same
+refusal_counts {T} before now result refusal.Memory is same = subst (λ (r : Result T Stop). StopCounts before now r) (sym is) same
+
+pub memory_counts : {T : Type 0} (before now : ℕ) (result : Result T Stop) → result ≡ Err stop.Memory → now ≡ before → StopCounts before now result
+memory_counts {T} before now result is same = subst (λ (r : Result T Stop). StopCounts before now r) (sym is) same

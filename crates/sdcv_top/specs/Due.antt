@@ -1,19 +1,23 @@
 -- What a run is due to do, for its words and what its reads answered: its stages, the first one first.
 use Rattle.std.specs.Prelude.{◌≡◌, ℕ, true, false, [], ◌∷◌, codes, Option, None, Some}
 use Rattle.sdcv_words.specs.declared.commands.Options.{Options}
-use Rattle.sdcv_words.specs.Commands.{Texts, Job, Command, Over, Demo}
+use Rattle.sdcv_words.specs.Commands.{Texts, Job, Finding, Command, Over, Detect, Demo}
 use Rattle.sdcv_gen.specs.Draws.{drawn}
 use Rattle.sdcv_gen.specs.Texts.{verilog_text, sdc_text}
 use Rattle.report_text.specs.declared.options.RunOptions.{RunOptions}
 use Rattle.exception_expand.specs.declared.claims.Judging.{Judging}
 use Rattle.design_stages.specs.declared.designs.Reset.{Reset}
-use Rattle.design_stages.specs.Designs.{Designs}
+use Rattle.mcp_detect.specs.declared.options.DetectOptions.{DetectOptions}
+use Rattle.detect_lines.specs.Lines.{detect_line}
+use Rattle.design_stages.specs.Designs.{LinksTo, Designs}
+use Rattle.design_stages.specs.Stages.{Staged}
 use Rattle.design_stages.specs.Texts as texts
 use Rattle.sdcv_top.specs.Outcomes.{usage}
+use Rattle.sdcv_top.specs.Found.{Detects, IsFoundOut}
 use Rattle.sdcv_top.specs.Headline.{IsReported}
 use Rattle.sdcv_top.specs.Jobs.{IsDone}
-use Rattle.sdcv_top.specs.Stages.{Due, After, AfterText, Last, ◌>>=◌}
-use Rattle.sdcv_top.specs.Texts.{Netlist, Constraints, AfterCells, builtin_library}
+use Rattle.sdcv_top.specs.Stages.{Due, After, Last, ◌>>=◌}
+use Rattle.sdcv_top.specs.Texts.{AfterTexts, builtin_library}
 
 -- how the reset is held
 abbrev pub reset_of : Options → Reset
@@ -26,11 +30,27 @@ judging_of o = record { hazard = o.hazard; lag = o.lag }
 -- a job over three texts: they are read, the netlist is linked, pairs are selected, and the job is done on them
 unfoldable pub Worked : Texts → Options → Job → Due
 Worked files o job = do
-  source ← AfterText Netlist
-  library ← AfterCells files.cells
-  script ← AfterText Constraints
-  designed ← After (Designs (record { source = source; library = library; script = script }) (reset_of o) (judging_of o))
+  texts ← AfterTexts files
+  designed ← After (Designs texts (reset_of o) (judging_of o))
   IsDone (judging_of o) o.reset_len job designed
+
+-- how pairs are tried
+abbrev pub detect_options : Options → Finding → DetectOptions
+detect_options o f = record {
+  hazard = o.hazard;
+  depth = f.proving.depth;
+  budget = f.proving.budget;
+  inv_depth = f.proving.inv_depth;
+  bound = f.bound;
+}
+
+-- a search for multicycle pairs: three texts are read, the netlist is linked, and what is found of its pairs is saved and told
+unfoldable pub FindsPairs : Texts → Options → Finding → Due
+FindsPairs files o f = do
+  texts ← AfterTexts files
+  linked ← After (LinksTo texts (reset_of o))
+  detected ← After (Staged (Detects linked (detect_options o f)) detect_line)
+  Last (IsFoundOut f.out (detect_options o f) o.reset_len linked detected)
 
 -- the reset of generated designs: its port is 1 in the first cycle
 abbrev pub demo_reset : Reset
@@ -56,4 +76,5 @@ Demonstrated seed size = do
 abbrev pub IsDueFor : Option Command → Due
 IsDueFor None = Last (λ due. due ≡ usage)
 IsDueFor (Some (Over files o job)) = Worked files o job
+IsDueFor (Some (Detect files o f)) = FindsPairs files o f
 IsDueFor (Some (Demo seed size)) = Demonstrated seed size

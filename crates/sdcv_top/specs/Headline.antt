@@ -43,3 +43,4 @@ pub record IsReported (out : Option (List ℕ)) (json : Bool) (o : RunOptions) (
   pub ending : due.ending ≡ ending_by (tally_of judged.verdicts)
   pub printed : due.printed ≡ report_bytes json o d.selected judged.verdicts
   pub told : due.judged ≡ Some judged
+  pub detected : due.detected ≡ None

@@ -9,3 +9,4 @@ pub mod Runs
 pub mod Stages
 pub mod Statuses
 pub mod Texts
+pub mod Found

@@ -1,23 +1,25 @@
 -- What a run is to do in the end.
 use Rattle.std.specs.Prelude.{ℕ, List, [], ◌++◌, ◌∷◌, codes, Option, None}
 use Rattle.judgements.specs.declared.judged.Judged.{Judged}
+use Rattle.mcp_detect.specs.declared.detections.Detected.{Detected}
 use Rattle.sdcv_top.specs.declared.statuses.Ending.{Ending}
 use Rattle.sdcv_top.specs.declared.statuses.Ending.TheVariants as ending
 
 -- the words name no command
 abbrev pub usage_line : List ℕ
-usage_line = codes "usage: sdcv verify V L S --out CERT | check V L S CERT | replay V L S REPORT PAIR | demo SEED SIZE" ++ 10 ∷ []
+usage_line = codes "usage: sdcv verify V L S --out CERT | check V L S CERT | replay V L S REPORT PAIR | demo SEED SIZE | detect V L S --out SDC" ++ 10 ∷ []
 
--- how a run ends, what it saves and prints, and the verdicts that it hands out
+-- how a run ends, what it saves and prints, and the verdicts and the found pairs that it hands out
 pub record Outcome : Type 0 where
   pub ending : Ending
   pub saved : List (List ℕ × List ℕ)
   pub printed : List ℕ
   pub judged : Option Judged
+  pub detected : Option Detected
 
 -- the run prints this, and does nothing else
 abbrev pub prints : Ending → List ℕ → Outcome
-prints how bytes = record { ending = how; saved = []; printed = bytes; judged = None }
+prints how bytes = record { ending = how; saved = []; printed = bytes; judged = None; detected = None }
 
 -- a text or a design is refused with its line
 abbrev pub refused : List ℕ → Outcome

@@ -2,7 +2,7 @@
 use Rattle.std.specs.Prelude.{◌≡◌, ◌⊎◌, ℕ, Bool, true, false, List, [], ◌∷◌, take, Option, None, Some, Result, Ok, Err, Vec}
 use Rattle.std.specs.declared.alloc.Global.{Global}
 use Rattle.sdcv_base.specs.Hosts.{Files, grown, CountsOne}
-use Rattle.sdcv_top.specs.declared.plans.Certificate.{Certificate}
+use Rattle.sdcv_top.specs.declared.plans.SavedFile.{SavedFile}
 use Rattle.sdcv_top.specs.declared.plans.Plan.{Plan}
 use Rattle.sdcv_top.specs.declared.plans.Stop.{Stop}
 use Rattle.sdcv_top.specs.declared.plans.Stop.TheVariants as stop
@@ -14,23 +14,26 @@ use Rattle.sdcv_top.specs.declared.statuses.Status.TheVariants as ended
 use Rattle.sdcv_top.specs.Statuses.{status_of}
 use Rattle.sdcv_top.specs.Outcomes.{Outcome, refused}
 use Rattle.sdcv_top.specs.Reads.{ReadOf, Got, Text, Longer, Asked, IsTold, is_builtin, text_of}
+use Rattle.netlist_types.specs.declared.sources.Source.{Source}
 use Rattle.cell_types.specs.declared.libraries.Library.{Library}
+use Rattle.sdcv_words.specs.Commands.{Texts}
+use Rattle.design_stages.specs.declared.designs.ReadTexts.{ReadTexts}
 use Rattle.judgements.specs.Reports.{joined}
 use Rattle.design_stages.specs.declared.refusals.Refusal.{Refusal}
 use Rattle.design_stages.specs.declared.refusals.Refusal.TheVariants as refusal
 use Rattle.design_stages.specs.Stages.{Found}
 use Rattle.sdcv_top.specs.Stages.{Due}
-use Rattle.sdcv_top.specs.Texts.{Cells, builtin_library}
+use Rattle.sdcv_top.specs.Texts.{Netlist, Cells, Constraints, builtin_library}
 use Rattle.sdcv_top.specs.Runs.{DueByReads, AskedSome}
 
--- the name and the bytes of a certificate, if there is one
-abbrev pub saved_of : Option Certificate → List (List ℕ × List ℕ)
+-- the name and the bytes of a file that is saved, if there is one
+abbrev pub saved_of : Option SavedFile → List (List ℕ × List ℕ)
 saved_of None = []
 saved_of (Some c) = (c.name.now, c.bytes.items) ∷ []
 
 -- what is due by a plan
 abbrev pub outcome_of : Plan → Outcome
-outcome_of plan = record { ending = plan.ending; saved = saved_of plan.saved; printed = joined plan.lines.items; judged = plan.judged }
+outcome_of plan = record { ending = plan.ending; saved = saved_of plan.saved; printed = joined plan.lines.items; judged = plan.judged; detected = plan.detected }
 
 -- what was saved, where the host tells it
 abbrev pub Saved : Type 0
@@ -93,6 +96,28 @@ CellsFindIf false name files before now result = ReadFinds Cells (text_of name) 
 abbrev pub CellsFind : List ℕ → Option Files → Asked → Asked → Result Library Stop → Type 0
 CellsFind name = CellsFindIf (is_builtin name) name
 
+-- the texts were read one after another, and stand for these
+pub record AreRead (names : Texts) (files : Option Files) (before now : Asked) (t : ReadTexts) : Type 0 where
+  pub after_netlist : Asked
+  pub after_cells : Asked
+  pub netlist : IsRead (λ answer. Netlist answer (Ok t.source)) (text_of names.netlist) files before after_netlist
+  pub cells : CellsFind names.cells files after_netlist after_cells (Ok t.library)
+  pub constraints : IsRead (λ answer. Constraints answer (Ok t.script)) (text_of names.constraints) files after_cells now
+
+-- the first text that is not found, and those before it
+pub data StopsAt (names : Texts) (files : Option Files) (before now : Asked) (why : Stop) : Type 0 where
+  AtNetlist : ReadFinds Netlist (text_of names.netlist) files before now (Err why) → StopsAt names files before now why
+  AtCells : (mid : Asked) (source : Source) → IsRead (λ answer. Netlist answer (Ok source)) (text_of names.netlist) files before mid
+      → CellsFind names.cells files mid now (Err why) → StopsAt names files before now why
+  AtConstraints : (mid last : Asked) (source : Source) (library : Library)
+      → IsRead (λ answer. Netlist answer (Ok source)) (text_of names.netlist) files before mid → CellsFind names.cells files mid last (Ok library)
+      → ReadFinds Constraints (text_of names.constraints) files last now (Err why) → StopsAt names files before now why
+
+-- the three texts are found, or the run stops at one of them
+abbrev pub TextsFind : Texts → Option Files → Asked → Asked → Result ReadTexts Stop → Type 0
+TextsFind names files before now (Ok t) = AreRead names files before now t
+TextsFind names files before now (Err why) = StopsAt names files before now why
+
 -- without a read, the stages made a plan of what is due, or refused the run with the line that is due, or memory was wanting
 unfoldable pub IsPlanned : Due → Result Plan Refusal → Type 0
 IsPlanned R (Ok plan) = R [] (outcome_of plan)
@@ -129,7 +154,8 @@ pub record DeliversFront (saved saved_now : Saved) (printed printed_now : Option
   pub status : how ≡ ended.HostFault
   pub front : IsFront saved saved_now printed printed_now due.saved due.printed
 
--- what is due was delivered so, and its verdicts are handed out
+-- what is due was delivered so, and its verdicts and found pairs are handed out
 pub record Delivers (saved saved_now : Saved) (printed printed_now : Option (List ℕ)) (due : Outcome) (result : Ran) : Type 0 where
   pub judged : result.judged ≡ due.judged
+  pub detected : result.detected ≡ due.detected
   pub told : DeliversAll saved saved_now printed printed_now due result.status ⊎ DeliversFront saved saved_now printed printed_now due result.status

@@ -2,7 +2,7 @@
 use Rattle.std.specs.Prelude.{◌≡◌, ◌≤◌, ℕ, ◌-◌, ◌^◌, Bool, true, false, List, [], ◌∷◌, ◌++◌, length, take, map, codes, Option, None, Some, IfSome}
 use Rattle.std.specs.Str.{bytes_eq}
 use Rattle.sdcv_base.specs.Hosts.{Files, IsLonger}
-use Rattle.sdcv_words.specs.Commands.{Job, Verify, Check, Replay, Command, Over, Demo}
+use Rattle.sdcv_words.specs.Commands.{Texts, Job, Verify, Check, Replay, Command, Over, Detect, Demo}
 
 -- a file that may be read, and the most bytes that it may have
 pub record ReadOf : Type 0 where
@@ -44,11 +44,15 @@ job_reads (Verify out json proving) = []
 job_reads (Check cert) = whole_of cert ∷ []
 job_reads (Replay report pair) = whole_of report ∷ []
 
+-- a netlist, its cells and its constraints, and then more
+unfoldable pub text_reads : Texts → List ReadOf → List ReadOf
+text_reads names more = text_of names.netlist ∷ (cell_reads names.cells ++ (text_of names.constraints ∷ more))
+
 -- the files that a command reads, in order
 abbrev pub reads_of : Option Command → List ReadOf
 reads_of None = []
-reads_of (Some (Over texts options job)) =
-    text_of texts.netlist ∷ (cell_reads texts.cells ++ (text_of texts.constraints ∷ job_reads job))
+reads_of (Some (Over texts options job)) = text_reads texts (job_reads job)
+reads_of (Some (Detect texts options finding)) = text_reads texts []
 reads_of (Some (Demo seed size)) = []
 
 -- a read answered with no more than the limit, and where the host tells its files, with what the name holds

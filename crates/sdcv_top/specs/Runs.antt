@@ -44,6 +44,7 @@ pub record DidAll (named : Option Command) (files : Option Files) (before now : 
   pub saved : now.saved ≡ grown before.saved due.saved
   pub printed : now.printed ≡ grown before.printed due.printed
   pub judged : result.judged ≡ due.judged
+  pub detected : result.detected ≡ due.detected
 
 -- a host fault stopped the run while it saved or printed what was due
 pub record WasCutOff (named : Option Command) (files : Option Files) (before now : Calls) (result : Ran) : Type 0 where
@@ -52,6 +53,7 @@ pub record WasCutOff (named : Option Command) (files : Option Files) (before now
   pub status : result.status ≡ ended.HostFault
   pub cut : IsCut before now due
   pub judged : result.judged ≡ due.judged
+  pub detected : result.detected ≡ due.detected
 
 -- the run stopped for a host fault or for want of memory before it saved or printed anything
 pub record DidNothing (named : Option Command) (before now : Calls) (result : Ran) : Type 0 where
@@ -60,6 +62,7 @@ pub record DidNothing (named : Option Command) (before now : Calls) (result : Ra
   pub saved : now.saved ≡ before.saved
   pub printed : now.printed ≡ before.printed
   pub judged : result.judged ≡ None
+  pub detected : result.detected ≡ None
 
 -- what a run for a command, or for no command, did, and what it answered
 abbrev pub HasRunFor : Option Command → Option Files → Calls → Calls → Ran → Type 0

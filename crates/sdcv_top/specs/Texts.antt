@@ -9,8 +9,10 @@ use Rattle.fault_lines.specs.declared.sources.Origin.TheVariants as origin
 use Rattle.fault_lines.specs.Sources.{too_long_line}
 use Rattle.design_stages.specs.Stages.{Found}
 use Rattle.design_stages.specs.Texts as texts
+use Rattle.design_stages.specs.declared.designs.ReadTexts.{ReadTexts}
+use Rattle.sdcv_words.specs.Commands.{Texts as TextNames}
 use Rattle.sdcv_top.specs.Reads.{Got, Text, Longer, is_builtin}
-use Rattle.sdcv_top.specs.Stages.{Due, AfterText}
+use Rattle.sdcv_top.specs.Stages.{Due, AfterText, ◌>>=◌}
 
 -- a text stands for what its reader finds, and is refused where it is too long
 abbrev pub Unless : {A : Type 0} → Origin → (List ℕ → Found A → Type 0) → Got → Found A → Type 0
@@ -48,3 +50,11 @@ AfterCellsIf false next = AfterText Cells next
 -- the word `builtin` stands for the cells that are known without a file
 unfoldable pub AfterCells : List ℕ → (Library → Due) → Due
 AfterCells name = AfterCellsIf (is_builtin name)
+
+-- the netlist, its cells and its constraints are read, in this order
+unfoldable pub AfterTexts : TextNames → (ReadTexts → Due) → Due
+AfterTexts names next = do
+  source ← AfterText Netlist
+  library ← AfterCells names.cells
+  script ← AfterText Constraints
+  next (record { source = source; library = library; script = script })

@@ -7,12 +7,12 @@ ghost use Rattle.sdcv_top.specs.Plans.{saved_of, outcome_of, Delivers, Outputs};
 ghost use Rattle.sdcv_top.specs.Runs.{RunCounts};
 ghost use Rattle.sdcv_top.specs.Statuses.{status_after};
 
-use crate::plans::{Certificate, Plan};
+use crate::plans::{Plan, SavedFile};
 use crate::rans::Ran;
 use crate::statuses::{Ending, Status};
 use sdcv_base::{Host, HostFault};
 
-/// Saves the certificate of a plan, prints its lines, and hands its verdicts out.
+/// Saves the file of a plan, prints its lines, and hands its verdicts or found pairs out.
 pub fn deliver<H: Host>(host: &mut H, plan: Plan<'_>) -> Ran
     ensures delivered { Delivers (H.saved host.old) (H.saved host.new) (H.printed host.old) (H.printed host.new) (outcome_of plan.entry) result }
     ensures count { RunCounts (H.faults host.old) (H.faults host.new) result.status }
@@ -24,9 +24,14 @@ pub fn deliver<H: Host>(host: &mut H, plan: Plan<'_>) -> Ran
         saved,
         lines,
         judged,
+        detected,
     } = plan;
     let status = status_after(save_and_print(host, &saved, &lines), ending);
-    Ran { status, judged }
+    Ran {
+        status,
+        judged,
+        detected,
+    }
 }
 
 /// Prints the one line of a run that is refused, or whose words name no command.
@@ -41,13 +46,14 @@ pub fn deliver_line<H: Host>(host: &mut H, ending: Ending, line: &[u8]) -> Ran
     Ran {
         status,
         judged: None,
+        detected: None,
     }
 }
 
-// Nothing is printed before the certificate is saved.
+// Nothing is printed before the file is saved.
 fn save_and_print<H: Host>(
     host: &mut H,
-    saved: &Option<Certificate<'_>>,
+    saved: &Option<SavedFile<'_>>,
     lines: &[Vec<u8>],
 ) -> Result<(), HostFault>
     ensures out { Outputs (H.saved host.old) (H.saved host.new) (H.printed host.old) (H.printed host.new) (saved_of saved.entry.now) (joined lines.now) result }
@@ -55,8 +61,8 @@ fn save_and_print<H: Host>(
     ensures files { H.files host.new ≡ H.files host.old }
     ensures asked { H.asked host.new ≡ H.asked host.old }
 {
-    if let Some(certificate) = saved {
-        host.save(certificate.name, &certificate.bytes)?;
+    if let Some(file) = saved {
+        host.save(file.name, &file.bytes)?;
     }
     print_lines(host, lines)
 }

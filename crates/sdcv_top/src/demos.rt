@@ -8,6 +8,7 @@ use crate::verifying::verified;
 use cell_types::builtin;
 use design_stages::{ReadTexts, Refusal, Reset, constraints, designed, netlist};
 use exception_expand::Judging;
+use judgements::Progress;
 use report_text::RunOptions;
 use sdcv_base::{Name, Seq, Setting};
 use sdcv_gen::generate;
@@ -30,7 +31,12 @@ const JUDGING: Judging = Judging {
 };
 
 /// Judges the pairs of the design of a seed, of so many blocks.
-pub fn demonstrated<'a>(alloc: Global, seed: u64, size: usize) -> Result<Plan<'a>, Refusal>
+pub fn demonstrated<'a, P: Progress>(
+    alloc: Global,
+    seed: u64,
+    size: usize,
+    progress: &mut P,
+) -> Result<Plan<'a>, Refusal>
     ensures { IsPlanned (Demonstrated seed size) result }
 {
     let texts = generate(alloc, seed, size)?;
@@ -44,7 +50,7 @@ pub fn demonstrated<'a>(alloc: Global, seed: u64, size: usize) -> Result<Plan<'a
     };
     let reset = demo_reset(alloc)?;
     let designed = designed(alloc, &texts, reset, JUDGING)?;
-    let plan = verified(alloc, &designed, &OPTIONS, None, false)?;
+    let plan = verified(alloc, &designed, &OPTIONS, None, false, progress)?;
     Ok(plan)
 }
 

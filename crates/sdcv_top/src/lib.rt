@@ -1,6 +1,6 @@
 //! The top call: command words and a host in, a status and verdicts out. It alone knows the order of the stages.
 //!
-//! Read `run` first, and then `plan` in stages.rt: its stages follow one another, and each ends with its own value or refuses
+//! Read `run` first, which is `run_told` without a sign of life, and then `plan` in stages.rt: its stages follow one another, and each ends with its own value or refuses
 //! the run. What a run owes is the relation `IsDueFor` of specs/Due, one definition a stage, and what its report is worth
 //! `IsReported` of specs/Headline; what it did is `HasRun` of specs/Runs.
 #![tactic(auto)]
@@ -8,6 +8,7 @@
 mod checking;
 mod deliveries;
 mod demos;
+mod finding;
 mod laws;
 mod plans;
 mod rans;
@@ -19,8 +20,9 @@ mod statuses;
 mod top;
 mod verifying;
 
-pub use judgements::Judged;
+pub use judgements::{Judged, Progress, Silent};
 pub use laws::check_repeats;
+pub use mcp_detect::Detected;
 pub use rans::Ran;
 pub use statuses::Status;
-pub use top::run;
+pub use top::{run, run_told};

@@ -8,23 +8,25 @@ ghost use Rattle.sdcv_top.specs.Plans.{stop_of, outcome_of};
 use crate::statuses::Ending;
 use design_stages::Refusal;
 use judgements::Judged;
+use mcp_detect::Detected;
 use std::alloc::{AllocError, Global};
 
-/// A certificate, and the name under which it is saved.
+/// The bytes of a file, and the name under which they are saved.
 #[derive(Drop)]
-pub struct Certificate<'a> {
+pub struct SavedFile<'a> {
     pub name: &'a str,
     pub bytes: Vec<u8>,
 }
 
-/// How the run will end, the certificate that it saves first, the lines that it prints then, each with its newline, and the
-/// verdicts that it hands out.
+/// How the run will end, the file that it saves first, the lines that it prints then, each with its newline, and the verdicts or
+/// the found pairs that it hands out.
 #[derive(Drop)]
 pub struct Plan<'a> {
     pub ending: Ending,
-    pub saved: Option<Certificate<'a>>,
+    pub saved: Option<SavedFile<'a>>,
     pub lines: Vec<Vec<u8>>,
     pub judged: Option<Judged>,
+    pub detected: Option<Detected>,
 }
 
 impl<'a> Plan<'a> {
@@ -37,6 +39,7 @@ impl<'a> Plan<'a> {
             saved: None,
             lines,
             judged: None,
+            detected: None,
         }
     }
 

@@ -3,23 +3,26 @@ ghost use Rattle.std.specs.Prelude.{◌≡◌, None};
 
 use crate::statuses::Status;
 use judgements::Judged;
+use mcp_detect::Detected;
 
-/// How a run ended, and the verdicts that it reported, in the order of the pairs. A run that refuses a text, checks a certificate
-/// or replays a stimulus reports none.
+/// How a run ended, the verdicts that it reported, in the order of the pairs, and the multicycle pairs that it found. A run that
+/// refuses a text, checks a certificate or replays a stimulus has neither.
 #[derive(Drop)]
 pub struct Ran {
     pub status: Status,
     pub judged: Option<Judged>,
+    pub detected: Option<Detected>,
 }
 
 impl Ran {
     /// A run that stopped before it printed anything.
     pub fn stopped(status: Status) -> Ran
-        ensures { result ≡ record { status = status; judged = None } }
+        ensures { result ≡ record { status = status; judged = None; detected = None } }
     {
         Ran {
             status,
             judged: None,
+            detected: None,
         }
     }
 }

@@ -3,18 +3,23 @@ ghost use Rattle.std.specs.Prelude.{◌≡◌, IfOk};
 ghost use Rattle.netlist_types.specs.Lawful.{IsLawful};
 ghost use Rattle.cell_types.specs.Libraries.{IsLawful as IsLawfulLibrary};
 ghost use Rattle.exception_expand.specs.Selections.{HasMultipliers};
+ghost use Rattle.sdcv_words.specs.Commands.{seen_texts};
+ghost use Rattle.design_stages.specs.Designs.{AreLawful};
 ghost use Rattle.sdcv_top.specs.Reads.{text_of};
 ghost use Rattle.sdcv_top.specs.Texts.{Netlist, Cells, Constraints, Itself, Unless};
-ghost use Rattle.sdcv_top.specs.Plans.{StopCounts, ReadFinds, CellsFind, items_of};
+ghost use Rattle.sdcv_top.specs.Plans.{StopCounts, ReadFinds, CellsFind, TextsFind, items_of};
 
 use crate::plans::Stop;
 use crate::reads::{Answer, LONGEST, read};
 use cell_types::{Library, builtin};
-use design_stages::{cells as cells_of, constraints as constraints_of, netlist as netlist_of};
+use design_stages::{
+    ReadTexts, cells as cells_of, constraints as constraints_of, netlist as netlist_of,
+};
 use fault_lines::{Origin, too_long_line};
 use netlist_types::Source;
 use script_types::Script;
 use sdcv_base::Host;
+use sdcv_words::Texts;
 use std::alloc::Global;
 
 /// Reads a file of at most `limit` bytes, and refuses a longer one.
@@ -94,4 +99,23 @@ pub fn constraints<H: Host>(alloc: Global, host: &mut H, name: &str) -> Result<S
     let text = text(alloc, host, name, LONGEST, Origin::Sdc)?;
     let script = constraints_of(alloc, &text)?;
     Ok(script)
+}
+
+/// Reads the netlist, its cells and its constraints, in this order.
+pub fn texts<'a, H: Host>(alloc: Global, host: &mut H, names: Texts<'a>) -> Result<ReadTexts, Stop>
+    ensures found { TextsFind (seen_texts names.entry) (H.files host.old) (H.asked host.old) (H.asked host.new) result }
+    ensures lawful { IfOk result AreLawful }
+    ensures count { StopCounts (H.faults host.old) (H.faults host.new) result }
+    ensures files { H.files host.new ≡ H.files host.old }
+    ensures printed { H.printed host.new ≡ H.printed host.old }
+    ensures saved { H.saved host.new ≡ H.saved host.old }
+{
+    let source = netlist(alloc, host, names.netlist)?;
+    let library = cells(alloc, host, names.cells)?;
+    let script = constraints(alloc, host, names.constraints)?;
+    Ok(ReadTexts {
+        source,
+        library,
+        script,
+    })
 }

@@ -10,22 +10,25 @@ ghost use Rattle.sdcv_top.specs.Plans.{StopCounts, Plans};
 
 use crate::checking::checked;
 use crate::demos::demonstrated;
+use crate::finding::found_out;
 use crate::plans::{Plan, Stop};
-use crate::readers::{cells, constraints, netlist};
+use crate::readers::texts;
 use crate::replaying::replayed;
 use crate::verifying::verified;
-use design_stages::{Designed, ReadTexts, Reset, designed};
+use design_stages::{Designed, Reset, designed};
 use exception_expand::Judging;
+use judgements::Progress;
 use report_text::RunOptions;
 use sdcv_base::Host;
 use sdcv_words::{Command, Job, Options, Texts};
 use std::alloc::Global;
 
 /// What the command is due to save and print, or why it stops before it does anything of its own.
-pub fn plan<'a, H: Host>(
+pub fn plan<'a, H: Host, P: Progress>(
     alloc: Global,
     host: &mut H,
     command: Command<'a>,
+    progress: &mut P,
 ) -> Result<Plan<'a>, Stop>
     requires { IsInRange (seen_command command) }
     ensures planned { Plans (IsDueFor (Some (seen_command command.entry))) (reads_of (Some (seen_command command.entry))) (H.files host.old)
@@ -40,18 +43,24 @@ pub fn plan<'a, H: Host>(
             texts,
             options,
             job,
-        } => worked(alloc, host, texts, options, job),
-        Command::Demo { seed, size } => Ok(demonstrated(alloc, seed, size)?),
+        } => worked(alloc, host, texts, options, job, progress),
+        Command::Detect {
+            texts,
+            options,
+            finding,
+        } => found_out(alloc, host, texts, options, finding),
+        Command::Demo { seed, size } => Ok(demonstrated(alloc, seed, size, progress)?),
     }
 }
 
 // A job over three texts: they are read, the netlist is linked, pairs are selected, and the job is done on them.
-fn worked<'a, H: Host>(
+fn worked<'a, H: Host, P: Progress>(
     alloc: Global,
     host: &mut H,
     files: Texts<'a>,
     options: Options,
     job: Job<'a>,
+    progress: &mut P,
 ) -> Result<Plan<'a>, Stop>
     requires options { AreOptionsInRange options }
     requires job { IsJobInRange (seen_job job) }
@@ -63,14 +72,7 @@ fn worked<'a, H: Host>(
     ensures printed { H.printed host.new ≡ H.printed host.old }
     ensures saved { H.saved host.new ≡ H.saved host.old }
 {
-    let source = netlist(alloc, host, files.netlist)?;
-    let library = cells(alloc, host, files.cells)?;
-    let script = constraints(alloc, host, files.constraints)?;
-    let texts = ReadTexts {
-        source,
-        library,
-        script,
-    };
+    let texts = texts(alloc, host, files)?;
     let Options {
         hazard,
         lag,
@@ -83,7 +85,8 @@ fn worked<'a, H: Host>(
     };
     let judging = Judging { hazard, lag };
     let designed = designed(alloc, &texts, reset, judging)?;
-    let done = done(alloc, host, &designed, Manner { judging, reset_len }, job)?;
+    let manner = Manner { judging, reset_len };
+    let done = done(alloc, host, &designed, manner, job, progress)?;
     Ok(done)
 }
 
@@ -95,12 +98,13 @@ pub struct Manner {
 }
 
 // The job is done on the selected pairs.
-fn done<'a, H: Host>(
+fn done<'a, H: Host, P: Progress>(
     alloc: Global,
     host: &mut H,
     designed: &Designed,
     manner: Manner,
     job: Job<'a>,
+    progress: &mut P,
 ) -> Result<Plan<'a>, Stop>
     requires judged { CanBeJudged designed.now }
     requires job { IsJobInRange (seen_job job) }
@@ -121,7 +125,7 @@ fn done<'a, H: Host>(
                 inv_depth: proving.inv_depth,
                 lag: manner.judging.lag,
             };
-            Ok(verified(alloc, designed, &options, Some(out), json)?)
+            Ok(verified(alloc, designed, &options, Some(out), json, progress)?)
         }
         Job::Check { cert } => checked(alloc, host, designed, cert),
         Job::Replay { report, pair } => replayed(alloc, host, designed, report, pair),

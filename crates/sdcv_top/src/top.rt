@@ -9,12 +9,13 @@ use crate::plans::Stop;
 use crate::rans::Ran;
 use crate::stages::plan;
 use crate::statuses::{Ending, Status};
+use judgements::{Progress, Silent};
 use sdcv_base::Host;
 use sdcv_words::{Command, command_of};
 use std::alloc::{AllocError, Global};
 
 const USAGE: &[u8] =
-    b"usage: sdcv verify V L S --out CERT | check V L S CERT | replay V L S REPORT PAIR | demo SEED SIZE\n";
+    b"usage: sdcv verify V L S --out CERT | check V L S CERT | replay V L S REPORT PAIR | demo SEED SIZE | detect V L S --out SDC\n";
 
 /// Runs the command that the words name. The words leave out the program's own name.
 ///
@@ -29,8 +30,25 @@ pub fn run<H: Host>(alloc: Global, words: &[String], host: &mut H) -> Ran
     ensures count { RunCounts (H.faults host.old) (H.faults host.new) result.status }
     ensures files { H.files host.new ≡ H.files host.old }
 {
+    run_told(alloc, words, host, &mut Silent)
+}
+
+/// The same. How many pairs are judged, `progress` is told meanwhile.
+pub fn run_told<H: Host, P: Progress>(
+    alloc: Global,
+    words: &[String],
+    host: &mut H,
+    progress: &mut P,
+) -> Ran
+    ensures ran { HasRun (map string_bytes words.now) (H.files host.old)
+        (record { asked = H.asked host.old; printed = H.printed host.old; saved = H.saved host.old })
+        (record { asked = H.asked host.new; printed = H.printed host.new; saved = H.saved host.new }) result }
+    ensures memory { result.status ≡ Status.Memory → (H.printed host.new ≡ H.printed host.old) × (H.saved host.new ≡ H.saved host.old) }
+    ensures count { RunCounts (H.faults host.old) (H.faults host.new) result.status }
+    ensures files { H.files host.new ≡ H.files host.old }
+{
     match command_of(alloc, words) {
-        Ok(Some(command)) => carried_out(alloc, host, command),
+        Ok(Some(command)) => carried_out(alloc, host, command, progress),
         Ok(None) => deliver_line(host, Ending::Words, USAGE),
         Err(AllocError) => Ran::stopped(Status::Memory),
     }
@@ -38,7 +56,12 @@ pub fn run<H: Host>(alloc: Global, words: &[String], host: &mut H) -> Ran
 
 // Saves and prints what is due for a command.
 #[tactic(auto, unfolding(crate::specs::Plans::Plans))]
-fn carried_out<H: Host>(alloc: Global, host: &mut H, command: Command<'_>) -> Ran
+fn carried_out<H: Host, P: Progress>(
+    alloc: Global,
+    host: &mut H,
+    command: Command<'_>,
+    progress: &mut P,
+) -> Ran
     requires { IsInRange (seen_command command) }
     ensures ran { HasRunFor (Some (seen_command command.entry)) (H.files host.old)
         (record { asked = H.asked host.old; printed = H.printed host.old; saved = H.saved host.old })
@@ -47,7 +70,7 @@ fn carried_out<H: Host>(alloc: Global, host: &mut H, command: Command<'_>) -> Ra
     ensures count { RunCounts (H.faults host.old) (H.faults host.new) result.status }
     ensures files { H.files host.new ≡ H.files host.old }
 {
-    match plan(alloc, host, command) {
+    match plan(alloc, host, command, progress) {
         Ok(plan) => deliver(host, plan),
         Err(Stop::Refused(line)) => deliver_line(host, Ending::Refused, &line),
         Err(Stop::HostFault) => Ran::stopped(Status::HostFault),

@@ -6,21 +6,22 @@ ghost use Rattle.judgements.specs.Judgements.{AreJudged, AreAllInForm};
 ghost use Rattle.sdcv_top.specs.Headline.{IsReported, IsSaved, ending_by, AreInRange};
 ghost use Rattle.sdcv_top.specs.Plans.{outcome_of, saved_of};
 
-use crate::plans::{Certificate, Plan};
+use crate::plans::{Plan, SavedFile};
 use crate::statuses::Ending;
 use design_stages::Designed;
-use judgements::{Judged, certificate, judge, report};
+use judgements::{Judged, Progress, certificate, judge, report};
 use report_text::{RunOptions, Tally, tally_of};
 use std::alloc::{AllocError, Global};
 use verdict_types::Limits;
 
 /// Judges all selected pairs. A certificate of the verdicts is saved where it has a name.
-pub fn verified<'a>(
+pub fn verified<'a, P: Progress>(
     alloc: Global,
     designed: &Designed,
     options: &RunOptions,
     out: Option<&'a str>,
     json: bool,
+    progress: &mut P,
 ) -> Result<Plan<'a>, AllocError>
     requires judged { CanBeJudged designed.now }
     requires options { AreInRange options.now }
@@ -32,7 +33,7 @@ pub fn verified<'a>(
     };
     let design = &designed.linked.design;
     let claims = &designed.selected.claims;
-    let judged = judge(alloc, design, claims, options.inv_depth, &limits)?;
+    let judged = judge(alloc, design, claims, options.inv_depth, &limits, progress)?;
     let saved = certified(alloc, designed, &limits, &judged, out)?;
     let lines = report(
         alloc,
@@ -46,6 +47,7 @@ pub fn verified<'a>(
         saved,
         lines,
         judged: Some(judged),
+        detected: None,
     })
 }
 
@@ -56,7 +58,7 @@ fn certified<'a>(
     limits: &Limits,
     judged: &Judged,
     out: Option<&'a str>,
-) -> Result<Option<Certificate<'a>>, AllocError>
+) -> Result<Option<SavedFile<'a>>, AllocError>
     requires judged { (inv_depth : ℕ) × AreJudged designed.now.linked.design designed.now.selected.claims inv_depth limits.now judged.now }
     requires in_form { AreAllInForm judged.now }
     ensures { IfOk result (λ saved. IsSaved (option_map (λ t. t.now) out.entry) designed.now.linked.design
@@ -72,7 +74,7 @@ fn certified<'a>(
         limits,
         judged,
     )?;
-    Ok(Some(Certificate { name, bytes }))
+    Ok(Some(SavedFile { name, bytes }))
 }
 
 // How a run ends that reports so many verdicts of each kind.

@@ -10,14 +10,14 @@ use Rattle.texts.proofs.ReadLemmas.{bind_gave}
 use Rattle.clap_words.specs.Readings.{Given, Reading, clap_reading}
 use Rattle.sdcv_words.specs.declared.commands.Options.{Options}
 use Rattle.sdcv_words.specs.declared.commands.Proving.{Proving}
-use Rattle.sdcv_words.specs.Commands.{Command, Demo, Job, Check, Over, Replay, Text, Verify}
+use Rattle.sdcv_words.specs.Commands.{Command, Demo, Detect, Finding, Job, Check, Over, Replay, Text, Verify}
 use Rattle.sdcv_words.specs.Givens.{stands}
 use Rattle.sdcv_words.specs.Numbers.{are_digits, number_in, number_or}
 use Rattle.sdcv_words.specs.Options.{default_cycles, lag_of, options_of, proving_of, resets_of}
-use Rattle.sdcv_words.specs.Jobs.{check_of, demo_of, job_of, judged_if, over_of, replay_of, texts_of, verify_of}
+use Rattle.sdcv_words.specs.Jobs.{check_of, demo_of, detect_of, finding_of, job_of, judged_if, over_of, replay_of, texts_of, verify_of}
 use Rattle.sdcv_words.specs.Places.{by_place}
 use Rattle.sdcv_words.specs.Words.{command, or_else}
-use Rattle.sdcv_words.specs.Ranges.{AreOptionsInRange, IsInRange, IsJobInRange, IsProvingInRange}
+use Rattle.sdcv_words.specs.Ranges.{AreOptionsInRange, IsFindingInRange, IsInRange, IsJobInRange, IsProvingInRange}
 
 -- a number that is read lies in its range
 high_enough : (least value n : ℕ) (above : Bool) → nat_le least value ≡ above → (if above then Some value else None) ≡ Some n → least ≤ n
@@ -119,6 +119,28 @@ over_range name given c is =
     let range = job_range (bytes_eq name (codes "verify")) (bytes_eq name (codes "check")) (bytes_eq name (codes "replay")) given job done in
     subst IsInRange same (options_range given options set, range)
 
+-- up to which multiplier pairs are tried
+pub bound_range : (given : List Given) (bound : ℕ) → number_or 4 2 16 (in_table given (codes "bound")) ≡ Some bound → (2 ≤ bound) × (bound ≤ 16)
+bound_range given bound is = number_or_range 4 2 16 bound (in_table given (codes "bound")) (omega arith) (omega arith) is
+
+finding_range : (given : List Given) (finding : Finding) → finding_of given ≡ Some finding → IsFindingInRange finding
+finding_range given finding is =
+    let (out, there, with_out) = bind_gave (in_table given (codes "out")) _ finding is in
+    let (proving, of, with_proving) = bind_gave (proving_of given) _ finding with_out in
+    let (bound, number, made) = bind_gave (number_or 4 2 16 (in_table given (codes "bound"))) _ finding with_proving in
+    let range = bound_range given bound number in
+    let opened : Finding = record { out = out; proving = proving; bound = bound } in
+    let same : opened ≡ finding = cc in
+    subst IsFindingInRange same (record { proving = proving_range given proving of; some = range.0; most = range.1 })
+
+detect_range : (given : List Given) (c : Command) → detect_of given ≡ Some c → IsInRange c
+detect_range given c is =
+    let (texts, files, with_texts) = bind_gave (texts_of given) _ c is in
+    let (finding, found, with_finding) = bind_gave (finding_of given) _ c with_texts in
+    let (options, set, made) = bind_gave (options_of given) _ c with_finding in
+    let same : Detect texts options finding ≡ c = cc in
+    subst IsInRange same (options_range given options set, finding_range given finding found)
+
 demo_range : (given : List Given) (c : Command) → demo_of given ≡ Some c → IsInRange c
 demo_range given c is =
     let (first, there, with_first) = bind_gave (in_table given (codes "SEED")) _ c is in
@@ -127,13 +149,16 @@ demo_range given c is =
     let (size, blocks, made) = bind_gave (number_in 1 160 second) _ c with_second in
     let same : Demo seed size ≡ c = cc in subst IsInRange same (number_in_range 1 160 size second blocks)
 
-judged_range : (demo : Bool) (name : Text) (given : List Given) (c : Command) → (if demo then demo_of given else over_of name given) ≡ Some c → IsInRange c
-judged_range true name given c is = demo_range given c is
-judged_range false name given c is = over_range name given c is
+judged_range : (demo detect : Bool) (name : Text) (given : List Given) (c : Command)
+    → (if demo then demo_of given else (if detect then detect_of given else over_of name given)) ≡ Some c → IsInRange c
+judged_range true detect name given c is = demo_range given c is
+judged_range false true name given c is = detect_range given c is
+judged_range false false name given c is = over_range name given c is
 
 judged_if_range : (reading : Option Reading) (c : Command) → judged_if reading ≡ Some c → IsInRange c
 judged_if_range None c is = absurd cc
-judged_if_range (Some reading) c is = judged_range (bytes_eq reading.name (codes "demo")) reading.name reading.given c is
+judged_if_range (Some reading) c is =
+    judged_range (bytes_eq reading.name (codes "demo")) (bytes_eq reading.name (codes "detect")) reading.name reading.given c is
 
 or_else_range : (one other : Option Command) (c : Command) → ((x : Command) → one ≡ Some x → IsInRange x) → ((x : Command) → other ≡ Some x → IsInRange x)
     → or_else one other ≡ Some c → IsInRange c

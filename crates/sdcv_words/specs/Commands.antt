@@ -3,6 +3,7 @@ use Rattle.std.specs.Prelude.{ℕ, Bool, List}
 use Rattle.sdcv_words.specs.declared.commands.Texts.{Texts as TheTexts}
 use Rattle.sdcv_words.specs.declared.commands.Options.{Options}
 use Rattle.sdcv_words.specs.declared.commands.Proving.{Proving}
+use Rattle.sdcv_words.specs.declared.commands.Finding.{Finding as TheFinding}
 use Rattle.sdcv_words.specs.declared.commands.Job.{Job as TheJob}
 use Rattle.sdcv_words.specs.declared.commands.Job.TheVariants as the_job
 use Rattle.sdcv_words.specs.declared.commands.Command.{Command as TheCommand}
@@ -17,6 +18,12 @@ pub record Texts : Type 0 where
   pub cells : Text
   pub constraints : Text
 
+-- where found pairs are saved, how far their proofs are sought, and the largest multiplier that is tried
+pub record Finding : Type 0 where
+  pub out : Text
+  pub proving : Proving
+  pub bound : ℕ
+
 -- what is done with the pairs that are selected
 pub data Job : Type 0 where
   Verify : (out : Text) → (json : Bool) → (proving : Proving) → Job
@@ -25,11 +32,15 @@ pub data Job : Type 0 where
 
 pub data Command : Type 0 where
   Over : (texts : Texts) → (options : Options) → (job : Job) → Command
+  Detect : (texts : Texts) → (options : Options) → (finding : Finding) → Command
   Demo : (seed : ℕ) → (size : ℕ) → Command
 
 -- the same of the program, without its references
 abbrev pub seen_texts : TheTexts → Texts
 seen_texts t = record { netlist = t.netlist.now; cells = t.cells.now; constraints = t.constraints.now }
+
+abbrev pub seen_finding : TheFinding → Finding
+seen_finding f = record { out = f.out.now; proving = f.proving; bound = f.bound }
 
 abbrev pub seen_job : TheJob → Job
 seen_job (the_job.Verify out json proving) = Verify out.now json proving
@@ -38,4 +49,5 @@ seen_job (the_job.Replay report pair) = Replay report.now pair
 
 abbrev pub seen_command : TheCommand → Command
 seen_command (the_command.Over texts options job) = Over (seen_texts texts) options (seen_job job)
+seen_command (the_command.Detect texts options finding) = Detect (seen_texts texts) options (seen_finding finding)
 seen_command (the_command.Demo seed size) = Demo seed size

@@ -4,9 +4,9 @@ use Rattle.std.specs.Str.{bytes_eq}
 use Rattle.texts.specs.Lookups.{in_table}
 use Rattle.texts.specs.Reads.{◌>>=◌}
 use Rattle.clap_words.specs.Readings.{Given, Reading}
-use Rattle.sdcv_words.specs.Commands.{Command, Demo, Job, Check, Over, Replay, Text, Texts, Verify}
+use Rattle.sdcv_words.specs.Commands.{Command, Demo, Detect, Finding, Job, Check, Over, Replay, Text, Texts, Verify}
 use Rattle.sdcv_words.specs.Givens.{stands}
-use Rattle.sdcv_words.specs.Numbers.{number_in}
+use Rattle.sdcv_words.specs.Numbers.{number_in, number_or}
 use Rattle.sdcv_words.specs.Options.{options_of, proving_of}
 
 abbrev pub texts_of : List Given → Option Texts
@@ -46,6 +46,20 @@ over_of name given =
     options_of given >>= λ options.
     Some (Over texts options job)
 
+abbrev pub finding_of : List Given → Option Finding
+finding_of given =
+    in_table given (codes "out") >>= λ out.
+    proving_of given >>= λ proving.
+    number_or 4 2 16 (in_table given (codes "bound")) >>= λ bound.
+    Some (record { out = out; proving = proving; bound = bound })
+
+abbrev pub detect_of : List Given → Option Command
+detect_of given =
+    texts_of given >>= λ texts.
+    finding_of given >>= λ finding.
+    options_of given >>= λ options.
+    Some (Detect texts options finding)
+
 abbrev pub demo_of : List Given → Option Command
 demo_of given =
     in_table given (codes "SEED") >>= λ first.
@@ -55,7 +69,9 @@ demo_of given =
     Some (Demo seed size)
 
 abbrev pub judged : Reading → Option Command
-judged reading = if bytes_eq reading.name (codes "demo") then demo_of reading.given else over_of reading.name reading.given
+judged reading =
+    if bytes_eq reading.name (codes "demo") then demo_of reading.given
+    else (if bytes_eq reading.name (codes "detect") then detect_of reading.given else over_of reading.name reading.given)
 
 abbrev pub judged_if : Option Reading → Option Command
 judged_if None = None

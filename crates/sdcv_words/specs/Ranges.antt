@@ -2,7 +2,7 @@
 use Rattle.std.specs.Prelude.{◌≤◌}
 use Rattle.sdcv_words.specs.declared.commands.Options.{Options}
 use Rattle.sdcv_words.specs.declared.commands.Proving.{Proving}
-use Rattle.sdcv_words.specs.Commands.{Command, Demo, Job, Check, Over, Replay, Verify}
+use Rattle.sdcv_words.specs.Commands.{Command, Demo, Detect, Finding, Job, Check, Over, Replay, Verify}
 
 -- claims are proved up to a depth of 64, with at least one and at most ten million clauses for a query; kept clauses up to a depth of 8
 pub record IsProvingInRange (proving : Proving) : Type 0 where
@@ -22,7 +22,14 @@ pub record AreOptionsInRange (options : Options) : Type 0 where
   pub lag : options.lag ≤ 8
   pub reset_len : options.reset_len ≤ 64
 
+-- multipliers are tried up to a bound from 2 to 16
+pub record IsFindingInRange (finding : Finding) : Type 0 where
+  pub proving : IsProvingInRange finding.proving
+  pub some : 2 ≤ finding.bound
+  pub most : finding.bound ≤ 16
+
 -- a generated design has 1 to 160 blocks
 abbrev pub IsInRange : Command → Type 0
 IsInRange (Over texts options job) = AreOptionsInRange options × IsJobInRange job
+IsInRange (Detect texts options finding) = AreOptionsInRange options × IsFindingInRange finding
 IsInRange (Demo seed size) = (1 ≤ size) × (size ≤ 160)

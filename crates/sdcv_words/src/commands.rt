@@ -30,6 +30,14 @@ pub struct Proving {
     pub inv_depth: usize,
 }
 
+/// Where the found pairs are saved, how far their proofs are sought, and the largest multiplier that is tried.
+#[derive(Clone, Copy)]
+pub struct Finding<'a> {
+    pub out: &'a str,
+    pub proving: Proving,
+    pub bound: u8,
+}
+
 /// What is done with the pairs that are selected.
 #[derive(Clone, Copy)]
 pub enum Job<'a> {
@@ -55,6 +63,12 @@ pub enum Command<'a> {
         texts: Texts<'a>,
         options: Options,
         job: Job<'a>,
+    },
+    /// A search for the multicycle pairs of a netlist.
+    Detect {
+        texts: Texts<'a>,
+        options: Options,
+        finding: Finding<'a>,
     },
     /// A verification of generated texts.
     Demo {

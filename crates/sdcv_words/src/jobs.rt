@@ -2,12 +2,12 @@
 ghost use Rattle.std.specs.Prelude.{◌≡◌, IfOk, Some, map};
 ghost use Rattle.std.specs.Option.{option_map};
 ghost use Rattle.clap_words.specs.Readings.{seen_given, seen_reading};
-ghost use Rattle.sdcv_words.specs.Commands.{seen_command, seen_job, seen_texts};
-ghost use Rattle.sdcv_words.specs.Jobs.{check_of, demo_of, job_of, judged, over_of, replay_of, texts_of, verify_of};
+ghost use Rattle.sdcv_words.specs.Commands.{seen_command, seen_finding, seen_job, seen_texts};
+ghost use Rattle.sdcv_words.specs.Jobs.{check_of, demo_of, detect_of, finding_of, job_of, judged, over_of, replay_of, texts_of, verify_of};
 
-use crate::commands::{Command, Job, Texts};
+use crate::commands::{Command, Finding, Job, Texts};
 use crate::givens::{stands, text_of};
-use crate::numbers::number_in;
+use crate::numbers::{number_in, number_or};
 use crate::options::{options_of, proving_of};
 use clap_words::{Given, Reading};
 use std::alloc::{AllocError, Global};
@@ -83,6 +83,38 @@ fn over_of<'a>(
     }))
 }
 
+fn finding_of<'a>(given: &[Given<'a>]) -> Option<Finding<'a>>
+    ensures { option_map seen_finding result ≡ finding_of (map seen_given given.now) }
+{
+    let out = text_of(given, "out")?;
+    let proving = proving_of(given)?;
+    let bound = number_or(text_of(given, "bound"), 4, 2, 16)?;
+    Some(Finding {
+        out,
+        proving,
+        bound: bound as u8,
+    })
+}
+
+fn detect_of<'a>(alloc: Global, given: &[Given<'a>]) -> Result<Option<Command<'a>>, AllocError>
+    ensures { IfOk result (λ found. option_map seen_command found ≡ detect_of (map seen_given given.now)) }
+{
+    let Some(texts) = texts_of(given) else {
+        return Ok(None);
+    };
+    let Some(finding) = finding_of(given) else {
+        return Ok(None);
+    };
+    let Some(options) = options_of(alloc, given)? else {
+        return Ok(None);
+    };
+    Ok(Some(Command::Detect {
+        texts,
+        options,
+        finding,
+    }))
+}
+
 fn demo_of<'a>(given: &[Given<'a>]) -> Option<Command<'a>>
     ensures { option_map seen_command result ≡ demo_of (map seen_given given.now) }
 {
@@ -98,9 +130,9 @@ fn demo_of<'a>(given: &[Given<'a>]) -> Option<Command<'a>>
 pub fn judged<'a>(alloc: Global, reading: &Reading<'a>) -> Result<Option<Command<'a>>, AllocError>
     ensures { IfOk result (λ found. option_map seen_command found ≡ judged (seen_reading reading.now)) }
 {
-    if reading.name == "demo" {
-        Ok(demo_of(&reading.given))
-    } else {
-        over_of(alloc, reading.name, &reading.given)
+    match reading.name {
+        "demo" => Ok(demo_of(&reading.given)),
+        "detect" => detect_of(alloc, &reading.given),
+        _ => over_of(alloc, reading.name, &reading.given),
     }
 }

@@ -8,7 +8,7 @@ ghost use Rattle.sdcv_words.specs.Givens.{when};
 ghost use Rattle.sdcv_words.specs.Places.{begun, by_place, has_needed, is_value, new_option, optioned, placed, row_of, seen_due, step, with_value};
 
 use crate::givens::text_of;
-use clap_words::{CommandRow, Form, Given, OptionRow, Reading, rows};
+use clap_words::{CommandRow, Form, Given, OptionRow, PositionRow, Reading, rows};
 use std::alloc::{AllocError, Global};
 
 // What comes next among the options.
@@ -38,7 +38,8 @@ fn is_option(word: &str, id: &str) -> bool
     }
 }
 
-fn row_of(name: &str) -> Option<CommandRow>
+/// The command of this name.
+pub fn row_of(name: &str) -> Option<CommandRow>
     ensures { option_map seen_row result ≡ row_of name.now }
 {
     for row in rows() {
@@ -68,18 +69,18 @@ fn add_value<'a>(
 // Gives the words to the positions; answers whether each has one that can stand there.
 fn place<'a>(
     given: &mut Vec<Given<'a>>,
-    ids: &'static [&'static str],
+    positions: &'static [PositionRow],
     words: &'a [String],
 ) -> Result<bool, AllocError>
     ensures given { IfOk result (λ fits. when fits (map seen_given given.new.items)
-        ≡ placed (map seen_given given.old.items) (map (λ id. id.now) ids.now) (map string_bytes words.entry.now)) }
-    ensures enough { IfOk result (λ fits. fits ≡ true → length ids.now ≤ length words.entry.now) }
+        ≡ placed (map seen_given given.old.items) (map (λ row. row.id.now) positions.now) (map string_bytes words.entry.now)) }
+    ensures enough { IfOk result (λ fits. fits ≡ true → length positions.now ≤ length words.entry.now) }
 {
-    if words.len() < ids.len() {
+    if words.len() < positions.len() {
         return Ok(false);
     }
-    for index in 0..ids.len() {
-        if !add_value(given, ids[index], words[index].as_str())? {
+    for index in 0..positions.len() {
+        if !add_value(given, positions[index].id, words[index].as_str())? {
             return Ok(false);
         }
     }

@@ -1,10 +1,10 @@
 use sdcv_base::{Seq, Setting};
-use sdcv_words::{Command, Job, Options, command_of};
+use sdcv_words::{Command, Finding, Job, Options, command_of};
 use std::alloc::{AllocError, Global};
 use std::test::Fail;
 
-// The words between the bars.
-fn words_in(alloc: Global, text: &str) -> Result<Vec<String>, AllocError> {
+/// The words between the bars.
+pub fn words_in(alloc: Global, text: &str) -> Result<Vec<String>, AllocError> {
     let mut words = Vec::new(alloc);
     for word in text.split('|') {
         words.push(word.to_string(alloc)?)?;
@@ -44,6 +44,15 @@ fn job_text(alloc: Global, job: &Job<'_>) -> Result<String, AllocError> {
     }
 }
 
+fn finding_text(alloc: Global, finding: &Finding<'_>) -> Result<String, AllocError> {
+    let out = finding.out;
+    let depth = finding.proving.depth;
+    let budget = finding.proving.budget;
+    let inv = finding.proving.inv_depth;
+    let bound = finding.bound;
+    format!(in alloc; "detect <{out}> depth {depth} budget {budget} inv {inv} bound {bound}")
+}
+
 // A command in one line.
 fn told(alloc: Global, command: &Command<'_>) -> Result<String, AllocError> {
     match command {
@@ -59,6 +68,18 @@ fn told(alloc: Global, command: &Command<'_>) -> Result<String, AllocError> {
             let s = texts.constraints;
             format!(in alloc; "<{v}> <{l}> <{s}> {options} {job}")
         }
+        Command::Detect {
+            texts,
+            options,
+            finding,
+        } => {
+            let options = options_text(alloc, options)?;
+            let finding = finding_text(alloc, finding)?;
+            let v = texts.netlist;
+            let l = texts.cells;
+            let s = texts.constraints;
+            format!(in alloc; "<{v}> <{l}> <{s}> {options} {finding}")
+        }
         Command::Demo { seed, size } => format!(in alloc; "demo {seed} {size}"),
     }
 }
@@ -73,7 +94,7 @@ fn named(alloc: Global, text: &str) -> Result<String, AllocError> {
 }
 
 // By their places: the name, the positions, then options, each value in a word of its own.
-const BY_PLACE: [(&str, &str); 9] = [
+const BY_PLACE: [(&str, &str); 11] = [
     (
         "verify|v|builtin|s|--out|c",
         "<v> <builtin> <s> plain lag 0 cycles 0 verify <c> json false depth 8 budget 20000 inv 1",
@@ -105,6 +126,14 @@ const BY_PLACE: [(&str, &str); 9] = [
     (
         "replay|v|l|s|r|18446744073709551615",
         "<v> <l> <s> plain lag 0 cycles 0 replay <r> pair 18446744073709551615",
+    ),
+    (
+        "detect|v|builtin|s|--out|f",
+        "<v> <builtin> <s> plain lag 0 cycles 0 detect <f> depth 8 budget 20000 inv 1 bound 4",
+    ),
+    (
+        "detect|v|l|s|--bound|16|--hazard|--depth|0|--out|f|--reset|rst=1",
+        "<v> <l> <s> hazard lag 0 rst=true cycles 1 detect <f> depth 0 budget 20000 inv 1 bound 16",
     ),
     ("demo|007|160", "demo 7 160"),
 ];
@@ -207,7 +236,7 @@ const NONE: [(&str, &str); 40] = [
     ("demo|7|0", "a design of no blocks"),
     ("demo|7|161", "a design past its size"),
     ("demo|-7|20", "a negative number"),
-    ("detect|v|l|s|--out|c", "a command of another name"),
+    ("detects|v|l|s|--out|c", "a command of another name"),
 ];
 
 fn names_all(alloc: Global, rows: &[(&str, &str)]) -> Result<Option<String>, AllocError> {

@@ -5,3 +5,7 @@
 
 #[cfg(test)]
 mod commands;
+#[cfg(test)]
+mod ranges;
+#[cfg(test)]
+mod tellings;

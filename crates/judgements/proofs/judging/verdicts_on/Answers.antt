@@ -5,12 +5,12 @@ use Rattle.judgements.proofs.Verdicts.{found_none, found_more}
 use Rattle.judgements.proofs.judging.verdicts_on.Goals as goal
 
 pub loop-place-init : goal.loop-place-init
-loop-place-init c =
+loop-place-init g c =
     let found = λ (vs : List Verdict). AreFoundFirst c.args.design.now c.args.claims.now c.args.inv.now.kept c.args.limits.now 0 vs in
     subst found (sym c.new-verdicts.ensures) (found_none c.args.design.now c.args.claims.now c.args.inv.now.kept c.args.limits.now)
 
 pub loop-place-preserved : goal.loop-place-preserved
-loop-place-preserved c =
+loop-place-preserved g c =
     let place = c.loop-place.place in
     let found = λ (vs : List Verdict). AreFoundFirst c.args.design.now c.args.claims.now c.args.inv.now.kept c.args.limits.now (place + 1) vs in
     let is : IsFound c.args.design.now c.item-claim.result.now c.args.inv.now.kept c.args.limits.now c.in_ok-prove.field-0 =

@@ -8,14 +8,14 @@ use Rattle.sdcv_top.proofs.demos.demonstrated.Goals as goal
 
 pub returns-in_err-texts : goal.returns-in_err-texts
 unfolding Demonstrated
-returns-in_err-texts c =
+returns-in_err-texts g c =
     let p = err_from_is_err_and c.from_residual.result c.from_residual.ensures.1 in
     planned_by _ _ _ (p.1 ∙ ap Err p.2)
     (planned_memory _)
 
 pub returns-in_err-source : goal.returns-in_err-source
 unfolding Demonstrated
-returns-in_err-source c =
+returns-in_err-source g c =
     let found = finds_text Netlist _ _ (Err c.in_err-source.field-0.0) (c.deref.ensures.value ∙ c.in_ok-texts.ensures.verilog) c.in_err-source.ensures.found in
     let p = err_from_is_err_and c.from_residual-in_err-source.result c.from_residual-in_err-source.ensures.1 in
     planned_by _ _ _ (p.1 ∙ ap Err p.2)
@@ -23,7 +23,7 @@ returns-in_err-source c =
 
 pub returns-in_err-script : goal.returns-in_err-script
 unfolding Demonstrated
-returns-in_err-script c =
+returns-in_err-script g c =
     let source = finds_text Netlist _ _ (Ok c.in_ok-source.source) (c.deref.ensures.value ∙ c.in_ok-texts.ensures.verilog) c.in_ok-source.ensures.found in
     let same = c.deref-2.ensures.value ∙ c.in_ok-texts.ensures.sdc in
     let found = finds_text Constraints _ _ (Err c.in_err-script.field-0.0) same c.in_err-script.ensures.found in
@@ -33,7 +33,7 @@ returns-in_err-script c =
 
 pub returns-in_err-library : goal.returns-in_err-library
 unfolding Demonstrated
-returns-in_err-library c =
+returns-in_err-library g c =
     let source = finds_text Netlist _ _ (Ok c.in_ok-source.source) (c.deref.ensures.value ∙ c.in_ok-texts.ensures.verilog) c.in_ok-source.ensures.found in
     let script = finds_text Constraints _ _ (Ok c.in_ok-script.script) (c.deref-2.ensures.value ∙ c.in_ok-texts.ensures.sdc) c.in_ok-script.ensures.found in
     let p = err_from_is_err_and c.from_residual-in_err-library.result c.from_residual-in_err-library.ensures.1 in
@@ -42,7 +42,7 @@ returns-in_err-library c =
 
 pub returns-in_err-reset : goal.returns-in_err-reset
 unfolding Demonstrated
-returns-in_err-reset c =
+returns-in_err-reset g c =
     let source = finds_text Netlist _ _ (Ok c.in_ok-source.source) (c.deref.ensures.value ∙ c.in_ok-texts.ensures.verilog) c.in_ok-source.ensures.found in
     let script = finds_text Constraints _ _ (Ok c.in_ok-script.script) (c.deref-2.ensures.value ∙ c.in_ok-texts.ensures.sdc) c.in_ok-script.ensures.found in
     let p = err_from_is_err_and c.from_residual-in_err-reset.result c.from_residual-in_err-reset.ensures.1 in
@@ -51,7 +51,7 @@ returns-in_err-reset c =
 
 pub returns-in_err-designed : goal.returns-in_err-designed
 unfolding Demonstrated
-returns-in_err-designed c =
+returns-in_err-designed g c =
     let source = finds_text Netlist _ _ (Ok c.in_ok-source.source) (c.deref.ensures.value ∙ c.in_ok-texts.ensures.verilog) c.in_ok-source.ensures.found in
     let script = finds_text Constraints _ _ (Ok c.in_ok-script.script) (c.deref-2.ensures.value ∙ c.in_ok-texts.ensures.sdc) c.in_ok-script.ensures.found in
     let cells = builtin_is c.in_ok-library.library c.in_ok-library.ensures.table in
@@ -62,7 +62,7 @@ returns-in_err-designed c =
 
 pub returns-in_err-plan : goal.returns-in_err-plan
 unfolding Demonstrated
-returns-in_err-plan c =
+returns-in_err-plan g c =
     let source = finds_text Netlist _ _ (Ok c.in_ok-source.source) (c.deref.ensures.value ∙ c.in_ok-texts.ensures.verilog) c.in_ok-source.ensures.found in
     let script = finds_text Constraints _ _ (Ok c.in_ok-script.script) (c.deref-2.ensures.value ∙ c.in_ok-texts.ensures.sdc) c.in_ok-script.ensures.found in
     let cells = builtin_is c.in_ok-library.library c.in_ok-library.ensures.table in
@@ -73,7 +73,7 @@ returns-in_err-plan c =
 
 pub returns : goal.returns
 unfolding Demonstrated
-returns c =
+returns g c =
     let source = finds_text Netlist _ _ (Ok c.in_ok-source.source) (c.deref.ensures.value ∙ c.in_ok-texts.ensures.verilog) c.in_ok-source.ensures.found in
     let script = finds_text Constraints _ _ (Ok c.in_ok-script.script) (c.deref-2.ensures.value ∙ c.in_ok-texts.ensures.sdc) c.in_ok-script.ensures.found in
     let cells = builtin_is c.in_ok-library.library c.in_ok-library.ensures.table in

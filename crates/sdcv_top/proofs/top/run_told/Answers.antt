@@ -2,7 +2,7 @@ use Rattle.std.proofs.Common.{None, sym, ap, ◌∙◌}
 use Rattle.std.specs.Option.{option_map}
 use Rattle.sdcv_words.specs.Commands.{seen_command}
 use Rattle.sdcv_top.proofs.Delivered.{has_run-usage, has_run-named}
-use Rattle.sdcv_top.proofs.top.run.Goals as goal
+use Rattle.sdcv_top.proofs.top.run_told.Goals as goal
 
 pub returns-in-Ok-None-clause-ran : goal.returns-in-Ok-None-clause-ran
 returns-in-Ok-None-clause-ran g c =

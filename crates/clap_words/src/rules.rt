@@ -1,0 +1,31 @@
+//! What the words for values have to be.
+use std::fmt;
+use std::fmt::{Display, Formatter};
+
+/// The rule of a value.
+#[derive(Clone, Copy)]
+pub enum ValueRule {
+    /// Any text.
+    Text,
+    /// A number, of decimal digits alone and at most twenty of them.
+    Number { least: u64, most: u64 },
+    /// A list of values for ports.
+    Ports,
+}
+
+impl Display for ValueRule {
+    fn fmt<W: fmt::Write>(&self, f: &mut Formatter<W>) -> fmt::Result {
+        match *self {
+            ValueRule::Text => f.write_str("any text"),
+            ValueRule::Number { least, most } => {
+                write!(
+                    f,
+                    "a number from {least} to {most}, of digits alone and at most 20"
+                )
+            }
+            ValueRule::Ports => {
+                f.write_str("PORT=0 or PORT=1, parted by commas, each port once")
+            }
+        }
+    }
+}

@@ -1,0 +1,104 @@
+//! A search for the multicycle pairs of a netlist.
+ghost use Rattle.std.specs.Prelude.{◌≡◌, IfOk, Some};
+ghost use Rattle.link_defs.specs.Usable.{IsUsable};
+ghost use Rattle.sdcv_words.specs.Commands.{seen_texts, seen_finding, Detect};
+ghost use Rattle.sdcv_words.specs.Ranges.{AreOptionsInRange, IsFindingInRange};
+ghost use Rattle.mcp_detect.specs.Options.{AreInRange};
+ghost use Rattle.mcp_detect.specs.Detections.{AreDetected};
+ghost use Rattle.detect_lines.specs.Lines.{detect_line};
+ghost use Rattle.design_stages.specs.Stages.{Finds, Staged};
+ghost use Rattle.sdcv_top.specs.Due.{FindsPairs};
+ghost use Rattle.sdcv_top.specs.Found.{Detects, IsFoundOut};
+ghost use Rattle.sdcv_top.specs.Reads.{reads_of};
+ghost use Rattle.sdcv_top.specs.Plans.{StopCounts, Plans, outcome_of};
+
+use crate::plans::{Plan, SavedFile, Stop};
+use crate::readers::texts;
+use crate::statuses::Ending;
+use design_stages::{Refusal, Reset, linked};
+use detect_lines::{detect_line, detected_lines};
+use found_pairs::{found_is_selected, found_text};
+use link_defs::Linked;
+use mcp_detect::{DetectOptions, Detected, detect};
+use sdcv_base::Host;
+use sdcv_words::{Finding, Options, Texts};
+use std::alloc::{AllocError, Global};
+
+/// The texts are read, the netlist is linked, and what is found of its pairs is to be saved and told.
+pub fn found_out<'a, H: Host>(
+    alloc: Global,
+    host: &mut H,
+    files: Texts<'a>,
+    options: Options,
+    finding: Finding<'a>,
+) -> Result<Plan<'a>, Stop>
+    requires options { AreOptionsInRange options }
+    requires finding { IsFindingInRange (seen_finding finding) }
+    ensures planned { Plans (FindsPairs (seen_texts files.entry) options (seen_finding finding.entry))
+        (reads_of (Some (Detect (seen_texts files.entry) options (seen_finding finding.entry))))
+        (H.files host.old) (H.asked host.old) (H.asked host.new) result }
+    ensures count { StopCounts (H.faults host.old) (H.faults host.new) result }
+    ensures files { H.files host.new ≡ H.files host.old }
+    ensures printed { H.printed host.new ≡ H.printed host.old }
+    ensures saved { H.saved host.new ≡ H.saved host.old }
+{
+    let texts = texts(alloc, host, files)?;
+    let trying = DetectOptions {
+        hazard: options.hazard,
+        depth: finding.proving.depth,
+        budget: finding.proving.budget,
+        inv_depth: finding.proving.inv_depth,
+        bound: finding.bound,
+    };
+    let Options {
+        resets,
+        reset_len,
+        ..
+    } = options;
+    let reset = Reset {
+        ports: resets,
+        len: reset_len,
+    };
+    let linked = linked(alloc, &texts, reset)?;
+    let detected = detected(alloc, &linked, &trying)?;
+    let plan = told(alloc, &linked, &trying, reset_len, finding.out, detected)?;
+    Ok(plan)
+}
+
+// What is found out about the pairs.
+fn detected(alloc: Global, linked: &Linked, options: &DetectOptions) -> Result<Detected, Refusal>
+    requires linked { IsUsable linked.now }
+    requires range { AreInRange options.now }
+    ensures { Finds (Staged (Detects linked.now options.now) detect_line) result }
+{
+    match detect(alloc, linked, options) {
+        Ok(detected) => Ok(detected),
+        Err(fault) => Err(Refusal::Line(detect_line(alloc, &fault)?)),
+    }
+}
+
+// The found pairs as SDC, and the lines that tell them.
+fn told<'a>(
+    alloc: Global,
+    linked: &Linked,
+    options: &DetectOptions,
+    reset_len: usize,
+    out: &'a str,
+    detected: Detected,
+) -> Result<Plan<'a>, AllocError>
+    requires linked { IsUsable linked.now }
+    requires range { AreInRange options.now }
+    requires found { AreDetected linked.now options.now detected }
+    ensures { IfOk result (λ plan. IsFoundOut out.entry.now options.now reset_len linked.now detected (outcome_of plan)) }
+{
+    found_is_selected(linked, options, &detected);
+    let bytes = found_text(alloc, &detected)?;
+    let lines = detected_lines(alloc, options, reset_len, &detected)?;
+    Ok(Plan {
+        ending: Ending::Done,
+        saved: Some(SavedFile { name: out, bytes }),
+        lines,
+        judged: None,
+        detected: Some(detected),
+    })
+}

@@ -1,0 +1,76 @@
+use crate::commands::words_in;
+use sdcv_words::told;
+use std::test::Fail;
+
+// How the text begins that words without a command are told, by the texts of clap and by the rules of values.
+const BEGINNINGS: [(&str, &str); 16] = [
+    (
+        "verfy",
+        "error: unrecognized subcommand 'verfy'\n\n  tip: a similar subcommand exists: 'verify'\n",
+    ),
+    (
+        "verify|v|l|s",
+        "error: the following required arguments were not provided:\n  --out <CERT>\n",
+    ),
+    (
+        "verify|v|l|s|--out|c|--depth|65",
+        "error: invalid value '65' for '--depth <D>': 65 is not in 0..=64\n",
+    ),
+    (
+        "verify|v|l|s|--out|c|--rst|x",
+        "error: unexpected argument '--rst' found\n",
+    ),
+    (
+        "demo|7|161",
+        "error: invalid value '161' for '<SIZE>': 161 is not in 1..=160\n",
+    ),
+    (
+        "check|v|l|s|c|--lag|1|--lag|1",
+        "error: the argument '--lag <L>' cannot be used multiple times\n",
+    ),
+    (
+        "verify|v|l|s|--out|c|--depth|+5",
+        "sdcv: --depth takes a number from 0 to 64, of digits alone and at most 20\n",
+    ),
+    (
+        "verify|v|l|s|--out|c|--budget|000000000000000000001",
+        "sdcv: --budget takes a number from 1 to 10000000, of digits alone and at most 20\n",
+    ),
+    (
+        "replay|v|l|s|r|+1",
+        "sdcv: PAIR takes a number from 1 to 18446744073709551615, of digits alone and at most 20\n",
+    ),
+    (
+        "check|v|l|s|c|--reset|rst=2",
+        "sdcv: --reset takes PORT=0 or PORT=1, parted by commas, each port once\n",
+    ),
+    (
+        "check|v|l|s|c|--reset|a=1,a=0|--lag|+1",
+        "sdcv: --lag takes a number from 0 to 8, of digits alone and at most 20\n",
+    ),
+    (
+        "--version",
+        "sdcv 0.9.0 (reads and writes certificates sdcv-cert 1)\n",
+    ),
+    ("--help", "Prove or refute the timing exceptions"),
+    ("help", "Prove or refute the timing exceptions"),
+    (
+        "help|verify",
+        "Judge each register pair that the exceptions select\n\nUsage: sdcv verify [OPTIONS] --out <CERT> <V> <L> <S>\n",
+    ),
+    (
+        "verify|-h",
+        "Judge each register pair that the exceptions select\n",
+    ),
+];
+
+#[test]
+fn words_without_a_command_are_told_what_is_wrong(rt: HostRuntime) -> Result<(), Fail> {
+    for (text, beginning) in &BEGINNINGS {
+        let words = words_in(rt.alloc(), text)?;
+        let telling = told(rt.alloc(), &words)?;
+        assert!(rt; telling.starts_with(*beginning), "{text}: {telling}");
+    }
+    assert!(rt; told(rt.alloc(), &[])?.starts_with("Prove or refute"));
+    Ok(())
+}
