@@ -16,7 +16,7 @@ const LIVE_CYCLES: usize = 64;
 /// The clauses that hold in every live cycle of the 64 drawn runs, in their order. Each of the others fails in a live cycle of one
 /// of them.
 ///
-/// All runs are simulated at once, a lane each, and each clause is one word a cycle.
+/// All runs are simulated at once, a lane each, and each clause is one word a cycle. Where no clause is given, none is run.
 pub fn survivors(
     alloc: Global,
     design: &Design,
@@ -25,6 +25,9 @@ pub fn survivors(
     requires { IsSound design.now }
     ensures { IfOk result (AreSurvivors design.now clauses) }
 {
+    if clauses.is_empty() {
+        return Ok(clauses);
+    }
     let marks = held_marks(alloc, design)?;
     let mut sim = Sim::begin(alloc, design)?;
     let mut left = clauses;

@@ -1,6 +1,5 @@
 //! The circuit of a flat netlist.
 ghost use Rattle.std.specs.Prelude.{◌≡◌, ◌<◌, length, IfOk};
-ghost use Rattle.netlist_types.specs.Lawful.{IsLawful};
 ghost use Rattle.link_defs.specs.Circuits.{circuit_of as spec_circuit};
 ghost use Rattle.link_defs.specs.Flatten.{flat_of};
 ghost use Rattle.link_items.specs.Items.{module_at};

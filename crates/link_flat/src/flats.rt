@@ -1,10 +1,7 @@
 //! The flat netlist of a source.
 ghost use Rattle.std.specs.Prelude.{◌≡◌, ◌<◌, length, IfOk, IfErr, OnOk};
-ghost use Rattle.netlist_types.specs.Lawful.{IsLawful};
-ghost use Rattle.cell_types.specs.Libraries.{IsLawful as IsLawfulLibrary};
 ghost use Rattle.link_defs.specs.Flatten.{flat_of, numbers as spec_numbers};
 ghost use Rattle.link_items.specs.Items.{module_at};
-ghost use Rattle.link_items.specs.Tables.{module_names, cell_names};
 ghost use Rattle.link_flat.specs.Flats.{IsFlattened, AreFine, IsCauseBelow, IsUnrecursive, IsStart};
 ghost use Rattle.link_flat.specs.Frames.{HasRanks};
 

@@ -2,7 +2,6 @@
 ghost use Rattle.std.specs.Prelude.{◌≡◌, ◌<◌, ◌++◌, ℕ, List, length, map, slice_get, Some, IfOk, IfErr, OnOk};
 ghost use Rattle.graph_order.specs.Orders.{IsRightOrder};
 ghost use Rattle.link_defs.specs.Hierarchy.{refs, place_of_module, module_needs, IsRecursive};
-ghost use Rattle.link_items.specs.Tables.{module_names};
 ghost use Rattle.netlist_types.specs.declared.sources.Module.{Module as ModuleRecord};
 ghost use Rattle.link_flat.specs.Orders.{needs_in, IsOrderCause};
 

@@ -2,12 +2,10 @@
 ghost use Rattle.std.specs.Prelude.{◌≡◌, ◌<◌, ◌≤◌, ◌+◌, length, cond, true, slice_get, IfSome, IfOk, IfErr, OnOk};
 ghost use Rattle.std.specs.Option.{option_copied};
 ghost use Rattle.sdcv_base.specs.declared.limits.LimitName.TheVariants as what;
-ghost use Rattle.netlist_types.specs.Lawful.{IsLawful, IsLawfulItem};
-ghost use Rattle.cell_types.specs.Libraries.{IsLawful as IsLawfulLibrary};
+ghost use Rattle.netlist_types.specs.Lawful.{IsLawfulItem};
 ghost use Rattle.link_defs.specs.declared.faults.LinkFault.TheVariants as fault;
 ghost use Rattle.link_defs.specs.Faults.{is_instance as counts};
 ghost use Rattle.link_items.specs.Items.{module_at};
-ghost use Rattle.link_items.specs.Tables.{module_names, cell_names};
 ghost use Rattle.link_flat.specs.Flats.{AreScopes};
 ghost use Rattle.link_flat.specs.Frames.{instance_at, scope_at};
 ghost use Rattle.link_flat.specs.Steps.{IsTaken, IsRefused, IsEntered};

@@ -2,6 +2,8 @@
 use Rattle.std.proofs.Common.{◌≡◌, ◌≢◌, ℕ, ◌+◌, ◌-◌, ◌<◌, ◌≤◌, List, [], ◌∷◌, ◌++◌, length, All, Some, None, refl, ap, sym, subst, ◌∙◌}
 use Rattle.std.proofs.Common.{arith, append_assoc, length-append}
 use Rattle.std.specs.Prelude.{Option, slice_get, flat_map, Contains}
+use Rattle.std.specs.List.{IsDistinct}
+use Rattle.std.specs.Str.{bytes_eq}
 use Rattle.std.proofs.lemmas.Option.{slice_get_within, get_or_from_slice_get}
 use Rattle.netlist_types.specs.declared.sources.Source.{Source}
 use Rattle.netlist_types.specs.declared.sources.Module.{Module}
@@ -30,6 +32,7 @@ use Rattle.link_items.specs.Cells.{comb_part, flop_part}
 use Rattle.link_items.specs.Faults.{IsModuleFault, IsCellFault, IsUnknownFault, IsInstFault, IsItemFault, IsFaultless}
 use Rattle.link_items.specs.Fine.{IsFineModule, IsFineCell}
 use Rattle.link_items.specs.Items.{module_at, scope_of, AreLeavesAt, IsAdded, IsInner}
+use Rattle.link_items.specs.Pins.{pin_names}
 use Rattle.link_items.specs.Prims.{prim_part}
 use Rattle.link_items.specs.Steps.{IsModuleAdded, IsCellAdded, HasLeaf, prim_leaf, IsPrimAdded, IsCopyAdded}
 use Rattle.link_items.specs.Tables.{IsReferent}
@@ -299,6 +302,10 @@ pub found_cell : (s : Source) (lib : Library) (cell : List ℕ) (place : ℕ) (c
 found_cell s lib cell place c (none, (found, at, is)) here = (none, is ∙ (sym at ∙ here))
 
 -- what a lawful instance says of its connections
+pub conns_apart : (s : Source) (count : ℕ) (cell name : List ℕ) (conns : List Conn) → IsLawfulItem s count (item.Inst cell name conns)
+    → IsDistinct bytes_eq (pin_names conns)
+conns_apart s count cell name conns lawful = lawful.0
+
 pub conns_below : (s : Source) (count : ℕ) (cell name : List ℕ) (conns : List Conn) → IsLawfulItem s count (item.Inst cell name conns)
     → All (λ (c : Conn). AreWiresBelow count c.wires) conns
 conns_below s count cell name conns lawful = lawful.1.0

@@ -8,15 +8,17 @@ use Rattle.std.proofs.lemmas.List.Elements.{All-from_recursion}
 use Rattle.std.proofs.lemmas.List.Folds.{find_at, list_any_none}
 use Rattle.std.proofs.lemmas.Map.Keys.{IsDistinct-head, IsDistinct-tail}
 use Rattle.std.proofs.lemmas.Option.{slice_get_past, slice_get-get_or}
-use Rattle.texts.specs.Names.{place_of, are_distinct, with_names}
-use Rattle.texts.proofs.NameLemmas.{with_names_new, are_new_none}
+use Rattle.texts.specs.Names.{is_among, place_of, are_distinct, with_names}
+use Rattle.texts.proofs.NameLemmas.{with_names_new, are_new_none, is_among-with_names}
 use Rattle.netlist_types.specs.declared.sources.Source.{Source}
 use Rattle.netlist_types.specs.declared.sources.Module.{Module}
 use Rattle.netlist_types.specs.Lawful.{module_of}
 use Rattle.cell_types.specs.declared.libraries.Library.{Library}
 use Rattle.cell_types.specs.declared.libraries.Cell.{Cell}
-use Rattle.link_defs.specs.Hierarchy.{cell_of}
+use Rattle.netlist_types.specs.declared.sources.Conn.{Conn}
+use Rattle.link_defs.specs.Hierarchy.{cell_of, wires_of, wires_in}
 use Rattle.link_items.specs.declared.netlists.Referent.TheVariants as to
+use Rattle.link_items.specs.Pins.{pin_names}
 use Rattle.link_items.specs.Tables.{module_names, cell_names, IsReferent}
 use Rattle.link_items.proofs.Searching.{eq_flips}
 
@@ -43,6 +45,15 @@ position_by f n (x ∷ xs) = rw (eq_flips (f x) n, position_by f n xs) refl
 -- the item of a name stands at the name's place
 find_place : {X : Type 0} (f : X → List ℕ) (n : List ℕ) (xs : List X) → find (λ x. bytes_eq (f x) n) xs ≡ slice_get xs (place_of n (map f xs))
 find_place f n xs = find_at (λ x. bytes_eq (f x) n) xs ∙ ap (λ k. slice_get xs k) (position_by f n xs)
+
+-- the wires of a pin are those of the connection at its place
+pub wires_at : (conns : List Conn) (pin : List ℕ) → wires_of conns pin ≡ wires_in (slice_get conns (place_of pin (pin_names conns)))
+unfolding wires_of
+wires_at conns pin = ap wires_in (find_place (λ (c : Conn). c.pin) pin conns)
+
+-- a table of names has the names that were added to none
+pub is_among-table : (pin : List ℕ) (names more : List (List ℕ)) → names ≡ with_names [] more → is_among pin names ≡ is_among pin more
+is_among-table pin names more made = ap (λ (ns : List (List ℕ)). is_among pin ns) made ∙ is_among-with_names pin [] more
 
 -- the module at the place of a name
 pub module_found : (s : Source) (lib : Library) (name : List ℕ) (names : List (List ℕ)) (place : ℕ) → names ≡ module_names s → place ≡ place_of name names

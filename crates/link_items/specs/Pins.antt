@@ -9,6 +9,10 @@ use Rattle.netlist_types.specs.declared.sources.Wire.{Wire}
 use Rattle.netlist_types.specs.declared.sources.Wire.TheVariants as wire
 use Rattle.link_defs.specs.Hierarchy.{wires_of}
 
+-- the pins that are connected
+abbrev pub pin_names : List Conn → List (List ℕ)
+pin_names conns = map (λ (c : Conn). c.pin) conns
+
 -- nothing is connected to the pin
 abbrev pub is_open : List Conn → List ℕ → Bool
 is_open conns pin = length (wires_of conns pin) == 0

@@ -1,6 +1,7 @@
 //! The connections of an instance.
 ghost use Rattle.std.specs.Prelude.{◌≡◌, ◌<◌, length, slice_get, Some, find};
 ghost use Rattle.std.specs.Option.{option_copied};
+ghost use Rattle.std.specs.List.{list_any};
 ghost use Rattle.std.specs.Str.{bytes_eq};
 ghost use Rattle.link_defs.specs.Hierarchy.{wires_in, wires_of};
 ghost use Rattle.link_items.specs.Pins.{is_open, is_const, is_tied};
@@ -27,7 +28,7 @@ pub(crate) fn wires_of<'a>(conns: &'a [Conn], pin: &Name) -> &'a [Wire]
 }
 
 /// The wires of a connection.
-fn wires_in(conn: &Conn) -> &[Wire]
+pub(crate) fn wires_in(conn: &Conn) -> &[Wire]
     ensures { result.now ≡ wires_in (Some conn.now) }
 {
     match &conn.wires {
@@ -61,9 +62,16 @@ fn is_const(wire: Wire) -> bool
     }
 }
 
+/// Whether a constant is among wires.
+pub(crate) fn has_const(wires: &[Wire]) -> bool
+    ensures { result ≡ list_any is_const wires.now }
+{
+    wires.iter().any(|wire| is_const(*wire))
+}
+
 /// Whether a constant is connected to a pin.
 pub(crate) fn is_tied(conns: &[Conn], pin: &Name) -> bool
     ensures { result ≡ is_tied conns.now pin.now }
 {
-    wires_of(conns, pin).iter().any(|wire| is_const(*wire))
+    has_const(wires_of(conns, pin))
 }

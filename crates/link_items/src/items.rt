@@ -1,23 +1,27 @@
 //! One item of an instance.
 ghost use Rattle.std.specs.Prelude.{◌≡◌, ◌≢◌, ◌≤◌, ◌<◌, ◌+◌, All, length, IfOk, IfErr, OnOk, None, true, false};
+ghost use Rattle.std.specs.List.{IsDistinct};
+ghost use Rattle.std.specs.Str.{bytes_eq};
 ghost use Rattle.net_model.specs.Netlist.{AllBelow};
 ghost use Rattle.netlist_types.specs.declared.sources.Port.{Port as PortRecord};
 ghost use Rattle.netlist_types.specs.declared.sources.Conn.{Conn as ConnRecord};
-ghost use Rattle.netlist_types.specs.Lawful.{IsLawful, IsLawfulItem, IsBelow, IsWireBelow, AreWiresBelow, HasWidths, HasTerminals};
+ghost use Rattle.netlist_types.specs.Lawful.{IsLawfulItem, IsBelow, IsWireBelow, AreWiresBelow, HasWidths, HasTerminals};
 ghost use Rattle.cell_types.specs.declared.libraries.CellKind.TheVariants as kinds;
-ghost use Rattle.cell_types.specs.Libraries.{IsLawful as IsLawfulLibrary, IsLawfulCell};
+ghost use Rattle.cell_types.specs.Libraries.{IsLawfulCell};
 ghost use Rattle.link_defs.specs.declared.faults.LinkFault.TheVariants as fault;
 ghost use Rattle.link_defs.specs.Flatten.{other_pins as other};
 ghost use Rattle.link_defs.specs.Hierarchy.{wires_of};
 ghost use Rattle.link_items.specs.declared.netlists.Referent.TheVariants as to;
 ghost use Rattle.link_items.specs.Faults.{IsItemFault, IsModuleFault, IsCellFault, IsPrimFault, IsFaultless, IsCauseWithin};
 ghost use Rattle.link_items.specs.Fine.{IsFineCell};
+ghost use Rattle.link_items.specs.Pins.{pin_names};
 ghost use Rattle.link_items.specs.Items.{scope_of, IsAdded, IsInner};
 ghost use Rattle.link_items.specs.Steps.{inst_item, kind_pins, IsModuleAdded, IsCellAdded, HasLeaf, HasPrimLeaf, IsPrimAdded, IsCopyAdded};
-ghost use Rattle.link_items.specs.Tables.{module_names, cell_names, IsReferent};
+ghost use Rattle.link_items.specs.Tables.{IsReferent};
 
 use crate::cell_checks::check_cell;
 use crate::cells::push_cell;
+use crate::conn_tables::ConnTable;
 use crate::joins::{inner_nets, push_port_ties};
 use crate::made::{Instance, LeafPlace, Made};
 use crate::module_checks::check_module;
@@ -87,14 +91,16 @@ fn add_module(
     requires below { All (λ (c : ConnRecord). AreWiresBelow (length outer.now) c.wires) conns.now }
     requires bits { All (λ (p : PortRecord). AllBelow (length body.now.nets) p.bits) body.now.ports }
     requires widths { All (λ (p : PortRecord). length (wires_of conns.now p.name) ≤ length p.bits) body.now.ports }
+    requires apart { IsDistinct bytes_eq (pin_names conns.now) }
     ensures ok { IfOk result (IsModuleAdded outer.now conns.now body.now made.old made.new) }
     ensures err { IfErr result (IsModuleFault body.now full.now conns.now) }
 {
-    check_module(alloc, full, conns, body)?;
+    let conns = ConnTable::of(alloc, conns)?;
+    check_module(alloc, full, &conns, body)?;
     let first = made.count;
     let count = sum(first, body.nets.len())?;
-    let nets = inner_nets(alloc, outer, body, conns, first)?;
-    push_port_ties(alloc, &mut made.parts, body, conns, first)?;
+    let nets = inner_nets(alloc, outer, body, &conns, first)?;
+    push_port_ties(alloc, &mut made.parts, body, &conns, first)?;
     made.count = count;
     Ok(nets)
 }

@@ -8,11 +8,12 @@ ghost use Rattle.link_defs.specs.Hierarchy.{wires_of as wires};
 ghost use Rattle.link_defs.specs.Flatten as spec;
 ghost use Rattle.link_defs.specs.Parts.{bit_ties};
 
-use crate::conns::{wire_at, wires_of};
+use crate::conn_tables::ConnTable;
+use crate::conns::wire_at;
 use crate::nets::net_at;
 use crate::ties::push_bit_ties;
 use link_defs::Part;
-use netlist_types::{Conn, Module, Port, Wire};
+use netlist_types::{Module, Port, Wire};
 use sdcv_base::Seq;
 use std::alloc::{AllocError, Global};
 
@@ -56,14 +57,14 @@ fn join_bits(outer: &Seq<usize>, nets: &mut Seq<usize>, bits: &Seq<usize>, wires
 }
 
 /// Joins the bits of one port with what the instance connects it to.
-fn join_port(outer: &Seq<usize>, nets: &mut Seq<usize>, conns: &[Conn], port: &Port)
+fn join_port(outer: &Seq<usize>, nets: &mut Seq<usize>, conns: &ConnTable, port: &Port)
     requires below { All (λ (c : ConnRecord). AreWiresBelow (length outer.now) c.wires) conns.now }
     requires bits { AllBelow (length nets.old) port.now.bits }
     requires width { length (wires conns.now port.now.name) ≤ length port.now.bits }
     ensures joined { nets.new ≡ spec.join_bits outer.now nets.old port.now.bits (wires conns.now port.now.name) }
     ensures len { length nets.new ≡ length nets.old }
 {
-    join_bits(outer, nets, &port.bits, wires_of(conns, &port.name));
+    join_bits(outer, nets, &port.bits, conns.wires_of(&port.name));
 }
 
 /// The flat nets of an instance: those that its ports are connected to, and else its own, from a first one on.
@@ -71,7 +72,7 @@ pub(crate) fn inner_nets(
     alloc: Global,
     outer: &Seq<usize>,
     body: &Module,
-    conns: &[Conn],
+    conns: &ConnTable,
     first: usize,
 ) -> Result<Seq<usize>, AllocError>
     requires below { All (λ (c : ConnRecord). AreWiresBelow (length outer.now) c.wires) conns.now }
@@ -92,7 +93,7 @@ pub(crate) fn push_port_ties(
     alloc: Global,
     parts: &mut Seq<Part>,
     body: &Module,
-    conns: &[Conn],
+    conns: &ConnTable,
     first: usize,
 ) -> Result<(), AllocError>
     requires bits { All (λ (p : PortRecord). AllBelow (length body.now.nets) p.bits) body.now.ports }
@@ -102,7 +103,7 @@ pub(crate) fn push_port_ties(
 {
     for k in 0..body.ports.len() {
         let port = body.ports.item(k);
-        push_bit_ties(alloc, parts, first, &port.bits, wires_of(conns, &port.name))?;
+        push_bit_ties(alloc, parts, first, &port.bits, conns.wires_of(&port.name))?;
     }
     Ok(())
 }

@@ -7,6 +7,7 @@
 
 mod cell_checks;
 mod cells;
+mod conn_tables;
 mod conns;
 mod items;
 mod joins;

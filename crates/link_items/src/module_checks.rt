@@ -1,33 +1,38 @@
 //! Refusals of an instance of a module.
-ghost use Rattle.std.specs.Prelude.{◌≡◌, All, Contains, true, false, length, IfErr, OnOk, IfSome, IfNone};
+ghost use Rattle.std.specs.Prelude.{◌≡◌, [], map, All, Contains, true, false, length, IfErr, IfOk, OnOk, IfSome, IfNone};
 ghost use Rattle.net_model.specs.Netlist.{AllBelow};
-ghost use Rattle.texts.specs.Names.{is_among};
+ghost use Rattle.texts.specs.Names.{with_names};
 ghost use Rattle.netlist_types.specs.declared.sources.Port.{Port as PortRecord};
 ghost use Rattle.netlist_types.specs.declared.sources.Dir.TheVariants as dir;
 ghost use Rattle.link_items.specs.Faults.{IsModuleFault};
 ghost use Rattle.link_items.specs.Fine.{IsFinePort, IsFineModule};
 ghost use Rattle.link_items.specs.Pins.{port_names, is_unknown};
 
-use crate::conns::{is_open, is_tied};
+use crate::conn_tables::ConnTable;
 use crate::names::pin_name;
 use link_defs::LinkFault;
 use netlist_types::{Conn, Dir, Module, Port};
 use sdcv_base::Name;
-use std::alloc::Global;
+use std::alloc::{AllocError, Global};
+use texts::NameTable;
 
-/// Whether a module has a port of that name.
-fn has_port(body: &Module, pin: &Name) -> bool
-    ensures { result ≡ is_among pin.now (port_names body.now) }
+/// The names of ports in their order.
+fn ports_table(alloc: Global, ports: &[Port]) -> Result<NameTable, AllocError>
+    ensures { IfOk result (λ names. names ≡ with_names [] (map (λ (p : PortRecord). p.name) ports.now)) }
 {
-    body.ports.as_slice().iter().any(|port| *pin == port.name)
+    let mut names = NameTable::new(alloc);
+    for port in ports {
+        names.add(alloc, &port.name)?;
+    }
+    Ok(names)
 }
 
-/// The first connection to a port that the module does not have, if any.
-fn unknown_conn<'a>(conns: &'a [Conn], body: &Module) -> Option<&'a Conn>
-    ensures some { IfSome result (λ conn. Contains conns.now conn.now × (is_unknown (port_names body.now) conn.now ≡ true)) }
-    ensures none { IfNone result (All (λ conn. is_unknown (port_names body.now) conn ≡ false) conns.now) }
+/// The first connection to a pin that is not among these, if any.
+fn unknown_conn<'a>(conns: &'a [Conn], pins: &NameTable) -> Option<&'a Conn>
+    ensures some { IfSome result (λ conn. Contains conns.now conn.now × (is_unknown pins.now conn.now ≡ true)) }
+    ensures none { IfNone result (All (λ conn. is_unknown pins.now conn ≡ false) conns.now) }
 {
-    conns.iter().find(|conn| !has_port(body, &conn.pin))
+    conns.iter().find(|conn| !pins.contains(&conn.pin))
 }
 
 /// Refuses a connection to a port that the module does not have.
@@ -35,7 +40,8 @@ fn check_known(alloc: Global, full: &Name, conns: &[Conn], body: &Module) -> Res
     ensures ok { OnOk result (All (λ conn. is_unknown (port_names body.now) conn ≡ false) conns.now) }
     ensures err { IfErr result (IsModuleFault body.now full.now conns.now) }
 {
-    match unknown_conn(conns, body) {
+    let ports = ports_table(alloc, body.ports.as_slice())?;
+    match unknown_conn(conns, &ports) {
         Some(conn) => {
             let name = pin_name(alloc, full, &conn.pin)?;
             Err(LinkFault::UnknownPin(name))
@@ -48,7 +54,7 @@ fn check_known(alloc: Global, full: &Name, conns: &[Conn], body: &Module) -> Res
 fn check_input(
     alloc: Global,
     full: &Name,
-    conns: &[Conn],
+    conns: &ConnTable,
     body: &Module,
     port: &Port,
 ) -> Result<(), LinkFault>
@@ -58,7 +64,7 @@ fn check_input(
     ensures ok { OnOk result (IsFinePort conns.now port.now) }
     ensures err { IfErr result (IsModuleFault body.now full.now conns.now) }
 {
-    if port.bits.is_empty() || !is_open(conns, &port.name) {
+    if port.bits.is_empty() || !conns.is_open(&port.name) {
         return Ok(());
     }
     let first = port.bits.at(0);
@@ -70,7 +76,7 @@ fn check_input(
 fn check_output(
     alloc: Global,
     full: &Name,
-    conns: &[Conn],
+    conns: &ConnTable,
     body: &Module,
     port: &Port,
 ) -> Result<(), LinkFault>
@@ -79,7 +85,7 @@ fn check_output(
     ensures ok { OnOk result (IsFinePort conns.now port.now) }
     ensures err { IfErr result (IsModuleFault body.now full.now conns.now) }
 {
-    if is_tied(conns, &port.name) {
+    if conns.is_tied(&port.name) {
         let name = pin_name(alloc, full, &port.name)?;
         return Err(LinkFault::ManyDrivers(name));
     }
@@ -90,7 +96,7 @@ fn check_output(
 fn check_port(
     alloc: Global,
     full: &Name,
-    conns: &[Conn],
+    conns: &ConnTable,
     body: &Module,
     port: &Port,
 ) -> Result<(), LinkFault>
@@ -106,7 +112,12 @@ fn check_port(
 }
 
 /// Refuses the ports of an instance for what they are connected to.
-fn check_ports(alloc: Global, full: &Name, conns: &[Conn], body: &Module) -> Result<(), LinkFault>
+fn check_ports(
+    alloc: Global,
+    full: &Name,
+    conns: &ConnTable,
+    body: &Module,
+) -> Result<(), LinkFault>
     requires bits { All (λ (p : PortRecord). AllBelow (length body.now.nets) p.bits) body.now.ports }
     ensures ok { OnOk result (All (IsFinePort conns.now) body.now.ports) }
     ensures err { IfErr result (IsModuleFault body.now full.now conns.now) }
@@ -121,14 +132,14 @@ fn check_ports(alloc: Global, full: &Name, conns: &[Conn], body: &Module) -> Res
 pub(crate) fn check_module(
     alloc: Global,
     full: &Name,
-    conns: &[Conn],
+    conns: &ConnTable,
     body: &Module,
 ) -> Result<(), LinkFault>
     requires bits { All (λ (p : PortRecord). AllBelow (length body.now.nets) p.bits) body.now.ports }
     ensures ok { OnOk result (IsFineModule conns.now body.now) }
     ensures err { IfErr result (IsModuleFault body.now full.now conns.now) }
 {
-    check_known(alloc, full, conns, body)?;
+    check_known(alloc, full, conns.list(), body)?;
     check_ports(alloc, full, conns, body)?;
     Ok(())
 }

@@ -1,13 +1,10 @@
 //! The refusals of a circuit by name.
-ghost use Rattle.std.specs.Prelude.{◌≡◌, ◌<◌, ℕ, Contains, length, map, flat_map, slice_get, Some, IfOk};
-ghost use Rattle.netlist_types.specs.Lawful.{IsLawful};
-ghost use Rattle.cell_types.specs.Libraries.{IsLawful as IsLawfulLibrary};
+ghost use Rattle.std.specs.Prelude.{◌≡◌, ◌<◌, ℕ, Contains, length, map, flat_map, IfOk};
 ghost use Rattle.net_model.specs.declared.netlist.Reg.{Reg as RegRecord};
 ghost use Rattle.link_design.specs.Faults.{IsCause};
 ghost use Rattle.link_defs.specs.declared.circuits.Part.TheVariants as kinds;
 ghost use Rattle.link_defs.specs.Faults.{IsFlatCause};
 ghost use Rattle.link_defs.specs.Flatten.{flat_of, scope_names};
-ghost use Rattle.link_items.specs.declared.made.LeafPlace.{LeafPlace as LeafRecord};
 ghost use Rattle.link_items.specs.Items.{module_at, scope_of};
 ghost use Rattle.link_flat.specs.Flats.{AreFine, AreScopes};
 ghost use Rattle.link_named.specs.Names.{HasNet, IsCircuitBelow, IsNameOn, HasLeafOn};

@@ -1,15 +1,11 @@
 //! From a source to the design of its circuit.
-ghost use Rattle.std.specs.Prelude.{◌≡◌, ◌<◌, length, IfOk, IfErr, OnOk};
-ghost use Rattle.netlist_types.specs.Lawful.{IsLawful};
-ghost use Rattle.cell_types.specs.Libraries.{IsLawful as IsLawfulLibrary};
+ghost use Rattle.std.specs.Prelude.{◌<◌, length, IfOk, IfErr, OnOk};
 ghost use Rattle.link_design.specs.Faults.{IsFaultless};
 ghost use Rattle.link_design.specs.Made.{IsHeldBy, IsMade};
 ghost use Rattle.link_defs.specs.Faults.{IsFlatCause};
 ghost use Rattle.link_defs.specs.Flatten.{flat_of};
-ghost use Rattle.link_flat.specs.Flats.{AreFine, IsCauseBelow, IsUnrecursive};
+ghost use Rattle.link_flat.specs.Flats.{IsCauseBelow, IsUnrecursive};
 ghost use Rattle.link_items.specs.Items.{module_at};
-ghost use Rattle.link_items.specs.Tables.{module_names, cell_names};
-ghost use Rattle.link_named.specs.Names.{IsCircuitBelow};
 ghost use Rattle.net_link.specs.Stages.{IsFlatCircuit};
 
 use link_circuit::{FlatCircuit, circuit_of};

@@ -5,7 +5,6 @@ ghost use Rattle.cell_types.specs.Libraries.{IsLawful as IsLawfulLibrary};
 ghost use Rattle.link_defs.specs.Faults.{IsCause, IsFaultless};
 ghost use Rattle.link_defs.specs.Links.{IsLinked};
 ghost use Rattle.link_defs.specs.Usable.{IsUsable};
-ghost use Rattle.link_items.specs.Tables.{module_names, cell_names as library_names};
 ghost use Rattle.link_tops.specs.Tops.{IsTop};
 ghost use Rattle.link_design.specs.declared.designs.Held.{Held as HeldRecord};
 ghost use Rattle.link_design.specs.Lawful.{IsLawfulCircuit};

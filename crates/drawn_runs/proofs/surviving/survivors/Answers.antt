@@ -1,9 +1,12 @@
 use Rattle.std.proofs.Common.{◌≡◌, ◌+◌, ℕ, List, arith, subst, sym}
 use Rattle.net_model.specs.declared.invariants.InvClause.{InvClause}
 use Rattle.drawn_runs.specs.Drawn.{HoldsBelow, FailsDrawn}
-use Rattle.drawn_runs.specs.Survivors.{IsSifted}
+use Rattle.drawn_runs.specs.Survivors.{IsSifted, No_more, AreSurvivors}
 use Rattle.drawn_runs.proofs.Sifting.{sifted_none, sifted_next, survivors_are}
 use Rattle.drawn_runs.proofs.surviving.survivors.Goals as goal
+
+pub returns-then-is_empty : goal.returns-then-is_empty
+returns-then-is_empty c = subst (λ (left : List InvClause). AreSurvivors c.args.design.now left left) (sym (c.is_empty.ensures.0 c.if-is_empty.true)) No_more
 
 pub loop-t-init : goal.loop-t-init
 loop-t-init c =

@@ -2,7 +2,7 @@ use Rattle.std.proofs.Common.{length}
 use Rattle.std.proofs.lemmas.Option.{slice_get_within}
 use Rattle.std.proofs.lemmas.Result.{err_from_is_err_and}
 use Rattle.link_items.specs.Items.{scope_of}
-use Rattle.link_items.proofs.Adding.{found_module, conns_below, module_widths, module_faulty, module_added, module_inner, module_faultless}
+use Rattle.link_items.proofs.Adding.{found_module, conns_apart, conns_below, module_widths, module_faulty, module_added, module_inner, module_faultless}
 use Rattle.link_items.proofs.Pinned.{port_bits, lawful_at}
 use Rattle.link_items.proofs.items.add_module_at.Goals as goal
 
@@ -24,6 +24,10 @@ add_module-requires-clause-widths c =
     c.args.inst.now.conns.now c.item-body.result.now c.requires.item
     (found_module c.args.netlist.now.source.now c.args.netlist.now.library.now c.args.inst.now.cell.now c.args.place c.item-body.result.now
     c.requires.referent c.item-body.ensures))
+
+pub add_module-requires-clause-apart : goal.add_module-requires-clause-apart
+add_module-requires-clause-apart c = rw c.as_slice.ensures (conns_apart c.args.netlist.now.source.now (length c.args.at.now.nets) c.args.inst.now.cell.now
+    c.args.inst.now.name.now c.args.inst.now.conns.now c.requires.item)
 
 pub returns-in_err-nets-clause-err : goal.returns-in_err-nets-clause-err
 returns-in_err-nets-clause-err c =
