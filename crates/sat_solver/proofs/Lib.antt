@@ -13,3 +13,4 @@ pub mod Queueing
 pub mod Deciding
 pub mod Stamping
 pub mod Marking
+pub mod CoveredLiterals

@@ -15,7 +15,7 @@ use Rattle.sat_solver.specs.Searches.{IsUnitAt, IsFalseAt}
 use Rattle.sat_solver.specs.Learning.{OthersFalse}
 use Rattle.sat_solver.specs.Watches.{clause_at}
 use Rattle.sat_solver.specs.Cuts.{FalseBy, CutState, resolvent, ResolvedAt, IsUnitCut, ResolvedBelow, IsAsserting}
-use Rattle.sat_solver.specs.Markings.{Marked, is_marked, marked_lits, marked_count, IsGathered, AreMarked, AreReplaced}
+use Rattle.sat_solver.specs.Markings.{Marked, is_marked, marked_lits, marked_count, IsGathered, AreBetween, AreMarked, AreReplaced}
 use Rattle.sat_solver.proofs.OpenClauses.{FalseBy-from_false, unit_others, only}
 use Rattle.sat_solver.proofs.Trailing.{place_from_member, parts_apart, at_front, at_back, is_set-take_more, in_left, in_right, in_either}
 use Rattle.sat_solver.proofs.Analyzing.{OthersFalse-at_decision}
@@ -23,7 +23,7 @@ use Rattle.sat_solver.proofs.AtConflict.{drop_take}
 use Rattle.sat_solver.proofs.Cutting.{CutState-start, some_same, walk_step, BelowState, BelowState-step}
 
 -- two answers are the same where each is true with the other
-same_Bool : (a b : Bool) → (a ≡ true → b ≡ true) → (b ≡ true → a ≡ true) → a ≡ b
+pub same_Bool : (a b : Bool) → (a ≡ true → b ≡ true) → (b ≡ true → a ≡ true) → a ≡ b
 same_Bool true true f g = refl
 same_Bool true false f g = sym (f refl)
 same_Bool false true f g = g refl
@@ -581,10 +581,10 @@ unit_decided clauses trail start at m hints e within s =
     ]
 
 -- the literals between and the unit are the asserting cut
-pub IsAsserting-gathered : (clauses : List (List ℕ)) (trail : List ℕ) (base start up down at u : ℕ) (m : Marked) (some lits hints : List ℕ)
-    → IsGathered trail base start m some up down → u ≡ negated (get_or trail at 0) → lits ≡ some ++ u ∷ []
+pub IsAsserting-gathered : (clauses : List (List ℕ)) (trail : List ℕ) (base start at u : ℕ) (m : Marked) (some lits hints : List ℕ)
+    → AreBetween trail base start m some → u ≡ negated (get_or trail at 0) → lits ≡ some ++ u ∷ []
     → IsAsserting clauses trail base start at (marked_lits m trail) hints → IsAsserting clauses trail base start at lits hints
-IsAsserting-gathered clauses trail base start up down at u m some lits hints g u_is lits_is a = record {
+IsAsserting-gathered clauses trail base start at u m some lits hints between u_is lits_is a = record {
   low = a.low;
   from = a.from;
   within = a.within;
@@ -600,13 +600,13 @@ IsAsserting-gathered clauses trail base start up down at u m some lits hints g u
     same l = ap (λ xs. is_set xs l) lits_is ∙ (is_set-push some u l ∙ same_Bool _ _
         (λ h. elim (or_cases (is_set some l) (eqb u l) h) [
           | inl t ↦
-              let b = and_parts (is_set inside (negated l)) (is_marked m (lit_var l)) (sym (g.between l) ∙ t) in
+              let b = and_parts (is_set inside (negated l)) (is_marked m (lit_var l)) (sym (between l) ∙ t) in
               marked_to m trail l (is_set-take start trail (negated l) (drop_take base start trail (negated l) b.0).1) b.1
           | inr t ↦ ap (is_set (marked_lits m trail)) (sym (eqb-true u l t) ∙ u_is) ∙ a.inside
         ])
         (λ h.
         let w = marked_from m trail l h in
         elim (in_either inside (get_or trail at 0 ∷ []) (negated l) (a.falsified l h)) [
-          | inl t ↦ or_left _ _ (g.between l ∙ and_from _ _ t w.1)
+          | inl t ↦ or_left _ _ (between l ∙ and_from _ _ t w.1)
           | inr t ↦ or_right _ _ (eq-eqb u l (u_is ∙ (ap negated (only (get_or trail at 0) (negated l) t) ∙ negated-negated l)))
         ]))

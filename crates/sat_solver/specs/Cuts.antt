@@ -60,3 +60,13 @@ pub record IsAsserting (clauses : List (List ℕ)) (trail : List ℕ) (base star
   pub falsified : FalseBy (asserting_lits trail base start at) cut
   pub inside : is_set cut (negated (slice_index trail at)) ≡ true
   pub follows : (c : List ℕ) → ((l : ℕ) → is_set c l ≡ is_set cut l) → LeadsToConflict clauses (map negated c) hints
+
+-- the clause has the literal, and each other one of its literals is in the cut
+pub record IsCovered (cut clause : List ℕ) (p : ℕ) : Type 0 where
+  pub has : is_set clause p ≡ true
+  pub others : (q : ℕ) → is_set clause q ≡ true → (q ≡ p → ⊥) → is_set cut q ≡ true
+
+-- where the one cut makes an asserting clause with its hints, the last one first, so does the other
+abbrev pub KeepsAsserting : List (List ℕ) → List ℕ → ℕ → ℕ → List ℕ → List ℕ → List ℕ → List ℕ → Type 0
+KeepsAsserting clauses trail base start cut hints next more =
+    (at : ℕ) → IsAsserting clauses trail base start at cut (reverse hints) → IsAsserting clauses trail base start at next (reverse more)

@@ -47,3 +47,11 @@ abbrev pub AreReplaced : List ℕ → ℕ → List ℕ → Marked → Marked →
 AreReplaced trail p reason old new =
     (l : ℕ) → is_set trail (negated l) ≡ true
     → is_marked new (lit_var l) ≡ ((is_marked old (lit_var l) && not (lit_var p == lit_var l)) || is_set reason l)
+
+-- the literals are the marked ones that the levels between the two places make false
+abbrev pub AreBetween : List ℕ → ℕ → ℕ → Marked → List ℕ → Type 0
+AreBetween trail base start m lits = (l : ℕ) → is_set lits l ≡ (is_set (drop base (take start trail)) (negated l) && is_marked m (lit_var l))
+
+-- no variable is newly marked
+abbrev pub AreFewer : Marked → Marked → Type 0
+AreFewer old new = (v : ℕ) → is_marked new v ≡ true → is_marked old v ≡ true

@@ -3,13 +3,14 @@ ghost use Rattle.std.specs.Prelude.{◌≡◌, ◌-◌, ◌<◌, ◌≤◌, [], 
 ghost use Rattle.proof_log.specs.Literals.{negated};
 ghost use Rattle.proof_log.specs.Derivations.{LeadsToConflict};
 ghost use Rattle.sat_solver.specs.Searches.{IsFalseAt, search_of};
-ghost use Rattle.proof_log.specs.Clauses.{is_set};
+ghost use Rattle.proof_log.specs.Clauses.{is_set, IsNormal};
 ghost use Rattle.sat_solver.specs.Engines.{IsSearch, level_floor};
 ghost use Rattle.sat_solver.specs.Learning.{OthersFalse, IsFrontLen, IsLevel, IsLearnt};
 ghost use Rattle.sat_solver.specs.Cuts.{FalseBy, IsAsserting};
 
 use crate::cuts::{Cut, is_open_other};
 use crate::marks::Marks;
+use crate::minimising::minimise;
 use crate::trails::Trail;
 use proof_log::{Clause, DerivStep, Lit};
 use sdcv_base::Seq;
@@ -37,6 +38,7 @@ pub fn analyze(
     requires fits { trail.now.vars < length marks.old.stamps }
     requires search { IsSearch clauses.now trail.now starts.now }
     requires deep { 0 < length starts.now }
+    requires normal { All IsNormal clauses.now }
     requires conflict { IsFalseAt clauses.now trail.now.lits conflict }
     ensures long { length marks.new.stamps ≡ length marks.old.stamps }
     ensures learnt { IfOk result (λ r. IsLearnt (search_of trail.now.vars clauses.now trail.now.lits starts.now) r.step r.level r.unit) }
@@ -60,8 +62,8 @@ pub fn analyze(
     })
 }
 
-/// The cut at the first unique implication point without the literals of level 0, its hints in
-/// order, and the place of the literal that makes its unit false.
+/// The cut at the first unique implication point without the literals of level 0 and those that the
+/// others make needless, its hints in order, and the place of the literal that makes its unit false.
 fn asserting_cut(
     alloc: Global,
     clauses: &[Clause],
@@ -73,6 +75,7 @@ fn asserting_cut(
     requires fits { trail.now.vars < length marks.old.stamps }
     requires search { IsSearch clauses.now trail.now starts.now }
     requires deep { 0 < length starts.now }
+    requires normal { All IsNormal clauses.now }
     requires conflict { IsFalseAt clauses.now trail.now.lits conflict }
     ensures long { length marks.new.stamps ≡ length marks.old.stamps }
     ensures cut { IfOk result (λ r. IsAsserting clauses.now trail.now.lits (slice_index starts.now 0)
@@ -83,6 +86,7 @@ fn asserting_cut(
     cut.mark_conflict(marks, clauses, trail, conflict)?;
     let at = cut.resolve_to_unit(marks, clauses, trail)?;
     cut.resolve_below(marks, clauses, trail)?;
+    minimise(alloc, &mut cut, marks, clauses, trail)?;
     cut.hints.reverse();
     cut.lits.push(trail.lits()[at].negated())?;
     Ok((cut, at))

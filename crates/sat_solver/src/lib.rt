@@ -10,7 +10,9 @@ mod cuts;
 mod engines;
 mod learning;
 mod marks;
+mod minimising;
 mod propagation;
+mod restarts;
 mod solving;
 mod trails;
 

@@ -5,6 +5,7 @@ ghost use Rattle.sat_solver.specs.Searches.{IsQuiet, IsFalseAt, AllSet};
 ghost use Rattle.sat_solver.specs.Answers.{IsAnswer, IsSpent, formula_of, answer_of};
 
 use crate::engines::Engine;
+use crate::restarts::Restarts;
 use proof_log::{DerivStep, Derivation, Formula, Model};
 use sdcv_base::Seq;
 use std::alloc::{AllocError, Global};
@@ -69,6 +70,7 @@ fn log(
     ensures answer { IfOk result (λ end. IsAnswer (formula_of engine.old) budget (answer_of end steps.new)) }
     ensures never_spent { 3 ^ engine.old.vars ≤ budget → IfOk result (λ end. IsSpent (answer_of end steps.new) → ⊥) }
 {
+    let mut restarts = Restarts::new();
     loop {
         let Some(conflict) = search(engine) else {
             let values = engine.values(alloc)?;
@@ -83,6 +85,18 @@ fn log(
         }
         let learnt = engine.learn(alloc, conflict)?;
         steps.push(learnt.step)?;
+        restart(engine, &mut restarts);
+    }
+}
+
+/// Goes back to level 0 where a restart is due. The clauses stay, and no clause is learnt twice
+/// whatever the level, so the search ends as it would without.
+fn restart(engine: &mut Engine, restarts: &mut Restarts)
+    ensures vars { engine.new.vars ≡ engine.old.vars }
+    ensures clauses { engine.new.clauses ≡ engine.old.clauses }
+{
+    if restarts.is_due() {
+        engine.backjump(0);
     }
 }
 

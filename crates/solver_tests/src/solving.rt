@@ -246,6 +246,30 @@ fn a_decision_is_learnt_to_be_wrong(rt: HostRuntime) -> Result<(), Fail> {
     Ok(())
 }
 
+// Variable 2 is false where 1 is, and with 3 false both values of 4 are wrong.
+const ONE_IMPLIED: &[&[i32]] = &[&[1, -2], &[1, 2, 3, 4], &[1, 2, 3, -4]];
+
+// Of 1, 2 and 3, which are false together, 2 is left out, since 1 false makes it false: two literals
+// are learnt, and the clause that makes 2 false is the first of three hints.
+#[test]
+fn an_implied_literal_is_left_out(rt: HostRuntime) -> Result<(), Fail> {
+    let f = formula(rt.alloc(), 4, ONE_IMPLIED)?;
+    if f.is_normal() {
+        let mut engine = Engine::load(rt.alloc(), &f)?;
+        decide_once(&mut engine);
+        decide_once(&mut engine);
+        if let Some(learnt) = learnt(rt.alloc(), &mut engine)? {
+            assert_eq!(rt; learnt.level, 1);
+            assert_eq!(rt; learnt.step.clause.as_slice().len(), 2);
+            assert_eq!(rt; learnt.step.hints.len(), 3);
+            assert!(rt; learnt.step.hints.as_slice().first().copied() == Some(1));
+            return Ok(());
+        }
+    }
+    assert!(rt; false);
+    Ok(())
+}
+
 // How many of three variables are decided and how many levels that opens; then, once all levels but one are left, how many
 // are decided anew in one go, and how many levels are open.
 fn reopened(alloc: Global, engine: &mut Engine) -> Result<[usize; 4], AllocError> {

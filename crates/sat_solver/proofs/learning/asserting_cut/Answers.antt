@@ -1,8 +1,8 @@
 use Rattle.std.proofs.Common.{◌≡◌, ◌-◌, ◌∙◌, ℕ, List, length, get_or, reverse, ap, sym, subst, arith}
 use Rattle.std.proofs.lemmas.List.{get_or_read}
 use Rattle.proof_log.specs.Literals.{negated}
-use Rattle.sat_solver.specs.Cuts.{IsAsserting, IsUnitCut, ResolvedBelow}
-use Rattle.sat_solver.specs.Markings.{marked_lits, IsGathered}
+use Rattle.sat_solver.specs.Cuts.{IsAsserting, IsUnitCut, ResolvedBelow, KeepsAsserting}
+use Rattle.sat_solver.specs.Markings.{marked_lits, AreBetween}
 use Rattle.sat_solver.proofs.AtConflict.{justified_above, justified_base, asserting}
 use Rattle.sat_solver.proofs.Marking.{IsAsserting-gathered}
 use Rattle.sat_solver.proofs.learning.asserting_cut.Goals as goal
@@ -16,6 +16,9 @@ pub resolve_below-requires-clause-justified : goal.resolve_below-requires-clause
 resolve_below-requires-clause-justified c = λ i h.
     justified_base c.args.clauses.now c.args.trail.now c.args.starts.now c.requires.search c.requires.deep i
     (omega (arith, h, c.resolve_to_unit.ensures.base, c.mark_conflict.ensures.base, c.new-cut.ensures.base))
+
+pub minimise-requires-clause-between : goal.minimise-requires-clause-between
+minimise-requires-clause-between c = c.in_ok-resolve_below.ensures.gathered.between
 
 pub returns-clause-cut : goal.returns-clause-cut
 returns-clause-cut c =
@@ -31,23 +34,28 @@ returns-clause-cut c =
     let start_is : c.mark_conflict.new.self.start ≡ start = c.mark_conflict.ensures.start ∙ c.new-cut.ensures.start in
     let first = marked_lits c.resolve_to_unit.new.marks lits in
     let m = c.resolve_below.new.marks in
-    let some = c.resolve_below.new.self.lits.items in
-    let up = c.resolve_below.new.self.above in
-    let down = c.resolve_below.new.self.below in
+    let now = c.minimise.new.marks in
     let U : ℕ → Type 0 = λ n. IsUnitCut clauses lits n at first c.resolve_to_unit.new.self.hints.items in
     let R : ℕ → Type 0 = λ n. ResolvedBelow clauses lits n first c.resolve_to_unit.new.self.hints.items (marked_lits m lits)
     c.resolve_below.new.self.hints.items in
     let a = asserting clauses t starts at first c.resolve_to_unit.new.self.hints.items (marked_lits m lits) c.resolve_below.new.self.hints.items
     c.requires.search c.requires.deep c.lits-lits.ensures.distinct (subst U start_is c.in_ok-at.ensures.cut)
     (subst R base_is c.in_ok-resolve_below.ensures.cut) in
-    let G : ℕ → Type 0 = λ n. IsGathered lits n c.resolve_below.new.self.start m some up down in
-    let H : ℕ → Type 0 = λ n. IsGathered lits base n m some up down in
-    let g = subst H (c.resolve_below.ensures.start ∙ (c.resolve_to_unit.ensures.start ∙ start_is))
-    (subst G (c.resolve_below.ensures.base ∙ base_is) c.in_ok-resolve_below.ensures.gathered) in
+    let base_now : c.resolve_below.new.self.base ≡ base = c.resolve_below.ensures.base ∙ base_is in
+    let start_now : c.resolve_below.new.self.start ≡ start = c.resolve_below.ensures.start ∙ (c.resolve_to_unit.ensures.start ∙ start_is) in
+    let K : ℕ → Type 0 = λ n. KeepsAsserting clauses lits n c.resolve_below.new.self.start (marked_lits m lits) c.resolve_below.new.self.hints.items
+    (marked_lits now lits) c.minimise.new.cut.hints.items in
+    let L : ℕ → Type 0 = λ n. KeepsAsserting clauses lits base n (marked_lits m lits) c.resolve_below.new.self.hints.items
+    (marked_lits now lits) c.minimise.new.cut.hints.items in
+    let keeps = subst L start_now (subst K base_now c.in_ok-minimise.ensures.asserting) in
+    let some = c.minimise.new.cut.lits.items in
+    let G : ℕ → Type 0 = λ n. AreBetween lits n c.resolve_below.new.self.start now some in
+    let H : ℕ → Type 0 = λ n. AreBetween lits base n now some in
+    let between = subst H start_now (subst G base_now c.in_ok-minimise.ensures.between) in
     let p_is : c.index-lits-at.result ≡ get_or lits at 0 =
     get_or_read c.lits.result.now at c.index-lits-at.result (omega (arith, a.within, ap length c.lits.ensures.value)) c.index-lits-at.is 0
     ∙ ap (λ xs. get_or xs at 0) c.lits.ensures.value in
     let P : List ℕ → Type 0 = IsAsserting clauses lits base start at c.push.new.self.items in
     subst P (sym c.reverse.ensures.items)
-    (IsAsserting-gathered clauses lits base start up down at c.negated.result m some c.push.new.self.items (reverse c.resolve_below.new.self.hints.items) g
-    (c.negated.ensures ∙ ap negated p_is) c.in_ok-push.ensures.items a)
+    (IsAsserting-gathered clauses lits base start at c.negated.result now some c.push.new.self.items (reverse c.minimise.new.cut.hints.items) between
+    (c.negated.ensures ∙ ap negated p_is) c.in_ok-push.ensures.items (keeps at a))

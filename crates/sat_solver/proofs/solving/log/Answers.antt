@@ -39,8 +39,10 @@ loop-conflict-preserved c =
     c.search.ensures.vars c.search.ensures.clauses c.loop-conflict.invariant in
     let r = c.in_ok-learnt.learnt in
     let P : List DerivStep → Type 0 = LogSoFar (formula_of c.args.engine.now) c.args.budget c.learn.new.self.vars c.learn.new.self.clauses in
-    subst P (sym c.in_ok-push-2.ensures.ok)
+    let learnt = subst P (sym c.in_ok-push-2.ensures.ok)
     (log_more (formula_of c.args.engine.now) c.args.budget _ c.learn.new.self.vars _ c.learn.new.self.clauses
     c.search.new.engine.lits c.search.new.engine.starts c.loop-conflict.steps r.step r.level r.unit log
     (omega (arith, c.if-len-budget.false, c.len.ensures, log.short)) c.in_ok-learnt.ensures.learnt
-    (ap (λ (s : Search). s.vars) c.in_ok-learnt.ensures.asserted) (ap (λ (s : Search). s.clauses) c.in_ok-learnt.ensures.asserted))
+    (ap (λ (s : Search). s.vars) c.in_ok-learnt.ensures.asserted) (ap (λ (s : Search). s.clauses) c.in_ok-learnt.ensures.asserted)) in
+    log_same (formula_of c.args.engine.now) c.args.budget _ c.restart.new.engine.vars _ c.restart.new.engine.clauses _
+    c.restart.ensures.vars c.restart.ensures.clauses learnt
