@@ -8,7 +8,6 @@
 #![tactic(auto)]
 
 mod answers;
-mod dimacs;
 #[cfg(test)]
 mod tests;
 
@@ -16,11 +15,11 @@ ghost use Rattle.std.specs.Prelude.{IfOk};
 ghost use Rattle.proof_log.specs.Formulas.{IsFormula};
 
 use anyhow::{Context, bail};
-use dimacs::Dimacs;
+use dimacs_text::read_dimacs;
 use proof_log::Formula;
 use sdcv_base::read_decimal;
 use std::env;
-use std::io::{BufRead, BufReader};
+use std::io::{BufReader, Read};
 use std::process::ExitCode;
 use std::rt::Env;
 
@@ -58,11 +57,7 @@ fn formula(rt: &HostRuntime) -> anyhow::Result<Formula>
     ensures { IfOk result IsFormula }
 {
     let alloc = rt.alloc();
-    let mut reading = Dimacs::new(alloc);
-    let mut number = 0u64;
-    for line in BufReader::new(alloc, rt.reader())?.lines(alloc) {
-        number = number.saturating_add(1);
-        reading.line(alloc, number, line?.as_bytes())?;
-    }
-    Ok(reading.formula()?)
+    let mut text = Vec::new(alloc);
+    BufReader::new(alloc, rt.reader())?.read_to_end(&mut text)?;
+    Ok(read_dimacs(alloc, &text)?)
 }

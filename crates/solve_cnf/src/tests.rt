@@ -1,27 +1,11 @@
-ghost use Rattle.std.specs.Prelude.{IfOk};
-ghost use Rattle.proof_log.specs.Formulas.{IsFormula};
-
 use crate::answers::{Told, solved};
-use crate::dimacs::{Dimacs, DimacsFault};
-use proof_log::Formula;
+use dimacs_text::read_dimacs;
 use std::alloc::Global;
 use std::test::Fail;
 
-fn read(alloc: Global, text: &str) -> Result<Formula, DimacsFault>
-    ensures { IfOk result IsFormula }
-{
-    let mut reading = Dimacs::new(alloc);
-    let mut number = 0u64;
-    for line in text.lines() {
-        number = number.saturating_add(1);
-        reading.line(alloc, number, line.as_bytes())?;
-    }
-    reading.formula()
-}
-
 // The text told of a text, or why it is none.
 fn told(alloc: Global, text: &str, budget: u64) -> Result<Told, Fail> {
-    match read(alloc, text) {
+    match read_dimacs(alloc, text.as_bytes()) {
         Ok(formula) => Ok(solved(alloc, &formula, budget)?),
         Err(fault) => Ok(Told {
             text: format!(in alloc; "{fault}")?,
@@ -96,10 +80,11 @@ fn texts_are_answered(rt: HostRuntime) -> Result<(), Fail> {
 }
 
 const REFUSED: &[(&str, &str)] = &[
-    ("", "no line `p cnf VARS CLAUSES` before the clauses"),
+    ("", "no line `p cnf VARS CLAUSES`"),
+    ("c 1 0\n", "no line `p cnf VARS CLAUSES`"),
     (
         "c a\n1 0\np cnf 1 1\n",
-        "no line `p cnf VARS CLAUSES` before the clauses",
+        "line 2: no line `p cnf VARS CLAUSES` before the clauses",
     ),
     (
         "p cnf 1\n1 0\n",

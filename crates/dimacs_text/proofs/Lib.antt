@@ -1,0 +1,5 @@
+mod Decimals
+mod Keeping
+mod Taking
+mod Placing
+mod Heading

@@ -1,0 +1,4 @@
+pub mod Tokens
+pub mod Texts
+pub mod Faults
+pub mod Readings

@@ -1,0 +1,48 @@
+-- A text that is read token by token.
+use Rattle.std.specs.Prelude.{◌≡◌, ℕ, ◌+◌, ◌⊎◌, List, [], ◌∷◌, ◌++◌, length, All, Option, None, Some}
+use Rattle.proof_log.specs.Literals.{InVars}
+use Rattle.proof_log.specs.Clauses.{is_set, IsNormal, HasComplements}
+use Rattle.dimacs_text.specs.Tokens.{Placed}
+use Rattle.dimacs_text.specs.Texts.{Signed, IsBegun, AreCut, AreKept}
+use Rattle.dimacs_text.specs.declared.counts.Counts.{Counts}
+use Rattle.dimacs_text.specs.declared.readings.Reading.{Reading}
+
+-- after a header: the clauses that are kept, how many there were, and the literals of the clause that is begun
+pub record IsReadAfter (placed : List Placed) (vars told : ℕ) (r : Reading) : Type 0 where
+  pub numbers : List Signed
+  pub clauses : List (List ℕ)
+  pub begun : IsBegun vars told numbers placed
+  pub cut : AreCut numbers clauses r.begun.items
+  pub kept : AreKept clauses r.clauses
+  pub count : r.count ≡ length clauses
+  pub begun_in_vars : All (InVars vars) r.begun.items
+  pub normal : All IsNormal r.clauses
+  pub in_vars : All (λ c. All (InVars vars) c) r.clauses
+
+abbrev pub IsReadBy : List Placed → Option Counts → Reading → Type 0
+IsReadBy placed None r = placed ≡ []
+IsReadBy placed (Some h) r = IsReadAfter placed h.vars h.told r
+
+-- these tokens are read
+abbrev pub IsRead : List Placed → Reading → Type 0
+IsRead placed r = IsReadBy placed r.header r
+
+-- one more clause is kept in normal form, or left out where two of its literals are complements
+abbrev pub IsKeptOf : List ℕ → List (List ℕ) → List (List ℕ) → Type 0
+IsKeptOf clause old new =
+    (HasComplements clause × (new ≡ old))
+    ⊎ ((normal : List ℕ) × IsNormal normal × ((l : ℕ) → is_set normal l ≡ is_set clause l) × (new ≡ old ++ normal ∷ []))
+
+-- the clause that is begun is kept so, and nothing else changes
+pub record IsKeptIn (old new : Reading) : Type 0 where
+  pub header : new.header ≡ old.header
+  pub count : new.count ≡ old.count
+  pub begun : new.begun.items ≡ old.begun.items
+  pub kept : IsKeptOf old.begun.items old.clauses new.clauses
+
+-- the clause that was begun is ended
+pub record IsEnded (old new : Reading) : Type 0 where
+  pub header : new.header ≡ old.header
+  pub count : new.count ≡ old.count + 1
+  pub begun : new.begun.items ≡ []
+  pub kept : IsKeptOf old.begun.items old.clauses new.clauses
