@@ -1,10 +1,11 @@
 -- Bits of literals where a graph grows.
-use Rattle.std.proofs.Common.{◌≡◌, ◌<◌, ℕ, zero, suc, ◌+◌, ◌*◌, ◌/◌, ◌%◌, Bool, true, false, not, ◌&&◌, ◌||◌, ◌==◌, if◌then◌else◌, List, [], ◌∷◌, ◌++◌, length, slice_index_or}
+use Rattle.std.proofs.Common.{◌≡◌, ◌<◌, ℕ, zero, suc, ◌+◌, ◌*◌, ◌/◌, ◌%◌, Bool, true, false, not, ◌&&◌, ◌||◌, ◌==◌, if◌then◌else◌, List, [], ◌∷◌, ◌++◌, length, slice_get, slice_index_or, Some, ◌⊎◌, inl, inr}
 use Rattle.std.proofs.Common.{refl, ap, arith, sym, subst, ◌∙◌}
+use Rattle.std.proofs.lemmas.Option.{slice_get_within, same_Some}
 use Rattle.net_model.specs.Form.{xor}
 use Rattle.and_graphs.specs.declared.graphs.AndLine.{AndLine}
 use Rattle.and_graphs.specs.declared.graphs.AndGraph.{AndGraph}
-use Rattle.and_graphs.specs.Graphs.{literal_bit, bits_after, all_bits, bit_of, Means, Keeps}
+use Rattle.and_graphs.specs.Graphs.{literal_bit, bits_after, all_bits, bit_of, IsIn, IsOrdered, Means, Keeps}
 
 length_more : {A : Type 0} (xs : List A) (x : A) → length (xs ++ x ∷ []) ≡ length xs + 1
 length_more [] x = refl
@@ -77,10 +78,31 @@ pushed_bits h old new front p = ap (λ (gs : List AndLine). all_bits gs front) p
 count_of : (g : AndGraph) (front : List Bool) → length front ≡ g.front → length (all_bits g.lines front) ≡ 1 + g.front + length g.lines
 count_of g front len = let all = bits_length g.lines (false ∷ front) in omega arith
 
+-- an item of a list with one more item
+one_more : {X : Type 0} (xs : List X) (x : X) (k : ℕ) (y : X) → slice_get (xs ++ x ∷ []) k ≡ Some y → (slice_get xs k ≡ Some y) ⊎ ((k ≡ length xs) × (x ≡ y))
+one_more [] x zero y at = inr (refl, same_Some x y at)
+one_more [] x (suc k) y at = absurd (omega (arith, slice_get_within (x ∷ []) (suc k) y at))
+one_more (z ∷ xs) x zero y at = inl at
+one_more (z ∷ xs) x (suc k) y at =
+    elim (one_more xs x k y at) [ inl here ↦ inl here | inr last ↦ inr (omega (arith, last.0), last.1) ]
+
+-- a line whose literals the graph has keeps the order
+pushed_ordered : (h : AndLine) (old new : AndGraph) → IsPushed h old new → IsIn old h.left → IsIn old h.right → IsOrdered old → IsOrdered new
+pushed_ordered h old new p left right ordered k line at =
+    let same = p.front in
+    elim (one_more old.lines h k line (ap (λ (gs : List AndLine). slice_get gs k) (sym p.lines) ∙ at)) [
+      | inl before ↦ let low = ordered k line before in (omega (arith, same, low.0), omega (arith, same, low.1))
+      | inr last ↦
+          let on_left = ap (λ (x : AndLine). x.left) last.1 in
+          let on_right = ap (λ (x : AndLine). x.right) last.1 in
+          (omega (arith, same, last.0, on_left, left), omega (arith, same, last.0, on_right, right))
+    ]
+
 -- what literals mean stays
-pub pushed_keeps : (h : AndLine) (old new : AndGraph) → IsPushed h old new → Keeps old new
-pushed_keeps h old new p = record {
+pub pushed_keeps : (h : AndLine) (old new : AndGraph) → IsPushed h old new → IsIn old h.left → IsIn old h.right → Keeps old new
+pushed_keeps h old new p left right = record {
   front = p.front;
+  ordered = pushed_ordered h old new p left right;
   means = λ l f m. record {
     here =
         let more = ap (λ (gs : List AndLine). length gs) p.lines ∙ length_more old.lines h in
@@ -123,6 +145,7 @@ same_bits g l f h m n x len = sym (m.bit x len) ∙ n.bit x len
 pub keeps_on : (a b c : AndGraph) → Keeps a b → Keeps b c → Keeps a c
 keeps_on a b c first second = record {
   front = second.front ∙ first.front;
+  ordered = λ o. second.ordered (first.ordered o);
   means = λ l f m. second.means l f (first.means l f m);
 }
 

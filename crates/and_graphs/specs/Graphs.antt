@@ -1,5 +1,5 @@
 -- And-inverter graphs, and the bits of their literals (AIGER 1.9).
-use Rattle.std.specs.Prelude.{◌≡◌, ℕ, ◌+◌, ◌*◌, ◌/◌, ◌%◌, ◌<◌, Bool, false, not, ◌&&◌, ◌==◌, if◌then◌else◌, List, [], ◌∷◌, ◌++◌, length, slice_index_or}
+use Rattle.std.specs.Prelude.{◌≡◌, ℕ, ◌+◌, ◌*◌, ◌/◌, ◌%◌, ◌<◌, Bool, false, not, ◌&&◌, ◌==◌, if◌then◌else◌, List, [], ◌∷◌, ◌++◌, length, Some, slice_get, slice_index_or}
 use Rattle.net_model.specs.Form.{Form, value}
 use Rattle.net_model.specs.Args.{arg_at}
 use Rattle.net_model.specs.declared.arguments.Args.{Args}
@@ -32,9 +32,14 @@ pub record Means (g : AndGraph) (l : ℕ) (f : List Bool → Bool) : Type 0 wher
   pub here : IsIn g l
   pub bit : (front : List Bool) → length front ≡ g.front → bit_of g front l ≡ f front
 
--- the variables in front stay, and so does what literals mean
+-- each line is made of literals below its own
+abbrev pub IsOrdered : AndGraph → Type 0
+IsOrdered g = (k : ℕ) (h : AndLine) → slice_get g.lines k ≡ Some h → (h.left < 2 * (1 + g.front + k)) × (h.right < 2 * (1 + g.front + k))
+
+-- the variables in front stay, and so do the order of lines and what literals mean
 pub record Keeps (old new : AndGraph) : Type 0 where
   pub front : new.front ≡ old.front
+  pub ordered : IsOrdered old → IsOrdered new
   pub means : (l : ℕ) (f : List Bool → Bool) → Means old l f → Means new l f
 
 -- the literal means the value of a function, whatever its places' literals mean in an earlier graph

@@ -75,7 +75,8 @@ impl AndGraph {
         self.add(a, b)
     }
 
-    /// Adds the line of two literals.
+    /// Adds the line of two literals. Where one of them is no literal of the graph yet, it means nothing, and 0 stands for the line:
+    /// so a line is made of literals below its own, whatever is asked for.
     fn add(&mut self, a: u64, b: u64) -> Result<u64, AllocError>
         ensures keeps { Keeps self.old self.new }
         ensures means { IfOk result (λ l. (f g : List Bool → Bool) → Means self.old a f → Means self.old b g → Means self.new l (λ x. f x && g x)) }
@@ -84,6 +85,9 @@ impl AndGraph {
             return Err(AllocError);
         };
         let literal = literal_of(place)?;
+        if a >= literal || b >= literal {
+            return Ok(0);
+        }
         self.lines.push(AndLine { left: a, right: b })?;
         Ok(literal)
     }

@@ -112,28 +112,28 @@ toggled_past s edge start x c (suc k) some = let e : k ≡ suc k - 1 = omega ari
 pub record StalesDone (s : Sizes) (claim : Claim) (start toggle : ℕ) (first g : AndGraph) (some k : ℕ) : Type 0 where
   pub keeps : Keeps first g
   pub means : (c : List Bool → Cycle) → Means first start (λ x. start_bit claim.start (c x))
-      → Means first toggle (λ x. toggle_bit s claim.edge claim.start x (c x)) → Means g some (λ x. some_stale s claim x (c x) k)
+      → (0 < s.judged → Means first toggle (λ x. toggle_bit s claim.edge claim.start x (c x))) → Means g some (λ x. some_stale s claim x (c x) k)
 
 pub stales_none : (s : Sizes) (claim : Claim) (start toggle : ℕ) (g : AndGraph) (some : ℕ) → Means g some (λ x. false)
     → StalesDone s claim start toggle g g some 0
 unfolding some_stale
 stales_none s claim start toggle g some means =
-    record { keeps = record { front = refl; means = λ l f m. m }; means = λ c of_start of_toggle. means }
+    record { keeps = record { front = refl; ordered = λ o. o; means = λ l f m. m }; means = λ c of_start of_toggle. means }
 
-pub stales_more : (s : Sizes) (claim : Claim) (start toggle : ℕ) (first old middle new : AndGraph) (some stale next k : ℕ) → Keeps old middle
+pub stales_more : (s : Sizes) (claim : Claim) (start toggle : ℕ) (first old middle new : AndGraph) (some stale next k : ℕ) → k < s.judged → Keeps old middle
     → Keeps middle new
     → ((c : List Bool → Cycle) → Means old start (λ x. start_bit claim.start (c x)) → Means old toggle (λ x. toggle_bit s claim.edge claim.start x (c x))
     → Means middle stale (λ x. stale_bit s claim x (c x) k))
     → ((f h : List Bool → Bool) → Means middle some f → Means middle stale h → Means new next (λ x. f x || h x))
     → StalesDone s claim start toggle first old some k → StalesDone s claim start toggle first new next (k + 1)
 unfolding some_stale
-stales_more s claim start toggle first old middle new some stale next k keeps later of_stale either done =
+stales_more s claim start toggle first old middle new some stale next k low keeps later of_stale either done =
     record {
       keeps = keeps_on first old new done.keeps (keeps_on old middle new keeps later);
       means = λ c of_start of_toggle.
           let up : suc k ≡ k + 1 = omega arith in
           let start_now = done.keeps.means start (λ x. start_bit claim.start (c x)) of_start in
-          let toggle_now = done.keeps.means toggle (λ x. toggle_bit s claim.edge claim.start x (c x)) of_toggle in
+          let toggle_now = done.keeps.means toggle (λ x. toggle_bit s claim.edge claim.start x (c x)) (of_toggle (omega (arith, low))) in
           subst (λ (n : ℕ). Means new next (λ x. some_stale s claim x (c x) n)) up
           (either (λ x. some_stale s claim x (c x) k) (λ x. stale_bit s claim x (c x) k)
           (keeps.means some (λ x. some_stale s claim x (c x) k) (done.means c of_start of_toggle)) (of_stale c start_now toggle_now));

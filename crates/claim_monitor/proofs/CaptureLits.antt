@@ -131,7 +131,7 @@ pub record NextsDone (d : Design) (ls : Literals) (first : AndGraph) (g : AndGra
 
 pub nexts_none : (d : Design) (ls : Literals) (g : AndGraph) → NextsDone d ls g g [] 0
 nexts_none d ls g =
-    record { keeps = record { front = refl; means = λ l f m. m }; count = refl; each = λ r low. absurd (omega arith) }
+    record { keeps = record { front = refl; ordered = λ o. o; means = λ l f m. m }; count = refl; each = λ r low. absurd (omega arith) }
 
 pub nexts_more : (d : Design) (ls : Literals) (first old new : AndGraph) (nexts : List ℕ) (k l : ℕ) → Keeps old new → AreLiteralsFor first d ls
     → Means new l (λ x. capture d (RegEnd k) (shown_cycle old x ls)) → NextsDone d ls first old nexts k → NextsDone d ls first new (nexts ++ l ∷ []) (k + 1)

@@ -139,7 +139,7 @@ bad_tells old some_graph change_graph late_graph new d claim ls late l literals 
 
 -- a graph keeps itself
 pub keeps_same : (g : AndGraph) → Keeps g g
-keeps_same g = record { front = refl; means = λ l f m. m }
+keeps_same g = record { front = refl; ordered = λ o. o; means = λ l f m. m }
 
 -- the sizes of a sound design and a claim that fits it are small
 pub sizes_small : (d : Design) (claim : Claim) → IsSound d → Fits d claim → AreSmall (sizes_of d claim)

@@ -112,7 +112,7 @@ pub layer_lits_none : (d : Design) (sets : List (List PinRef)) (l : ℕ) (g : An
     → LayerLitsDone d sets l g rows g rows 0
 layer_lits_none d sets l g rows are =
     record {
-      keeps = record { front = refl; means = λ lit f m. m };
+      keeps = record { front = refl; ordered = λ o. o; means = λ lit f m. m };
       are = are;
       kept = record { count = refl; others = λ m apart. refl; len = refl };
       bits = λ x len. record {

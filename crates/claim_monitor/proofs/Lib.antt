@@ -10,3 +10,12 @@ pub mod Catching
 pub mod Badness
 pub mod Judging
 pub mod Fronting
+pub mod HistoryLits
+pub mod Following
+pub mod Monitoring
+pub mod FrontRows
+pub mod SameCycle
+pub mod Watching
+pub mod RunsExist
+pub mod FreeRows
+pub mod Rising

@@ -121,7 +121,7 @@ pub record GateNetsDone (d : Design) (first : AndGraph) (start : List ℕ) (g : 
 pub gate_nets_none : (d : Design) (g : AndGraph) (nets : List ℕ) → length nets ≡ d.nets → AreIn g nets → GateNetsDone d g nets g nets 0
 gate_nets_none d g nets len all =
     record {
-      keeps = record { front = refl; means = λ l f m. m };
+      keeps = record { front = refl; ordered = λ o. o; means = λ l f m. m };
       len = len;
       in_ = all;
       bits = λ x same. record { len = length-shown_row g x nets ∙ len; sources = λ n has. refl; gates = λ j lt. absurd (omega arith) };

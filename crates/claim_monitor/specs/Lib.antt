@@ -4,4 +4,7 @@ pub mod Captured
 pub mod Layered
 pub mod Tells
 pub mod Judgings
+pub mod Histories
 pub mod Watches
+pub mod Monitors
+pub mod Rises

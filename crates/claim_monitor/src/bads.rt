@@ -4,7 +4,7 @@ ghost use Rattle.net_model.specs.Form.{xor};
 ghost use Rattle.net_model.specs.Netlist.{IsSound};
 ghost use Rattle.net_model.specs.Fits.{Fits};
 ghost use Rattle.net_model.specs.Cycles.{bit_at, capture as capture_of};
-ghost use Rattle.net_model.specs.Judge.{start_bit};
+ghost use Rattle.net_model.specs.Judge.{judged_count, start_bit};
 ghost use Rattle.net_model.specs.declared.cycles.Cycle.{Cycle as CycleRecord};
 ghost use Rattle.net_model.specs.declared.claims.Start.{Start as StartRecord};
 ghost use Rattle.sdcv_base.specs.declared.kinds.Edge.{Edge as EdgeRecord};
@@ -25,7 +25,7 @@ use std::alloc::{AllocError, Global};
 
 /// The literals that a claim is judged by in a cycle: its start, the toggle of its start, and its end's capture.
 #[derive(Clone, Copy)]
-pub struct Judged {
+pub(crate) struct Judged {
     pub start: u64,
     pub toggle: u64,
     pub capture: u64,
@@ -43,7 +43,8 @@ fn edge_literal(edge: Edge, stale: u64) -> u64
 }
 
 /// The literal that is 1 where the start toggles: the cycle before was live, and the start's bit there, the stale bit, differs.
-pub fn toggle_literal(
+/// Without judged captures no toggle counts.
+pub(crate) fn toggle_literal(
     edge: Edge,
     start: u64,
     sizes: &Sizes,
@@ -51,12 +52,14 @@ pub fn toggle_literal(
 ) -> Result<u64, AllocError>
     requires small { AreSmall sizes.now }
     requires front { graph.old.front ≡ front_count sizes.now }
-    requires some { 0 < sizes.now.judged }
     ensures keeps { OnOk result (Keeps graph.old graph.new) }
-    ensures means { IfOk result (λ l. (f : List Bool → Bool) → Means graph.old start f
+    ensures means { IfOk result (λ l. 0 < sizes.now.judged → (f : List Bool → Bool) → Means graph.old start f
         → Means graph.new l (λ x. bit_at x (live_place sizes.now) && (xor (f x) (bit_at x (start_place sizes.now 0)) && edge_bit edge
         (bit_at x (start_place sizes.now 0))))) }
 {
+    if sizes.judged == 0 {
+        return Ok(bit_literal(false));
+    }
     let was_live = graph.variable(sizes.live())?;
     let stale = graph.variable(sizes.starts())?;
     let differs = graph.differs(start, stale)?;
@@ -128,7 +131,7 @@ fn stale_literals(
     requires front { graph.old.front ≡ front_count sizes.now }
     ensures keeps { OnOk result (Keeps graph.old graph.new) }
     ensures means { IfOk result (λ l. (c : List Bool → CycleRecord) → Means graph.old judged.now.start (λ x. start_bit claim.now.start (c x))
-        → Means graph.old judged.now.toggle (λ x. toggle_bit sizes.now claim.now.edge claim.now.start x (c x))
+        → (0 < sizes.now.judged → Means graph.old judged.now.toggle (λ x. toggle_bit sizes.now claim.now.edge claim.now.start x (c x)))
         → Means graph.new l (λ x. some_stale sizes.now claim.now x (c x) sizes.now.judged)) }
 {
     let mut some = bit_literal(false);
@@ -217,7 +220,7 @@ fn late_literal(
 }
 
 /// The literal that tells whether the cycle is bad for a toggle before it.
-pub fn bad_literal(
+pub(crate) fn bad_literal(
     alloc: Global,
     design: &Design,
     claim: &Claim,
@@ -230,8 +233,8 @@ pub fn bad_literal(
     requires front { graph.old.front ≡ front_count (sizes_of design.now claim.now) }
     requires literals { AreLiteralsFor graph.old design.now literals.now }
     requires start { Means graph.old judged.now.start (λ x. start_bit claim.now.start (shown_cycle graph.old x literals.now)) }
-    requires toggle { Means graph.old judged.now.toggle (λ x. toggle_bit (sizes_of design.now claim.now) claim.now.edge claim.now.start x
-        (shown_cycle graph.old x literals.now)) }
+    requires toggle { 0 < judged_count claim.now → Means graph.old judged.now.toggle (λ x. toggle_bit (sizes_of design.now claim.now) claim.now.edge
+        claim.now.start x (shown_cycle graph.old x literals.now)) }
     requires capture { Means graph.old judged.now.capture (λ x. capture_of design.now claim.now.end (shown_cycle graph.old x literals.now)) }
     ensures keeps { OnOk result (Keeps graph.old graph.new) }
     ensures tells { IfOk result (BadLiteral graph.new design.now claim.now literals.now) }

@@ -63,7 +63,7 @@ fn next_literal(
 }
 
 /// The literals of the captures of all registers.
-pub fn next_literals(
+pub(crate) fn next_literals(
     alloc: Global,
     design: &Design,
     literals: &Literals,
@@ -83,7 +83,7 @@ pub fn next_literals(
 }
 
 /// The literal of an end's capture, given those of all registers.
-pub fn end_literal(design: &Design, literals: &Literals, nexts: &Seq<u64>, end: &End) -> u64
+pub(crate) fn end_literal(design: &Design, literals: &Literals, nexts: &Seq<u64>, end: &End) -> u64
     requires sound { IsSound design.now }
     requires in_range { IsEndIn design.now end.now }
     requires nexts { length nexts.now ≡ length design.now.regs }

@@ -48,7 +48,7 @@ pub(crate) fn variables(
 }
 
 /// The literal of a start of the design.
-pub fn start_literal(design: &Design, literals: &Literals, start: &Start) -> u64
+pub(crate) fn start_literal(design: &Design, literals: &Literals, start: &Start) -> u64
     requires in_range { IsStartIn design.now start.now }
     requires bits { length literals.now.bits ≡ length design.now.regs }
     requires ins { length literals.now.ins ≡ length design.now.inputs }
@@ -61,7 +61,7 @@ pub fn start_literal(design: &Design, literals: &Literals, start: &Start) -> u64
 }
 
 /// The literals of the cycle whose register and input bits the variables in front show.
-pub fn literals_of(
+pub(crate) fn literals_of(
     alloc: Global,
     design: &Design,
     sizes: &Sizes,

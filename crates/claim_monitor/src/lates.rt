@@ -192,7 +192,7 @@ fn capture_last(
 }
 
 /// The literal of what the claim's end captures where its start, in the first layer, shows the complement of its bit.
-pub fn flipped_literal(
+pub(crate) fn flipped_literal(
     alloc: Global,
     design: &Design,
     claim: &Claim,

@@ -1,5 +1,5 @@
 //! How many variables of each kind stand in front, and which stands for what.
-ghost use Rattle.std.specs.Prelude.{◌≡◌, ◌-◌, length};
+ghost use Rattle.std.specs.Prelude.{◌≡◌, ◌-◌, if◌then◌else◌, length};
 ghost use Rattle.std.specs.List.{list_any};
 ghost use Rattle.net_model.specs.Held.{sets, is_held, free_below};
 ghost use Rattle.claim_monitor.specs.Fronts as fronts;
@@ -69,6 +69,15 @@ impl Sizes {
         }
     }
 
+    /// The place of the first of the latches that count the reset's cycles; the one that is 1 where the cycle before was live comes
+    /// after them.
+    pub(crate) fn resets(&self) -> u64
+        requires { fronts.AreSmall self.now }
+        ensures { result ≡ fronts.reset_place self.now 0 }
+    {
+        self.inputs + self.regs
+    }
+
     /// The place of the latch that is 1 where the cycle before was live.
     pub(crate) fn live(&self) -> u64
         requires { fronts.AreSmall self.now }
@@ -108,11 +117,18 @@ impl Sizes {
         self.toggles() + self.toggle_count()
     }
 
+    /// How many latches have the capture of the cycle before.
+    pub(crate) fn capture_count(&self) -> u64
+        ensures { result ≡ (if self.now.has_capture then 1 else 0) }
+    {
+        u64::from(self.has_capture)
+    }
+
     /// How many variables stand in front.
     pub(crate) fn front(&self) -> u64
         requires { fronts.AreSmall self.now }
         ensures { result ≡ fronts.front_count self.now }
     {
-        self.capture() + u64::from(self.has_capture)
+        self.capture() + self.capture_count()
     }
 }

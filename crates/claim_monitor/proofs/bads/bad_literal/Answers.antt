@@ -1,4 +1,4 @@
-use Rattle.std.proofs.Common.{Bool, List, ◌&&◌, subst, sym}
+use Rattle.std.proofs.Common.{◌<◌, Bool, List, ◌&&◌, subst, sym}
 use Rattle.and_graphs.specs.Graphs.{Means, bit_of}
 use Rattle.and_graphs.proofs.Growing.{keeps_on}
 use Rattle.net_model.specs.Cycles.{capture}
@@ -66,8 +66,8 @@ returns-clause-tells c =
     let changes : List Bool → Bool = λ x. changes_bit claim.kind (capture d claim.end (shown_cycle at_some x ls)) (captured s claim.end x (shown_cycle at_some x ls)) in
     let late : List Bool → Bool = λ x. bit_of at_late x c.in_ok-late.late in
     let some : List Bool → Bool = λ x. some_stale s claim x (shown_cycle old x ls) s.judged in
-    let toggle : Means old c.args.judged.now.toggle (λ x. toggle_bit c.of-sizes.result claim.edge claim.start x (shown_cycle old x ls)) =
-    subst (λ (z : Sizes). Means old c.args.judged.now.toggle (λ x. toggle_bit z claim.edge claim.start x (shown_cycle old x ls))) (sym c.of-sizes.ensures)
+    let toggle : 0 < c.of-sizes.result.judged → Means old c.args.judged.now.toggle (λ x. toggle_bit c.of-sizes.result claim.edge claim.start x (shown_cycle old x ls)) =
+    subst (λ (z : Sizes). 0 < z.judged → Means old c.args.judged.now.toggle (λ x. toggle_bit z claim.edge claim.start x (shown_cycle old x ls))) (sym c.of-sizes.ensures)
     c.requires.toggle in
     let of_some : Means at_some c.in_ok-some.some some =
     subst (λ (z : Sizes). Means at_some c.in_ok-some.some (λ x. some_stale z claim x (shown_cycle old x ls) z.judged)) c.of-sizes.ensures

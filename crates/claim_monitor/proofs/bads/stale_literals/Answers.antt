@@ -12,7 +12,7 @@ loop-r-init c =
 pub loop-r-preserved : goal.loop-r-preserved
 loop-r-preserved c =
     stales_more c.args.sizes.now c.args.claim.now c.args.judged.now.start c.args.judged.now.toggle c.args.graph.now c.loop-r.graph
-    c.stale_literal.new.graph c.either.new.self c.loop-r.some c.in_ok-stale.stale c.in_ok-some.some c.loop-r.r c.in_ok-stale.ensures.keeps c.either.ensures.keeps
+    c.stale_literal.new.graph c.either.new.self c.loop-r.some c.in_ok-stale.stale c.in_ok-some.some c.loop-r.r (omega arith) c.in_ok-stale.ensures.keeps c.either.ensures.keeps
     c.in_ok-stale.ensures.means c.in_ok-some.ensures.means c.loop-r.invariant
 
 pub returns-clause-means : goal.returns-clause-means

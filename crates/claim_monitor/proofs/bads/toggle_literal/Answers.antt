@@ -13,7 +13,7 @@ returns-clause-keeps c =
 
 pub returns-clause-means : goal.returns-clause-means
 returns-clause-means c =
-    λ f m.
+    λ some f m.
     let s = c.args.sizes.now in
     let first = c.args.graph.now in
     let live : Means first c.in_ok-was_live.was_live (λ x. bit_at x (live_place s)) =
