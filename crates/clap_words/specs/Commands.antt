@@ -61,8 +61,15 @@ detect_row = record {
       ∷ valued (codes "budget") ∷ valued (codes "inv-depth") ∷ valued (codes "bound") ∷ [];
 }
 
+abbrev pub aiger_row : CommandRow
+aiger_row = record {
+  name = codes "aiger";
+  positions = codes "V" ∷ codes "L" ∷ codes "S" ∷ codes "PAIR" ∷ [];
+  options = needed (codes "out") ∷ valued (codes "lag") ∷ valued (codes "reset") ∷ valued (codes "reset-cycles") ∷ [];
+}
+
 abbrev pub command_rows : List CommandRow
-command_rows = verify_row ∷ check_row ∷ replay_row ∷ demo_row ∷ detect_row ∷ []
+command_rows = verify_row ∷ check_row ∷ replay_row ∷ demo_row ∷ detect_row ∷ aiger_row ∷ []
 
 -- a row of the program's table without its references
 abbrev pub seen_option : TheOptionRow → OptionRow

@@ -85,6 +85,15 @@ const PAIR: PositionRow = PositionRow {
     sentence: "Number of a refuted pair in the report",
 };
 
+const WATCHED: PositionRow = PositionRow {
+    id: "PAIR",
+    rule: ValueRule::Number {
+        least: 1,
+        most: u64::MAX,
+    },
+    sentence: "Number of a selected pair, as a report counts them",
+};
+
 const SEED: PositionRow = PositionRow {
     id: "SEED",
     rule: ValueRule::Number {
@@ -194,7 +203,15 @@ const BOUND: OptionRow = OptionRow {
     sentence: "Try multipliers up to K, 2 to 16 (else 4)",
 };
 
-const ROWS: [CommandRow; 5] = [
+const OUT_AIGER: OptionRow = OptionRow {
+    id: "out",
+    form: Needed,
+    value: "FILE",
+    rule: ValueRule::Text,
+    sentence: "Save the monitor of the pair as AIGER text",
+};
+
+const ROWS: [CommandRow; 6] = [
     CommandRow {
         name: "verify",
         sentence: "Judge each register pair that the exceptions select",
@@ -243,6 +260,12 @@ const ROWS: [CommandRow; 5] = [
             INV_DEPTH,
             BOUND,
         ],
+    },
+    CommandRow {
+        name: "aiger",
+        sentence: "Save the claim of a pair as an AIGER text, whose bad literal rises where it is violated",
+        positions: &[V, L, S, WATCHED],
+        options: &[OUT_AIGER, LAG, RESET, RESET_CYCLES],
     },
 ];
 

@@ -5,6 +5,10 @@
 #![tactic(auto)]
 
 #[cfg(test)]
+mod aiger_rows;
+#[cfg(test)]
+mod aigers;
+#[cfg(test)]
 mod calls;
 #[cfg(test)]
 mod demonstrations;

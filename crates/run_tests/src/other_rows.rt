@@ -5,7 +5,7 @@ use sdcv_top::Status::{Done, Holds, Refused, Rejected, Words};
 use std::alloc::AllocError;
 
 pub const USAGE: &str =
-    "usage: sdcv verify V L S --out CERT | check V L S CERT | replay V L S REPORT PAIR | demo SEED SIZE | detect V L S --out SDC\n";
+    "usage: sdcv verify V L S --out CERT | check V L S CERT | replay V L S REPORT PAIR | demo SEED SIZE | detect V L S --out SDC | aiger V L S PAIR --out FILE\n";
 
 const FALSE_A_B: &str = "create_clock -name ck -period 10 [get_ports clk]
 set_false_path -from [get_cells a] -to [get_cells b]

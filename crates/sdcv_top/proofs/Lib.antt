@@ -1,3 +1,4 @@
+pub mod Alike
 pub mod BuiltinLibrary
 pub mod Delivered
 pub mod Repeats

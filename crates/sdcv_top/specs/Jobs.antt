@@ -17,7 +17,7 @@ use Rattle.cert_check.specs.Checking.{IsAnswerFor}
 use Rattle.cert_call.specs.Texts.{IsAcceptedText, IsTextCause}
 use Rattle.report_text.specs.declared.options.RunOptions.{RunOptions}
 use Rattle.sdcv_words.specs.declared.commands.Proving.{Proving}
-use Rattle.sdcv_words.specs.Commands.{Job, Verify, Check, Replay as ReplayJob}
+use Rattle.sdcv_words.specs.Commands.{Job, Verify, Check, Replay as ReplayJob, Aiger}
 use Rattle.answer_lines.specs.Certs.{accepted_lines, rejected_line}
 use Rattle.answer_lines.specs.Stimuli.{no_pair_line, stimulus_line, replay_line, replayed_line}
 use Rattle.exception_expand.specs.declared.claims.Judging.{Judging}
@@ -27,6 +27,7 @@ use Rattle.sdcv_top.specs.declared.statuses.Ending.{Ending}
 use Rattle.sdcv_top.specs.declared.statuses.Ending.TheVariants as ending
 use Rattle.sdcv_top.specs.Outcomes.{Outcome, prints}
 use Rattle.sdcv_top.specs.Headline.{IsReported}
+use Rattle.sdcv_top.specs.Monitors.{IsWatchedOut}
 use Rattle.sdcv_top.specs.Stages.{Due, After, AfterText, Last, ◌>>=◌}
 use Rattle.sdcv_top.specs.Texts.{CertText, ReportText}
 
@@ -102,8 +103,15 @@ Checked d = do
   text ← AfterText CertText
   Last (IsChecked d.linked.design d.selected.claims text)
 
+-- the claim of a pair is watched
+unfoldable pub Watched : List ℕ → ℕ → Designed → Due
+Watched out number d = do
+  claim ← After (HasPair d.selected.claims number)
+  Last (IsWatchedOut out number d.linked.design claim)
+
 -- a job is done
 abbrev pub IsDone : Judging → ℕ → Job → Designed → Due
 IsDone judging reset_len (Verify out json proving) d = Last (IsReported (Some out) json (run_options judging reset_len proving) d)
 IsDone judging reset_len (Check cert) d = Checked d
 IsDone judging reset_len (ReplayJob report number) d = Replayed number d
+IsDone judging reset_len (Aiger out number) d = Watched out number d

@@ -2,6 +2,7 @@ pub mod Due
 pub mod Headline
 pub mod Jobs
 pub mod Laws
+pub mod Monitors
 pub mod Outcomes
 pub mod Plans
 pub mod Reads

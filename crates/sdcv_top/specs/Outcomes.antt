@@ -7,7 +7,7 @@ use Rattle.sdcv_top.specs.declared.statuses.Ending.TheVariants as ending
 
 -- the words name no command
 abbrev pub usage_line : List ℕ
-usage_line = codes "usage: sdcv verify V L S --out CERT | check V L S CERT | replay V L S REPORT PAIR | demo SEED SIZE | detect V L S --out SDC" ++ 10 ∷ []
+usage_line = codes "usage: sdcv verify V L S --out CERT | check V L S CERT | replay V L S REPORT PAIR | demo SEED SIZE | detect V L S --out SDC | aiger V L S PAIR --out FILE" ++ 10 ∷ []
 
 -- how a run ends, what it saves and prints, and the verdicts and the found pairs that it hands out
 pub record Outcome : Type 0 where

@@ -2,7 +2,7 @@
 use Rattle.std.specs.Prelude.{◌≡◌, ◌≤◌, ℕ, ◌-◌, ◌^◌, Bool, true, false, List, [], ◌∷◌, ◌++◌, length, take, map, codes, Option, None, Some, IfSome}
 use Rattle.std.specs.Str.{bytes_eq}
 use Rattle.sdcv_base.specs.Hosts.{Files, IsLonger}
-use Rattle.sdcv_words.specs.Commands.{Texts, Job, Verify, Check, Replay, Command, Over, Detect, Demo}
+use Rattle.sdcv_words.specs.Commands.{Texts, Job, Verify, Check, Replay, Aiger, Command, Over, Detect, Demo}
 
 -- a file that may be read, and the most bytes that it may have
 pub record ReadOf : Type 0 where
@@ -43,6 +43,7 @@ abbrev pub job_reads : Job → List ReadOf
 job_reads (Verify out json proving) = []
 job_reads (Check cert) = whole_of cert ∷ []
 job_reads (Replay report pair) = whole_of report ∷ []
+job_reads (Aiger out pair) = []
 
 -- a netlist, its cells and its constraints, and then more
 unfoldable pub text_reads : Texts → List ReadOf → List ReadOf

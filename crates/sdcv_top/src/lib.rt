@@ -19,6 +19,7 @@ mod stages;
 mod statuses;
 mod top;
 mod verifying;
+mod watching;
 
 pub use judgements::{Judged, Progress, Silent};
 pub use laws::check_repeats;

@@ -65,8 +65,8 @@ fn run_again<'a>(
     Ok(plan)
 }
 
-// The claim of that number, from 1.
-fn numbered(claims: &[Claim], number: u64) -> Option<&Claim>
+/// The claim of that number, from 1.
+pub fn numbered(claims: &[Claim], number: u64) -> Option<&Claim>
     ensures { option_map (λ claim. claim.now) result ≡ item_numbered claims.now number }
 {
     let place = number.checked_sub(1)?;

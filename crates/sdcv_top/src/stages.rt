@@ -1,5 +1,5 @@
 //! The run on one screen: its stages in their order, each of which ends with its own value.
-ghost use Rattle.std.specs.Prelude.{◌≡◌, Some};
+ghost use Rattle.std.specs.Prelude.{◌≡◌, All, Some};
 ghost use Rattle.sdcv_words.specs.Commands.{seen_command, seen_texts, seen_job, Over};
 ghost use Rattle.sdcv_words.specs.Ranges.{AreOptionsInRange, IsInRange, IsJobInRange};
 ghost use Rattle.design_stages.specs.Designs.{CanBeJudged};
@@ -15,6 +15,7 @@ use crate::plans::{Plan, Stop};
 use crate::readers::texts;
 use crate::replaying::replayed;
 use crate::verifying::verified;
+use crate::watching::watched;
 use design_stages::{Designed, Reset, designed};
 use exception_expand::Judging;
 use judgements::Progress;
@@ -63,7 +64,7 @@ fn worked<'a, H: Host, P: Progress>(
     progress: &mut P,
 ) -> Result<Plan<'a>, Stop>
     requires options { AreOptionsInRange options }
-    requires job { IsJobInRange (seen_job job) }
+    requires job { IsJobInRange options.hazard (seen_job job) }
     ensures planned { Plans (Worked (seen_texts files.entry) options (seen_job job.entry))
         (reads_of (Some (Over (seen_texts files.entry) options (seen_job job.entry))))
         (H.files host.old) (H.asked host.old) (H.asked host.new) result }
@@ -107,7 +108,8 @@ fn done<'a, H: Host, P: Progress>(
     progress: &mut P,
 ) -> Result<Plan<'a>, Stop>
     requires judged { CanBeJudged designed.now }
-    requires job { IsJobInRange (seen_job job) }
+    requires hazard { All (λ claim. claim.hazard ≡ manner.judging.hazard) designed.now.selected.claims }
+    requires job { IsJobInRange manner.judging.hazard (seen_job job) }
     ensures planned { Plans (IsDone manner.judging manner.reset_len (seen_job job.entry) designed.now) (job_reads (seen_job job.entry)) (H.files host.old)
         (H.asked host.old) (H.asked host.new) result }
     ensures count { StopCounts (H.faults host.old) (H.faults host.new) result }
@@ -129,5 +131,6 @@ fn done<'a, H: Host, P: Progress>(
         }
         Job::Check { cert } => checked(alloc, host, designed, cert),
         Job::Replay { report, pair } => replayed(alloc, host, designed, report, pair),
+        Job::Aiger { out, pair } => Ok(watched(alloc, designed, out, pair)?),
     }
 }

@@ -15,11 +15,11 @@ use sdcv_words::{Command, command_of};
 use std::alloc::{AllocError, Global};
 
 const USAGE: &[u8] =
-    b"usage: sdcv verify V L S --out CERT | check V L S CERT | replay V L S REPORT PAIR | demo SEED SIZE | detect V L S --out SDC\n";
+    b"usage: sdcv verify V L S --out CERT | check V L S CERT | replay V L S REPORT PAIR | demo SEED SIZE | detect V L S --out SDC | aiger V L S PAIR --out FILE\n";
 
 /// Runs the command that the words name. The words leave out the program's own name.
 ///
-/// It reads the files that the words name, in their order, saves a certificate where the command has one, and then prints, one
+/// It reads the files that the words name, in their order, saves a file where the command has one, and then prints, one
 /// call a line. A text that is refused gives one line, and so do words that name no command. Nothing is saved or printed
 /// before all lines are made, so want of memory leaves nothing behind.
 pub fn run<H: Host>(alloc: Global, words: &[String], host: &mut H) -> Ran

@@ -10,11 +10,11 @@ use Rattle.texts.proofs.ReadLemmas.{bind_gave}
 use Rattle.clap_words.specs.Readings.{Given, Reading, clap_reading}
 use Rattle.sdcv_words.specs.declared.commands.Options.{Options}
 use Rattle.sdcv_words.specs.declared.commands.Proving.{Proving}
-use Rattle.sdcv_words.specs.Commands.{Command, Demo, Detect, Finding, Job, Check, Over, Replay, Text, Verify}
+use Rattle.sdcv_words.specs.Commands.{Aiger, Command, Demo, Detect, Finding, Job, Check, Over, Replay, Text, Verify}
 use Rattle.sdcv_words.specs.Givens.{stands}
 use Rattle.sdcv_words.specs.Numbers.{are_digits, number_in, number_or}
 use Rattle.sdcv_words.specs.Options.{default_cycles, lag_of, options_of, proving_of, resets_of}
-use Rattle.sdcv_words.specs.Jobs.{check_of, demo_of, detect_of, finding_of, job_of, judged_if, over_of, replay_of, texts_of, verify_of}
+use Rattle.sdcv_words.specs.Jobs.{aiger_of, check_of, demo_of, detect_of, finding_of, job_of, judged_if, over_of, replay_of, texts_of, verify_of, watching_of}
 use Rattle.sdcv_words.specs.Places.{by_place}
 use Rattle.sdcv_words.specs.Words.{command, or_else}
 use Rattle.sdcv_words.specs.Ranges.{AreOptionsInRange, IsFindingInRange, IsInRange, IsJobInRange, IsProvingInRange}
@@ -84,30 +84,31 @@ proving_range given proving is =
     subst IsProvingInRange same (record { depth = depths.1; some = budgets.0; budget = budgets.1; inv_depth = inv_depths.1 })
 
 -- what is done with the pairs
-verify_range : (given : List Given) (job : Job) → verify_of given ≡ Some job → IsJobInRange job
-verify_range given job is =
+verify_range : (hazard : Bool) (given : List Given) (job : Job) → verify_of given ≡ Some job → IsJobInRange hazard job
+verify_range hazard given job is =
     let (out, there, with_out) = bind_gave (in_table given (codes "out")) _ job is in
     let (proving, of, made) = bind_gave (proving_of given) _ job with_out in
-    let same : Verify out (stands given (codes "json")) proving ≡ job = cc in subst IsJobInRange same (proving_range given proving of)
+    let same : Verify out (stands given (codes "json")) proving ≡ job = cc in subst (IsJobInRange hazard) same (proving_range given proving of)
 
-check_range : (given : List Given) (job : Job) → check_of given ≡ Some job → IsJobInRange job
-check_range given job is =
+check_range : (hazard : Bool) (given : List Given) (job : Job) → check_of given ≡ Some job → IsJobInRange hazard job
+check_range hazard given job is =
     let (cert, there, made) = bind_gave (in_table given (codes "CERT")) _ job is in
-    let same : Check cert ≡ job = cc in subst IsJobInRange same tt
+    let same : Check cert ≡ job = cc in subst (IsJobInRange hazard) same tt
 
-replay_range : (given : List Given) (job : Job) → replay_of given ≡ Some job → IsJobInRange job
-replay_range given job is =
+replay_range : (hazard : Bool) (given : List Given) (job : Job) → replay_of given ≡ Some job → IsJobInRange hazard job
+replay_range hazard given job is =
     let (report, there, with_report) = bind_gave (in_table given (codes "REPORT")) _ job is in
     let (digits, stand, with_digits) = bind_gave (in_table given (codes "PAIR")) _ job with_report in
     let (pair, number, made) = bind_gave (number_in 1 18446744073709551615 digits) _ job with_digits in
-    let same : Replay report pair ≡ job = cc in subst IsJobInRange same (number_in_range 1 18446744073709551615 pair digits number).0
+    let same : Replay report pair ≡ job = cc in subst (IsJobInRange hazard) same (number_in_range 1 18446744073709551615 pair digits number).0
 
-job_range : (verify check replay : Bool) (given : List Given) (job : Job)
-    → (if verify then verify_of given else (if check then check_of given else (if replay then replay_of given else None))) ≡ Some job → IsJobInRange job
-job_range true check replay given job is = verify_range given job is
-job_range false true replay given job is = check_range given job is
-job_range false false true given job is = replay_range given job is
-job_range false false false given job is = absurd cc
+job_range : (hazard verify check replay : Bool) (given : List Given) (job : Job)
+    → (if verify then verify_of given else (if check then check_of given else (if replay then replay_of given else None))) ≡ Some job
+    → IsJobInRange hazard job
+job_range hazard true check replay given job is = verify_range hazard given job is
+job_range hazard false true replay given job is = check_range hazard given job is
+job_range hazard false false true given job is = replay_range hazard given job is
+job_range hazard false false false given job is = absurd cc
 
 -- the commands
 over_range : (name : Text) (given : List Given) (c : Command) → over_of name given ≡ Some c → IsInRange c
@@ -116,7 +117,7 @@ over_range name given c is =
     let (job, done, with_job) = bind_gave (job_of name given) _ c with_texts in
     let (options, set, made) = bind_gave (options_of given) _ c with_job in
     let same : Over texts options job ≡ c = cc in
-    let range = job_range (bytes_eq name (codes "verify")) (bytes_eq name (codes "check")) (bytes_eq name (codes "replay")) given job done in
+    let range = job_range options.hazard (bytes_eq name (codes "verify")) (bytes_eq name (codes "check")) (bytes_eq name (codes "replay")) given job done in
     subst IsInRange same (options_range given options set, range)
 
 -- up to which multiplier pairs are tried
@@ -141,6 +142,23 @@ detect_range given c is =
     let same : Detect texts options finding ≡ c = cc in
     subst IsInRange same (options_range given options set, finding_range given finding found)
 
+watching_range : (given : List Given) (job : Job) → watching_of given ≡ Some job → IsJobInRange false job
+watching_range given job is =
+    let (out, there, with_out) = bind_gave (in_table given (codes "out")) _ job is in
+    let (digits, stand, with_digits) = bind_gave (in_table given (codes "PAIR")) _ job with_out in
+    let (pair, number, made) = bind_gave (number_in 1 18446744073709551615 digits) _ job with_digits in
+    let same : Aiger out pair ≡ job = cc in subst (IsJobInRange false) same (refl, (number_in_range 1 18446744073709551615 pair digits number).0)
+
+aiger_range : (given : List Given) (c : Command) → aiger_of given ≡ Some c → IsInRange c
+aiger_range given c is =
+    let (texts, files, with_texts) = bind_gave (texts_of given) _ c is in
+    let (job, done, with_job) = bind_gave (watching_of given) _ c with_texts in
+    let (options, set, made) = bind_gave (options_of given) _ c with_job in
+    let plain : Options = record options { hazard = false } in
+    let same : Over texts plain job ≡ c = cc in
+    let range = options_range given options set in
+    subst IsInRange same (record { lag = range.lag; reset_len = range.reset_len }, watching_range given job done)
+
 demo_range : (given : List Given) (c : Command) → demo_of given ≡ Some c → IsInRange c
 demo_range given c is =
     let (first, there, with_first) = bind_gave (in_table given (codes "SEED")) _ c is in
@@ -149,16 +167,19 @@ demo_range given c is =
     let (size, blocks, made) = bind_gave (number_in 1 160 second) _ c with_second in
     let same : Demo seed size ≡ c = cc in subst IsInRange same (number_in_range 1 160 size second blocks)
 
-judged_range : (demo detect : Bool) (name : Text) (given : List Given) (c : Command)
-    → (if demo then demo_of given else (if detect then detect_of given else over_of name given)) ≡ Some c → IsInRange c
-judged_range true detect name given c is = demo_range given c is
-judged_range false true name given c is = detect_range given c is
-judged_range false false name given c is = over_range name given c is
+judged_range : (demo detect aiger : Bool) (name : Text) (given : List Given) (c : Command)
+    → (if demo then demo_of given else (if detect then detect_of given else (if aiger then aiger_of given else over_of name given))) ≡ Some c
+    → IsInRange c
+judged_range true detect aiger name given c is = demo_range given c is
+judged_range false true aiger name given c is = detect_range given c is
+judged_range false false true name given c is = aiger_range given c is
+judged_range false false false name given c is = over_range name given c is
 
 judged_if_range : (reading : Option Reading) (c : Command) → judged_if reading ≡ Some c → IsInRange c
 judged_if_range None c is = absurd cc
 judged_if_range (Some reading) c is =
-    judged_range (bytes_eq reading.name (codes "demo")) (bytes_eq reading.name (codes "detect")) reading.name reading.given c is
+    judged_range (bytes_eq reading.name (codes "demo")) (bytes_eq reading.name (codes "detect")) (bytes_eq reading.name (codes "aiger"))
+    reading.name reading.given c is
 
 or_else_range : (one other : Option Command) (c : Command) → ((x : Command) → one ≡ Some x → IsInRange x) → ((x : Command) → other ≡ Some x → IsInRange x)
     → or_else one other ≡ Some c → IsInRange c

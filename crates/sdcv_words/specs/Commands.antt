@@ -29,6 +29,7 @@ pub data Job : Type 0 where
   Verify : (out : Text) → (json : Bool) → (proving : Proving) → Job
   Check : (cert : Text) → Job
   Replay : (report : Text) → (pair : ℕ) → Job
+  Aiger : (out : Text) → (pair : ℕ) → Job
 
 pub data Command : Type 0 where
   Over : (texts : Texts) → (options : Options) → (job : Job) → Command
@@ -46,6 +47,7 @@ abbrev pub seen_job : TheJob → Job
 seen_job (the_job.Verify out json proving) = Verify out.now json proving
 seen_job (the_job.Check cert) = Check cert.now
 seen_job (the_job.Replay report pair) = Replay report.now pair
+seen_job (the_job.Aiger out pair) = Aiger out.now pair
 
 abbrev pub seen_command : TheCommand → Command
 seen_command (the_command.Over texts options job) = Over (seen_texts texts) options (seen_job job)

@@ -1,10 +1,10 @@
 -- The command of a reading: each text keeps its rule.
-use Rattle.std.specs.Prelude.{List, codes, Option, None, Some, if◌then◌else◌}
+use Rattle.std.specs.Prelude.{false, List, codes, Option, None, Some, if◌then◌else◌}
 use Rattle.std.specs.Str.{bytes_eq}
 use Rattle.texts.specs.Lookups.{in_table}
 use Rattle.texts.specs.Reads.{◌>>=◌}
 use Rattle.clap_words.specs.Readings.{Given, Reading}
-use Rattle.sdcv_words.specs.Commands.{Command, Demo, Detect, Finding, Job, Check, Over, Replay, Text, Texts, Verify}
+use Rattle.sdcv_words.specs.Commands.{Aiger, Command, Demo, Detect, Finding, Job, Check, Over, Replay, Text, Texts, Verify}
 use Rattle.sdcv_words.specs.Givens.{stands}
 use Rattle.sdcv_words.specs.Numbers.{number_in, number_or}
 use Rattle.sdcv_words.specs.Options.{options_of, proving_of}
@@ -60,6 +60,21 @@ detect_of given =
     options_of given >>= λ options.
     Some (Detect texts options finding)
 
+abbrev pub watching_of : List Given → Option Job
+watching_of given =
+    in_table given (codes "out") >>= λ out.
+    in_table given (codes "PAIR") >>= λ digits.
+    number_in 1 18446744073709551615 digits >>= λ pair.
+    Some (Aiger out pair)
+
+-- a claim is watched without hazards
+abbrev pub aiger_of : List Given → Option Command
+aiger_of given =
+    texts_of given >>= λ texts.
+    watching_of given >>= λ job.
+    options_of given >>= λ options.
+    Some (Over texts (record options { hazard = false }) job)
+
 abbrev pub demo_of : List Given → Option Command
 demo_of given =
     in_table given (codes "SEED") >>= λ first.
@@ -71,7 +86,8 @@ demo_of given =
 abbrev pub judged : Reading → Option Command
 judged reading =
     if bytes_eq reading.name (codes "demo") then demo_of reading.given
-    else (if bytes_eq reading.name (codes "detect") then detect_of reading.given else over_of reading.name reading.given)
+    else (if bytes_eq reading.name (codes "detect") then detect_of reading.given
+    else (if bytes_eq reading.name (codes "aiger") then aiger_of reading.given else over_of reading.name reading.given))
 
 abbrev pub judged_if : Option Reading → Option Command
 judged_if None = None

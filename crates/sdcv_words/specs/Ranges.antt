@@ -1,8 +1,8 @@
 -- The ranges in which the numbers of a command lie.
-use Rattle.std.specs.Prelude.{◌≤◌}
+use Rattle.std.specs.Prelude.{◌≡◌, ◌≤◌, Bool, false}
 use Rattle.sdcv_words.specs.declared.commands.Options.{Options}
 use Rattle.sdcv_words.specs.declared.commands.Proving.{Proving}
-use Rattle.sdcv_words.specs.Commands.{Command, Demo, Detect, Finding, Job, Check, Over, Replay, Verify}
+use Rattle.sdcv_words.specs.Commands.{Aiger, Command, Demo, Detect, Finding, Job, Check, Over, Replay, Verify}
 
 -- claims are proved up to a depth of 64, with at least one and at most ten million clauses for a query; kept clauses up to a depth of 8
 pub record IsProvingInRange (proving : Proving) : Type 0 where
@@ -11,11 +11,12 @@ pub record IsProvingInRange (proving : Proving) : Type 0 where
   pub budget : proving.budget ≤ 10000000
   pub inv_depth : proving.inv_depth ≤ 8
 
--- pairs are numbered from 1
-abbrev pub IsJobInRange : Job → Type 0
-IsJobInRange (Verify out json proving) = IsProvingInRange proving
-IsJobInRange (Check cert) = Unit {0}
-IsJobInRange (Replay report pair) = 1 ≤ pair
+-- pairs are numbered from 1, and a claim is watched without hazards
+abbrev pub IsJobInRange : Bool → Job → Type 0
+IsJobInRange hazard (Verify out json proving) = IsProvingInRange proving
+IsJobInRange hazard (Check cert) = Unit {0}
+IsJobInRange hazard (Replay report pair) = 1 ≤ pair
+IsJobInRange hazard (Aiger out pair) = (hazard ≡ false) × (1 ≤ pair)
 
 -- false paths are judged at most eight captures after the first, and reset is held for at most 64 cycles
 pub record AreOptionsInRange (options : Options) : Type 0 where
@@ -30,6 +31,6 @@ pub record IsFindingInRange (finding : Finding) : Type 0 where
 
 -- a generated design has 1 to 160 blocks
 abbrev pub IsInRange : Command → Type 0
-IsInRange (Over texts options job) = AreOptionsInRange options × IsJobInRange job
+IsInRange (Over texts options job) = AreOptionsInRange options × IsJobInRange options.hazard job
 IsInRange (Detect texts options finding) = AreOptionsInRange options × IsFindingInRange finding
 IsInRange (Demo seed size) = (1 ≤ size) × (size ≤ 160)

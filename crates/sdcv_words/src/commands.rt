@@ -53,6 +53,11 @@ pub enum Job<'a> {
         report: &'a str,
         pair: u64,
     },
+    /// The monitor of a pair's claim is saved. Claims are then judged without hazards.
+    Aiger {
+        out: &'a str,
+        pair: u64,
+    },
 }
 
 /// A command that words name.

@@ -3,9 +3,10 @@ ghost use Rattle.std.specs.Prelude.{◌≡◌, IfOk, Some, map};
 ghost use Rattle.std.specs.Option.{option_map};
 ghost use Rattle.clap_words.specs.Readings.{seen_given, seen_reading};
 ghost use Rattle.sdcv_words.specs.Commands.{seen_command, seen_finding, seen_job, seen_texts};
-ghost use Rattle.sdcv_words.specs.Jobs.{check_of, demo_of, detect_of, finding_of, job_of, judged, over_of, replay_of, texts_of, verify_of};
+ghost use Rattle.sdcv_words.specs.Jobs.{aiger_of, check_of, demo_of, detect_of, finding_of, job_of};
+ghost use Rattle.sdcv_words.specs.Jobs.{judged, over_of, replay_of, texts_of, verify_of, watching_of};
 
-use crate::commands::{Command, Finding, Job, Texts};
+use crate::commands::{Command, Finding, Job, Options, Texts};
 use crate::givens::{stands, text_of};
 use crate::numbers::{number_in, number_or};
 use crate::options::{options_of, proving_of};
@@ -115,6 +116,39 @@ fn detect_of<'a>(alloc: Global, given: &[Given<'a>]) -> Result<Option<Command<'a
     }))
 }
 
+fn watching_of<'a>(given: &[Given<'a>]) -> Option<Job<'a>>
+    ensures { option_map seen_job result ≡ watching_of (map seen_given given.now) }
+{
+    Some(Job::Aiger {
+        out: text_of(given, "out")?,
+        pair: number_in(text_of(given, "PAIR")?, 1, u64::MAX)?,
+    })
+}
+
+// A claim is watched without hazards.
+fn aiger_of<'a>(alloc: Global, given: &[Given<'a>]) -> Result<Option<Command<'a>>, AllocError>
+    ensures { IfOk result (λ found. option_map seen_command found ≡ aiger_of (map seen_given given.now)) }
+{
+    let Some(texts) = texts_of(given) else {
+        return Ok(None);
+    };
+    let Some(job) = watching_of(given) else {
+        return Ok(None);
+    };
+    let Some(options) = options_of(alloc, given)? else {
+        return Ok(None);
+    };
+    let options = Options {
+        hazard: false,
+        ..options
+    };
+    Ok(Some(Command::Over {
+        texts,
+        options,
+        job,
+    }))
+}
+
 fn demo_of<'a>(given: &[Given<'a>]) -> Option<Command<'a>>
     ensures { option_map seen_command result ≡ demo_of (map seen_given given.now) }
 {
@@ -133,6 +167,7 @@ pub fn judged<'a>(alloc: Global, reading: &Reading<'a>) -> Result<Option<Command
     match reading.name {
         "demo" => Ok(demo_of(&reading.given)),
         "detect" => detect_of(alloc, &reading.given),
+        "aiger" => aiger_of(alloc, &reading.given),
         _ => over_of(alloc, reading.name, &reading.given),
     }
 }

@@ -41,6 +41,7 @@ fn job_text(alloc: Global, job: &Job<'_>) -> Result<String, AllocError> {
         }
         Job::Check { cert } => format!(in alloc; "check <{cert}>"),
         Job::Replay { report, pair } => format!(in alloc; "replay <{report}> pair {pair}"),
+        Job::Aiger { out, pair } => format!(in alloc; "aiger <{out}> pair {pair}"),
     }
 }
 
@@ -94,7 +95,7 @@ fn named(alloc: Global, text: &str) -> Result<String, AllocError> {
 }
 
 // By their places: the name, the positions, then options, each value in a word of its own.
-const BY_PLACE: [(&str, &str); 11] = [
+const BY_PLACE: [(&str, &str); 13] = [
     (
         "verify|v|builtin|s|--out|c",
         "<v> <builtin> <s> plain lag 0 cycles 0 verify <c> json false depth 8 budget 20000 inv 1",
@@ -135,11 +136,19 @@ const BY_PLACE: [(&str, &str); 11] = [
         "detect|v|l|s|--bound|16|--hazard|--depth|0|--out|f|--reset|rst=1",
         "<v> <l> <s> hazard lag 0 rst=true cycles 1 detect <f> depth 0 budget 20000 inv 1 bound 16",
     ),
+    (
+        "aiger|v|builtin|s|1|--out|a",
+        "<v> <builtin> <s> plain lag 0 cycles 0 aiger <a> pair 1",
+    ),
+    (
+        "aiger|v|l|s|18446744073709551615|--reset-cycles|3|--lag|8|--out|a|--reset|rst=1",
+        "<v> <l> <s> plain lag 8 rst=true cycles 3 aiger <a> pair 18446744073709551615",
+    ),
     ("demo|007|160", "demo 7 160"),
 ];
 
 // Not by their places: `clap` takes these.
-const BY_CLAP: [(&str, &str); 8] = [
+const BY_CLAP: [(&str, &str); 9] = [
     (
         "verify|v|l|s|--out=c",
         "<v> <l> <s> plain lag 0 cycles 0 verify <c> json false depth 8 budget 20000 inv 1",
@@ -168,11 +177,15 @@ const BY_CLAP: [(&str, &str); 8] = [
         "replay|--reset=a=0|v|l|s|r|2|--lag=1",
         "<v> <l> <s> plain lag 1 a=false cycles 1 replay <r> pair 2",
     ),
+    (
+        "aiger|--out=a|v|l|s|2|--lag=1",
+        "<v> <l> <s> plain lag 1 cycles 0 aiger <a> pair 2",
+    ),
     ("demo|--|7|20", "demo 7 20"),
 ];
 
 // Words that name no command, each with what is wrong with it.
-const NONE: [(&str, &str); 40] = [
+const NONE: [(&str, &str); 44] = [
     ("", "an empty word"),
     ("verify|v|l", "too few positions"),
     ("verify|v|l|s", "no certificate is named"),
@@ -232,6 +245,13 @@ const NONE: [(&str, &str); 40] = [
     (
         "replay|v|l|s|r|18446744073709551616",
         "a pair past all numbers",
+    ),
+    ("aiger|v|l|s|0|--out|a", "a watched pair before the first"),
+    ("aiger|v|l|s|1", "no file is named for a graph"),
+    ("aiger|v|l|s|--out|a", "no watched pair"),
+    (
+        "aiger|v|l|s|1|--out|a|--hazard",
+        "hazards of a watched pair",
     ),
     ("demo|7|0", "a design of no blocks"),
     ("demo|7|161", "a design past its size"),

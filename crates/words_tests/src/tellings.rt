@@ -3,7 +3,7 @@ use sdcv_words::told;
 use std::test::Fail;
 
 // How the text begins that words without a command are told, by the texts of clap and by the rules of values.
-const BEGINNINGS: [(&str, &str); 16] = [
+const BEGINNINGS: [(&str, &str); 18] = [
     (
         "verfy",
         "error: unrecognized subcommand 'verfy'\n\n  tip: a similar subcommand exists: 'verify'\n",
@@ -57,6 +57,14 @@ const BEGINNINGS: [(&str, &str); 16] = [
     (
         "help|verify",
         "Judge each register pair that the exceptions select\n\nUsage: sdcv verify [OPTIONS] --out <CERT> <V> <L> <S>\n",
+    ),
+    (
+        "aiger|v|l|s|1|--out|a|--hazard",
+        "error: unexpected argument '--hazard' found\n",
+    ),
+    (
+        "help|aiger",
+        "Save the claim of a pair as an AIGER text, whose bad literal rises where it is violated\n\nUsage: sdcv aiger [OPTIONS] --out <FILE> <V> <L> <S> <PAIR>\n",
     ),
     (
         "verify|-h",

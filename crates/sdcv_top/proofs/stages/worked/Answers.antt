@@ -1,6 +1,7 @@
 use Rattle.std.proofs.Common.{Err, refl, ap, ◌∙◌}
 use Rattle.std.proofs.lemmas.Result.{err_from_is_err_and}
 use Rattle.sdcv_top.specs.Due.{Worked}
+use Rattle.sdcv_top.proofs.Alike.{designs_alike}
 use Rattle.sdcv_top.proofs.Staging.{found_ok, found_err, texts_ok, texts_err, stops, count_stops}
 use Rattle.sdcv_top.proofs.stages.worked.Goals as goal
 
@@ -36,3 +37,6 @@ pub returns-in_err-done-clause-count : goal.returns-in_err-done-clause-count
 returns-in_err-done-clause-count g c =
     let p = err_from_is_err_and c.from_residual-in_err-done.result c.from_residual-in_err-done.ensures.1 in
     count_stops _ _ _ _ _ (p.1 ∙ ap Err p.2) c.in_ok-texts.ensures.count c.in_err-done.ensures.count
+
+pub done-requires-clause-hazard : goal.done-requires-clause-hazard
+done-requires-clause-hazard g c = designs_alike _ _ _ _ c.in_ok-designed.ensures.found

@@ -1,0 +1,23 @@
+use Rattle.std.proofs.Common.{ℕ, List, [], ◌∷◌, length, ap, ◌∙◌}
+use Rattle.sdcv_top.specs.Outcomes.{Outcome}
+use Rattle.sdcv_top.specs.Monitors.{aiger_line}
+use Rattle.sdcv_top.proofs.watching.plan.Goals as goal
+
+pub returns : goal.returns
+returns c = λ d claim is.
+    let told = c.in_ok-told.ensures in
+    let text = c.args.text in
+    let number = c.args.number in
+    let graph = is.graph in
+    record {
+      graph = graph;
+      watches = is.watches;
+      saved = ap (λ (bytes : List ℕ). (c.args.out.now, bytes) ∷ []) is.bytes;
+      ending = ap (λ (o : Outcome). o.ending) told;
+      printed = ap (λ (o : Outcome). o.printed) told ∙ c.in_ok-line.ensures
+          ∙ ap (λ (n : ℕ). aiger_line number n text.latches text.gates) is.inputs
+          ∙ ap (λ (n : ℕ). aiger_line number graph.inputs n text.gates) is.latches
+          ∙ ap (λ (n : ℕ). aiger_line number graph.inputs (length graph.latches) n) is.gates;
+      judged = ap (λ (o : Outcome). o.judged) told;
+      detected = ap (λ (o : Outcome). o.detected) told;
+    }

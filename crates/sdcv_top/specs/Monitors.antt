@@ -1,0 +1,27 @@
+-- What is saved and told of the graph that watches a claim.
+use Rattle.std.specs.Prelude.{◌≡◌, ℕ, List, [], ◌∷◌, length, codes, None}
+use Rattle.std.specs.Fmt.{decimal}
+use Rattle.net_model.specs.declared.netlist.Design.{Design}
+use Rattle.net_model.specs.declared.claims.Claim.{Claim}
+use Rattle.and_graphs.specs.Texts.{aiger_text}
+use Rattle.and_graphs.specs.declared.aigs.Aig.{Aig}
+use Rattle.claim_monitor.specs.Watches.{Watches}
+use Rattle.answer_lines.specs.Texts.{◌⁀◌, newline}
+use Rattle.sdcv_top.specs.declared.statuses.Ending.TheVariants as ending
+use Rattle.sdcv_top.specs.Outcomes.{Outcome}
+
+-- the number of the pair, and how many inputs, latches and conjunctions its graph has
+abbrev pub aiger_line : ℕ → ℕ → ℕ → ℕ → List ℕ
+aiger_line number inputs latches gates =
+    codes "aiger pair " ⁀ decimal number ⁀ codes " inputs " ⁀ decimal inputs ⁀ codes " latches " ⁀ decimal latches ⁀ codes " gates " ⁀ decimal gates
+    ⁀ newline
+
+-- a graph that watches the claim is saved as AIGER text, and its counts are told
+pub record IsWatchedOut (out : List ℕ) (number : ℕ) (d : Design) (claim : Claim) (due : Outcome) : Type 0 where
+  pub graph : Aig
+  pub watches : Watches d claim graph
+  pub saved : due.saved ≡ (out, aiger_text graph) ∷ []
+  pub ending : due.ending ≡ ending.Done
+  pub printed : due.printed ≡ aiger_line number graph.inputs (length graph.latches) (length graph.lines)
+  pub judged : due.judged ≡ None
+  pub detected : due.detected ≡ None
