@@ -1,0 +1,4 @@
+pub mod Words
+pub mod Commons
+mod Vars
+mod Pushes

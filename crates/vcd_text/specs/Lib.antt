@@ -1,0 +1,6 @@
+pub mod Lines
+pub mod Marks
+pub mod Scopes
+pub mod Declarations
+pub mod Changes
+pub mod Waves

@@ -1,0 +1,3 @@
+mod Splitting
+mod Joining
+pub mod Adding

@@ -1,0 +1,4 @@
+pub mod Numbered
+pub mod Signals
+pub mod Labels
+pub mod Splits
