@@ -1,0 +1,5 @@
+pub mod Stars
+pub mod Groups
+pub mod Findings
+pub mod Csv
+pub mod Firsts

@@ -1,0 +1,5 @@
+mod Lists
+mod Decimals
+mod Parts
+mod Steps
+mod LineSteps

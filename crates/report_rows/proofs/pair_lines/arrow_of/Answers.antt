@@ -1,0 +1,25 @@
+use Rattle.std.proofs.Common.{◌∙◌, ap, sym, arith, map, drop, get_or, List, [], ℕ}
+use Rattle.std.specs.Prelude.{codes}
+use Rattle.std.specs.Borrow.{Bor}
+use Rattle.std.specs.List.{position_from}
+use Rattle.std.specs.Str.{bytes_eq}
+use Rattle.std.proofs.lemmas.List.{drop-map}
+use Rattle.report_rows.specs.Lines.{arrow_of}
+use Rattle.report_rows.proofs.Lists.{map_left, none_left}
+use Rattle.report_rows.proofs.Parts.{place_here, place_on, place_none}
+use Rattle.report_rows.proofs.pair_lines.arrow_of.Goals as goal
+
+pub loop-k-init : goal.loop-k-init
+unfolding arrow_of
+loop-k-init c = ap (position_from (λ w. bytes_eq w (codes "->")) 6) (drop-map (λ (t : Bor (List ℕ)). t.now) 6 c.args.words.now)
+
+pub returns-then-eq-clause-value : goal.returns-then-eq-clause-value
+returns-then-eq-clause-value c =
+    let f = λ (t : Bor (List ℕ)). t.now in
+    let d : Bor (List ℕ) = record { ref_ptr = (0, 0); now = [] } in
+    place_here (λ w. bytes_eq w (codes "->")) _ c.loop-k.k _ _ _ c.loop-k.invariant (map_left f c.args.words.now c.loop-k.k d (omega arith))
+    (ap (bytes_eq (get_or c.args.words.now c.loop-k.k d).now) (sym c.as_slice.ensures) ∙ sym c.if-eq.ensures)
+
+pub returns-clause-value : goal.returns-clause-value
+returns-clause-value c =
+    place_none _ _ c.loop-k.k _ c.loop-k.invariant (none_left (λ (t : Bor (List ℕ)). t.now) c.args.words.now c.loop-k.k (omega arith))

@@ -1,0 +1,9 @@
+pub mod Words
+pub mod Rows
+pub mod Heads
+pub mod Lines
+pub mod LineReports
+pub mod Members
+pub mod MemberParts
+pub mod Reads
+pub mod Stimuli

@@ -1,0 +1,83 @@
+-- A report as JSON (RFC 8259): an object whose further members are passed over.
+use Rattle.std.specs.Prelude.{ℕ, List, [], ◌∷◌, codes, Option, Some, None, option_and_then}
+use Rattle.std.specs.Option.{option_map}
+use Rattle.serde_json.specs.Data.{Data, Items, no_items, item}
+use Rattle.serde_json.specs.Find.{get, as_array, as_str, as_number, as_u64}
+use Rattle.texts.specs.Reads.{◌>>=◌}
+use Rattle.report_rows.specs.Rows.{verdict_in, hazard_in, with_script, with_pair}
+use Rattle.report_rows.specs.Heads.{rowless}
+use Rattle.report_rows.specs.declared.heads.Head.{Head}
+use Rattle.report_rows.specs.declared.reports.Said.TheVariants.{Does, Warns}
+use Rattle.report_rows.specs.declared.reports.ScriptRow.{ScriptRow}
+use Rattle.report_rows.specs.declared.reports.PairRow.{PairRow}
+use Rattle.report_rows.specs.declared.reports.Report.{Report}
+
+-- the values of an array in order
+abbrev pub list_of : Items → List Data
+list_of no_items = []
+list_of (item d ds) = d ∷ list_of ds
+
+-- the text, the number and the array of a key, and the values in it
+abbrev pub text_in : List ℕ → Data → Option (List ℕ)
+text_in key d = option_and_then as_str (get key d)
+
+abbrev pub count_in : List ℕ → Data → Option ℕ
+count_in key d = option_and_then as_u64 (option_and_then as_number (get key d))
+
+abbrev pub array_in : List ℕ → Data → Option Items
+array_in key d = option_and_then as_array (get key d)
+
+abbrev pub list_in : List ℕ → Data → Option (List Data)
+list_in key d = option_map list_of (array_in key d)
+
+-- the lag, which is 0 where the key is missing
+unfoldable pub lag_in : Data → Option ℕ
+lag_in d = go (get (codes "lag") d)
+  where
+    go : Option Data → Option ℕ
+    go None = Some 0
+    go (Some v) = option_and_then as_u64 (as_number v)
+
+-- what all of these add to what is found
+unfoldable pub with_all : {S A : Type 0} → (S → A → Option S) → S → List A → Option S
+with_all adds found [] = Some found
+with_all adds found (x ∷ xs) = adds found x >>= λ more. with_all adds more xs
+
+-- the row of a pair
+unfoldable pub pair_in : Data → Option PairRow
+pair_in d =
+    count_in (codes "number") d >>= λ number. count_in (codes "command") d >>= λ command. text_in (codes "kind") d >>= λ kind.
+    text_in (codes "start") d >>= λ start. text_in (codes "end") d >>= λ end. text_in (codes "verdict") d >>= λ word. verdict_in word >>= λ verdict.
+    text_in (codes "why") d >>= λ why.
+    Some (record { number = number; command = command; kind = kind; start = start; end = end; verdict = verdict; why = why })
+
+abbrev pub with_pair_data : Report → Data → Option Report
+with_pair_data found d = pair_in d >>= with_pair found
+
+-- a warning on the exception of this number, which stands at this line of the script
+abbrev pub with_warning_data : ℕ → ℕ → Report → Data → Option Report
+with_warning_data command line found d =
+    as_str d >>= λ text. Some (with_script found (record { command = command; line = line; said = Warns text }))
+
+-- the row of an exception, and its warnings
+unfoldable pub command_in : Data → Option ScriptRow
+command_in d =
+    count_in (codes "number") d >>= λ command. count_in (codes "line") d >>= λ line. text_in (codes "what") d >>= λ what.
+    count_in (codes "pairs") d >>= λ pairs. Some (record { command = command; line = line; said = Does what pairs })
+
+abbrev pub with_command_data : Report → Data → Option Report
+with_command_data found d =
+    command_in d >>= λ row. list_in (codes "warnings") d >>= λ warnings.
+    with_all (with_warning_data row.command row.line) (with_script found row) warnings
+
+-- the members before the lists
+unfoldable pub head_in : Data → Option Head
+head_in d =
+    text_in (codes "mode") d >>= λ mode. hazard_in mode >>= λ hazard. count_in (codes "reset") d >>= λ reset. lag_in d >>= λ lag.
+    Some (record { hazard = hazard; reset = reset; lag = lag })
+
+-- the report that an object is
+unfoldable pub report_in : Data → Option Report
+report_in d =
+    head_in d >>= λ head. list_in (codes "commands") d >>= λ commands. list_in (codes "pairs") d >>= λ pairs.
+    with_all with_command_data (rowless head) commands >>= λ more. with_all with_pair_data more pairs

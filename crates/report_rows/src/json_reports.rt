@@ -1,0 +1,96 @@
+//! A report as JSON.
+ghost use Rattle.std.specs.Prelude.{◌≡◌, IfOk, IfErr, map};
+ghost use Rattle.std.specs.Option.{option_map};
+ghost use Rattle.serde_json.specs.View.{view};
+ghost use Rattle.report_rows.specs.Words.{when};
+ghost use Rattle.report_rows.specs.Members as spec;
+ghost use Rattle.report_rows.specs.Reads.{IsJsonReport, IsValueOf, IsUnread, IsJsonFault};
+
+use crate::faults::ReportFault;
+use crate::heads::Head;
+use crate::json_pairs::add_pair_value;
+use crate::json_scripts::add_command_value;
+use crate::members::{count_in, lag_in, list_in, text_in};
+use crate::reports::Report;
+use crate::verdicts::hazard_in;
+use serde_json::{Category, Value};
+use std::alloc::{AllocError, Global};
+
+#[tactic(auto, unfolding(crate::specs::Members::head_in))]
+fn head_in(value: &Value) -> Option<Head>
+    ensures { result ≡ spec.head_in (view value.now) }
+{
+    let hazard = hazard_in(text_in(value, "mode")?.as_bytes())?;
+    let reset = count_in(value, "reset")?;
+    let lag = lag_in(value)?;
+    Some(Head { hazard, reset, lag })
+}
+
+fn add_commands(alloc: Global, found: &mut Report, values: &[Value]) -> Result<bool, AllocError>
+    ensures { IfOk result (λ fits. when fits found.new ≡ spec.with_all spec.with_command_data found.old (map view values.now)) }
+{
+    for value in values {
+        if !add_command_value(alloc, found, value)? {
+            return Ok(false);
+        }
+    }
+    Ok(true)
+}
+
+fn add_pairs(alloc: Global, found: &mut Report, values: &[Value]) -> Result<bool, AllocError>
+    ensures { IfOk result (λ fits. when fits found.new ≡ spec.with_all spec.with_pair_data found.old (map view values.now)) }
+{
+    for value in values {
+        if !add_pair_value(alloc, found, value)? {
+            return Ok(false);
+        }
+    }
+    Ok(true)
+}
+
+// The report that a value is.
+#[tactic(auto, unfolding(crate::specs::Members::report_in))]
+fn report_in(alloc: Global, value: &Value) -> Result<Option<Report>, AllocError>
+    ensures { IfOk result (λ report. report ≡ spec.report_in (view value.now)) }
+{
+    let Some(head) = head_in(value) else {
+        return Ok(None);
+    };
+    let Some(commands) = list_in(value, "commands") else {
+        return Ok(None);
+    };
+    let Some(pairs) = list_in(value, "pairs") else {
+        return Ok(None);
+    };
+    let mut found = head.report(alloc);
+    if !add_commands(alloc, &mut found, commands)? {
+        return Ok(None);
+    }
+    if !add_pairs(alloc, &mut found, pairs)? {
+        return Ok(None);
+    }
+    Ok(Some(found))
+}
+
+/// The value that a JSON text stands for; `Json` where it is none.
+pub(crate) fn value_of(alloc: Global, text: &[u8]) -> Result<Value, ReportFault>
+    ensures ok { IfOk result (λ value. IsValueOf text.now (view value)) }
+    ensures err { IfErr result (IsUnread text.now) }
+{
+    match Value::from_slice(alloc, text) {
+        Ok(value) => Ok(value),
+        Err(error) => match error.classify() {
+            Category::Memory => Err(ReportFault::Memory),
+            _ => Err(ReportFault::Json),
+        },
+    }
+}
+
+/// The report that a JSON text is.
+pub(crate) fn read_json(alloc: Global, text: &[u8]) -> Result<Report, ReportFault>
+    ensures ok { IfOk result (IsJsonReport text.now) }
+    ensures err { IfErr result (IsJsonFault text.now) }
+{
+    let value = value_of(alloc, text)?;
+    report_in(alloc, &value)?.ok_or(ReportFault::Json)
+}

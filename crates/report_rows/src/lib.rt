@@ -1,0 +1,26 @@
+//! A report read back, from its lines or from its JSON, and the stimulus of one of its pairs.
+//!
+//! Read `read_report` first, and `specs/Lines.antt` and `specs/Members.antt` for what a report is. The words of a line are
+//! those that the printed report has; keys of JSON that are not known are passed over. What a report says of a design is not
+//! judged here: that its pairs are those of a script is left to the crates above.
+#![tactic(auto)]
+
+mod cuts;
+mod faults;
+mod heads;
+mod json_pairs;
+mod json_reports;
+mod json_scripts;
+mod line_reports;
+mod members;
+mod pair_lines;
+mod reads;
+mod reports;
+mod script_lines;
+mod stimuli;
+mod verdicts;
+
+pub use faults::ReportFault;
+pub use reads::read_report;
+pub use reports::{PairRow, Report, Said, ScriptRow, Word};
+pub use stimuli::stimulus_of;

@@ -1,0 +1,49 @@
+//! The members of an object.
+ghost use Rattle.std.specs.Prelude.{◌≡◌, map};
+ghost use Rattle.std.specs.Option.{option_map};
+ghost use Rattle.serde_json.specs.View.{view, items_view};
+ghost use Rattle.report_rows.specs.Members as spec;
+
+use serde_json::Value;
+
+/// The text of a key.
+pub(crate) fn text_in<'v>(value: &'v Value, key: &str) -> Option<&'v str>
+    ensures { option_map (λ t. t.now) result ≡ spec.text_in key.now (view value.entry.now) }
+{
+    value.get(key).and_then(Value::as_str)
+}
+
+/// The number of a key.
+pub(crate) fn count_in(value: &Value, key: &str) -> Option<u64>
+    ensures { result ≡ spec.count_in key.now (view value.now) }
+{
+    value.get(key).and_then(Value::as_u64)
+}
+
+// The array of a key.
+fn array_in<'v>(value: &'v Value, key: &str) -> Option<&'v Vec<Value>>
+    ensures { option_map (λ list. items_view list.now.items) result ≡ spec.array_in key.now (view value.entry.now) }
+{
+    value.get(key).and_then(Value::as_array)
+}
+
+/// The values in the array of a key.
+pub(crate) fn list_in<'v>(value: &'v Value, key: &str) -> Option<&'v [Value]>
+    ensures { option_map (λ list. map view list.now) result ≡ spec.list_in key.now (view value.entry.now) }
+{
+    match array_in(value, key) {
+        Some(list) => Some(list.as_slice()),
+        None => None,
+    }
+}
+
+/// The lag, which is 0 where the key is missing.
+#[tactic(auto, unfolding(crate::specs::Members::lag_in))]
+pub(crate) fn lag_in(value: &Value) -> Option<u64>
+    ensures { result ≡ spec.lag_in (view value.now) }
+{
+    match value.get("lag") {
+        Some(lag) => lag.as_u64(),
+        None => Some(0),
+    }
+}

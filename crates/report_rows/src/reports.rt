@@ -1,0 +1,52 @@
+//! The rows of a report.
+use sdcv_base::{Name, Seq};
+
+/// What a report says of a pair.
+#[derive(Clone, Copy, Debug, Drop, PartialEq, Eq)]
+pub enum Word {
+    Justified,
+    Refuted,
+    Undecided,
+}
+
+/// What the lines of an exception say of it.
+#[derive(Debug, Drop)]
+pub enum Said {
+    /// What it does (`false`, `multi 2 rise`, `hold`, `aside -rise`), and of how many pairs it claims that.
+    Does(Name, u64),
+    /// A warning on one of its patterns.
+    Warns(Name),
+}
+
+/// A row on an exception: its number in the script, from 1, and the line where it stands there.
+#[derive(Debug, Drop)]
+pub struct ScriptRow {
+    pub command: u64,
+    pub line: u64,
+    pub said: Said,
+}
+
+/// The row of a pair. Pairs are numbered from 1, in the order of the rows.
+#[derive(Debug, Drop)]
+pub struct PairRow {
+    pub number: u64,
+    /// The number of the exception that selects it.
+    pub command: u64,
+    /// What is claimed: `false` or `multi 2`, and with an edge of the start `multi 2 rise`.
+    pub kind: Name,
+    pub start: Name,
+    pub end: Name,
+    pub verdict: Word,
+    /// Why the verdict is that, as `depth 0` or `offset 1`.
+    pub why: Name,
+}
+
+/// A report: whether its claims are judged with hazards, the cycles of reset, the lag of its false paths, and its rows.
+#[derive(Debug, Drop)]
+pub struct Report {
+    pub hazard: bool,
+    pub reset: u64,
+    pub lag: u64,
+    pub script: Seq<ScriptRow>,
+    pub pairs: Seq<PairRow>,
+}

@@ -1,0 +1,67 @@
+//! Reports, written by hand.
+
+/// The report of two exceptions over a bus, of one that is for hold checks, and of a false path, with its stimuli.
+pub const SAMPLER: &str = "sdcv 1 mode plain reset 1 depth 8 budget 20000 inv 1
+command 1 line 7 multi 2 pairs 4
+command 2 line 9 hold
+command 3 line 12 multi 2 pairs 2
+command 4 line 15 false pairs 3
+pair 1 command 1 multi 2 u_path/a_reg[0] -> u_path/b_reg[0] justified depth 0
+pair 2 command 1 multi 2 u_path/a_reg[0] -> u_path/b_reg[1] justified depth 0
+pair 3 command 1 multi 2 u_path/a_reg[1] -> u_path/b_reg[0] justified depth 0
+pair 4 command 1 multi 2 u_path/a_reg[1] -> u_path/b_reg[1] justified depth 0
+pair 5 command 3 multi 2 u_path/a_reg[0] -> u_watch/odd_reg refuted offset 0
+stimulus 5 cycles 3
+state 000000000000
+input 0000000
+input 1000001
+input 1000000
+end
+pair 6 command 3 multi 2 u_path/a_reg[1] -> u_watch/odd_reg refuted offset 0
+stimulus 6 cycles 3
+state 000000000000
+input 0000000
+input 1000010
+input 1000000
+end
+pair 7 command 4 false u_settings/mode_reg -> u_path/b_reg[0] justified depth 0
+pair 8 command 4 false u_settings/mode_reg -> u_path/b_reg[1] justified depth 0
+pair 9 command 4 false u_settings/mode_reg -> u_watch/snap_reg undecided depth 8
+total 9 justified 6 refuted 2 undecided 1
+";
+
+/// Exceptions that select nothing, have a warning, or are set aside; a rising start, a lag, and names with several indices.
+pub const NOTES: &str = "sdcv 1 mode hazard reset 0 depth 8 budget 20000 inv 1 lag 2
+command 1 line 2 false pairs 0
+warning command 1 nothing nosuch* b
+command 2 line 3 aside -rise
+command 3 line 4 hold
+command 4 line 5 multi 2 rise pairs 3
+warning command 4 dropped x[*] 2
+pair 1 command 4 multi 2 rise m[3]/a[0] -> q[12]_reg justified single
+pair 2 command 4 multi 2 rise m[4]/a[10] -> q[0]_reg justified single
+pair 3 command 4 multi 2 rise m[4]/a[x] -> q[]_reg undecided budget base 3
+total 3 justified 2 refuted 0 undecided 1
+";
+
+/// The same as JSON, with keys that are not known, and without spaces.
+pub const NOTES_JSON: &str =
+    r#"{"budget":20000,"commands":[{"line":2,"number":1,"pairs":0,"warnings":["nothing nosuch* b"],"what":"false"},{"line":3,"number":2,"pairs":0,"warnings":[],"what":"aside -rise"},{"line":4,"number":3,"pairs":0,"warnings":[],"what":"hold"},{"line":5,"number":4,"pairs":3,"warnings":["dropped x[*] 2"],"what":"multi 2 rise"}],"depth":8,"inv":1,"lag":2,"mode":"hazard","new":{"x":[1,null]},"pairs":[{"command":4,"end":"q[12]_reg","kind":"multi 2 rise","number":1,"start":"m[3]/a[0]","stimulus":null,"verdict":"justified","why":"single"},{"command":4,"end":"q[0]_reg","kind":"multi 2 rise","number":2,"start":"m[4]/a[10]","stimulus":null,"verdict":"justified","why":"single"},{"command":4,"end":"q[]_reg","kind":"multi 2 rise","number":3,"start":"m[4]/a[x]","stimulus":null,"verdict":"undecided","why":"budget base 3"}],"reset":0,"total":{"justified":2,"pairs":3,"refuted":0,"undecided":1}}
+"#;
+
+/// A script without an exception.
+pub const EMPTY: &str = "sdcv 1 mode plain reset 0 depth 8 budget 20000 inv 1
+total 0 justified 0 refuted 0 undecided 0
+";
+
+/// One justified pair.
+pub const CLEAN: &str = "sdcv 1 mode plain reset 0 depth 8 budget 20000 inv 1
+command 1 line 1 false pairs 1
+pair 1 command 1 false a -> b justified fixed
+total 1 justified 1 refuted 0 undecided 0
+";
+
+/// A refuted pair as JSON, with its stimulus.
+pub const REFUTED_JSON: &str =
+    r#"{"budget":1,"commands":[{"line":1,"number":1,"pairs":1,"warnings":[],"what":"false"}],"depth":8,"inv":1,"mode":"plain","pairs":[{"command":1,"end":"b","kind":"false","number":1,"start":"a","stimulus":{"inputs":["10","01"],"state":"-"},"verdict":"refuted","why":"offset 0"}],"reset":0,"total":{"justified":0,"pairs":1,"refuted":1,"undecided":0}}
+"#;
