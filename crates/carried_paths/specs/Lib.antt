@@ -1,0 +1,4 @@
+pub mod Carried
+pub mod LateLayers
+pub mod Sources
+pub mod LateCycles
