@@ -1,0 +1,4 @@
+mod Freeing
+mod RowPairs
+mod Tables
+mod Marks

@@ -1,0 +1,3 @@
+pub mod Freeing
+pub mod Counting
+pub mod Cells
