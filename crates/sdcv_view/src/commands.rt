@@ -1,25 +1,77 @@
 //! The words of the program, read by `clap`.
+use clap::builder::ValueParser;
 use clap::{Arg, ArgAction, ArgMatches, Command, Error};
 use std::alloc::{AllocError, Global};
+
+/// The files of a design, and how it is reset.
+#[derive(Clone, Copy)]
+pub struct DesignWords<'a> {
+    pub netlist: &'a str,
+    pub cells: &'a str,
+    pub constraints: &'a str,
+    pub reset: Option<&'a str>,
+    pub cycles: Option<&'a str>,
+}
 
 /// What the words ask for.
 #[derive(Clone, Copy)]
 pub enum Asked<'a> {
     Groups { report: &'a str, csv: bool },
     Gate { report: &'a str },
+    Bits(DesignWords<'a>),
+}
+
+fn position<'a>(alloc: Global, id: &'static str, help: &'static str) -> Arg<'a> {
+    Arg::new(alloc, id)
+        .help(help)
+        .required(true)
+        .value_parser(ValueParser::string())
+        .action(ArgAction::Set)
+}
+
+fn option<'a>(alloc: Global, id: &'static str, value: &'static str, help: &'static str) -> Arg<'a> {
+    Arg::new(alloc, id)
+        .long(id)
+        .value_name(value)
+        .help(help)
+        .value_parser(ValueParser::string())
+        .action(ArgAction::Set)
 }
 
 fn report_arg<'a>(alloc: Global) -> Arg<'a> {
-    Arg::new(alloc, "REPORT")
-        .help("a report of sdcv verify, by lines or with --json")
-        .required(true)
-        .action(ArgAction::Set)
+    position(
+        alloc,
+        "REPORT",
+        "A report of sdcv verify, by lines or with --json",
+    )
+}
+
+// The arguments of a design.
+fn with_design<'a>(alloc: Global, command: Command<'a>) -> Result<Command<'a>, AllocError> {
+    let cycles = option(
+        alloc,
+        "reset-cycles",
+        "N",
+        "Hold them for N cycles, 0 to 64 (else 1 with --reset, 0 without)",
+    )
+    .value_parser(ValueParser::unsigned(0, 64));
+    command
+        .arg(position(alloc, "V", "The netlist (Verilog)"))?
+        .arg(position(alloc, "L", "The cells (Liberty), or builtin"))?
+        .arg(position(alloc, "S", "The constraints (SDC)"))?
+        .arg(option(
+            alloc,
+            "reset",
+            "LIST",
+            "Hold input ports in reset: PORT=0 or PORT=1, parted by commas",
+        ))?
+        .arg(cycles)
 }
 
 fn groups_command<'a>(alloc: Global) -> Result<Command<'a>, AllocError> {
     let csv = Arg::new(alloc, "csv")
         .long("csv")
-        .help("print comma-separated values")
+        .help("Print comma-separated values")
         .action(ArgAction::SetTrue);
     Command::new(alloc, "groups")
         .about("Print a report by groups: pairs that differ in the indices of their names alone")
@@ -33,27 +85,52 @@ fn gate_command<'a>(alloc: Global) -> Result<Command<'a>, AllocError> {
         .arg(report_arg(alloc))
 }
 
+fn bits_command<'a>(alloc: Global) -> Result<Command<'a>, AllocError> {
+    let command = Command::new(alloc, "bits").about(
+        "Print which bit of a stimulus is which register or input",
+    );
+    with_design(alloc, command)
+}
+
 fn whole_command<'a>(alloc: Global) -> Result<Command<'a>, AllocError> {
     Command::new(alloc, "sdcv_view")
         .bin_name("sdcv_view")?
         .no_binary_name(true)
         .version("0.9.0")
-        .about("Show a report of sdcv from other sides")
+        .about("Show a report of sdcv, and the bits of a stimulus")
         .arg_required_else_help(true)
         .subcommand_required(true)
         .subcommand(groups_command(alloc)?)?
-        .subcommand(gate_command(alloc)?)
+        .subcommand(gate_command(alloc)?)?
+        .subcommand(bits_command(alloc)?)
 }
 
-// What the matches of a subcommand ask for. Each required argument is there.
-fn asked_of<'a>(name: &str, matches: &ArgMatches<'a>) -> Asked<'a> {
-    let report = matches.get_str("REPORT").unwrap_or("");
-    if name == "gate" {
-        return Asked::Gate { report };
+// A required argument, which is there.
+fn given<'a>(matches: &ArgMatches<'a>, id: &str) -> &'a str {
+    matches.get_str(id).unwrap_or("")
+}
+
+fn design_of<'a>(matches: &ArgMatches<'a>) -> DesignWords<'a> {
+    DesignWords {
+        netlist: given(matches, "V"),
+        cells: given(matches, "L"),
+        constraints: given(matches, "S"),
+        reset: matches.get_str("reset"),
+        cycles: matches.get_str("reset-cycles"),
     }
-    Asked::Groups {
-        report,
-        csv: matches.get_flag("csv"),
+}
+
+// What the matches of a subcommand ask for.
+fn asked_of<'a>(name: &str, matches: &ArgMatches<'a>) -> Asked<'a> {
+    match name {
+        "groups" => Asked::Groups {
+            report: given(matches, "REPORT"),
+            csv: matches.get_flag("csv"),
+        },
+        "bits" => Asked::Bits(design_of(matches)),
+        _ => Asked::Gate {
+            report: given(matches, "REPORT"),
+        },
     }
 }
 

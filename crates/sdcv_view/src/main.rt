@@ -1,12 +1,14 @@
 //! The program that shows a report of `sdcv` from other sides. It proves and refutes nothing.
 //!
-//! `groups` tells the pairs of a report by groups, `gate` what of it stops a build. A text is read from the files of the
-//! system, and an answer goes to standard output; everything else is told on standard error. The status is 0, 1 where
-//! something stops the build, 2 where the words are no command, 3 where a text is refused, 5 where the host fails, 6 where
-//! memory is wanted, and 9 where a word is not UTF-8.
+//! `groups` tells the pairs of a report by groups, `gate` what of it stops a build, and `bits` which bit of a stimulus is
+//! which register or input. Texts are read from the files of the system, and an answer goes to standard output; everything
+//! else is told on standard error. The status is 0, 1 where something stops the build, 2 where the words are no command, 3
+//! where a text is refused, 5 where the host fails, 6 where memory is wanted, and 9 where a word is not UTF-8.
 #![tactic(auto)]
 
+mod bits;
 mod commands;
+mod designs;
 mod gate;
 mod groups;
 mod reports;
@@ -42,6 +44,14 @@ fn words(rt: &HostRuntime) -> io::Result<Vec<String>> {
 // The end of a run that has no answer. Failures of the host were told where they came.
 fn ended(rt: &HostRuntime, stop: Stop) -> ExitCode {
     match stop {
+        Stop::Line(line) => {
+            let _ = eprintln!(rt; "sdcv_view: {line}");
+            ExitCode::from(3)
+        }
+        Stop::Words(text) => {
+            let _ = eprintln!(rt; "sdcv_view: {text}");
+            ExitCode::from(2)
+        }
         Stop::Refused(text) => {
             let _ = eprintln!(rt; "sdcv_view: {text}");
             ExitCode::from(3)
@@ -73,5 +83,6 @@ fn done<H: Host>(alloc: Global, host: &mut H, asked: &Asked<'_>) -> Result<u8, S
     match *asked {
         Asked::Groups { report, csv } => groups::groups(alloc, host, report, csv),
         Asked::Gate { report } => gate::gate(alloc, host, report),
+        Asked::Bits(words) => bits::bits(alloc, host, &words),
     }
 }
