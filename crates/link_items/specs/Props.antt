@@ -1,5 +1,5 @@
 -- What a lawful source and a lawful library say has one proof at most, so that a netlist can carry it.
-use Rattle.std.proofs.Common.{◌≡◌, ℕ, List, Option, None, Some}
+use Rattle.std.proofs.Common.{ℕ, List, Option, None, Some}
 use Rattle.std.proofs.Props.{props}
 use Rattle.net_model.specs.Form.{Form, ZeroForm, OneForm, PinForm, NotForm, AndForm, OrForm, XorForm, IsOver}
 use Rattle.net_model.specs.Netlist.{IsOptionOver}

@@ -61,7 +61,7 @@ fn comb_gates(
     requires room { own + length outs.now < 2 ^ 64 }
     ensures { IfOk result (λ gates. gates ≡ spec.comb_gates nets.now conns.now ins.now own outs.now) }
 {
-    let mut gates = Seq::new(alloc);
+    let mut gates = Seq::from_vec(Vec::with_capacity(alloc, outs.len())?);
     for k in 0..outs.len() {
         let output = outs.item(k);
         let out = pin_net(nets, conns, own + k, &output.name);
@@ -91,7 +91,7 @@ fn reg_outs(
     requires room { own + length outs.now < 2 ^ 64 }
     ensures { IfOk result (λ list. list ≡ spec.reg_outs nets.now conns.now own outs.now) }
 {
-    let mut list = Seq::new(alloc);
+    let mut list = Seq::from_vec(Vec::with_capacity(alloc, outs.len())?);
     for k in 0..outs.len() {
         let output = outs.item(k);
         let net = pin_net(nets, conns, own + k, &output.name);

@@ -22,7 +22,7 @@ pub fn numbers(alloc: Global, first: usize, count: usize) -> Result<Seq<usize>, 
     requires { first + count < 2 ^ 64 }
     ensures { IfOk result (λ list. list ≡ spec.numbers first count) }
 {
-    let mut list = Seq::new(alloc);
+    let mut list = Seq::from_vec(Vec::with_capacity(alloc, count)?);
     for k in 0..count {
         list.push(first + k)?;
     }

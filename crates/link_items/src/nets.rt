@@ -40,7 +40,7 @@ pub(crate) fn wire_nets(
     requires room { first + length wires.now < 2 ^ 64 }
     ensures { IfOk result (λ list. list ≡ spec.wire_nets nets.now first wires.now) }
 {
-    let mut list = Seq::new(alloc);
+    let mut list = Seq::from_vec(Vec::with_capacity(alloc, wires.len())?);
     for k in 0..wires.len() {
         let wire = wires.at(k);
         list.push(wire_net(nets, first + k, wire))?;
@@ -79,7 +79,7 @@ pub(crate) fn pin_nets(
     requires room { own + length pins.now < 2 ^ 64 }
     ensures { IfOk result (λ list. list ≡ spec.pin_nets nets.now conns.now own pins.now) }
 {
-    let mut list = Seq::new(alloc);
+    let mut list = Seq::from_vec(Vec::with_capacity(alloc, pins.len())?);
     for k in 0..pins.len() {
         let net = pin_net(nets, conns, own + k, pins.item(k));
         list.push(net)?;

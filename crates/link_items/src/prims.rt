@@ -109,7 +109,7 @@ fn prim_gates(
     requires outs { All (IsBelow (length nets.now)) outs.now }
     ensures { IfOk result (λ gates. gates ≡ map (λ out. spec.prim_gate kind ins.now (slice_index nets.now out)) outs.now) }
 {
-    let mut gates = Seq::new(alloc);
+    let mut gates = Seq::from_vec(Vec::with_capacity(alloc, outs.len())?);
     for k in 0..outs.len() {
         let out = net_at(nets, outs.at(k));
         gates.push(prim_gate(alloc, kind, ins, out)?)?;

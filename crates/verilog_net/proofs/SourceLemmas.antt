@@ -1,6 +1,8 @@
 -- The modules of a text and their scopes.
 use Rattle.std.proofs.Common.{arith, ◌≡◌, ℕ, zero, suc, ◌<◌, true, false, List, [], ◌∷◌, ◌++◌, length, map, get_or, Ok, refl, sym, ap, ◌∙◌, subst}
 use Rattle.std.proofs.Common.{append_assoc, append-nil}
+use Rattle.std.proofs.lemmas.Slice.Zip.{length-zip, get_or-zip}
+use Rattle.std.specs.List.{zip}
 use Rattle.verilog_syntax.specs.declared.declarations.ModuleDecl.{ModuleDecl}
 use Rattle.verilog_scope.specs.declared.scopes.Scope.{Scope}
 use Rattle.verilog_scope.specs.Folds.{fold_ok, each, pushing}
@@ -56,3 +58,13 @@ scoped_at [] (s0 ∷ ss) i m s scoped below declared has = absurd cc
 scoped_at (m0 ∷ ms) [] i m s scoped below declared has = absurd cc
 scoped_at (m0 ∷ ms) (s0 ∷ ss) zero m s scoped below declared has = rw (declared, has) scoped.0
 scoped_at (m0 ∷ ms) (s0 ∷ ss) (suc i) m s scoped below declared has = scoped_at ms ss i m s scoped.1 (omega arith) declared has
+
+-- where both lists go side by side, at each place stand the scope and the declaration there
+pub paired_at : (ss : List Scope) (ms : List ModuleDecl) (i : ℕ) (s : Scope) (m : ModuleDecl) → length ss ≡ length ms → i < length (zip ss ms)
+    → ◌≡◌ {A = Scope × ModuleDecl} (s, m) (get_or (zip ss ms) i (s, m)) → (i < length ss) × ((s ≡ get_or ss i s) × (m ≡ get_or ms i m))
+paired_at ss ms i s m same below here =
+    let long = length-zip ss ms in
+    let first : i < length ss = omega (arith, same, long, below) in
+    let second : i < length ms = omega (arith, same, first) in
+    let both = here ∙ get_or-zip ss ms i (s, m) first second in
+    (first, (ap (λ (p : Scope × ModuleDecl). p.0) both, ap (λ (p : Scope × ModuleDecl). p.1) both))

@@ -15,17 +15,18 @@ use std::alloc::Global;
 use verilog_scope::{Scope, VerFault};
 use verilog_syntax::ItemDecl;
 
-/// The items, in the order of the text.
+/// The items, in the order of the text. What a statement declares is let go as soon as its items are made, so that they
+/// take its room.
 pub fn items_of(
     alloc: Global,
     hierarchy: &Hierarchy,
     scope: &Scope,
-    decls: &[ItemDecl],
+    decls: Seq<ItemDecl>,
 ) -> Result<Seq<Item>, VerFault>
-    ensures { Gives Fails (λ items. items) result (fold_ok (spec.add_item hierarchy.now scope.now) [] decls.now) }
+    ensures { Gives Fails (λ items. items) result (fold_ok (spec.add_item hierarchy.now scope.now) [] decls) }
 {
     let mut items = Seq::new(alloc);
-    for decl in decls {
+    for decl in decls.into_vec() {
         add_item(alloc, hierarchy, scope, &mut items, decl)?;
     }
     Ok(items)
@@ -37,20 +38,20 @@ fn add_item(
     hierarchy: &Hierarchy,
     scope: &Scope,
     items: &mut Seq<Item>,
-    decl: &ItemDecl,
+    decl: ItemDecl,
 ) -> Result<(), VerFault>
-    ensures { Gives Fails (λ _. items.new) result (spec.add_item hierarchy.now scope.now items.old decl.now) }
+    ensures { Gives Fails (λ _. items.new) result (spec.add_item hierarchy.now scope.now items.old decl) }
 {
     match decl {
         ItemDecl::Ports(_) => Ok(()),
         ItemDecl::Nets { kind, names, .. } => {
-            add_nets(scope, items, *kind, names.as_slice())?;
+            add_nets(scope, items, kind, names.as_slice())?;
             Ok(())
         }
         ItemDecl::Assigns(list) => add_assigns(alloc, scope, items, list.as_slice()),
-        ItemDecl::Prims { kind, list } => add_prims(alloc, scope, items, *kind, list.as_slice()),
+        ItemDecl::Prims { kind, list } => add_prims(alloc, scope, items, kind, list.as_slice()),
         ItemDecl::Insts { cell, list } => {
-            add_insts(alloc, hierarchy, scope, items, cell, list.as_slice())
+            add_insts(alloc, hierarchy, scope, items, &cell, list.as_slice())
         }
     }
 }

@@ -44,19 +44,19 @@ impl Listed for PortDecl {
     }
 }
 
-/// The modules of these declarations.
+/// The modules of these declarations, each of which is let go when its module is made.
 pub fn modules_of(
     alloc: Global,
     hierarchy: &Hierarchy,
-    decls: &[ModuleDecl],
+    decls: Seq<ModuleDecl>,
 ) -> Result<Seq<Module>, VerFault>
-    requires { each scope_of decls.now ≡ Ok hierarchy.now.scopes }
-    ensures { Gives Fails (λ made. made) result (spec.modules_made hierarchy.now decls.now) }
+    requires { each scope_of decls ≡ Ok hierarchy.now.scopes }
+    ensures { Gives Fails (λ made. made) result (spec.modules_made hierarchy.now decls) }
 {
     let scopes = hierarchy.scopes.as_slice();
     let mut found = Seq::new(alloc);
-    for i in 0..scopes.len() {
-        add_module(alloc, hierarchy, &mut found, &scopes[i], &decls[i])?;
+    for (scope, decl) in scopes.iter().zip(decls.into_vec()) {
+        add_module(alloc, hierarchy, &mut found, scope, decl)?;
     }
     Ok(found)
 }
@@ -67,10 +67,10 @@ fn add_module(
     hierarchy: &Hierarchy,
     found: &mut Seq<Module>,
     scope: &Scope,
-    decl: &ModuleDecl,
+    decl: ModuleDecl,
 ) -> Result<(), VerFault>
-    requires { scope_of decl.now ≡ Ok scope.now }
-    ensures { Gives Fails (λ _. found.new) result (spec.add_module hierarchy.now found.old scope.now decl.now) }
+    requires { scope_of decl ≡ Ok scope.now }
+    ensures { Gives Fails (λ _. found.new) result (spec.add_module hierarchy.now found.old scope.now decl) }
 {
     let made = module(alloc, hierarchy, scope, decl)?;
     found.push(made)?;
@@ -82,14 +82,14 @@ fn module(
     alloc: Global,
     hierarchy: &Hierarchy,
     scope: &Scope,
-    decl: &ModuleDecl,
+    decl: ModuleDecl,
 ) -> Result<Module, VerFault>
-    requires { scope_of decl.now ≡ Ok scope.now }
-    ensures { Gives Fails (λ made. made) result (spec.module_made hierarchy.now scope.now decl.now) }
+    requires { scope_of decl ≡ Ok scope.now }
+    ensures { Gives Fails (λ made. made) result (spec.module_made hierarchy.now scope.now decl) }
 {
-    let ports = ports_of(alloc, scope, &decl.head)?;
-    let items = items_of(alloc, hierarchy, scope, decl.items.as_slice())?;
-    let name = decl.name.copy(alloc)?;
+    let ModuleDecl { name, head, items } = decl;
+    let ports = ports_of(alloc, scope, &head)?;
+    let items = items_of(alloc, hierarchy, scope, items)?;
     let made = with_used_nets(alloc, scope, name, ports, items)?;
     Ok(made)
 }

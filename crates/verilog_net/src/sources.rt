@@ -25,6 +25,6 @@ pub fn read_verilog(alloc: Global, text: &[u8]) -> Result<Source, VerFault>
 {
     let decls = read_modules(alloc, text)?;
     let hierarchy = Hierarchy::of(alloc, decls.as_slice())?;
-    let modules = modules_of(alloc, &hierarchy, decls.as_slice())?;
+    let modules = modules_of(alloc, &hierarchy, decls)?;
     Ok(Source { modules })
 }

@@ -18,7 +18,6 @@ use Rattle.verilog_syntax.specs.declared.declarations.ItemDecl.{ItemDecl}
 use Rattle.verilog_syntax.specs.declared.declarations.ItemDecl.TheVariants as item
 use Rattle.verilog_syntax.specs.declared.declarations.NetKind.{NetKind}
 use Rattle.verilog_syntax.specs.declared.declarations.NetKind.TheVariants as net
-use Rattle.verilog_syntax.specs.declared.declarations.Part.{Part}
 use Rattle.verilog_syntax.specs.declared.declarations.Part.TheVariants as part
 use Rattle.verilog_syntax.specs.declared.declarations.PartDecl.{PartDecl}
 use Rattle.verilog_syntax.specs.declared.declarations.PrimDecl.{PrimDecl}

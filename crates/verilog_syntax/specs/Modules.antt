@@ -7,7 +7,6 @@ use Rattle.verilog_words.specs.Codes.{semicolon}
 use Rattle.verilog_words.specs.Marks.{mark_at}
 use Rattle.verilog_words.specs.Names.{has_word, word_at, name_at}
 use Rattle.verilog_words.specs.Reads.{Rule}
-use Rattle.verilog_syntax.specs.declared.declarations.ItemDecl.{ItemDecl}
 use Rattle.verilog_syntax.specs.declared.declarations.ModuleDecl.{ModuleDecl}
 use Rattle.verilog_syntax.specs.Items.{supported_at, adds_item}
 use Rattle.verilog_syntax.specs.Lists.{row_at}

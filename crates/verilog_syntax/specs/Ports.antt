@@ -1,5 +1,5 @@
 -- Ports: the port list of a module, and declarations of ports in its body.
-use Rattle.std.specs.Prelude.{ℕ, not, ◌-◌, if◌then◌else◌, List, [], ◌∷◌, ◌++◌, length, map, Option, None, Some, is_some, slice_get, Ok, codes}
+use Rattle.std.specs.Prelude.{ℕ, ◌-◌, if◌then◌else◌, List, [], ◌∷◌, ◌++◌, length, map, Option, None, Some, is_some, slice_get, Ok, codes}
 use Rattle.texts.specs.Rules.{◌>>=◌, offset_of}
 use Rattle.verilog_words.specs.declared.words.Word.{Word}
 use Rattle.verilog_words.specs.declared.words.Word.TheVariants as word

@@ -7,7 +7,7 @@ ghost use Rattle.verilog_syntax.specs.Items as spec;
 
 use crate::declarations::{AssignDecl, ItemDecl};
 use crate::exprs::take_expr;
-use crate::lists::{Gather, take_list};
+use crate::lists::{Gather, room_for_one, take_list};
 use sdcv_base::{Cursor, Seq};
 use std::alloc::Global;
 use verilog_words::{SyntaxFault, expect_mark};
@@ -33,7 +33,7 @@ pub fn take_assigns(alloc: Global, c: &mut Cursor<'_>) -> Result<ItemDecl, Synta
     ensures text { text_of c.new ≡ text_of c.old }
     ensures shorter { OnOk result (length (rest c.new) < length (rest c.old)) }
 {
-    let mut found = Seq::new(alloc);
+    let mut found = room_for_one(alloc)?;
     take_list(alloc, c, b';', &mut found)?;
     Ok(ItemDecl::Assigns(found))
 }

@@ -6,6 +6,7 @@ ghost use Rattle.verilog_words.specs.Reads.{Fails};
 ghost use Rattle.verilog_syntax.specs.Exprs as spec;
 
 use crate::declarations::{PartDecl, TermDecl};
+use crate::lists::room_for_one;
 use crate::parts::take_part;
 use sdcv_base::{Cursor, Seq};
 use std::alloc::Global;
@@ -70,7 +71,7 @@ pub fn take_expr(
     ensures shorter { OnOk result (length (rest c.new) < length (rest c.old)) }
 {
     let offset = c.place();
-    let mut parts = Seq::new(alloc);
+    let mut parts = room_for_one(alloc)?;
     take_parts(alloc, c, constants, MOST_NESTED, &mut parts)?;
     Ok(TermDecl { offset, parts })
 }

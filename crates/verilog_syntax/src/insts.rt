@@ -7,7 +7,7 @@ ghost use Rattle.verilog_syntax.specs.Items as spec;
 
 use crate::declarations::{ConnDecl, InstDecl, ItemDecl, PartDecl};
 use crate::exprs::take_expr;
-use crate::lists::{Gather, take_list};
+use crate::lists::{Gather, fitted, room_for_one, take_list};
 use sdcv_base::{Cursor, Name, Seq};
 use std::alloc::Global;
 use verilog_words::{SyntaxFault, expect_mark, expect_open, take_name, try_pass};
@@ -56,7 +56,7 @@ fn take_conns(alloc: Global, c: &mut Cursor<'_>) -> Result<Seq<ConnDecl>, Syntax
         return Ok(conns);
     }
     take_list(alloc, c, b')', &mut conns)?;
-    Ok(conns)
+    Ok(fitted(conns))
 }
 
 /// An instance.
@@ -82,7 +82,7 @@ pub fn take_insts(alloc: Global, c: &mut Cursor<'_>) -> Result<ItemDecl, SyntaxF
     ensures shorter { OnOk result (length (rest c.new) < length (rest c.old)) }
 {
     let cell = take_name(c)?;
-    let mut found = Seq::new(alloc);
+    let mut found = room_for_one(alloc)?;
     take_list(alloc, c, b';', &mut found)?;
     let cell = Name::new(alloc, cell)?;
     Ok(ItemDecl::Insts { cell, list: found })

@@ -1,13 +1,29 @@
 //! Lists of items with commas between them, and rows of items that follow one another.
-ghost use Rattle.std.specs.Prelude.{◌≡◌, ◌<◌, ◌≤◌, List, ℕ, Bool, length, OnOk};
+ghost use Rattle.std.specs.Prelude.{◌≡◌, ◌<◌, ◌≤◌, List, [], ℕ, Bool, length, IfOk, OnOk};
 ghost use Rattle.sdcv_base.specs.Cursors.{rest, text_of};
 ghost use Rattle.texts.specs.Rules.{Reads};
 ghost use Rattle.verilog_words.specs.Reads.{Fails, Rule};
 ghost use Rattle.verilog_syntax.specs.Lists as spec;
 
-use sdcv_base::Cursor;
-use std::alloc::Global;
+use sdcv_base::{Cursor, Seq};
+use std::alloc::{AllocError, Global};
 use verilog_words::{SyntaxFault, expect_mark, try_pass};
+
+/// An empty list with room for one item: a netlist has many lists, and most of them are of one.
+pub fn room_for_one<T>(alloc: Global) -> Result<Seq<T>, AllocError>
+    ensures { IfOk result (λ list. list ≡ []) }
+{
+    Ok(Seq::from_vec(Vec::with_capacity(alloc, 1)?))
+}
+
+/// The same list, without room for more.
+pub fn fitted<T>(list: Seq<T>) -> Seq<T>
+    ensures { result ≡ list }
+{
+    let mut items = list.into_vec();
+    items.shrink_to_fit();
+    Seq::from_vec(items)
+}
 
 /// What is gathered from the items of a list or row.
 pub trait Gather: Drop {

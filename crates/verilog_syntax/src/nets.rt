@@ -6,7 +6,7 @@ ghost use Rattle.verilog_words.specs.Reads.{Fails};
 ghost use Rattle.verilog_syntax.specs.Items as spec;
 
 use crate::declarations::{ItemDecl, NetKind};
-use crate::lists::{Gather, take_list};
+use crate::lists::{Gather, room_for_one, take_list};
 use crate::parts::range_or_none;
 use sdcv_base::{Cursor, Name, Seq};
 use std::alloc::Global;
@@ -31,7 +31,7 @@ pub fn take_nets(alloc: Global, c: &mut Cursor<'_>, kind: NetKind) -> Result<Ite
     ensures shorter { OnOk result (length (rest c.new) < length (rest c.old)) }
 {
     let range = range_or_none(c)?;
-    let mut names = Seq::new(alloc);
+    let mut names = room_for_one(alloc)?;
     take_list(alloc, c, b';', &mut names)?;
     Ok(ItemDecl::Nets { kind, range, names })
 }

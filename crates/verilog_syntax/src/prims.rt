@@ -8,7 +8,7 @@ ghost use Rattle.verilog_syntax.specs.Items as spec;
 
 use crate::declarations::{ItemDecl, Part, PartDecl, PrimDecl, TermDecl};
 use crate::exprs::take_expr;
-use crate::lists::{Gather, take_list};
+use crate::lists::{Gather, fitted, room_for_one, take_list};
 use netlist_types::PrimKind;
 use sdcv_base::{Cursor, Name, Seq};
 use std::alloc::Global;
@@ -78,9 +78,10 @@ fn take_terms(alloc: Global, c: &mut Cursor<'_>, kind: PrimKind) -> Result<Terms
     expect_mark(c, b',')?;
     let mut terms = Terms {
         kind,
-        outs: Seq::one(alloc, first)?,
+        outs: room_for_one(alloc)?,
         ins: Seq::new(alloc),
     };
+    terms.outs.push(first)?;
     take_list(alloc, c, b')', &mut terms)?;
     Ok(terms)
 }
@@ -108,6 +109,7 @@ impl Gather for Prims {
         let name = name_or_none(alloc, c)?;
         expect_open(c)?;
         let Terms { outs, ins, .. } = take_terms(alloc, c, self.kind)?;
+        let ins = fitted(ins);
         self.list.push(PrimDecl { name, outs, ins })?;
         Ok(())
     }
@@ -126,7 +128,7 @@ pub fn take_prims(
 {
     let mut found = Prims {
         kind,
-        list: Seq::new(alloc),
+        list: room_for_one(alloc)?,
     };
     take_list(alloc, c, b';', &mut found)?;
     Ok(ItemDecl::Prims {

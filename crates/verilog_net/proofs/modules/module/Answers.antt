@@ -21,7 +21,7 @@ good_below h count (item.Copy to from) good = good
 
 pub with_used_nets-requires-clause-numbered : goal.with_used_nets-requires-clause-numbered
 with_used_nets-requires-clause-numbered c =
-    let is = scope_is c.args.decl.now c.args.scope.now c.requires in
+    let is = scope_is c.args.decl c.args.scope.now c.requires in
     record { bases = is.bases; counted = is.counted }
 
 pub with_used_nets-requires-clause-nets : goal.with_used_nets-requires-clause-nets
@@ -29,10 +29,10 @@ unfolding whole_module
 with_used_nets-requires-clause-nets c =
     let h = c.args.hierarchy.now in
     let s = c.args.scope.now in
-    let m = c.args.decl.now in
+    let m = c.args.decl in
     let count = length (net_names s) in
     let x : Module = record { name = m.name; ports = c.in_ok-ports.ports; nets = net_names s; items = c.in_ok-items.items } in
-    let made : whole_module h s m ≡ Ok x = rw (c.in_ok-ports.ensures, rw c.as_slice.ensures at c.in_ok-items.ensures) refl in
+    let made : whole_module h s m ≡ Ok x = rw (c.in_ok-ports.ensures, c.in_ok-items.ensures) refl in
     let is : IsModuleOf h s m x = module_is h s m x c.requires made in
     standing_below count x.ports x.items (ports_below m s is.scope x.ports is.ports)
     (All-weaker (IsGood h count) (IsItemBelow count) (good_below h count) x.items is.items)
