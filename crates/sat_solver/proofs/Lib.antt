@@ -14,3 +14,4 @@ pub mod Deciding
 pub mod Stamping
 pub mod Marking
 pub mod CoveredLiterals
+pub mod StoredClauses

@@ -6,3 +6,4 @@ pub mod Watches
 pub mod Cuts
 pub mod Markings
 pub mod Engines
+pub mod Arenas

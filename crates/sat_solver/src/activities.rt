@@ -6,9 +6,10 @@ ghost use Rattle.decision_heap.specs.Heaps.{IsSame};
 ghost use Rattle.sat_solver.specs.Searches.{AllInVars, AllSet, IsUnset};
 ghost use Rattle.sat_solver.specs.Engines.{AreWaiting};
 
+use crate::arenas::Arena;
 use crate::trails::Trail;
 use decision_heap::Heap;
-use proof_log::{Clause, Lit, LitSet};
+use proof_log::{Lit, LitSet};
 use std::alloc::{AllocError, Global};
 
 /// The variables that wait for a decision, and the value that each variable last had.
@@ -84,14 +85,14 @@ impl Activities {
     }
 
     /// Raises the variables of the clauses that the hints of a step name.
-    pub fn raise_hints(&mut self, clauses: &[Clause], hints: &[u64])
+    pub fn raise_hints(&mut self, clauses: &Arena, hints: &[u64])
         requires { AllInVars self.old.waiting.vars clauses.now }
         ensures { IsSame self.old.waiting self.new.waiting }
     {
         for hint in hints {
             let place = (*hint).saturating_sub(1) as usize;
             if place < clauses.len() {
-                self.raise_all(clauses[place].as_slice());
+                self.raise_all(clauses.clause(place));
             }
         }
         self.waiting.age();

@@ -30,9 +30,10 @@ ghost use Rattle.sat_solver.specs.Watches.{clause_at};
 ghost use Rattle.sat_solver.specs.Cuts.{CutState, IsUnitCut, ResolvedBelow};
 ghost use Rattle.sat_solver.specs.Markings.{is_marked, marked_lits, Gathered, AreMarked, AreReplaced};
 
+use crate::arenas::Arena;
 use crate::marks::Marks;
 use crate::trails::Trail;
-use proof_log::{Clause, Lit, LitSet};
+use proof_log::{Lit, LitSet};
 use std::alloc::{AllocError, Global};
 
 /// A cut, whose literals are those that set literals of marked variables make false.
@@ -76,7 +77,7 @@ impl Cut {
     pub fn mark_conflict(
         &mut self,
         marks: &mut Marks,
-        clauses: &[Clause],
+        clauses: &Arena,
         trail: &Trail,
         conflict: usize,
     ) -> Result<(), AllocError>
@@ -93,9 +94,10 @@ impl Cut {
         ensures gathered { IfOk result (λ _. Gathered trail.now.lits self.new marks.new) }
         ensures state { IfOk result (λ _. CutState clauses.now trail.now.lits [] [] (marked_lits marks.new trail.now.lits) self.new.hints.items) }
     {
+        let _count = clauses.len();
         marks.clear();
         self.hints.push(conflict as u64 + 1)?;
-        self.mark_false(marks, trail, clauses[conflict].as_slice())?;
+        self.mark_false(marks, trail, clauses.clause(conflict))?;
         Ok(())
     }
 
@@ -105,7 +107,7 @@ impl Cut {
     pub fn resolve_to_unit(
         &mut self,
         marks: &mut Marks,
-        clauses: &[Clause],
+        clauses: &Arena,
         trail: &Trail,
     ) -> Result<usize, AllocError>
         requires fits { trail.now.vars < length marks.old.stamps }
@@ -138,7 +140,7 @@ impl Cut {
     pub fn resolve_below(
         &mut self,
         marks: &mut Marks,
-        clauses: &[Clause],
+        clauses: &Arena,
         trail: &Trail,
     ) -> Result<(), AllocError>
         requires fits { trail.now.vars < length marks.old.stamps }
@@ -168,7 +170,7 @@ impl Cut {
     fn resolve(
         &mut self,
         marks: &mut Marks,
-        clauses: &[Clause],
+        clauses: &Arena,
         trail: &Trail,
         at: usize,
     ) -> Result<(), AllocError>
@@ -186,10 +188,11 @@ impl Cut {
         ensures replaced { IfOk result (λ _. AreReplaced trail.now.lits (slice_index trail.now.lits at)
             (clause_at clauses.now (slice_index trail.now.reasons at)) marks.old marks.new) }
     {
+        let _count = clauses.len();
         self.unmark(marks, trail, at);
         let reason = trail.reasons()[at];
         self.hints.push(reason as u64 + 1)?;
-        self.mark_false(marks, trail, clauses[reason].as_slice())?;
+        self.mark_false(marks, trail, clauses.clause(reason))?;
         Ok(())
     }
 

@@ -33,6 +33,8 @@ ghost use Rattle.sat_solver.specs.Watches.{IsQueued};
 ghost use Rattle.sat_solver.specs.Learning.{IsLearnt};
 
 use crate::activities::Activities;
+use crate::arenas::Arena;
+use crate::counts::Counts;
 use crate::learning::{Learnt, analyze, last_step, second_watch};
 use crate::marks::Marks;
 use crate::propagation::Queue;
@@ -57,13 +59,14 @@ use std::marker::Model;
 /// That no clause is false or unit at the present level holds only after `propagate` has said so.
 #[derive(Drop)]
 pub struct Engine {
-    clauses: Vec<Clause>,
+    clauses: Arena,
     trail: Trail,
     starts: Vec<usize>,
     walks: Vec<usize>,
     queue: Queue,
     activities: Activities,
     marks: Marks,
+    counts: Counts,
 }
 
 impl Model for Engine {
@@ -73,9 +76,9 @@ impl Model for Engine {
 
     ghost Value = { Search };
 
-    ghost view = { λ e. search_of e.trail.vars e.clauses.items e.trail.lits e.starts.items };
+    ghost view = { λ e. search_of e.trail.vars e.clauses e.trail.lits e.starts.items };
 
-    ghost invariant = { λ e. IsEngine e.clauses.items e.trail e.starts.items e.walks.items e.queue
+    ghost invariant = { λ e. IsEngine e.clauses e.trail e.starts.items e.walks.items e.queue
         × (e.trail.vars + 1 ≤ vec_capacity e.starts) × (e.trail.vars + 1 ≤ vec_capacity e.walks)
         × AreWaiting e.trail.vars e.trail.lits e.activities.waiting × (e.trail.vars < length e.marks.stamps) };
 }
@@ -88,11 +91,11 @@ impl Engine {
         ensures { IfOk result (λ e. e
             ≡ record { vars = formula.now.vars; clauses = formula.now.clauses; lits = []; starts = [] }) }
     {
-        let clauses = copied(alloc, formula.clauses.as_slice())?;
+        let clauses = Arena::of(alloc, formula.clauses.as_slice())?;
         let trail = Trail::new(alloc, formula.vars)?;
         let starts = Vec::with_capacity(alloc, formula.vars as usize + 1)?;
         let walks = Vec::with_capacity(alloc, formula.vars as usize + 1)?;
-        let queue = queue_of(alloc, formula.vars, &clauses)?;
+        let queue = queue_of(alloc, formula.vars, formula.clauses.as_slice())?;
         let activities = Activities::new(alloc, formula.vars)?;
         let marks = Marks::new(alloc, formula.vars)?;
         Ok(Engine {
@@ -103,6 +106,7 @@ impl Engine {
             queue,
             activities,
             marks,
+            counts: Counts::new(),
         })
     }
 
@@ -125,8 +129,10 @@ impl Engine {
             (λ place. IsFalseAt self.new.clauses self.new.lits place) }
         ensures few { length self.new.lits ≤ self.new.vars + 1 }
     {
+        let before = self.trail.len();
         let conflict = self.queue.settle(&self.clauses, &mut self.trail);
-        let _len = self.trail.len();
+        let set = self.trail.len().saturating_sub(before);
+        self.counts.add(set, conflict.is_some());
         conflict
     }
 
@@ -188,23 +194,27 @@ impl Engine {
             &mut self.marks,
             conflict,
         )?;
-        let clause = learnt.step.clause.copy(alloc)?;
-        self.clauses.reserve(1)?;
         let place = self.clauses.len();
+        let lits = learnt.step.clause.as_slice();
         self.queue.provide(place)?;
+        self.clauses.push(lits)?;
         self.activities
             .raise_hints(&self.clauses, learnt.step.hints.as_slice());
-        let second = second_watch(&self.trail, &self.starts, clause.as_slice(), &learnt);
+        let second = second_watch(&self.trail, &self.starts, lits, &learnt);
         let from = self.starts[learnt.level];
         self.activities.release(&self.trail, from);
         self.trail.truncate(from);
         self.queue.done = self.walks[learnt.level];
         self.starts.truncate(learnt.level);
         self.walks.truncate(learnt.level);
-        self.clauses.push_reserved(clause);
         self.queue.watch(place, learnt.unit, second);
         self.trail.set(learnt.unit, place);
         Ok(learnt)
+    }
+
+    /// What was done since the clauses were loaded.
+    pub fn counts(&self) -> Counts {
+        self.counts
     }
 
     /// The last step of a refutation, from the false clause at that place, at level 0.
@@ -235,16 +245,6 @@ impl Engine {
         }
         Ok(values)
     }
-}
-
-fn copied(alloc: Global, clauses: &[Clause]) -> Result<Vec<Clause>, AllocError>
-    ensures { IfOk result (λ v. v.items ≡ clauses.now) }
-{
-    let mut out = Vec::with_capacity(alloc, clauses.len())?;
-    for clause in clauses {
-        out.push(clause.copy(alloc)?)?;
-    }
-    Ok(out)
 }
 
 /// A queue for the clauses, none of which is looked at.

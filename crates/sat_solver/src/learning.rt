@@ -8,6 +8,7 @@ ghost use Rattle.sat_solver.specs.Engines.{IsSearch, level_floor};
 ghost use Rattle.sat_solver.specs.Learning.{OthersFalse, IsFrontLen, IsLevel, IsLearnt};
 ghost use Rattle.sat_solver.specs.Cuts.{FalseBy, IsAsserting};
 
+use crate::arenas::Arena;
 use crate::cuts::{Cut, is_open_other};
 use crate::marks::Marks;
 use crate::minimising::minimise;
@@ -29,7 +30,7 @@ pub struct Learnt {
 /// Learns a clause from a false one, at a level above 0.
 pub fn analyze(
     alloc: Global,
-    clauses: &[Clause],
+    clauses: &Arena,
     trail: &Trail,
     starts: &[usize],
     marks: &mut Marks,
@@ -66,7 +67,7 @@ pub fn analyze(
 /// others make needless, its hints in order, and the place of the literal that makes its unit false.
 fn asserting_cut(
     alloc: Global,
-    clauses: &[Clause],
+    clauses: &Arena,
     trail: &Trail,
     starts: &[usize],
     marks: &mut Marks,
@@ -128,7 +129,7 @@ fn front_len(trail: &Trail, lits: &[Lit], unit: Lit) -> usize
 /// The empty step by which a false clause refutes the clauses, at level 0.
 pub fn last_step(
     alloc: Global,
-    clauses: &[Clause],
+    clauses: &Arena,
     trail: &Trail,
     marks: &mut Marks,
     conflict: usize,

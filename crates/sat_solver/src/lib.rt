@@ -6,6 +6,8 @@
 #![tactic(auto)]
 
 mod activities;
+mod arenas;
+mod counts;
 mod cuts;
 mod engines;
 mod learning;
@@ -16,6 +18,7 @@ mod restarts;
 mod solving;
 mod trails;
 
+pub use counts::Counts;
 pub use engines::Engine;
 pub use learning::Learnt;
-pub use solving::{Answer, solve};
+pub use solving::{Answer, Solved, solve, solve_counted};

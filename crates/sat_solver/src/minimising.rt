@@ -26,10 +26,11 @@ ghost use Rattle.proof_log.specs.Clauses.{is_set, IsNormal};
 ghost use Rattle.sat_solver.specs.Cuts.{IsCovered, KeepsAsserting};
 ghost use Rattle.sat_solver.specs.Markings.{is_marked, marked_lits, AreBetween, AreFewer};
 
+use crate::arenas::Arena;
 use crate::cuts::Cut;
 use crate::marks::Marks;
 use crate::trails::Trail;
-use proof_log::{Clause, Lit, LitSet};
+use proof_log::{Lit, LitSet};
 use std::alloc::{AllocError, Global};
 
 /// Resolves away each literal of the levels between whose reason has no others but those of the
@@ -38,7 +39,7 @@ pub fn minimise(
     alloc: Global,
     cut: &mut Cut,
     marks: &mut Marks,
-    clauses: &[Clause],
+    clauses: &Arena,
     trail: &Trail,
 ) -> Result<(), AllocError>
     requires fits { trail.now.vars < length marks.old.stamps }
@@ -80,7 +81,7 @@ fn places_of(
 fn drop_covered(
     cut: &mut Cut,
     marks: &mut Marks,
-    clauses: &[Clause],
+    clauses: &Arena,
     trail: &Trail,
     mut places: Vec<usize>,
 ) -> Result<(), AllocError>
@@ -105,7 +106,7 @@ fn drop_covered(
 fn drop_if_covered(
     cut: &mut Cut,
     marks: &mut Marks,
-    clauses: &[Clause],
+    clauses: &Arena,
     trail: &Trail,
     place: usize,
 ) -> Result<(), AllocError>
@@ -128,7 +129,7 @@ fn drop_if_covered(
     if reason >= clauses.len() || !marks.is_marked(p.var()) {
         return Ok(());
     }
-    if is_covered(marks, trail, clauses[reason].as_slice(), p) {
+    if is_covered(marks, trail, clauses.clause(reason), p) {
         cut.hints.push(reason as u64 + 1)?;
         marks.unmark(p.var());
     }

@@ -4,6 +4,7 @@ ghost use Rattle.proof_log.specs.Formulas.{IsFormula};
 ghost use Rattle.sat_solver.specs.Searches.{IsQuiet, IsFalseAt, AllSet};
 ghost use Rattle.sat_solver.specs.Answers.{IsAnswer, IsSpent, formula_of, answer_of};
 
+use crate::counts::Counts;
 use crate::engines::Engine;
 use crate::restarts::Restarts;
 use proof_log::{DerivStep, Derivation, Formula, Model};
@@ -21,6 +22,13 @@ pub enum Answer {
     Spent(Derivation),
 }
 
+/// An answer, and what the search did for it.
+#[derive(Debug, Drop)]
+pub struct Solved {
+    pub answer: Answer,
+    pub counts: Counts,
+}
+
 /// Looks for a model of the formula. The budget bounds the clauses that are learnt; conflicts at
 /// level 0 count against none. The search goes on after the last one, until the next conflict above
 /// level 0.
@@ -31,10 +39,23 @@ pub fn solve(alloc: Global, formula: &Formula, budget: u64) -> Result<Answer, Al
     // There are 3 ^ vars clauses without complementary literals, and each step of a log is new.
     ensures never_spent { 3 ^ formula.now.vars ≤ budget → IfOk result (λ a. IsSpent a → ⊥) }
 {
+    let solved = solve_counted(alloc, formula, budget)?;
+    Ok(solved.answer)
+}
+
+/// The same, with what the search did.
+pub fn solve_counted(alloc: Global, formula: &Formula, budget: u64) -> Result<Solved, AllocError>
+    requires { IsFormula formula.now }
+    ensures answer { IfOk result (λ s. IsAnswer formula.now budget s.answer) }
+    ensures never_spent { 3 ^ formula.now.vars ≤ budget → IfOk result (λ s. IsSpent s.answer → ⊥) }
+{
     let mut engine = Engine::load(alloc, formula)?;
     let mut steps = Seq::new(alloc);
     let end = log(alloc, &mut engine, budget, &mut steps)?;
-    Ok(answered(end, steps))
+    Ok(Solved {
+        answer: answered(end, steps),
+        counts: engine.counts(),
+    })
 }
 
 /// How a search with learning ends.

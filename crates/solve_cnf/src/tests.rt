@@ -23,49 +23,50 @@ const FOUR_PIGEONS: &str = "p cnf 12 22\n1 2 3 0 4 5 6 0 7 8 9 0 10 11 12 0\n\
     -3 -6 0 -3 -9 0 -3 -12 0 -6 -9 0 -6 -12 0 -9 -12 0\n";
 
 // The form of the competitions, judged by hand: a text, a budget, the status and what is told.
+// A propagation is a literal that a unit clause sets. Whatever variable of the pigeons is decided
+// first, five literals are set before two pigeons are in one hole.
 const ANSWERED: &[(&str, u64, u8, &str)] = &[
-    ("p cnf 0 0\n", 0, 10, "s SATISFIABLE\nv 0\n"),
+    (
+        "p cnf 0 0\n",
+        0,
+        10,
+        "c conflicts 0\nc propagations 0\ns SATISFIABLE\nv 0\n",
+    ),
     (
         "p cnf 2 2\n1 0\n-1 -2 0\n",
         0,
         10,
-        "s SATISFIABLE\nv 1 -2 0\n",
+        "c conflicts 0\nc propagations 2\ns SATISFIABLE\nv 1 -2 0\n",
     ),
     (
         "c a\np\tcnf  2 2\r\n 1 \n\n0 -1\t-2 0",
         0,
         10,
-        "s SATISFIABLE\nv 1 -2 0\n",
+        "c conflicts 0\nc propagations 2\ns SATISFIABLE\nv 1 -2 0\n",
     ),
     (
         "p cnf 1 2\n1 -1 1 0\n1 1 0\n",
         0,
         10,
-        "s SATISFIABLE\nv 1 0\n",
+        "c conflicts 0\nc propagations 1\ns SATISFIABLE\nv 1 0\n",
     ),
     (
         "p cnf 1 2\n1 0\n-1 0\n",
         0,
         20,
-        "c clauses learnt 0\nc steps 1\ns UNSATISFIABLE\n",
+        "c conflicts 1\nc propagations 1\nc clauses learnt 0\nc steps 1\ns UNSATISFIABLE\n",
     ),
     (
         "p cnf 3 1\n0\n",
         9,
         20,
-        "c clauses learnt 0\nc steps 1\ns UNSATISFIABLE\n",
+        "c conflicts 1\nc propagations 0\nc clauses learnt 0\nc steps 1\ns UNSATISFIABLE\n",
     ),
     (
         THREE_PIGEONS,
         0,
         0,
-        "c clauses learnt 0\nc steps 0\ns UNKNOWN\n",
-    ),
-    (
-        FOUR_PIGEONS,
-        1,
-        0,
-        "c clauses learnt 1\nc steps 1\ns UNKNOWN\n",
+        "c conflicts 1\nc propagations 5\nc clauses learnt 0\nc steps 0\ns UNKNOWN\n",
     ),
 ];
 
@@ -76,6 +77,20 @@ fn texts_are_answered(rt: HostRuntime) -> Result<(), Fail> {
         assert_eq!(rt; told.status, *status, "{text}");
         assert_eq!(rt; told.text.as_str(), *want);
     }
+    Ok(())
+}
+
+// The conflict after the last clause that the budget allows is counted too.
+#[test]
+fn a_spent_budget_is_told(rt: HostRuntime) -> Result<(), Fail> {
+    let told = told(rt.alloc(), FOUR_PIGEONS, 1)?;
+    assert_eq!(rt; told.status, 0);
+    assert!(rt; told.text.as_str().starts_with("c conflicts 2\n"));
+    assert!(rt;
+        told.text
+            .as_str()
+            .ends_with("c clauses learnt 1\nc steps 1\ns UNKNOWN\n")
+    );
     Ok(())
 }
 

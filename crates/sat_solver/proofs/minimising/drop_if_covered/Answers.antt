@@ -1,5 +1,5 @@
-use Rattle.std.proofs.Common.{◌≡◌, ◌∙◌, ◌<◌, ◌&&◌, not, eqb, ℕ, List, true, length, get_or, take, refl, ap, sym, subst, arith}
-use Rattle.std.proofs.lemmas.List.{get_or_read}
+use Rattle.std.proofs.Common.{◌≡◌, ◌∙◌, ◌<◌, ◌&&◌, not, eqb, ℕ, List, [], true, length, get_or, take, refl, ap, sym, subst, arith}
+use Rattle.std.proofs.lemmas.List.{get_or_default, get_or_read}
 use Rattle.std.proofs.lemmas.Option.{slice_get_read}
 use Rattle.proof_log.specs.Clauses.{is_set, IsNormal}
 use Rattle.sat_solver.specs.Cuts.{IsCovered}
@@ -40,20 +40,21 @@ returns-in_ok-push-clause-asserting c =
     let at = c.args.place in
     let p = c.index-lits-place.result in
     let reason = get_or c.reasons.result.now at 0 in
-    let clause = c.index-clauses-reason.result in
+    let clause = c.clause.result.now in
+    let within : reason < length clauses = omega (arith, c.if-reason-len.false, c.len.ensures.value) in
+    let clause_is : clause ≡ get_or clauses reason clause = c.clause.ensures ∙ get_or_default clauses reason [] clause within in
     let long : at < length lits = omega (arith, c.requires.before, c.requires.within) in
     let p_is : p ≡ get_or lits at 0 =
     get_or_read c.lits.result.now at p (omega (arith, long, ap length c.lits.ensures.value)) c.index-lits-place.is 0
     ∙ ap (λ xs. get_or xs at 0) c.lits.ensures.value in
     let early : is_set (take cut.start lits) p ≡ true = ap (is_set (take cut.start lits)) p_is ∙ at_front lits at cut.start long c.requires.before in
     let N : List ℕ → Type 0 = IsNormal in
-    let normal : IsNormal clause = subst N (sym c.index-clauses-reason.is) (c.requires.normal reason clause c.if-reason-clauses.false) in
-    let C : List ℕ → Type 0 = λ xs. IsCovered (marked_lits old lits) xs p in
-    let covered : IsCovered (marked_lits old lits) clause p = subst C c.as_slice.ensures (c.if-is_covered.ensures.0 refl) in
+    let normal : IsNormal clause = subst N (sym clause_is) (c.requires.normal reason clause within) in
+    let covered : IsCovered (marked_lits old lits) clause p = c.if-is_covered.ensures.0 refl in
     let marked : true ≡ is_marked old c.var.result = c.if-not-is_marked.ensures in
     KeepsAsserting-covered clauses lits cut.base cut.start old c.unmark.new.self cut.hints.items c.push.new.self.items clause p reason
     c.lits-lits.ensures.distinct early
-    (slice_get_read clauses _ reason clause refl c.if-reason-clauses.false c.index-clauses-reason.is)
+    (slice_get_read clauses _ reason clause refl within clause_is)
     normal covered
     (ap (is_marked old) (sym c.var.ensures.value) ∙ sym marked)
     (λ v. c.unmark.ensures.marked v ∙ ap (λ n. is_marked old v && not (eqb n v)) c.var-then-is_covered.ensures.value)

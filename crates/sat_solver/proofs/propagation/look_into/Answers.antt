@@ -1,4 +1,4 @@
-use Rattle.std.proofs.Common.{◌≡◌, ◌∙◌, [], ap, get_or, sym}
+use Rattle.std.proofs.Common.{◌≡◌, ◌∙◌, ap, get_or, sym}
 use Rattle.std.proofs.lemmas.List.{get_or_default}
 use Rattle.proof_log.specs.Literals.{negated}
 use Rattle.proof_log.specs.Clauses.{is_set}
@@ -9,11 +9,11 @@ use Rattle.sat_solver.proofs.propagation.look_into.Goals as goal
 pub returns-in-Some : goal.returns-in-Some
 returns-in-Some c =
     let clauses = c.args.clauses.now in
-    let clause = c.as_slice-clause.result.now in
+    let clause = c.clause-clause.result.now in
     let at = c.in-Some.at in
     let here = c.in-Some.ensures in
     let clause_is : clause ≡ clause_at clauses c.args.place =
-    c.as_slice-clause.ensures ∙ (c.index-clauses-place.is ∙ get_or_default clauses c.args.place c.index-clauses-place.result [] c.requires) in
+    c.clause-clause.ensures in
     let q_is : c.index-clause-at.result ≡ get_or clause at 0 = c.index-clause-at.is ∙ get_or_default clause at c.index-clause-at.result 0 here.0 in (
       ap (λ xs. is_set xs c.index-clause-at.result) (sym clause_is) ∙ (ap (is_set clause) q_is ∙ is_set-at clause at here.0),
       λ e. here.1 (sym q_is ∙ e),

@@ -26,7 +26,7 @@ invariant_of-self c =
     (omega (arith, below, c.self.invariant.0.levels)) c.index.ensures 0 in
     let new : Queue = record { watches = e.queue.watches; done = c.index.result.now; looked = e.queue.looked; starts = e.queue.starts } in
     rw (c.truncate-then-level-len.ensures.items, c.truncate-then-level-len-2.ensures.items) (
-      IsEngine-back e.clauses.items e.trail c.truncate.new.self starts walks e.queue new c.args.level c.index-from.result.now c.self.invariant.0 below from_is
+      IsEngine-back e.clauses e.trail c.truncate.new.self starts walks e.queue new c.args.level c.index-from.result.now c.self.invariant.0 below from_is
           c.truncate.ensures.vars c.truncate.ensures.lits c.truncate.ensures.reasons
           (ap (λ n. record { watches = e.queue.watches; done = n; looked = e.queue.looked; starts = e.queue.starts }) walk_is),
       omega (arith, c.truncate.ensures.vars, c.truncate-then-level-len.ensures.capacity, c.self.invariant.1),

@@ -14,8 +14,8 @@ invariant_of-result c =
     let N : List (List ℕ) → Type 0 = All IsNormal in
     let Q : List (List ℕ) → Type 0 = λ cs. IsQueued cs (record { vars = vars; lits = []; reasons = [] }) c.in_ok-queue.queue in
     rw (c.in_ok-trail.ensures, c.in_ok-starts.ensures.items, c.in_ok-walks.ensures.items) (
-      IsEngine-start c.in_ok-clauses.clauses.items vars c.in_ok-queue.queue (subst V (sym same) c.requires.in_vars)
-          (subst N (sym same) c.requires.normal) (subst Q c.deref.ensures.value c.in_ok-queue.ensures),
+      IsEngine-start c.in_ok-clauses.clauses vars c.in_ok-queue.queue (subst V (sym same) c.requires.in_vars)
+          (subst N (sym same) c.requires.normal) (subst Q (c.as_slice-2.ensures ∙ sym same) c.in_ok-queue.ensures),
       omega (arith, c.in_ok-starts.ensures.capacity),
       omega (arith, c.in_ok-walks.ensures.capacity),
       c.in_ok-activities.ensures,

@@ -5,26 +5,26 @@ use Rattle.sat_solver.proofs.Settling.{Propagates-from_extends}
 use Rattle.sat_solver.proofs.engines.Engine.propagate.Goals as goal
 
 pub settle-conflict-requires-clause-in_vars : goal.settle-conflict-requires-clause-in_vars
-settle-conflict-requires-clause-in_vars c = rw c.deref.ensures.value c.self.invariant.0.search.in_vars
+settle-conflict-requires-clause-in_vars c = c.self.invariant.0.search.in_vars
 
 pub settle-conflict-requires-clause-normal : goal.settle-conflict-requires-clause-normal
-settle-conflict-requires-clause-normal c = rw c.deref.ensures.value c.self.invariant.0.normal
+settle-conflict-requires-clause-normal c = c.self.invariant.0.normal
 
 pub settle-conflict-requires-clause-queued : goal.settle-conflict-requires-clause-queued
-settle-conflict-requires-clause-queued c = rw c.deref.ensures.value c.self.invariant.0.queued
+settle-conflict-requires-clause-queued c = c.self.invariant.0.queued
 
 pub invariant_of-self : goal.invariant_of-self
 invariant_of-self c =
     let e = c.self.inside in
-    let s = rw c.deref.ensures.value at c.settle-conflict.ensures in (
-      IsEngine-settle e.clauses.items e.trail _ e.starts.items e.walks.items e.queue _ c.self.invariant.0 s.settles,
+    let s = c.settle-conflict.ensures in (
+      IsEngine-settle e.clauses e.trail _ e.starts.items e.walks.items e.queue _ c.self.invariant.0 s.settles,
       omega (arith, s.settles.extends.vars, c.self.invariant.1),
       omega (arith, s.settles.extends.vars, c.self.invariant.2),
-      AreWaiting-extends e.clauses.items e.trail _ e.activities.waiting s.settles.extends c.self.invariant.3,
+      AreWaiting-extends e.clauses e.trail _ e.activities.waiting s.settles.extends c.self.invariant.3,
       omega (arith, s.settles.extends.vars, c.self.invariant.4),
     )
 
 pub returns-clause-propagates : goal.returns-clause-propagates
 returns-clause-propagates c =
-    let s = rw c.deref.ensures.value at c.settle-conflict.ensures in
-    rw (← c.self.view_is) (Propagates-from_extends c.self.inside.clauses.items c.self.inside.trail _ s.settles.extends)
+    let s = c.settle-conflict.ensures in
+    rw (← c.self.view_is) (Propagates-from_extends c.self.inside.clauses c.self.inside.trail _ s.settles.extends)

@@ -30,6 +30,6 @@ returns-clause-model c =
     let all : c.loop-var.var - 1 ≡ t.vars = omega (arith, c.vars-var-end.ensures.value) in
     let V : ℕ → Type 0 = λ n. ValuesOf t.lits n c.loop-var.values in
     rw (← c.self.view_is)
-    (model_from_set t.vars c.self.inside.clauses.items t.lits c.loop-var.values c.self.invariant.0.search.in_vars
+    (model_from_set t.vars c.self.inside.clauses t.lits c.loop-var.values c.self.invariant.0.search.in_vars
     (rw (← c.self.view_is) at c.requires.quiet) (rw (← c.self.view_is) at c.requires.set)
     c.lits-lits.ensures.distinct (subst V all c.loop-var.invariant))

@@ -11,7 +11,7 @@ invariant_of-self c =
     let from : c.args.from < length heads = omega (arith, length-map heads (walk links (length links)), rw (← c.self.view_is) at c.requires.from) in
     let to : c.args.to < length heads = omega (arith, length-map heads (walk links (length links)), rw (← c.self.view_is) at c.requires.to) in
     let head : c.index.result.now ≡ get_or heads c.args.from 0 = get_or_read heads c.args.from c.index.result.now from c.index.ensures 0 in
-    rw head (moved links heads c.args.from c.args.to c.self.invariant from to (rw (← c.self.view_is) at c.requires.empty)).0
+    (rw head (moved links heads c.args.from c.args.to c.self.invariant.0 from to (rw (← c.self.view_is) at c.requires.empty)).0, c.self.invariant.1)
 
 pub returns : goal.returns
 returns c =
@@ -20,5 +20,5 @@ returns c =
     let from : c.args.from < length heads = omega (arith, length-map heads (walk links (length links)), rw (← c.self.view_is) at c.requires.from) in
     let to : c.args.to < length heads = omega (arith, length-map heads (walk links (length links)), rw (← c.self.view_is) at c.requires.to) in
     let head : c.index.result.now ≡ get_or heads c.args.from 0 = get_or_read heads c.args.from c.index.result.now from c.index.ensures 0 in
-    let same = (moved links heads c.args.from c.args.to c.self.invariant from to (rw (← c.self.view_is) at c.requires.empty)).1 in
+    let same = (moved links heads c.args.from c.args.to c.self.invariant.0 from to (rw (← c.self.view_is) at c.requires.empty)).1 in
     rw (← c.self.view_is, head, same) refl

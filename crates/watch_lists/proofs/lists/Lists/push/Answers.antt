@@ -10,8 +10,11 @@ invariant_of-self c =
     let heads = c.self.inside.heads.items in
     let here : c.args.list < length heads = omega (arith, length-map heads (walk links (length links)), rw (← c.self.view_is) at c.requires.list) in
     let head : c.index.result.now ≡ get_or heads c.args.list 0 = get_or_read heads c.args.list c.index.result.now here c.index.ensures 0 in
-    rw head (pushed links heads c.args.list c.args.node c.self.invariant here (rw (← c.self.view_is) at c.requires.node)
-    (rw (← c.self.view_is) at c.requires.free)).0
+    rw head (
+      (pushed links heads c.args.list c.args.node c.self.invariant.0 here (rw (← c.self.view_is) at c.requires.node)
+          (rw (← c.self.view_is) at c.requires.free)).0,
+      omega (arith, length-set links c.args.node (get_or heads c.args.list 0), c.self.invariant.1),
+    )
 
 pub returns : goal.returns
 returns c =
@@ -19,7 +22,7 @@ returns c =
     let heads = c.self.inside.heads.items in
     let here : c.args.list < length heads = omega (arith, length-map heads (walk links (length links)), rw (← c.self.view_is) at c.requires.list) in
     let head : c.index.result.now ≡ get_or heads c.args.list 0 = get_or_read heads c.args.list c.index.result.now here c.index.ensures 0 in
-    let same = (pushed links heads c.args.list c.args.node c.self.invariant here (rw (← c.self.view_is) at c.requires.node)
+    let same = (pushed links heads c.args.list c.args.node c.self.invariant.0 here (rw (← c.self.view_is) at c.requires.node)
     (rw (← c.self.view_is) at c.requires.free)).1 in
     let links-new : List ℕ = set links c.args.node (get_or heads c.args.list 0) in
     let made : Linked = record { nodes = length links-new; lists = lists_of links-new (set heads c.args.list (c.args.node + 1)) } in

@@ -2,7 +2,7 @@ use Rattle.std.proofs.Common.{sym, subst}
 use Rattle.sat_solver.specs.Searches.{Search}
 use Rattle.sat_solver.specs.Answers.{IsAnswer, formula_of, answer_of}
 use Rattle.sat_solver.specs.declared.solving.Answer.{Answer}
-use Rattle.sat_solver.proofs.solving.solve.Goals as goal
+use Rattle.sat_solver.proofs.solving.solve_counted.Goals as goal
 
 pub returns-clause-answer : goal.returns-clause-answer
 returns-clause-answer c =
