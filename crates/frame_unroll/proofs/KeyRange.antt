@@ -4,7 +4,9 @@ use Rattle.std.proofs.Common.{refl, subst, arith, inl, inr, nat_lt}
 use Rattle.std.specs.Prelude.{slice_get, slice_index, ◌==◌, ◌&&◌, not}
 use Rattle.std.proofs.lemmas.Bool.{ltb-true}
 use Rattle.std.proofs.lemmas.Option.{slice_get_within}
+use Rattle.net_model.specs.Form.{value}
 use Rattle.net_model.specs.Judge.{judged_count}
+use Rattle.net_model.specs.Cycles.{reg_capture}
 use Rattle.net_model.specs.Netlist.{IsSound, IsGateInRange, IsRegInRange, AllBelow}
 use Rattle.net_model.specs.Fits.{Fits, IsStartIn, IsEndIn}
 use Rattle.net_model.specs.Pins.{is_in}
@@ -27,13 +29,16 @@ use Rattle.net_model.specs.Mentions.{reads_own}
 use Rattle.query_model.specs.Defined.{numbered, with_own, late_key, start_lit, capture_lit, late_capture_lit}
 use Rattle.query_model.specs.declared.keys.Key.{Key}
 use Rattle.query_model.specs.declared.keys.KeyLit.{KeyLit}
-use Rattle.query_model.proofs.Based.{placed, from_numbered}
+use Rattle.query_model.proofs.Based.{placed, in_place, from_numbered}
+use Rattle.query_model.specs.declared.keys.Coding.{Coding}
 use Rattle.frame_unroll.specs.declared.origins.Origin.{Origin}
 use Rattle.frame_unroll.specs.declared.origins.Origin.TheVariants.{Free, Gate as OfGate, Reg as OfReg, Toggle, Change, Differ, Stale}
 use Rattle.frame_unroll.specs.Origins.{gate_of, of_gate, base_origin, extra_origin, layer_origin, clause_origin, gate_base, reg_base, reads_of_origin}
 use Rattle.frame_unroll.specs.Origins.{on_rails, gate_late, reg_late, late_reads, reads_in_layer, claim_reads, clause_reads}
 use Rattle.frame_unroll.specs.Framed.{IsWithin}
 use Rattle.frame_unroll.specs.Found.{IsReached, Started, Read, AreKeysWithin}
+use Rattle.frame_unroll.specs.Counting.{counted}
+use Rattle.frame_unroll.proofs.Marks.{counted_place}
 use Rattle.frame_unroll.proofs.OriginRange.{if_holds}
 
 abbrev pub IsLitWithin : Design → ℕ → KeyLit → Type 0
@@ -140,65 +145,78 @@ rails_within d claim cycles f each =
     both_within d cycles (f 0) (cond claim.hazard (f 1) []) (each 0 (omega arith))
     (if_holds (AreLitsWithin d cycles) claim.hazard (f 1) [] (λ hazard. each 1 (omega arith)) (λ plain. none_within d cycles))
 
-gate_base_within : (d : Design) (cycles c i : ℕ) (gate : Option Gate) → IsSound d → c ≤ cycles → slice_get d.gates i ≡ gate → AreLitsWithin d cycles
-    (gate_base d c gate)
-gate_base_within d cycles c i None sound in_time at = none_within d cycles
-gate_base_within d cycles c i (Some g) sound in_time at = nets_within d cycles c g.ins in_time
-    (All-at (IsGateInRange d) d.gates i g at sound.in_range.gates).ins
+-- those that count are among those that are read
+counted_within : (coding : Coding) (cell : (ℕ → Bool) → Bool) (d : Design) (cycles : ℕ) (reads : List KeyLit) → AreLitsWithin d cycles reads
+    → AreLitsWithin d cycles (counted coding cell reads)
+counted_within coding cell d cycles reads all l has = let at = counted_place coding cell reads l has in all l (in_place l reads at.0 at.1)
 
-reg_base_within : (d : Design) (cycles c r : ℕ) (reg : Option Reg) → IsSound d → c ≤ cycles → slice_get d.regs r ≡ reg → AreLitsWithin d cycles
-    (reg_base d c r reg)
-reg_base_within d cycles c r None sound in_time at = none_within d cycles
-reg_base_within d cycles c r (Some reg) sound in_time at =
-    own_within d cycles reg (lit true (bit_key d c r)) (map (read_base d c) reg.ins) (bit_within d cycles c r in_time (slice_get_within d.regs r reg at))
-    (nets_within d cycles c reg.ins in_time (All-at (IsRegInRange d) d.regs r reg at sound.in_range.regs).ins)
+gate_base_within : (coding : Coding) (d : Design) (cycles c i : ℕ) (gate : Option Gate) → IsSound d → c ≤ cycles → slice_get d.gates i ≡ gate
+    → AreLitsWithin d cycles
+    (gate_base coding d c gate)
+gate_base_within coding d cycles c i None sound in_time at = none_within d cycles
+gate_base_within coding d cycles c i (Some g) sound in_time at =
+    counted_within coding (value g.func) d cycles (map (read_base d c) g.ins)
+    (nets_within d cycles c g.ins in_time (All-at (IsGateInRange d) d.gates i g at sound.in_range.gates).ins)
 
-base_reads_within : (d : Design) (cycles : ℕ) (k : Key) (origin : Origin) → IsSound d → k.cycle ≤ cycles → AreLitsWithin d cycles (reads_of_origin d k origin)
-base_reads_within d cycles k Free sound in_time = none_within d cycles
-base_reads_within d cycles k (OfGate i) sound in_time = gate_base_within d cycles k.cycle i (slice_get d.gates i) sound in_time refl
-base_reads_within d cycles k (OfReg r) sound in_time = reg_base_within d cycles (k.cycle - 1) r (slice_get d.regs r) sound (omega arith) refl
-base_reads_within d cycles k Toggle sound in_time = none_within d cycles
-base_reads_within d cycles k Change sound in_time = none_within d cycles
-base_reads_within d cycles k Differ sound in_time = none_within d cycles
-base_reads_within d cycles k (Stale r) sound in_time = none_within d cycles
+reg_base_within : (coding : Coding) (d : Design) (cycles c r : ℕ) (reg : Option Reg) → IsSound d → c ≤ cycles → slice_get d.regs r ≡ reg
+    → AreLitsWithin d cycles
+    (reg_base coding d c r reg)
+reg_base_within coding d cycles c r None sound in_time at = none_within d cycles
+reg_base_within coding d cycles c r (Some reg) sound in_time at =
+    counted_within coding (reg_capture reg) d cycles (with_own reg (lit true (bit_key d c r)) (map (read_base d c) reg.ins))
+    (own_within d cycles reg (lit true (bit_key d c r)) (map (read_base d c) reg.ins) (bit_within d cycles c r in_time (slice_get_within d.regs r reg at))
+    (nets_within d cycles c reg.ins in_time (All-at (IsRegInRange d) d.regs r reg at sound.in_range.regs).ins))
 
-gate_late_within : (d : Design) (claim : Claim) (moved : List (List Bool)) (cycles c l i : ℕ) (gate : Option Gate) → IsSound d → c ≤ cycles
-    → suc l ≤ 5 → slice_get d.gates i ≡ gate → AreLitsWithin d cycles (gate_late d claim moved c l i gate)
-gate_late_within d claim moved cycles c l i None sound in_time in_layers at = none_within d cycles
-gate_late_within d claim moved cycles c l i (Some g) sound in_time in_layers at =
+base_reads_within : (coding : Coding) (d : Design) (cycles : ℕ) (k : Key) (origin : Origin) → IsSound d → k.cycle ≤ cycles
+    → AreLitsWithin d cycles (reads_of_origin coding d k origin)
+base_reads_within coding d cycles k Free sound in_time = none_within d cycles
+base_reads_within coding d cycles k (OfGate i) sound in_time = gate_base_within coding d cycles k.cycle i (slice_get d.gates i) sound in_time refl
+base_reads_within coding d cycles k (OfReg r) sound in_time = reg_base_within coding d cycles (k.cycle - 1) r (slice_get d.regs r) sound (omega arith) refl
+base_reads_within coding d cycles k Toggle sound in_time = none_within d cycles
+base_reads_within coding d cycles k Change sound in_time = none_within d cycles
+base_reads_within coding d cycles k Differ sound in_time = none_within d cycles
+base_reads_within coding d cycles k (Stale r) sound in_time = none_within d cycles
+
+gate_late_within : (coding : Coding) (d : Design) (claim : Claim) (moved : List (List Bool)) (cycles c l i : ℕ) (gate : Option Gate) → IsSound d → c ≤ cycles
+    → suc l ≤ 5 → slice_get d.gates i ≡ gate → AreLitsWithin d cycles (gate_late coding d claim moved c l i gate)
+gate_late_within coding d claim moved cycles c l i None sound in_time in_layers at = none_within d cycles
+gate_late_within coding d claim moved cycles c l i (Some g) sound in_time in_layers at =
     let range = All-at (IsGateInRange d) d.gates i g at sound.in_range.gates in
-    rails_within d claim cycles (λ rail. numbered (λ j n. read_pin d claim moved c (suc l) rail (GateIn i j) n) 0 g.ins
-    ++ lit true (key c (suc l) rail g.out) ∷ [])
-    (λ rail on_rail. both_within d cycles (numbered (λ j n. read_pin d claim moved c (suc l) rail (GateIn i j) n) 0 g.ins)
-    (lit true (key c (suc l) rail g.out) ∷ [])
-    (pins_within d claim moved cycles c (suc l) rail (GateIn i) g.ins in_time in_layers on_rail range.ins)
+    let pins : ℕ → List KeyLit = λ rail. numbered (λ j n. read_pin d claim moved c (suc l) rail (GateIn i j) n) 0 g.ins in
+    rails_within d claim cycles (λ rail. counted coding (value g.func) (pins rail) ++ lit true (key c (suc l) rail g.out) ∷ [])
+    (λ rail on_rail. both_within d cycles (counted coding (value g.func) (pins rail)) (lit true (key c (suc l) rail g.out) ∷ [])
+    (counted_within coding (value g.func) d cycles (pins rail)
+    (pins_within d claim moved cycles c (suc l) rail (GateIn i) g.ins in_time in_layers on_rail range.ins))
     (one_within d cycles (lit true (key c (suc l) rail g.out)) (net_within d cycles c (suc l) rail g.out in_time in_layers on_rail range.out)))
 
-reg_late_within : (d : Design) (claim : Claim) (moved : List (List Bool)) (cycles c r : ℕ) (reg : Option Reg) → IsSound d → Fits d claim → c ≤ cycles
-    → slice_get d.regs r ≡ reg → AreLitsWithin d cycles (reg_late d claim moved c r reg)
-reg_late_within d claim moved cycles c r None sound fits in_time at = none_within d cycles
-reg_late_within d claim moved cycles c r (Some reg) sound fits in_time at =
+reg_late_within : (coding : Coding) (d : Design) (claim : Claim) (moved : List (List Bool)) (cycles c r : ℕ) (reg : Option Reg) → IsSound d → Fits d claim
+    → c ≤ cycles
+    → slice_get d.regs r ≡ reg → AreLitsWithin d cycles (reg_late coding d claim moved c r reg)
+reg_late_within coding d claim moved cycles c r None sound fits in_time at = none_within d cycles
+reg_late_within coding d claim moved cycles c r (Some reg) sound fits in_time at =
     let range = All-at (IsRegInRange d) d.regs r reg at sound.in_range.regs in
     let few = fits.few in
     let last = length claim.through + 1 in
     let pins : ℕ → List KeyLit = λ rail. numbered (λ j n. read_pin d claim moved c last rail (RegIn r j) n) 0 reg.ins in
-    rails_within d claim cycles (λ rail. with_own reg (lit true (bit_key d c r)) (pins rail) ++ lit true (late_key d claim c rail) ∷ [])
-    (λ rail on_rail. both_within d cycles (with_own reg (lit true (bit_key d c r)) (pins rail)) (lit true (late_key d claim c rail) ∷ [])
+    let reads : ℕ → List KeyLit = λ rail. with_own reg (lit true (bit_key d c r)) (pins rail) in
+    rails_within d claim cycles (λ rail. counted coding (reg_capture reg) (reads rail) ++ lit true (late_key d claim c rail) ∷ [])
+    (λ rail on_rail. both_within d cycles (counted coding (reg_capture reg) (reads rail)) (lit true (late_key d claim c rail) ∷ [])
+    (counted_within coding (reg_capture reg) d cycles (reads rail)
     (own_within d cycles reg (lit true (bit_key d c r)) (pins rail) (bit_within d cycles c r in_time (slice_get_within d.regs r reg at))
-    (pins_within d claim moved cycles c last rail (RegIn r) reg.ins in_time (omega arith) on_rail range.ins))
+    (pins_within d claim moved cycles c last rail (RegIn r) reg.ins in_time (omega arith) on_rail range.ins)))
     (one_within d cycles (lit true (late_key d claim c rail)) (late_within d claim cycles c rail fits in_time on_rail)))
 
-late_reads_within : (d : Design) (claim : Claim) (moved : List (List Bool)) (cycles : ℕ) (k : Key) (l : ℕ) (origin : Origin) → IsSound d
-    → Fits d claim → k.cycle ≤ cycles → suc l ≤ 5 → AreLitsWithin d cycles (late_reads d claim moved k l origin)
-late_reads_within d claim moved cycles k l Free sound fits in_time in_layers = none_within d cycles
-late_reads_within d claim moved cycles k l (OfGate i) sound fits in_time in_layers = gate_late_within d claim moved cycles k.cycle l i
+late_reads_within : (coding : Coding) (d : Design) (claim : Claim) (moved : List (List Bool)) (cycles : ℕ) (k : Key) (l : ℕ) (origin : Origin) → IsSound d
+    → Fits d claim → k.cycle ≤ cycles → suc l ≤ 5 → AreLitsWithin d cycles (late_reads coding d claim moved k l origin)
+late_reads_within coding d claim moved cycles k l Free sound fits in_time in_layers = none_within d cycles
+late_reads_within coding d claim moved cycles k l (OfGate i) sound fits in_time in_layers = gate_late_within coding d claim moved cycles k.cycle l i
     (slice_get d.gates i) sound in_time in_layers refl
-late_reads_within d claim moved cycles k l (OfReg r) sound fits in_time in_layers = reg_late_within d claim moved cycles k.cycle r
+late_reads_within coding d claim moved cycles k l (OfReg r) sound fits in_time in_layers = reg_late_within coding d claim moved cycles k.cycle r
     (slice_get d.regs r) sound fits in_time refl
-late_reads_within d claim moved cycles k l Toggle sound fits in_time in_layers = none_within d cycles
-late_reads_within d claim moved cycles k l Change sound fits in_time in_layers = none_within d cycles
-late_reads_within d claim moved cycles k l Differ sound fits in_time in_layers = none_within d cycles
-late_reads_within d claim moved cycles k l (Stale r) sound fits in_time in_layers = none_within d cycles
+late_reads_within coding d claim moved cycles k l Toggle sound fits in_time in_layers = none_within d cycles
+late_reads_within coding d claim moved cycles k l Change sound fits in_time in_layers = none_within d cycles
+late_reads_within coding d claim moved cycles k l Differ sound fits in_time in_layers = none_within d cycles
+late_reads_within coding d claim moved cycles k l (Stale r) sound fits in_time in_layers = none_within d cycles
 
 start_within : (d : Design) (cycles c : ℕ) (start : Start) → IsSound d → IsStartIn d start → c ≤ cycles → IsLitWithin d cycles (start_lit d start c)
 start_within d cycles c (RegStart r) sound is in_time = bit_within d cycles c r in_time is
@@ -252,9 +270,9 @@ cycle_before d claim moved cycles k =
     (λ above. if_holds P (nat_lt k.cycle cycles) extra Free (λ early. extra_before claim cycles k (k.point - (d.nets + length d.regs))
     (ltb-true k.cycle cycles early)) (λ late. tt)))
 
-differ_within : (d : Design) (claim : Claim) (moved : List (List Bool)) (cycles : ℕ) (k : Key) → IsSound d → Fits d claim → k.cycle < cycles
-    → AreLitsWithin d cycles (reads_in_layer d claim moved k 0 Differ)
-differ_within d claim moved cycles k sound fits early =
+differ_within : (coding : Coding) (d : Design) (claim : Claim) (moved : List (List Bool)) (cycles : ℕ) (k : Key) → IsSound d → Fits d claim → k.cycle < cycles
+    → AreLitsWithin d cycles (reads_in_layer coding d claim moved k 0 Differ)
+differ_within coding d claim moved cycles k sound fits early =
     let late = late_capture_lit d claim moved k.cycle 1 claim.end in
     let capture = capture_lit d claim.end k.cycle in
     two_within d cycles (late_capture_lit d claim moved k.cycle 0 claim.end) (cond claim.hazard late capture)
@@ -263,48 +281,50 @@ differ_within d claim moved cycles k sound fits early =
     fits.end_ (omega arith) (omega arith))
     (λ plain. capture_within d cycles k.cycle claim.end sound fits.end_ early))
 
-cycle_reads_within : (d : Design) (claim : Claim) (moved : List (List Bool)) (cycles : ℕ) (k : Key) (origin : Origin) → IsSound d → Fits d claim
-    → k.cycle ≤ cycles → IsBeforeLast cycles k origin → AreLitsWithin d cycles (reads_in_layer d claim moved k 0 origin)
-cycle_reads_within d claim moved cycles k Free sound fits in_time before = none_within d cycles
-cycle_reads_within d claim moved cycles k (OfGate i) sound fits in_time before = base_reads_within d cycles k (OfGate i) sound in_time
-cycle_reads_within d claim moved cycles k (OfReg r) sound fits in_time before = base_reads_within d cycles k (OfReg r) sound in_time
-cycle_reads_within d claim moved cycles k Toggle sound fits in_time before =
+cycle_reads_within : (coding : Coding) (d : Design) (claim : Claim) (moved : List (List Bool)) (cycles : ℕ) (k : Key) (origin : Origin) → IsSound d
+    → Fits d claim
+    → k.cycle ≤ cycles → IsBeforeLast cycles k origin → AreLitsWithin d cycles (reads_in_layer coding d claim moved k 0 origin)
+cycle_reads_within coding d claim moved cycles k Free sound fits in_time before = none_within d cycles
+cycle_reads_within coding d claim moved cycles k (OfGate i) sound fits in_time before = base_reads_within coding d cycles k (OfGate i) sound in_time
+cycle_reads_within coding d claim moved cycles k (OfReg r) sound fits in_time before = base_reads_within coding d cycles k (OfReg r) sound in_time
+cycle_reads_within coding d claim moved cycles k Toggle sound fits in_time before =
     two_within d cycles (start_lit d claim.start k.cycle) (start_lit d claim.start (k.cycle - 1))
     (start_within d cycles k.cycle claim.start sound fits.start in_time)
     (start_within d cycles (k.cycle - 1) claim.start sound fits.start (omega arith))
-cycle_reads_within d claim moved cycles k Change sound fits in_time before =
+cycle_reads_within coding d claim moved cycles k Change sound fits in_time before =
     two_within d cycles (capture_lit d claim.end k.cycle) (capture_lit d claim.end (k.cycle - 1))
     (capture_within d cycles k.cycle claim.end sound fits.end_ before)
     (capture_within d cycles (k.cycle - 1) claim.end sound fits.end_ (omega arith))
-cycle_reads_within d claim moved cycles k Differ sound fits in_time before = differ_within d claim moved cycles k sound fits before
-cycle_reads_within d claim moved cycles k (Stale r) sound fits in_time before =
+cycle_reads_within coding d claim moved cycles k Differ sound fits in_time before = differ_within coding d claim moved cycles k sound fits before
+cycle_reads_within coding d claim moved cycles k (Stale r) sound fits in_time before =
     two_within d cycles (start_lit d claim.start k.cycle) (start_lit d claim.start (k.cycle - r - 1))
     (start_within d cycles k.cycle claim.start sound fits.start in_time)
     (start_within d cycles (k.cycle - r - 1) claim.start sound fits.start (omega arith))
 
-layer_reads_within : (d : Design) (claim : Claim) (moved : List (List Bool)) (cycles : ℕ) (k : Key) (layer : ℕ) → IsSound d → Fits d claim
-    → k.cycle ≤ cycles → layer ≤ 5 → AreLitsWithin d cycles (reads_in_layer d claim moved k layer (layer_origin d claim moved cycles k layer))
-layer_reads_within d claim moved cycles k zero sound fits in_time in_layers =
-    cycle_reads_within d claim moved cycles k (layer_origin d claim moved cycles k 0) sound fits in_time (cycle_before d claim moved cycles k)
-layer_reads_within d claim moved cycles k (suc l) sound fits in_time in_layers =
-    late_reads_within d claim moved cycles k l (layer_origin d claim moved cycles k (suc l)) sound fits in_time in_layers
+layer_reads_within : (coding : Coding) (d : Design) (claim : Claim) (moved : List (List Bool)) (cycles : ℕ) (k : Key) (layer : ℕ) → IsSound d → Fits d claim
+    → k.cycle ≤ cycles → layer ≤ 5 → AreLitsWithin d cycles (reads_in_layer coding d claim moved k layer (layer_origin d claim moved cycles k layer))
+layer_reads_within coding d claim moved cycles k zero sound fits in_time in_layers =
+    cycle_reads_within coding d claim moved cycles k (layer_origin d claim moved cycles k 0) sound fits in_time (cycle_before d claim moved cycles k)
+layer_reads_within coding d claim moved cycles k (suc l) sound fits in_time in_layers =
+    late_reads_within coding d claim moved cycles k l (layer_origin d claim moved cycles k (suc l)) sound fits in_time in_layers
 
-claim_reads_within : (d : Design) (claim : Claim) (moved : List (List Bool)) (cycles : ℕ) (k : Key) → IsSound d → Fits d claim → IsWithin d cycles k
-    → AreLitsWithin d cycles (claim_reads d claim moved cycles k)
-claim_reads_within d claim moved cycles k sound fits is = layer_reads_within d claim moved cycles k k.layer sound fits is.cycle is.layer
+claim_reads_within : (coding : Coding) (d : Design) (claim : Claim) (moved : List (List Bool)) (cycles : ℕ) (k : Key) → IsSound d → Fits d claim
+    → IsWithin d cycles k
+    → AreLitsWithin d cycles (claim_reads coding d claim moved cycles k)
+claim_reads_within coding d claim moved cycles k sound fits is = layer_reads_within coding d claim moved cycles k k.layer sound fits is.cycle is.layer
 
 -- where it is asked about a claim
-pub claim_keys_within : (d : Design) (claim : Claim) (moved : List (List Bool)) (cycles : ℕ) (start : List Key) → IsSound d → Fits d claim
-    → AreKeysWithin d cycles start → (k : Key) → IsReached (claim_reads d claim moved cycles) start k → IsWithin d cycles k
-claim_keys_within d claim moved cycles start sound fits within m (Started k has) = within k has
-claim_keys_within d claim moved cycles start sound fits within m (Read j l from has) =
-    claim_reads_within d claim moved cycles j sound fits (claim_keys_within d claim moved cycles start sound fits within j from) l
-    (In-from_Contains (claim_reads d claim moved cycles j) l has)
+pub claim_keys_within : (coding : Coding) (d : Design) (claim : Claim) (moved : List (List Bool)) (cycles : ℕ) (start : List Key) → IsSound d → Fits d claim
+    → AreKeysWithin d cycles start → (k : Key) → IsReached (claim_reads coding d claim moved cycles) start k → IsWithin d cycles k
+claim_keys_within coding d claim moved cycles start sound fits within m (Started k has) = within k has
+claim_keys_within coding d claim moved cycles start sound fits within m (Read j l from has) =
+    claim_reads_within coding d claim moved cycles j sound fits (claim_keys_within coding d claim moved cycles start sound fits within j from) l
+    (In-from_Contains (claim_reads coding d claim moved cycles j) l has)
 
 -- and where a clause over register bits is
-pub clause_keys_within : (d : Design) (cycles : ℕ) (start : List Key) → IsSound d → AreKeysWithin d cycles start → (k : Key)
-    → IsReached (clause_reads d cycles) start k → IsWithin d cycles k
-clause_keys_within d cycles start sound within m (Started k has) = within k has
-clause_keys_within d cycles start sound within m (Read j l from has) =
-    base_reads_within d cycles j (clause_origin d cycles j) sound ((clause_keys_within d cycles start sound within j from).cycle) l
-    (In-from_Contains (clause_reads d cycles j) l has)
+pub clause_keys_within : (coding : Coding) (d : Design) (cycles : ℕ) (start : List Key) → IsSound d → AreKeysWithin d cycles start → (k : Key)
+    → IsReached (clause_reads coding d cycles) start k → IsWithin d cycles k
+clause_keys_within coding d cycles start sound within m (Started k has) = within k has
+clause_keys_within coding d cycles start sound within m (Read j l from has) =
+    base_reads_within coding d cycles j (clause_origin d cycles j) sound ((clause_keys_within coding d cycles start sound within j from).cycle) l
+    (In-from_Contains (clause_reads coding d cycles j) l has)

@@ -11,6 +11,10 @@ mod Layering
 pub mod Adding
 mod Rows
 mod OriginRange
+mod RowBits
+mod Marks
+pub mod Captured
+mod Tabled
 mod Saying
 pub mod Using
 pub mod UsingLate

@@ -7,6 +7,7 @@ use Rattle.net_model.specs.declared.netlist.Reg.{Reg}
 use Rattle.net_model.specs.declared.claims.Claim.{Claim}
 use Rattle.query_model.specs.declared.keys.Key.{Key}
 use Rattle.query_model.specs.declared.keys.KeyLit.{KeyLit}
+use Rattle.query_model.specs.declared.keys.Coding.{Coding}
 use Rattle.frame_unroll.specs.declared.origins.Origin.{Origin}
 use Rattle.frame_unroll.specs.Origins.{on_rails, gate_late, reg_late, late_reads, reads_in_layer, claim_origin, claim_reads}
 use Rattle.frame_unroll.specs.Found.{gate_rail, reg_rail, with_keys}
@@ -23,19 +24,20 @@ pub rails_two : (claim : Claim) (keys : List Key) (f : ℕ → List KeyLit) → 
 rails_two claim keys f hazard =
     ap (λ (b : Bool). with_keys keys (f 0 ++ cond b (f 1) [])) hazard ∙ with_keys-append keys (f 0) (f 1)
 
-pub gate_late-rows : (d : Design) (claim : Claim) (moved : List (List Bool)) (c layer k : ℕ) (g : Gate) → 0 < layer → slice_get d.gates k ≡ Some g
-    → gate_late d claim moved c (layer - 1) k (slice_get d.gates k) ≡ on_rails claim (λ rail. gate_rail d claim moved c layer rail k g)
-gate_late-rows d claim moved c layer k g late at =
+pub gate_late-rows : (coding : Coding) (d : Design) (claim : Claim) (moved : List (List Bool)) (c layer k : ℕ) (g : Gate) → 0 < layer
+    → slice_get d.gates k ≡ Some g
+    → gate_late coding d claim moved c (layer - 1) k (slice_get d.gates k) ≡ on_rails claim (λ rail. gate_rail coding d claim moved c layer rail k g)
+gate_late-rows coding d claim moved c layer k g late at =
     let e : suc (layer - 1) ≡ layer = omega arith in
-    ap (gate_late d claim moved c (layer - 1) k) at ∙ ap (λ (m : ℕ). on_rails claim (λ rail. gate_rail d claim moved c m rail k g)) e
+    ap (gate_late coding d claim moved c (layer - 1) k) at ∙ ap (λ (m : ℕ). on_rails claim (λ rail. gate_rail coding d claim moved c m rail k g)) e
 
-pub reg_late-rows : (d : Design) (claim : Claim) (moved : List (List Bool)) (c r : ℕ) (reg : Reg) → slice_get d.regs r ≡ Some reg
-    → reg_late d claim moved c r (slice_get d.regs r) ≡ on_rails claim (λ rail. reg_rail d claim moved c rail r reg)
-reg_late-rows d claim moved c r reg at = ap (reg_late d claim moved c r) at
+pub reg_late-rows : (coding : Coding) (d : Design) (claim : Claim) (moved : List (List Bool)) (c r : ℕ) (reg : Reg) → slice_get d.regs r ≡ Some reg
+    → reg_late coding d claim moved c r (slice_get d.regs r) ≡ on_rails claim (λ rail. reg_rail coding d claim moved c rail r reg)
+reg_late-rows coding d claim moved c r reg at = ap (reg_late coding d claim moved c r) at
 
 -- what is read in a layer after the cycle itself
-pub late_reads_at : (d : Design) (claim : Claim) (moved : List (List Bool)) (cycles : ℕ) (k : Key) (origin : Origin) → 0 < k.layer
-    → origin ≡ claim_origin d claim moved cycles k → late_reads d claim moved k (k.layer - 1) origin ≡ claim_reads d claim moved cycles k
-late_reads_at d claim moved cycles k origin late is =
+pub late_reads_at : (coding : Coding) (d : Design) (claim : Claim) (moved : List (List Bool)) (cycles : ℕ) (k : Key) (origin : Origin) → 0 < k.layer
+    → origin ≡ claim_origin d claim moved cycles k → late_reads coding d claim moved k (k.layer - 1) origin ≡ claim_reads coding d claim moved cycles k
+late_reads_at coding d claim moved cycles k origin late is =
     let e : suc (k.layer - 1) ≡ k.layer = omega arith in
-    ap (λ (l : ℕ). reads_in_layer d claim moved k l origin) e ∙ ap (reads_in_layer d claim moved k k.layer) is
+    ap (λ (l : ℕ). reads_in_layer coding d claim moved k l origin) e ∙ ap (reads_in_layer coding d claim moved k k.layer) is

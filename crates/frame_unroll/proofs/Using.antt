@@ -25,7 +25,8 @@ use Rattle.query_model.proofs.Needs.{base_in}
 use Rattle.query_model.proofs.Based.{placed, in_place, from_numbered, in_numbered, from_unit_if}
 use Rattle.query_model.specs.declared.keys.Key.{Key}
 use Rattle.query_model.specs.declared.keys.KeyLit.{KeyLit}
-use Rattle.query_model.specs.declared.keys.Coding.TheVariants.{Rows}
+use Rattle.query_model.specs.declared.keys.Coding.{Coding}
+use Rattle.frame_unroll.specs.Counting.{counted}
 use Rattle.frame_unroll.specs.Origins.{Uses, gate_of, of_gate, base_origin, gate_base, reg_base, reads_of_origin, clause_reads}
 use Rattle.frame_unroll.specs.declared.origins.Origin.{Origin}
 use Rattle.frame_unroll.specs.declared.origins.Origin.TheVariants.{Free, Gate as OfGate, Reg as OfReg}
@@ -91,33 +92,37 @@ gate_own d i g sound at =
     there.1 ∙ ap Some e
 
 -- the definitions of a cycle
-base_of : (q : Query) (moved : List (List Bool)) (c : ℕ) (def : Definition) → c < q.cycles → In def (base_definitions Rows q.design q.live c)
-    → In def (definitions Rows q moved)
-base_of q moved c def lt has = base_in Rows q moved c lt def has
+base_of : (coding : Coding) (q : Query) (moved : List (List Bool)) (c : ℕ) (def : Definition) → c < q.cycles
+    → In def (base_definitions coding q.design q.live c)
+    → In def (definitions coding q moved)
+base_of coding q moved c def lt has = base_in coding q moved c lt def has
 
 zero_more : (r : ℕ) → 0 + r ≡ r
 zero_more r = omega arith
 
-gate_in : (d : Design) (live c i : ℕ) (g : Gate) → slice_get d.gates i ≡ Some g → In (gate_definition Rows d c g) (base_definitions Rows d live c)
-gate_in d live c i g at =
-    In-right (gate_definition Rows d c g) (flat_map (input_definition d live c) (below (length d.inputs))) _
-    (In-left (gate_definition Rows d c g) (map (gate_definition Rows d c) d.gates) _ (In-map (gate_definition Rows d c) g d.gates (in_place g d.gates i at)))
+gate_in : (coding : Coding) (d : Design) (live c i : ℕ) (g : Gate) → slice_get d.gates i ≡ Some g
+    → In (gate_definition coding d c g) (base_definitions coding d live c)
+gate_in coding d live c i g at =
+    In-right (gate_definition coding d c g) (flat_map (input_definition d live c) (below (length d.inputs))) _
+    (In-left (gate_definition coding d c g) (map (gate_definition coding d c) d.gates) _ (In-map (gate_definition coding d c) g d.gates
+    (in_place g d.gates i at)))
 
-bit_in : (d : Design) (live c r : ℕ) (reg : Reg) → slice_get d.regs r ≡ Some reg → In (bit_definition Rows d c r reg) (base_definitions Rows d live c)
-bit_in d live c r reg at =
-    In-right (bit_definition Rows d c r reg) (flat_map (input_definition d live c) (below (length d.inputs))) _
-    (In-right (bit_definition Rows d c r reg) (map (gate_definition Rows d c) d.gates) (numbered (bit_definition Rows d c) 0 d.regs)
-    (subst (λ (n : ℕ). In (bit_definition Rows d c n reg) (numbered (bit_definition Rows d c) 0 d.regs)) (zero_more r)
-    (in_numbered (bit_definition Rows d c) 0 d.regs r reg at)))
+bit_in : (coding : Coding) (d : Design) (live c r : ℕ) (reg : Reg) → slice_get d.regs r ≡ Some reg
+    → In (bit_definition coding d c r reg) (base_definitions coding d live c)
+bit_in coding d live c r reg at =
+    In-right (bit_definition coding d c r reg) (flat_map (input_definition d live c) (below (length d.inputs))) _
+    (In-right (bit_definition coding d c r reg) (map (gate_definition coding d c) d.gates) (numbered (bit_definition coding d c) 0 d.regs)
+    (subst (λ (n : ℕ). In (bit_definition coding d c n reg) (numbered (bit_definition coding d c) 0 d.regs)) (zero_more r)
+    (in_numbered (bit_definition coding d c) 0 d.regs r reg at)))
 
 -- a register's bit in the cycle after
 bit_at_next : (d : Design) (k : Key) (c r : ℕ) → c + 1 ≡ k.cycle → 0 ≡ k.layer → 0 ≡ k.rail → d.nets + r ≡ k.point → bit_key d (c + 1) r ≡ k
 bit_at_next d k c r ec el er ep = key_at k (c + 1) 0 0 (d.nets + r) ec el er ep
 
 -- the keys that a net or a bit reads are used
-pub base_used : (q : Query) (moved : List (List Bool)) (k j : Key) → k.layer ≡ 0 → k.rail ≡ 0
-    → Among (reads_of_origin q.design k (base_origin q.design q.cycles k)) j → Uses (definitions Rows q moved) k j
-base_used q moved k j layer rail =
+pub base_used : (coding : Coding) (q : Query) (moved : List (List Bool)) (k j : Key) → k.layer ≡ 0 → k.rail ≡ 0
+    → Among (reads_of_origin coding q.design k (base_origin q.design q.cycles k)) j → Uses (definitions coding q moved) k j
+base_used coding q moved k j layer rail =
     cond_both (nat_lt k.point d.nets) (cond (nat_lt k.cycle q.cycles) (of_gate (gate_of d.gates 0 k.point)) Free) bit_origin Goal
     (λ net. cond_both (nat_lt k.cycle q.cycles) (of_gate (gate_of d.gates 0 k.point)) Free Goal
     (λ early. of_net (ltb-true k.cycle q.cycles early) (gate_of d.gates 0 k.point) refl) (λ late a. absurd a.1))
@@ -131,18 +136,19 @@ base_used q moved k j layer rail =
     d = q.design
 
     Goal : Origin → Type 0
-    Goal origin = Among (reads_of_origin d k origin) j → Uses (definitions Rows q moved) k j
+    Goal origin = Among (reads_of_origin coding d k origin) j → Uses (definitions coding q moved) k j
 
     bit_origin : Origin
     bit_origin = cond (nat_lt 0 k.cycle && (nat_lt k.cycle (q.cycles + 1) && nat_lt k.point (d.nets + length d.regs))) (OfReg (k.point - d.nets)) Free
 
-    of_gate_at : (i : ℕ) (g : Gate) → k.cycle < q.cycles → slice_get d.gates i ≡ Some g → g.out ≡ k.point → Among (map (read_base d k.cycle) g.ins) j
-        → Uses (definitions Rows q moved) k j
+    of_gate_at : (i : ℕ) (g : Gate) → k.cycle < q.cycles → slice_get d.gates i ≡ Some g → g.out ≡ k.point
+        → Among (counted coding (value g.func) (map (read_base d k.cycle) g.ins)) j → Uses (definitions coding q moved) k j
     of_gate_at i g lt at out a =
-        use_by (definitions Rows q moved) (gate_definition Rows d k.cycle g) (map (read_base d k.cycle) g.ins) k j
-        (base_of q moved k.cycle (gate_definition Rows d k.cycle g) lt (gate_in d q.live k.cycle i g at))
+        use_by (definitions coding q moved) (gate_definition coding d k.cycle g)
+        (counted coding (value g.func) (map (read_base d k.cycle) g.ins)) k j
+        (base_of coding q moved k.cycle (gate_definition coding d k.cycle g) lt (gate_in coding d q.live k.cycle i g at))
         (inl (key_at k k.cycle 0 0 g.out refl (sym layer) (sym rail) out))
-        (plain_read (value g.func) (map (read_base d k.cycle) g.ins) (key k.cycle 0 0 g.out)) a
+        (plain_read coding (value g.func) (map (read_base d k.cycle) g.ins) (key k.cycle 0 0 g.out)) a
 
     of_net : k.cycle < q.cycles → (o : Option ℕ) → gate_of d.gates 0 k.point ≡ o → Goal (of_gate o)
     of_net lt None at a = absurd a.1
@@ -150,11 +156,11 @@ base_used q moved k j layer rail =
         let found = gate_found d.gates 0 k.point i at in
         let place : i ≡ found.0 = omega (arith, found.2) in
         let there : slice_get d.gates i ≡ Some found.1 = ap (slice_get d.gates) place ∙ found.3 in
-        of_gate_at i found.1 lt there found.4 (subst (λ (o : Option Gate). Among (gate_base d k.cycle o) j) there a)
+        of_gate_at i found.1 lt there found.4 (subst (λ (o : Option Gate). Among (gate_base coding d k.cycle o) j) there a)
 
     of_bit : d.nets ≤ k.point → 0 < k.cycle → k.cycle < q.cycles + 1 → (o : Option Reg) → slice_get d.regs (k.point - d.nets) ≡ o
         → Goal (OfReg (k.point - d.nets))
-    of_bit past some few None at a = absurd (subst (λ (o : Option Reg). Among (reg_base d (k.cycle - 1) (k.point - d.nets) o) j) at a).1
+    of_bit past some few None at a = absurd (subst (λ (o : Option Reg). Among (reg_base coding d (k.cycle - 1) (k.point - d.nets) o) j) at a).1
     of_bit past some few (Some reg) at a =
         let c : ℕ = k.cycle - 1 in
         let r : ℕ = k.point - d.nets in
@@ -162,17 +168,17 @@ base_used q moved k j layer rail =
         let next : c + 1 ≡ k.cycle = omega (arith, some) in
         let point : d.nets + r ≡ k.point = omega (arith, past) in
         let lt : c < q.cycles = omega (arith, some, few) in
-        use_by (definitions Rows q moved) (bit_definition Rows d c r reg) reads k j
-        (base_of q moved c (bit_definition Rows d c r reg) lt (bit_in d q.live c r reg at))
-        (inl (bit_at_next d k c r next (sym layer) (sym rail) point)) (plain_read (reg_capture reg) reads (bit_key d (c + 1) r))
-        (subst (λ (o : Option Reg). Among (reg_base d c r o) j) at a)
+        use_by (definitions coding q moved) (bit_definition coding d c r reg) (counted coding (reg_capture reg) reads) k j
+        (base_of coding q moved c (bit_definition coding d c r reg) lt (bit_in coding d q.live c r reg at))
+        (inl (bit_at_next d k c r next (sym layer) (sym rail) point)) (plain_read coding (reg_capture reg) reads (bit_key d (c + 1) r))
+        (subst (λ (o : Option Reg). Among (reg_base coding d c r o) j) at a)
 
 -- what a definition of a net or a bit tells of its key
-pub record BaseUse (d : Design) (cycles : ℕ) (k j : Key) : Type 0 where
+pub record BaseUse (coding : Coding) (d : Design) (cycles : ℕ) (k j : Key) : Type 0 where
   pub layer : k.layer ≡ 0
   pub rail : k.rail ≡ 0
   pub point : k.point < d.nets + length d.regs
-  pub only : (j ≡ k) ⊎ Among (reads_of_origin d k (base_origin d cycles k)) j
+  pub only : (j ≡ k) ⊎ Among (reads_of_origin coding d k (base_origin d cycles k)) j
 
 gate_origin : (d : Design) (cycles c i : ℕ) (g : Gate) → IsSound d → c < cycles → slice_get d.gates i ≡ Some g
     → base_origin d cycles (key c 0 0 g.out) ≡ OfGate i
@@ -191,9 +197,9 @@ bit_origin_is d cycles c r lt low =
     ∙ ap OfReg place
 
 -- a key that defines itself alone
-unit_use : (d : Design) (cycles : ℕ) (v : Bool) (out k j : Key) → out.layer ≡ 0 → out.rail ≡ 0 → out.point < d.nets → out ≡ k
-    → Mentions (unit v out).clauses j → BaseUse d cycles k j
-unit_use d cycles v out k j layer rail low same m =
+unit_use : (coding : Coding) (d : Design) (cycles : ℕ) (v : Bool) (out k j : Key) → out.layer ≡ 0 → out.rail ≡ 0 → out.point < d.nets → out ≡ k
+    → Mentions (unit v out).clauses j → BaseUse coding d cycles k j
+unit_use coding d cycles v out k j layer rail low same m =
     record {
       layer = ap (λ (x : Key). x.layer) (sym same) ∙ layer;
       rail = ap (λ (x : Key). x.rail) (sym same) ∙ rail;
@@ -204,9 +210,9 @@ unit_use d cycles v out k j layer rail low same m =
       ];
     }
 
-gate_use : (d : Design) (cycles c i : ℕ) (g : Gate) (k j : Key) → IsSound d → c < cycles → slice_get d.gates i ≡ Some g → key c 0 0 g.out ≡ k
-    → Mentions (gate_definition Rows d c g).clauses j → BaseUse d cycles k j
-gate_use d cycles c i g k j sound lt at same m = subst (λ (x : Key). BaseUse d cycles x j) same whole
+gate_use : (coding : Coding) (d : Design) (cycles c i : ℕ) (g : Gate) (k j : Key) → IsSound d → c < cycles → slice_get d.gates i ≡ Some g → key c 0 0 g.out ≡ k
+    → Mentions (gate_definition coding d c g).clauses j → BaseUse coding d cycles k j
+gate_use coding d cycles c i g k j sound lt at same m = subst (λ (x : Key). BaseUse coding d cycles x j) same whole
   where
     own : Key
     own = key c 0 0 g.out
@@ -214,25 +220,25 @@ gate_use d cycles c i g k j sound lt at same m = subst (λ (x : Key). BaseUse d 
     range : IsGateInRange d g
     range = All-at (IsGateInRange d) d.gates i g at sound.in_range.gates
 
-    read : Among (map (read_base d c) g.ins) j → Among (reads_of_origin d own (base_origin d cycles own)) j
-    read a = subst (λ (o : Origin). Among (reads_of_origin d own o) j) (sym (gate_origin d cycles c i g sound lt at))
-        (subst (λ (o : Option Gate). Among (gate_base d c o) j) (sym at) a)
+    read : Among (counted coding (value g.func) (map (read_base d c) g.ins)) j → Among (reads_of_origin coding d own (base_origin d cycles own)) j
+    read a = subst (λ (o : Origin). Among (reads_of_origin coding d own o) j) (sym (gate_origin d cycles c i g sound lt at))
+        (subst (λ (o : Option Gate). Among (gate_base coding d c o) j) (sym at) a)
 
-    whole : BaseUse d cycles own j
+    whole : BaseUse coding d cycles own j
     whole =
         record {
           layer = refl;
           rail = refl;
           point = omega (arith, range.out);
-          only = elim ((plain_read (value g.func) (map (read_base d c) g.ins) own).only j m) [
+          only = elim ((plain_read coding (value g.func) (map (read_base d c) g.ins) own).only j m) [
             | inl is ↦ elim is [ inl here ↦ inl (sym here) | inr none ↦ absurd none ]
             | inr a ↦ inr (read a)
           ];
         }
 
-bit_use : (d : Design) (cycles c r : ℕ) (reg : Reg) (k j : Key) → c < cycles → slice_get d.regs r ≡ Some reg → bit_key d (c + 1) r ≡ k
-    → Mentions (bit_definition Rows d c r reg).clauses j → BaseUse d cycles k j
-bit_use d cycles c r reg k j lt at same m = subst (λ (x : Key). BaseUse d cycles x j) same whole
+bit_use : (coding : Coding) (d : Design) (cycles c r : ℕ) (reg : Reg) (k j : Key) → c < cycles → slice_get d.regs r ≡ Some reg → bit_key d (c + 1) r ≡ k
+    → Mentions (bit_definition coding d c r reg).clauses j → BaseUse coding d cycles k j
+bit_use coding d cycles c r reg k j lt at same m = subst (λ (x : Key). BaseUse coding d cycles x j) same whole
   where
     own : Key
     own = bit_key d (c + 1) r
@@ -246,29 +252,31 @@ bit_use d cycles c r reg k j lt at same m = subst (λ (x : Key). BaseUse d cycle
     before : c ≡ c + 1 - 1
     before = omega arith
 
-    read : Among reads j → Among (reads_of_origin d own (base_origin d cycles own)) j
+    read : Among (counted coding (reg_capture reg) reads) j → Among (reads_of_origin coding d own (base_origin d cycles own)) j
     read a =
-        subst (λ (o : Origin). Among (reads_of_origin d own o) j) (sym (bit_origin_is d cycles c r lt low))
-        (subst (λ (n : ℕ). Among (reg_base d n r (slice_get d.regs r)) j) before (subst (λ (o : Option Reg). Among (reg_base d c r o) j) (sym at) a))
+        subst (λ (o : Origin). Among (reads_of_origin coding d own o) j) (sym (bit_origin_is d cycles c r lt low))
+        (subst (λ (n : ℕ). Among (reg_base coding d n r (slice_get d.regs r)) j) before (subst (λ (o : Option Reg). Among (reg_base coding d c r o) j)
+        (sym at) a))
 
-    whole : BaseUse d cycles own j
+    whole : BaseUse coding d cycles own j
     whole =
         record {
           layer = refl;
           rail = refl;
           point = omega (arith, low);
-          only = elim ((plain_read (reg_capture reg) reads own).only j m) [
+          only = elim ((plain_read coding (reg_capture reg) reads own).only j m) [
             | inl is ↦ elim is [ inl here ↦ inl (sym here) | inr none ↦ absurd none ]
             | inr a ↦ inr (read a)
           ];
         }
 
 -- the definitions of a cycle define nets and bits alone
-pub base_use : (d : Design) (live cycles c : ℕ) (def : Definition) (k j : Key) → IsSound d → c < cycles → In def (base_definitions Rows d live c)
-    → In k def.outs → Mentions def.clauses j → BaseUse d cycles k j
-base_use d live cycles c def k j sound lt has out m =
+pub base_use : (coding : Coding) (d : Design) (live cycles c : ℕ) (def : Definition) (k j : Key) → IsSound d → c < cycles
+    → In def (base_definitions coding d live c)
+    → In k def.outs → Mentions def.clauses j → BaseUse coding d cycles k j
+base_use coding d live cycles c def k j sound lt has out m =
     elim (In-cases def (flat_map (input_definition d live c) (below (length d.inputs)))
-    (map (gate_definition Rows d c) d.gates ++ numbered (bit_definition Rows d c) 0 d.regs) has) [
+    (map (gate_definition coding d c) d.gates ++ numbered (bit_definition coding d c) 0 d.regs) has) [
       | inl of_input ↦
           let at = from_flat (input_definition d live c) def (below (length d.inputs)) of_input in
           let i = at.0 in
@@ -278,17 +286,17 @@ base_use d live cycles c def k j sound lt has out m =
             | inl fixed ↦ let is = from_unit_if def (set_in d.fixed i) false net fixed in of_unit _ (slice_index d.inputs i) low is.2
             | inr reset ↦ let is = from_unit_if def (set_in d.resets i) (not (nat_lt c live)) net reset in of_unit _ (slice_index d.inputs i) low is.2
           ]
-      | inr rest ↦ elim (In-cases def (map (gate_definition Rows d c) d.gates) (numbered (bit_definition Rows d c) 0 d.regs) rest) [
+      | inr rest ↦ elim (In-cases def (map (gate_definition coding d c) d.gates) (numbered (bit_definition coding d c) 0 d.regs) rest) [
         | inl of_gates ↦
-            let of = from_map (gate_definition Rows d c) def d.gates of_gates in
+            let of = from_map (gate_definition coding d c) def d.gates of_gates in
             let place = placed of.0 d.gates of.1 in
-            gate_use d cycles c place.0 of.0 k j sound lt place.1 (single (key c 0 0 of.0.out)
+            gate_use coding d cycles c place.0 of.0 k j sound lt place.1 (single (key c 0 0 of.0.out)
             (subst (λ (x : Definition). In k x.outs) (sym of.2) out)) (subst (λ (x : Definition). Mentions x.clauses j) (sym of.2) m)
         | inr of_regs ↦
-            let of = from_numbered (bit_definition Rows d c) def 0 d.regs of_regs in
+            let of = from_numbered (bit_definition coding d c) def 0 d.regs of_regs in
             let place : 0 + of.0 ≡ of.0 = omega arith in
-            let is : bit_definition Rows d c of.0 of.1 ≡ def = ap (λ (n : ℕ). bit_definition Rows d c n of.1) (sym place) ∙ of.3 in
-            bit_use d cycles c of.0 of.1 k j lt of.2 (single (bit_key d (c + 1) of.0) (subst (λ (x : Definition). In k x.outs) (sym is) out))
+            let is : bit_definition coding d c of.0 of.1 ≡ def = ap (λ (n : ℕ). bit_definition coding d c n of.1) (sym place) ∙ of.3 in
+            bit_use coding d cycles c of.0 of.1 k j lt of.2 (single (bit_key d (c + 1) of.0) (subst (λ (x : Definition). In k x.outs) (sym is) out))
             (subst (λ (x : Definition). Mentions x.clauses j) (sym is) m)
       ]
     ]
@@ -297,34 +305,35 @@ base_use d live cycles c def k j sound lt has out m =
     single z (inl here) = here
     single z (inr none) = absurd none
 
-    of_unit : (v : Bool) (n : ℕ) → n < d.nets → unit v (key c 0 0 n) ≡ def → BaseUse d cycles k j
-    of_unit v n low is = unit_use d cycles v (key c 0 0 n) k j refl refl low
+    of_unit : (v : Bool) (n : ℕ) → n < d.nets → unit v (key c 0 0 n) ≡ def → BaseUse coding d cycles k j
+    of_unit v n low is = unit_use coding d cycles v (key c 0 0 n) k j refl refl low
         (single (key c 0 0 n) (subst (λ (x : Definition). In k x.outs) (sym is) out)) (subst (λ (x : Definition). Mentions x.clauses j) (sym is) m)
 
 -- where a clause over register bits is asked about
-pub clause_reads_used : (q : Query) (clause : InvClause) (moved : List (List Bool)) → q.question ≡ Breaks clause → (k : Key) (l : KeyLit)
-    → In l (clause_reads q.design q.cycles k) → Uses (definitions Rows q moved) k l.key
-clause_reads_used q clause moved asks k l has =
-    cond_both ((k.layer == 0) && (k.rail == 0)) (base_origin q.design q.cycles k) Free (λ origin. Among (reads_of_origin q.design k origin) l.key
-    → Uses (definitions Rows q moved) k l.key)
-    (λ both. let parts = and_parts (k.layer == 0) (k.rail == 0) both in base_used q moved k l.key (eqb-true k.layer 0 parts.0)
+pub clause_reads_used : (coding : Coding) (q : Query) (clause : InvClause) (moved : List (List Bool)) → q.question ≡ Breaks clause → (k : Key) (l : KeyLit)
+    → In l (clause_reads coding q.design q.cycles k) → Uses (definitions coding q moved) k l.key
+clause_reads_used coding q clause moved asks k l has =
+    cond_both ((k.layer == 0) && (k.rail == 0)) (base_origin q.design q.cycles k) Free (λ origin. Among (reads_of_origin coding q.design k origin) l.key
+    → Uses (definitions coding q moved) k l.key)
+    (λ both. let parts = and_parts (k.layer == 0) (k.rail == 0) both in base_used coding q moved k l.key (eqb-true k.layer 0 parts.0)
     (eqb-true k.rail 0 parts.1)) (λ other a. absurd a.1) (l, has, refl)
 
-pub clause_used_read : (q : Query) (clause : InvClause) (moved : List (List Bool)) → IsSound q.design → q.question ≡ Breaks clause → (k j : Key)
-    → Uses (definitions Rows q moved) k j → (j ≡ k) ⊎ Among (clause_reads q.design q.cycles k) j
-clause_used_read q clause moved sound asks k j (def, has, out, m) =
-    let at = from_flat (cycle_definitions Rows q moved) def (below q.cycles) (In-from_Contains (definitions Rows q moved) def has) in
-    let in_base : In def (base_definitions Rows q.design q.live at.0) =
-    elim (In-cases def (base_definitions Rows q.design q.live at.0) (question_definitions Rows q.design moved q.question at.0) at.2) [
+pub clause_used_read : (coding : Coding) (q : Query) (clause : InvClause) (moved : List (List Bool)) → IsSound q.design → q.question ≡ Breaks clause
+    → (k j : Key)
+    → Uses (definitions coding q moved) k j → (j ≡ k) ⊎ Among (clause_reads coding q.design q.cycles k) j
+clause_used_read coding q clause moved sound asks k j (def, has, out, m) =
+    let at = from_flat (cycle_definitions coding q moved) def (below q.cycles) (In-from_Contains (definitions coding q moved) def has) in
+    let in_base : In def (base_definitions coding q.design q.live at.0) =
+    elim (In-cases def (base_definitions coding q.design q.live at.0) (question_definitions coding q.design moved q.question at.0) at.2) [
       | inl base ↦ base
-      | inr of_question ↦ absurd (subst (λ w. In def (question_definitions Rows q.design moved w at.0)) asks of_question)
+      | inr of_question ↦ absurd (subst (λ w. In def (question_definitions coding q.design moved w at.0)) asks of_question)
     ] in
-    let used = base_use q.design q.live q.cycles at.0 def k j sound (below_less q.cycles at.0 at.1) in_base (In-from_Contains def.outs k out) m in
+    let used = base_use coding q.design q.live q.cycles at.0 def k j sound (below_less q.cycles at.0 at.1) in_base (In-from_Contains def.outs k out) m in
     elim used.only [
       | inl same ↦ inl same
       | inr a ↦
           let both : ((k.layer == 0) && (k.rail == 0)) ≡ true = and_from (k.layer == 0) (k.rail == 0) (eq-eqb k.layer 0 used.layer)
           (eq-eqb k.rail 0 used.rail) in
-          inr (subst (λ (o : Origin). Among (reads_of_origin q.design k o) j)
+          inr (subst (λ (o : Origin). Among (reads_of_origin coding q.design k o) j)
           (sym (cond-true ((k.layer == 0) && (k.rail == 0)) (base_origin q.design q.cycles k) Free both)) a)
     ]

@@ -33,11 +33,13 @@ use Rattle.query_model.proofs.Lists.{length-numbered}
 use Rattle.query_model.proofs.Based.{placed, in_place, from_numbered, in_numbered}
 use Rattle.query_model.specs.declared.keys.Key.{Key}
 use Rattle.query_model.specs.declared.keys.KeyLit.{KeyLit}
-use Rattle.query_model.specs.declared.keys.Coding.TheVariants.{Rows}
+use Rattle.query_model.specs.declared.keys.Coding.{Coding}
+use Rattle.frame_unroll.specs.Counting.{counted}
 use Rattle.frame_unroll.specs.Origins.{Uses, gate_of, of_gate, base_origin, extra_origin, end_origin, has_rail, late_origin, layer_origin}
 use Rattle.frame_unroll.specs.Origins.{reads_of_origin, gate_late, reg_late, reads_in_layer, claim_reads}
 use Rattle.frame_unroll.specs.declared.origins.Origin.{Origin}
 use Rattle.frame_unroll.specs.declared.origins.Origin.TheVariants.{Free, Reg as OfReg, Stale}
+use Rattle.frame_unroll.proofs.Marks.{counted_keys}
 use Rattle.frame_unroll.proofs.Saying.{Among, Among-left, Among-right, ReadsOf, plain_read, plain_out, rails_reads, rails_read, exclusive_read, both_read}
 use Rattle.frame_unroll.proofs.Saying.{edge_read, edge_outs}
 use Rattle.frame_unroll.proofs.Using.{key_at, use_by, gate_found, base_used}
@@ -46,54 +48,54 @@ pub zero_more : (r : ℕ) → 0 + r ≡ r
 zero_more r = omega arith
 
 -- a definition of the claim stands in the query's list
-pub claim_in : (q : Query) (claim : Claim) (offset clean : ℕ) (moved : List (List Bool)) (c : ℕ) (def : Definition)
-    → q.question ≡ Violates claim offset clean → c < q.cycles → In def (claim_definitions Rows q.design claim moved c)
-    → In def (definitions Rows q moved)
-claim_in q claim offset clean moved c def asks lt has =
-    In-flat (cycle_definitions Rows q moved) def c (below q.cycles) (In-below q.cycles c lt)
-    (In-right def (base_definitions Rows q.design q.live c) (question_definitions Rows q.design moved q.question c)
-    (subst (λ w. In def (question_definitions Rows q.design moved w c)) (sym asks) has))
+pub claim_in : (coding : Coding) (q : Query) (claim : Claim) (offset clean : ℕ) (moved : List (List Bool)) (c : ℕ) (def : Definition)
+    → q.question ≡ Violates claim offset clean → c < q.cycles → In def (claim_definitions coding q.design claim moved c)
+    → In def (definitions coding q moved)
+claim_in coding q claim offset clean moved c def asks lt has =
+    In-flat (cycle_definitions coding q moved) def c (below q.cycles) (In-below q.cycles c lt)
+    (In-right def (base_definitions coding q.design q.live c) (question_definitions coding q.design moved q.question c)
+    (subst (λ w. In def (question_definitions coding q.design moved w c)) (sym asks) has))
 
-layer_in : (d : Design) (claim : Claim) (moved : List (List Bool)) (c l : ℕ) (def : Definition) → l < length claim.through + 1
-    → In def (layer_definitions Rows d claim moved c l) → In def (claim_definitions Rows d claim moved c)
-layer_in d claim moved c l def lt has =
-    In-left def (flat_map (layer_definitions Rows d claim moved c) (below (length claim.through + 1)))
-    (end_definition Rows d claim moved c claim.end ++ extra_definitions d claim moved c)
-    (In-flat (layer_definitions Rows d claim moved c) def l (below (length claim.through + 1)) (In-below (length claim.through + 1) l lt) has)
+layer_in : (coding : Coding) (d : Design) (claim : Claim) (moved : List (List Bool)) (c l : ℕ) (def : Definition) → l < length claim.through + 1
+    → In def (layer_definitions coding d claim moved c l) → In def (claim_definitions coding d claim moved c)
+layer_in coding d claim moved c l def lt has =
+    In-left def (flat_map (layer_definitions coding d claim moved c) (below (length claim.through + 1)))
+    (end_definition coding d claim moved c claim.end ++ extra_definitions d claim moved c)
+    (In-flat (layer_definitions coding d claim moved c) def l (below (length claim.through + 1)) (In-below (length claim.through + 1) l lt) has)
 
-gate_in : (d : Design) (claim : Claim) (moved : List (List Bool)) (c l i : ℕ) (g : Gate) (def : Definition) → slice_get d.gates i ≡ Some g
-    → In def (layer_gate Rows d claim moved c l i g) → In def (layer_definitions Rows d claim moved c l)
-gate_in d claim moved c l i g def at has =
-    let layer : List (List Definition) = numbered (layer_gate Rows d claim moved c l) 0 d.gates in
+gate_in : (coding : Coding) (d : Design) (claim : Claim) (moved : List (List Bool)) (c l i : ℕ) (g : Gate) (def : Definition) → slice_get d.gates i ≡ Some g
+    → In def (layer_gate coding d claim moved c l i g) → In def (layer_definitions coding d claim moved c l)
+gate_in coding d claim moved c l i g def at has =
+    let layer : List (List Definition) = numbered (layer_gate coding d claim moved c l) 0 d.gates in
     In-right def (start_units d claim c l) (flat_map (λ x. x) layer)
-    (In-flat (λ x. x) def (layer_gate Rows d claim moved c l i g) layer
-    (subst (λ (n : ℕ). In (layer_gate Rows d claim moved c l n g) layer) (zero_more i)
-    (in_numbered (layer_gate Rows d claim moved c l) 0 d.gates i g at)) has)
+    (In-flat (λ x. x) def (layer_gate coding d claim moved c l i g) layer
+    (subst (λ (n : ℕ). In (layer_gate coding d claim moved c l n g) layer) (zero_more i)
+    (in_numbered (layer_gate coding d claim moved c l) 0 d.gates i g at)) has)
 
 -- what a gate's pins read in layer suc l on a rail
 abbrev pub gate_pins : Design → Claim → List (List Bool) → ℕ → ℕ → ℕ → Gate → ℕ → List KeyLit
 gate_pins d claim moved c l i g rail = numbered (λ p n. read_pin d claim moved c (suc l) rail (GateIn i p) n) 0 g.ins
 
-abbrev pub gate_plain : Design → Claim → List (List Bool) → ℕ → ℕ → ℕ → Gate → Definition
-gate_plain d claim moved c l i g = plain Rows (value g.func) (gate_pins d claim moved c l i g 0) (key c (suc l) 0 g.out)
+abbrev pub gate_plain : Coding → Design → Claim → List (List Bool) → ℕ → ℕ → ℕ → Gate → Definition
+gate_plain coding d claim moved c l i g = plain coding (value g.func) (gate_pins d claim moved c l i g 0) (key c (suc l) 0 g.out)
 
-abbrev pub gate_rails : Design → Claim → List (List Bool) → ℕ → ℕ → ℕ → Gate → Definition
-gate_rails d claim moved c l i g =
-    rails Rows (value g.func) (gate_pins d claim moved c l i g 0) (gate_pins d claim moved c l i g 1) (key c (suc l) 0 g.out) (key c (suc l) 1 g.out)
+abbrev pub gate_rails : Coding → Design → Claim → List (List Bool) → ℕ → ℕ → ℕ → Gate → Definition
+gate_rails coding d claim moved c l i g =
+    rails coding (value g.func) (gate_pins d claim moved c l i g 0) (gate_pins d claim moved c l i g 1) (key c (suc l) 0 g.out) (key c (suc l) 1 g.out)
 
-pub gate_layer : (d : Design) (claim : Claim) (moved : List (List Bool)) (c l i : ℕ) (g : Gate) → has_own claim moved l g.out ≡ true
-    → layer_gate Rows d claim moved c l i g ≡ cond claim.hazard (gate_rails d claim moved c l i g ∷ []) (gate_plain d claim moved c l i g ∷ [])
-gate_layer d claim moved c l i g own =
-    cond-false (not (has_own claim moved l g.out)) [] (cond claim.hazard (gate_rails d claim moved c l i g ∷ [])
-    (gate_plain d claim moved c l i g ∷ [])) (not_from_true (has_own claim moved l g.out) own)
+pub gate_layer : (coding : Coding) (d : Design) (claim : Claim) (moved : List (List Bool)) (c l i : ℕ) (g : Gate) → has_own claim moved l g.out ≡ true
+    → layer_gate coding d claim moved c l i g ≡ cond claim.hazard (gate_rails coding d claim moved c l i g ∷ []) (gate_plain coding d claim moved c l i g ∷ [])
+gate_layer coding d claim moved c l i g own =
+    cond-false (not (has_own claim moved l g.out)) [] (cond claim.hazard (gate_rails coding d claim moved c l i g ∷ [])
+    (gate_plain coding d claim moved c l i g ∷ [])) (not_from_true (has_own claim moved l g.out) own)
 
-pub gate_says : (d : Design) (claim : Claim) (moved : List (List Bool)) (c l i : ℕ) (g : Gate)
-    → ReadsOf (gate_rails d claim moved c l i g) (rails_reads (gate_pins d claim moved c l i g 0) (gate_pins d claim moved c l i g 1)
-    (key c (suc l) 0 g.out) (key c (suc l) 1 g.out))
-gate_says d claim moved c l i g =
+pub gate_says : (coding : Coding) (d : Design) (claim : Claim) (moved : List (List Bool)) (c l i : ℕ) (g : Gate)
+    → ReadsOf (gate_rails coding d claim moved c l i g) (rails_reads (counted coding (value g.func) (gate_pins d claim moved c l i g 0))
+    (counted coding (value g.func) (gate_pins d claim moved c l i g 1)) (key c (suc l) 0 g.out) (key c (suc l) 1 g.out))
+gate_says coding d claim moved c l i g =
     let long : (rail : ℕ) → length (gate_pins d claim moved c l i g rail) ≡ length g.ins = λ rail.
     length-numbered (λ p n. read_pin d claim moved c (suc l) rail (GateIn i p) n) 0 g.ins in
-    rails_read (value g.func) (gate_pins d claim moved c l i g 0) (gate_pins d claim moved c l i g 1) (key c (suc l) 0 g.out) (key c (suc l) 1 g.out)
+    rails_read coding (value g.func) (gate_pins d claim moved c l i g 0) (gate_pins d claim moved c l i g 1) (key c (suc l) 0 g.out) (key c (suc l) 1 g.out)
     (long 1 ∙ sym (long 0))
 
 -- a key of a layer is on one of its rails
@@ -112,55 +114,57 @@ plain_rail claim rail plain has =
     ]
 
 -- a plain definition, whose own key stands beside what it reads
-plain_use : (defs : List Definition) (cell : (ℕ → Bool) → Bool) (reads : List KeyLit) (out j : Key) → In (plain Rows cell reads out) defs
-    → Among ((reads ++ lit true out ∷ []) ++ []) j → Uses defs out j
-plain_use defs cell reads out j has a = by_part (In-cases a.0 (reads ++ lit true out ∷ []) [] a.1)
+plain_use : (coding : Coding) (defs : List Definition) (cell : (ℕ → Bool) → Bool) (reads : List KeyLit) (out j : Key) → In (plain coding cell reads out) defs
+    → Among ((counted coding cell reads ++ lit true out ∷ []) ++ []) j → Uses defs out j
+plain_use coding defs cell reads out j has a = by_part (In-cases a.0 (counted coding cell reads ++ lit true out ∷ []) [] a.1)
   where
-    by_read : In a.0 reads ⊎ In a.0 (lit true out ∷ []) → Uses defs out j
-    by_read (inl inside) = use_by defs (plain Rows cell reads out) reads out j has (inl refl) (plain_read cell reads out) (a.0, inside, a.2)
+    by_read : In a.0 (counted coding cell reads) ⊎ In a.0 (lit true out ∷ []) → Uses defs out j
+    by_read (inl inside) = use_by defs (plain coding cell reads out) (counted coding cell reads) out j has (inl refl) (plain_read coding cell reads out)
+        (a.0, inside, a.2)
     by_read (inr (inl here)) =
         let same : out ≡ j = ap (λ (l : KeyLit). l.key) here ∙ a.2 in (
-          plain Rows cell reads out,
-          Contains-from_In defs (plain Rows cell reads out) has,
+          plain coding cell reads out,
+          Contains-from_In defs (plain coding cell reads out) has,
           Contains-from_In (out ∷ []) out (inl refl),
-          subst (Mentions (plain Rows cell reads out).clauses) same (plain_out cell reads out),
+          subst (Mentions (plain coding cell reads out).clauses) same (plain_out coding cell reads out),
         )
     by_read (inr (inr none)) = absurd none
 
-    by_part : In a.0 (reads ++ lit true out ∷ []) ⊎ In a.0 [] → Uses defs out j
-    by_part (inl inside) = by_read (In-cases a.0 reads (lit true out ∷ []) inside)
+    by_part : In a.0 (counted coding cell reads ++ lit true out ∷ []) ⊎ In a.0 [] → Uses defs out j
+    by_part (inl inside) = by_read (In-cases a.0 (counted coding cell reads) (lit true out ∷ []) inside)
     by_part (inr none) = absurd none
 
 -- the keys that a net reads in a layer are used
-gate_used : (q : Query) (claim : Claim) (offset clean : ℕ) (moved : List (List Bool)) (c l rail i : ℕ) (g : Gate) (j : Key) → IsSound q.design
+gate_used : (coding : Coding) (q : Query) (claim : Claim) (offset clean : ℕ) (moved : List (List Bool)) (c l rail i : ℕ) (g : Gate) (j : Key) → IsSound q.design
     → q.question ≡ Violates claim offset clean → c < q.cycles → l < length claim.through + 1 → has_rail claim rail ≡ true
-    → slice_get q.design.gates i ≡ Some g → has_own claim moved l g.out ≡ true → Among (gate_late q.design claim moved c l i (Some g)) j
-    → Uses (definitions Rows q moved) (key c (suc l) rail g.out) j
-gate_used q claim offset clean moved c l rail i g j sound asks early low on at own =
+    → slice_get q.design.gates i ≡ Some g → has_own claim moved l g.out ≡ true → Among (gate_late coding q.design claim moved c l i (Some g)) j
+    → Uses (definitions coding q moved) (key c (suc l) rail g.out) j
+gate_used coding q claim offset clean moved c l rail i g j sound asks early low on at own =
     by_mode claim.hazard refl
   where
     d : Design
     d = q.design
 
     f : ℕ → List KeyLit
-    f n = gate_pins d claim moved c l i g n ++ lit true (key c (suc l) n g.out) ∷ []
+    f n = counted coding (value g.func) (gate_pins d claim moved c l i g n) ++ lit true (key c (suc l) n g.out) ∷ []
 
-    listed : (def : Definition) → In def (cond claim.hazard (gate_rails d claim moved c l i g ∷ []) (gate_plain d claim moved c l i g ∷ []))
-        → In def (definitions Rows q moved)
-    listed def has = claim_in q claim offset clean moved c def asks early
-        (layer_in d claim moved c l def low (gate_in d claim moved c l i g def at (subst (In def) (sym (gate_layer d claim moved c l i g own)) has)))
+    listed : (def : Definition) → In def (cond claim.hazard (gate_rails coding d claim moved c l i g ∷ []) (gate_plain coding d claim moved c l i g ∷ []))
+        → In def (definitions coding q moved)
+    listed def has = claim_in coding q claim offset clean moved c def asks early
+        (layer_in coding d claim moved c l def low (gate_in coding d claim moved c l i g def at (subst (In def) (sym
+        (gate_layer coding d claim moved c l i g own)) has)))
 
-    by_mode : (h : Bool) → claim.hazard ≡ h → Among (f 0 ++ cond h (f 1) []) j → Uses (definitions Rows q moved) (key c (suc l) rail g.out) j
+    by_mode : (h : Bool) → claim.hazard ≡ h → Among (f 0 ++ cond h (f 1) []) j → Uses (definitions coding q moved) (key c (suc l) rail g.out) j
     by_mode true hazard a =
-        use_by (definitions Rows q moved) (gate_rails d claim moved c l i g) (f 0 ++ f 1) (key c (suc l) rail g.out) j
-        (listed (gate_rails d claim moved c l i g) (subst (λ h. In (gate_rails d claim moved c l i g)
-        (cond h (gate_rails d claim moved c l i g ∷ []) (gate_plain d claim moved c l i g ∷ []))) (sym hazard) (inl refl)))
-        (on_rail claim c (suc l) rail g.out hazard on) (gate_says d claim moved c l i g) a
+        use_by (definitions coding q moved) (gate_rails coding d claim moved c l i g) (f 0 ++ f 1) (key c (suc l) rail g.out) j
+        (listed (gate_rails coding d claim moved c l i g) (subst (λ h. In (gate_rails coding d claim moved c l i g)
+        (cond h (gate_rails coding d claim moved c l i g ∷ []) (gate_plain coding d claim moved c l i g ∷ []))) (sym hazard) (inl refl)))
+        (on_rail claim c (suc l) rail g.out hazard on) (gate_says coding d claim moved c l i g) a
     by_mode false plain_mode a =
-        subst (λ (n : ℕ). Uses (definitions Rows q moved) (key c (suc l) n g.out) j) (sym (plain_rail claim rail plain_mode on))
-        (plain_use (definitions Rows q moved) (value g.func) (gate_pins d claim moved c l i g 0) (key c (suc l) 0 g.out) j
-        (listed (gate_plain d claim moved c l i g) (subst (λ h. In (gate_plain d claim moved c l i g)
-        (cond h (gate_rails d claim moved c l i g ∷ []) (gate_plain d claim moved c l i g ∷ []))) (sym plain_mode) (inl refl))) a)
+        subst (λ (n : ℕ). Uses (definitions coding q moved) (key c (suc l) n g.out) j) (sym (plain_rail claim rail plain_mode on))
+        (plain_use coding (definitions coding q moved) (value g.func) (gate_pins d claim moved c l i g 0) (key c (suc l) 0 g.out) j
+        (listed (gate_plain coding d claim moved c l i g) (subst (λ h. In (gate_plain coding d claim moved c l i g)
+        (cond h (gate_rails coding d claim moved c l i g ∷ []) (gate_plain coding d claim moved c l i g ∷ []))) (sym plain_mode) (inl refl))) a)
 
 -- the late capture of a register
 abbrev pub reg_pins : Design → Claim → List (List Bool) → ℕ → ℕ → Reg → ℕ → List KeyLit
@@ -170,12 +174,13 @@ reg_pins d claim moved c r reg rail = numbered (λ p n. read_pin d claim moved c
 abbrev pub reg_rail : Design → Claim → List (List Bool) → ℕ → ℕ → Reg → Bool → ℕ → List KeyLit
 reg_rail d claim moved c r reg positive rail = with_own reg (lit positive (bit_key d c r)) (reg_pins d claim moved c r reg rail)
 
-abbrev pub reg_plain : Design → Claim → List (List Bool) → ℕ → ℕ → Reg → Definition
-reg_plain d claim moved c r reg = plain Rows (reg_capture reg) (reg_rail d claim moved c r reg true 0) (late_key d claim c 0)
+abbrev pub reg_plain : Coding → Design → Claim → List (List Bool) → ℕ → ℕ → Reg → Definition
+reg_plain coding d claim moved c r reg = plain coding (reg_capture reg) (reg_rail d claim moved c r reg true 0) (late_key d claim c 0)
 
-abbrev pub reg_rails : Design → Claim → List (List Bool) → ℕ → ℕ → Reg → Definition
-reg_rails d claim moved c r reg =
-    rails Rows (reg_capture reg) (reg_rail d claim moved c r reg true 0) (reg_rail d claim moved c r reg false 1) (late_key d claim c 0) (late_key d claim c 1)
+abbrev pub reg_rails : Coding → Design → Claim → List (List Bool) → ℕ → ℕ → Reg → Definition
+reg_rails coding d claim moved c r reg =
+    rails coding (reg_capture reg) (reg_rail d claim moved c r reg true 0) (reg_rail d claim moved c r reg false 1) (late_key d claim c 0)
+    (late_key d claim c 1)
 
 same_length : (reg : Reg) (x y : KeyLit) (xs ys : List KeyLit) → length xs ≡ length ys → length (with_own reg x xs) ≡ length (with_own reg y ys)
 same_length reg x y xs ys same = by_own (reads_own reg)
@@ -184,113 +189,123 @@ same_length reg x y xs ys same = by_own (reads_own reg)
     by_own true = omega (arith, same, length-append xs (x ∷ []), length-append ys (y ∷ []))
     by_own false = omega (arith, same, length-append xs [], length-append ys [])
 
-pub reg_says : (d : Design) (claim : Claim) (moved : List (List Bool)) (c r : ℕ) (reg : Reg)
-    → ReadsOf (reg_rails d claim moved c r reg) (rails_reads (reg_rail d claim moved c r reg true 0) (reg_rail d claim moved c r reg false 1)
-    (late_key d claim c 0) (late_key d claim c 1))
-reg_says d claim moved c r reg =
+pub reg_says : (coding : Coding) (d : Design) (claim : Claim) (moved : List (List Bool)) (c r : ℕ) (reg : Reg)
+    → ReadsOf (reg_rails coding d claim moved c r reg) (rails_reads (counted coding (reg_capture reg) (reg_rail d claim moved c r reg true 0))
+    (counted coding (reg_capture reg) (reg_rail d claim moved c r reg false 1)) (late_key d claim c 0) (late_key d claim c 1))
+reg_says coding d claim moved c r reg =
     let long : (rail : ℕ) → length (reg_pins d claim moved c r reg rail) ≡ length reg.ins = λ rail.
     length-numbered (λ p n. read_pin d claim moved c (length claim.through + 1) rail (RegIn r p) n) 0 reg.ins in
-    rails_read (reg_capture reg) (reg_rail d claim moved c r reg true 0) (reg_rail d claim moved c r reg false 1) (late_key d claim c 0) (late_key d claim c 1)
+    rails_read coding (reg_capture reg) (reg_rail d claim moved c r reg true 0) (reg_rail d claim moved c r reg false 1) (late_key d claim c 0)
+    (late_key d claim c 1)
     (same_length reg (lit false (bit_key d c r)) (lit true (bit_key d c r)) (reg_pins d claim moved c r reg 1) (reg_pins d claim moved c r reg 0)
     (long 1 ∙ sym (long 0)))
 
 -- the same keys whatever the sign of the own bit
-resigned : (reg : Reg) (k : Key) (a b : Bool) (pins : List KeyLit) (j : Key) → Among (with_own reg (lit a k) pins) j → Among (with_own reg (lit b k) pins) j
-resigned reg k a b pins j = by_own (reads_own reg)
+own_keys : (pins xs ys : List KeyLit) → map (λ (l : KeyLit). l.key) xs ≡ map (λ (l : KeyLit). l.key) ys
+    → map (λ (l : KeyLit). l.key) (pins ++ xs) ≡ map (λ (l : KeyLit). l.key) (pins ++ ys)
+own_keys [] xs ys same = same
+own_keys (p ∷ ps) xs ys same = ap (λ (ks : List Key). p.key ∷ ks) (own_keys ps xs ys same)
+
+resigned : (coding : Coding) (reg : Reg) (k : Key) (a b : Bool) (pins : List KeyLit) (j : Key)
+    → Among (counted coding (reg_capture reg) (with_own reg (lit a k) pins)) j → Among (counted coding (reg_capture reg) (with_own reg (lit b k) pins)) j
+resigned coding reg k a b pins j x =
+    let other = counted_keys coding (reg_capture reg) (with_own reg (lit a k) pins) (with_own reg (lit b k) pins) x.0 (same (reads_own reg)) x.1 in
+    (other.0, other.1, other.2 ∙ x.2)
   where
-    by_own : (o : Bool) → Among (pins ++ cond o (lit a k ∷ []) []) j → Among (pins ++ cond o (lit b k ∷ []) []) j
-    by_own true x = elim (In-cases x.0 pins (lit a k ∷ []) x.1) [
-      | inl inside ↦ (x.0, In-left x.0 pins (lit b k ∷ []) inside, x.2)
-      | inr last ↦ elim last [
-        | inl here ↦ (lit b k, In-right (lit b k) pins (lit b k ∷ []) (inl refl), ap (λ (l : KeyLit). l.key) here ∙ x.2)
-        | inr none ↦ absurd none
-      ]
-    ]
-    by_own false x = x
+    same : (o : Bool) → map (λ (l : KeyLit). l.key) (pins ++ cond o (lit a k ∷ []) []) ≡ map (λ (l : KeyLit). l.key) (pins ++ cond o (lit b k ∷ []) [])
+    same true = own_keys pins (lit a k ∷ []) (lit b k ∷ []) refl
+    same false = refl
 
 pub Among-cases : (xs ys : List KeyLit) (j : Key) → Among (xs ++ ys) j → Among xs j ⊎ Among ys j
 Among-cases xs ys j a = elim (In-cases a.0 xs ys a.1) [ inl l ↦ inl (a.0, l, a.2) | inr r ↦ inr (a.0, r, a.2) ]
 
+-- what the late capture reads of what counts, on a rail
+abbrev pub reg_counted : (coding : Coding) → Design → Claim → List (List Bool) → ℕ → ℕ → Reg → Bool → ℕ → List KeyLit
+reg_counted coding d claim moved c r reg positive rail = counted coding (reg_capture reg) (reg_rail d claim moved c r reg positive rail)
+
 -- the reads of the late capture on its rails, as its origin lists them and as its definition does
-abbrev pub reg_listed : Design → Claim → List (List Bool) → ℕ → ℕ → Reg → ℕ → List KeyLit
-reg_listed d claim moved c r reg rail = reg_rail d claim moved c r reg true rail ++ lit true (late_key d claim c rail) ∷ []
+abbrev pub reg_listed : (coding : Coding) → Design → Claim → List (List Bool) → ℕ → ℕ → Reg → ℕ → List KeyLit
+reg_listed coding d claim moved c r reg rail = reg_counted coding d claim moved c r reg true rail ++ lit true (late_key d claim c rail) ∷ []
 
-to_rails : (d : Design) (claim : Claim) (moved : List (List Bool)) (c r : ℕ) (reg : Reg) (j : Key)
-    → Among (reg_listed d claim moved c r reg 0 ++ reg_listed d claim moved c r reg 1) j
-    → Among (rails_reads (reg_rail d claim moved c r reg true 0) (reg_rail d claim moved c r reg false 1) (late_key d claim c 0)
+to_rails : (coding : Coding) (d : Design) (claim : Claim) (moved : List (List Bool)) (c r : ℕ) (reg : Reg) (j : Key)
+    → Among (reg_listed coding d claim moved c r reg 0 ++ reg_listed coding d claim moved c r reg 1) j
+    → Among (rails_reads (reg_counted coding d claim moved c r reg true 0) (reg_counted coding d claim moved c r reg false 1) (late_key d claim c 0)
     (late_key d claim c 1)) j
-to_rails d claim moved c r reg j a = elim (Among-cases (reg_listed d claim moved c r reg 0) (reg_listed d claim moved c r reg 1) j a) [
-  | inl first ↦ Among-left (reg_listed d claim moved c r reg 0) _ j first
-  | inr second ↦ Among-right (reg_listed d claim moved c r reg 0) (reg_rail d claim moved c r reg false 1 ++ lit true (late_key d claim c 1) ∷ []) j
-      (elim (Among-cases (reg_rail d claim moved c r reg true 1) (lit true (late_key d claim c 1) ∷ []) j second) [
-        | inl inside ↦ Among-left (reg_rail d claim moved c r reg false 1) (lit true (late_key d claim c 1) ∷ []) j
-            (resigned reg (bit_key d c r) true false (reg_pins d claim moved c r reg 1) j inside)
-        | inr last ↦ Among-right (reg_rail d claim moved c r reg false 1) (lit true (late_key d claim c 1) ∷ []) j last
-      ])
-]
+to_rails coding d claim moved c r reg j a =
+    elim (Among-cases (reg_listed coding d claim moved c r reg 0) (reg_listed coding d claim moved c r reg 1) j a) [
+      | inl first ↦ Among-left (reg_listed coding d claim moved c r reg 0) _ j first
+      | inr second ↦ Among-right (reg_listed coding d claim moved c r reg 0)
+          (reg_counted coding d claim moved c r reg false 1 ++ lit true (late_key d claim c 1) ∷ []) j
+          (elim (Among-cases (reg_counted coding d claim moved c r reg true 1) (lit true (late_key d claim c 1) ∷ []) j second) [
+            | inl inside ↦ Among-left (reg_counted coding d claim moved c r reg false 1) (lit true (late_key d claim c 1) ∷ []) j
+                (resigned coding reg (bit_key d c r) true false (reg_pins d claim moved c r reg 1) j inside)
+            | inr last ↦ Among-right (reg_counted coding d claim moved c r reg false 1) (lit true (late_key d claim c 1) ∷ []) j last
+          ])
+    ]
 
-pub from_rails : (d : Design) (claim : Claim) (moved : List (List Bool)) (c r : ℕ) (reg : Reg) (j : Key)
-    → Among (rails_reads (reg_rail d claim moved c r reg true 0) (reg_rail d claim moved c r reg false 1) (late_key d claim c 0)
-    (late_key d claim c 1)) j → Among (reg_listed d claim moved c r reg 0 ++ reg_listed d claim moved c r reg 1) j
-from_rails d claim moved c r reg j a = elim (Among-cases (reg_listed d claim moved c r reg 0)
-    (reg_rail d claim moved c r reg false 1 ++ lit true (late_key d claim c 1) ∷ []) j a) [
-      | inl first ↦ Among-left (reg_listed d claim moved c r reg 0) (reg_listed d claim moved c r reg 1) j first
-      | inr second ↦ Among-right (reg_listed d claim moved c r reg 0) (reg_listed d claim moved c r reg 1) j
-          (elim (Among-cases (reg_rail d claim moved c r reg false 1) (lit true (late_key d claim c 1) ∷ []) j second) [
-            | inl inside ↦ Among-left (reg_rail d claim moved c r reg true 1) (lit true (late_key d claim c 1) ∷ []) j
-                (resigned reg (bit_key d c r) false true (reg_pins d claim moved c r reg 1) j inside)
-            | inr last ↦ Among-right (reg_rail d claim moved c r reg true 1) (lit true (late_key d claim c 1) ∷ []) j last
+pub from_rails : (coding : Coding) (d : Design) (claim : Claim) (moved : List (List Bool)) (c r : ℕ) (reg : Reg) (j : Key)
+    → Among (rails_reads (reg_counted coding d claim moved c r reg true 0) (reg_counted coding d claim moved c r reg false 1) (late_key d claim c 0)
+    (late_key d claim c 1)) j → Among (reg_listed coding d claim moved c r reg 0 ++ reg_listed coding d claim moved c r reg 1) j
+from_rails coding d claim moved c r reg j a =
+    elim (Among-cases (reg_listed coding d claim moved c r reg 0)
+    (reg_counted coding d claim moved c r reg false 1 ++ lit true (late_key d claim c 1) ∷ []) j a) [
+      | inl first ↦ Among-left (reg_listed coding d claim moved c r reg 0) (reg_listed coding d claim moved c r reg 1) j first
+      | inr second ↦ Among-right (reg_listed coding d claim moved c r reg 0) (reg_listed coding d claim moved c r reg 1) j
+          (elim (Among-cases (reg_counted coding d claim moved c r reg false 1) (lit true (late_key d claim c 1) ∷ []) j second) [
+            | inl inside ↦ Among-left (reg_counted coding d claim moved c r reg true 1) (lit true (late_key d claim c 1) ∷ []) j
+                (resigned coding reg (bit_key d c r) false true (reg_pins d claim moved c r reg 1) j inside)
+            | inr last ↦ Among-right (reg_counted coding d claim moved c r reg true 1) (lit true (late_key d claim c 1) ∷ []) j last
           ])
     ]
 
 -- the definition of the late capture stands in the list
-end_in : (d : Design) (claim : Claim) (moved : List (List Bool)) (c r : ℕ) (reg : Reg) (def : Definition) → claim.end ≡ RegEnd r
-    → slice_get d.regs r ≡ Some reg → In def (cond claim.hazard (reg_rails d claim moved c r reg ∷ []) (reg_plain d claim moved c r reg ∷ []))
-    → In def (claim_definitions Rows d claim moved c)
-end_in d claim moved c r reg def is at has =
-    In-right def (flat_map (layer_definitions Rows d claim moved c) (below (length claim.through + 1)))
-    (end_definition Rows d claim moved c claim.end ++ extra_definitions d claim moved c)
-    (In-left def (end_definition Rows d claim moved c claim.end) (extra_definitions d claim moved c)
-    (subst (λ e. In def (end_definition Rows d claim moved c e)) (sym is)
-    (subst (λ (o : Option Reg). In def (late_reg Rows d claim moved c r o)) (sym at) has)))
+end_in : (coding : Coding) (d : Design) (claim : Claim) (moved : List (List Bool)) (c r : ℕ) (reg : Reg) (def : Definition) → claim.end ≡ RegEnd r
+    → slice_get d.regs r ≡ Some reg → In def (cond claim.hazard (reg_rails coding d claim moved c r reg ∷ []) (reg_plain coding d claim moved c r reg ∷ []))
+    → In def (claim_definitions coding d claim moved c)
+end_in coding d claim moved c r reg def is at has =
+    In-right def (flat_map (layer_definitions coding d claim moved c) (below (length claim.through + 1)))
+    (end_definition coding d claim moved c claim.end ++ extra_definitions d claim moved c)
+    (In-left def (end_definition coding d claim moved c claim.end) (extra_definitions d claim moved c)
+    (subst (λ e. In def (end_definition coding d claim moved c e)) (sym is)
+    (subst (λ (o : Option Reg). In def (late_reg coding d claim moved c r o)) (sym at) has)))
 
-reg_used : (q : Query) (claim : Claim) (offset clean : ℕ) (moved : List (List Bool)) (c rail r : ℕ) (reg : Reg) (j : Key) → IsSound q.design
+reg_used : (coding : Coding) (q : Query) (claim : Claim) (offset clean : ℕ) (moved : List (List Bool)) (c rail r : ℕ) (reg : Reg) (j : Key) → IsSound q.design
     → q.question ≡ Violates claim offset clean → c < q.cycles → has_rail claim rail ≡ true → claim.end ≡ RegEnd r
-    → slice_get q.design.regs r ≡ Some reg → Among (reg_late q.design claim moved c r (Some reg)) j → Uses (definitions Rows q moved)
+    → slice_get q.design.regs r ≡ Some reg → Among (reg_late coding q.design claim moved c r (Some reg)) j → Uses (definitions coding q moved)
     (late_key q.design claim c rail) j
-reg_used q claim offset clean moved c rail r reg j sound asks early on is at =
+reg_used coding q claim offset clean moved c rail r reg j sound asks early on is at =
     by_mode claim.hazard refl
   where
     d : Design
     d = q.design
 
-    listed : (def : Definition) → In def (cond claim.hazard (reg_rails d claim moved c r reg ∷ []) (reg_plain d claim moved c r reg ∷ []))
-        → In def (definitions Rows q moved)
-    listed def has = claim_in q claim offset clean moved c def asks early (end_in d claim moved c r reg def is at has)
+    listed : (def : Definition) → In def (cond claim.hazard (reg_rails coding d claim moved c r reg ∷ []) (reg_plain coding d claim moved c r reg ∷ []))
+        → In def (definitions coding q moved)
+    listed def has = claim_in coding q claim offset clean moved c def asks early (end_in coding d claim moved c r reg def is at has)
 
-    by_mode : (h : Bool) → claim.hazard ≡ h → Among (reg_listed d claim moved c r reg 0 ++ cond h (reg_listed d claim moved c r reg 1) []) j
-        → Uses (definitions Rows q moved) (late_key d claim c rail) j
+    by_mode : (h : Bool) → claim.hazard ≡ h → Among (reg_listed coding d claim moved c r reg 0 ++ cond h (reg_listed coding d claim moved c r reg 1) []) j
+        → Uses (definitions coding q moved) (late_key d claim c rail) j
     by_mode true hazard a =
-        use_by (definitions Rows q moved) (reg_rails d claim moved c r reg)
-        (rails_reads (reg_rail d claim moved c r reg true 0) (reg_rail d claim moved c r reg false 1) (late_key d claim c 0)
+        use_by (definitions coding q moved) (reg_rails coding d claim moved c r reg)
+        (rails_reads (reg_counted coding d claim moved c r reg true 0) (reg_counted coding d claim moved c r reg false 1) (late_key d claim c 0)
         (late_key d claim c 1)) (late_key d claim c rail) j
-        (listed (reg_rails d claim moved c r reg) (subst (λ h. In (reg_rails d claim moved c r reg)
-        (cond h (reg_rails d claim moved c r reg ∷ []) (reg_plain d claim moved c r reg ∷ []))) (sym hazard) (inl refl)))
-        (on_rail claim c (length claim.through + 1) rail (d.nets + length d.regs) hazard on) (reg_says d claim moved c r reg)
-        (to_rails d claim moved c r reg j a)
+        (listed (reg_rails coding d claim moved c r reg) (subst (λ h. In (reg_rails coding d claim moved c r reg)
+        (cond h (reg_rails coding d claim moved c r reg ∷ []) (reg_plain coding d claim moved c r reg ∷ []))) (sym hazard) (inl refl)))
+        (on_rail claim c (length claim.through + 1) rail (d.nets + length d.regs) hazard on) (reg_says coding d claim moved c r reg)
+        (to_rails coding d claim moved c r reg j a)
     by_mode false plain_mode a =
-        subst (λ (n : ℕ). Uses (definitions Rows q moved) (late_key d claim c n) j) (sym (plain_rail claim rail plain_mode on))
-        (plain_use (definitions Rows q moved) (reg_capture reg) (reg_rail d claim moved c r reg true 0) (late_key d claim c 0) j
-        (listed (reg_plain d claim moved c r reg) (subst (λ h. In (reg_plain d claim moved c r reg)
-        (cond h (reg_rails d claim moved c r reg ∷ []) (reg_plain d claim moved c r reg ∷ []))) (sym plain_mode) (inl refl))) a)
+        subst (λ (n : ℕ). Uses (definitions coding q moved) (late_key d claim c n) j) (sym (plain_rail claim rail plain_mode on))
+        (plain_use coding (definitions coding q moved) (reg_capture reg) (reg_rail d claim moved c r reg true 0) (late_key d claim c 0) j
+        (listed (reg_plain coding d claim moved c r reg) (subst (λ h. In (reg_plain coding d claim moved c r reg)
+        (cond h (reg_rails coding d claim moved c r reg ∷ []) (reg_plain coding d claim moved c r reg ∷ []))) (sym plain_mode) (inl refl))) a)
 
 -- the further points of a cycle
-extra_in : (d : Design) (claim : Claim) (moved : List (List Bool)) (c : ℕ) (def : Definition) → In def (extra_definitions d claim moved c)
-    → In def (claim_definitions Rows d claim moved c)
-extra_in d claim moved c def has =
-    In-right def (flat_map (layer_definitions Rows d claim moved c) (below (length claim.through + 1)))
-    (end_definition Rows d claim moved c claim.end ++ extra_definitions d claim moved c)
-    (In-right def (end_definition Rows d claim moved c claim.end) (extra_definitions d claim moved c) has)
+extra_in : (coding : Coding) (d : Design) (claim : Claim) (moved : List (List Bool)) (c : ℕ) (def : Definition) → In def (extra_definitions d claim moved c)
+    → In def (claim_definitions coding d claim moved c)
+extra_in coding d claim moved c def has =
+    In-right def (flat_map (layer_definitions coding d claim moved c) (below (length claim.through + 1)))
+    (end_definition coding d claim moved c claim.end ++ extra_definitions d claim moved c)
+    (In-right def (end_definition coding d claim moved c claim.end) (extra_definitions d claim moved c) has)
 
 -- what the definition of a late capture that differs reads
 abbrev pub differ_reads : Design → Claim → List (List Bool) → ℕ → List KeyLit
@@ -335,10 +350,10 @@ toggle_read d edge start c = edge_read edge (toggle_key d c) (start_lit d start 
 pub toggle_outs : (d : Design) (edge : Edge) (start : Start) (c : ℕ) → (toggle_definition d edge start c).outs ≡ toggle_key d c ∷ []
 toggle_outs d edge start c = edge_outs edge (toggle_key d c) (start_lit d start c) (start_lit d start (c - 1))
 
-extra_used : (q : Query) (claim : Claim) (offset clean : ℕ) (moved : List (List Bool)) (k j : Key) → q.question ≡ Violates claim offset clean
+extra_used : (coding : Coding) (q : Query) (claim : Claim) (offset clean : ℕ) (moved : List (List Bool)) (k j : Key) → q.question ≡ Violates claim offset clean
     → k.layer ≡ 0 → k.rail ≡ 0 → k.cycle < q.cycles → (n : ℕ) → q.design.nets + length q.design.regs + n ≡ k.point
-    → Among (reads_in_layer q.design claim moved k 0 (extra_origin claim n)) j → Uses (definitions Rows q moved) k j
-extra_used q claim offset clean moved k j asks layer rail early = by_point
+    → Among (reads_in_layer coding q.design claim moved k 0 (extra_origin claim n)) j → Uses (definitions coding q moved) k j
+extra_used coding q claim offset clean moved k j asks layer rail early = by_point
   where
     d : Design
     d = q.design
@@ -346,59 +361,59 @@ extra_used q claim offset clean moved k j asks layer rail early = by_point
     c : ℕ
     c = k.cycle
 
-    listed : (def : Definition) → In def (extra_definitions d claim moved c) → In def (definitions Rows q moved)
-    listed def has = claim_in q claim offset clean moved c def asks early (extra_in d claim moved c def has)
+    listed : (def : Definition) → In def (extra_definitions d claim moved c) → In def (definitions coding q moved)
+    listed def has = claim_in coding q claim offset clean moved c def asks early (extra_in coding d claim moved c def has)
 
     own : (n : ℕ) → d.nets + length d.regs + n ≡ k.point → extra d c n ≡ k
     own n point = key_at k c 0 0 (d.nets + length d.regs + n) refl (sym layer) (sym rail) point
 
-    by_point : (n : ℕ) → d.nets + length d.regs + n ≡ k.point → Among (reads_in_layer d claim moved k 0 (extra_origin claim n)) j
-        → Uses (definitions Rows q moved) k j
+    by_point : (n : ℕ) → d.nets + length d.regs + n ≡ k.point → Among (reads_in_layer coding d claim moved k 0 (extra_origin claim n)) j
+        → Uses (definitions coding q moved) k j
     by_point zero point a =
         let def : Definition = toggle_definition d claim.edge claim.start c in
-        use_by (definitions Rows q moved) def (start_lit d claim.start c ∷ start_lit d claim.start (c - 1) ∷ []) k j (listed def (inl refl))
+        use_by (definitions coding q moved) def (start_lit d claim.start c ∷ start_lit d claim.start (c - 1) ∷ []) k j (listed def (inl refl))
         (subst (λ (outs : List Key). In k outs) (sym (toggle_outs d claim.edge claim.start c)) (inl (own 0 point)))
         (toggle_read d claim.edge claim.start c) a
     by_point (suc zero) point a =
         let def : Definition = exclusive (change_key d c) (capture_lit d claim.end c) (capture_lit d claim.end (c - 1)) in
-        use_by (definitions Rows q moved) def (capture_lit d claim.end c ∷ capture_lit d claim.end (c - 1) ∷ []) k j (listed def (inr (inl refl)))
+        use_by (definitions coding q moved) def (capture_lit d claim.end c ∷ capture_lit d claim.end (c - 1) ∷ []) k j (listed def (inr (inl refl)))
         (inl (own 1 point)) (exclusive_read (change_key d c) (capture_lit d claim.end c) (capture_lit d claim.end (c - 1))) a
     by_point (suc (suc zero)) point a =
-        use_by (definitions Rows q moved) (differ_definition d claim moved c) (differ_reads d claim moved c) k j
+        use_by (definitions coding q moved) (differ_definition d claim moved c) (differ_reads d claim moved c) k j
         (listed (differ_definition d claim moved c) (inr (inr (inl refl))))
         (subst (λ (outs : List Key). In k outs) (sym (differ_out d claim moved c)) (inl (own 2 point))) (differ_says d claim moved c) a
     by_point (suc (suc (suc r))) point a =
-        cond_both (nat_lt r (judged_count claim - 1)) (Stale (r + 1)) Free (λ o. Among (reads_in_layer d claim moved k 0 o) j
-        → Uses (definitions Rows q moved) k j)
+        cond_both (nat_lt r (judged_count claim - 1)) (Stale (r + 1)) Free (λ o. Among (reads_in_layer coding d claim moved k 0 o) j
+        → Uses (definitions coding q moved) k j)
         (λ judged read.
         let lt = ltb-true r (judged_count claim - 1) judged in
         let there : d.nets + length d.regs + (2 + (r + 1)) ≡ k.point = omega (arith, point) in
-        use_by (definitions Rows q moved) (stale_definition d claim c r) (start_lit d claim.start c ∷ start_lit d claim.start (c - r - 2) ∷ []) k j
+        use_by (definitions coding q moved) (stale_definition d claim c r) (start_lit d claim.start c ∷ start_lit d claim.start (c - r - 2) ∷ []) k j
         (listed (stale_definition d claim c r) (stale_in d claim moved c r lt)) (inl (own (2 + (r + 1)) there))
         (exclusive_read (stale_key d c (r + 1)) (start_lit d claim.start c) (start_lit d claim.start (c - r - 2)))
         (subst (λ (n : ℕ). Among (start_lit d claim.start c ∷ start_lit d claim.start n ∷ []) j) (earlier c r) read)) (λ other read. absurd read.1) a
 
 -- nets and bits read the same whether or not a claim is asked about
-pub base_level : (d : Design) (claim : Claim) (moved : List (List Bool)) (cycles : ℕ) (k : Key) → reads_in_layer d claim moved k 0
-    (base_origin d cycles k) ≡ reads_of_origin d k (base_origin d cycles k)
-base_level d claim moved cycles k =
+pub base_level : (coding : Coding) (d : Design) (claim : Claim) (moved : List (List Bool)) (cycles : ℕ) (k : Key) → reads_in_layer coding d claim moved k 0
+    (base_origin d cycles k) ≡ reads_of_origin coding d k (base_origin d cycles k)
+base_level coding d claim moved cycles k =
     cond_both (nat_lt k.point d.nets) (cond (nat_lt k.cycle cycles) (of_gate (gate_of d.gates 0 k.point)) Free) _ Same
     (λ net. cond_both (nat_lt k.cycle cycles) (of_gate (gate_of d.gates 0 k.point)) Free Same (λ early. of_net (gate_of d.gates 0 k.point)) (λ late. refl))
     (λ past. cond_both (nat_lt 0 k.cycle && (nat_lt k.cycle (cycles + 1) && nat_lt k.point (d.nets + length d.regs))) (OfReg (k.point - d.nets)) Free
     Same (λ yes_bit. refl) (λ no_bit. refl))
   where
     Same : Origin → Type 0
-    Same o = reads_in_layer d claim moved k 0 o ≡ reads_of_origin d k o
+    Same o = reads_in_layer coding d claim moved k 0 o ≡ reads_of_origin coding d k o
 
     of_net : (o : Option ℕ) → Same (of_gate o)
     of_net None = refl
     of_net (Some i) = refl
 
 -- the keys that a key's definition reads are used
-pub reads_used : (q : Query) (claim : Claim) (offset clean : ℕ) (moved : List (List Bool)) → IsSound q.design → Fits q.design claim
-    → q.question ≡ Violates claim offset clean → (k : Key) (l : KeyLit) → In l (claim_reads q.design claim moved q.cycles k)
-    → Uses (definitions Rows q moved) k l.key
-reads_used q claim offset clean moved sound fits asks k m has = by_layer k.layer refl (m, has, refl)
+pub reads_used : (coding : Coding) (q : Query) (claim : Claim) (offset clean : ℕ) (moved : List (List Bool)) → IsSound q.design → Fits q.design claim
+    → q.question ≡ Violates claim offset clean → (k : Key) (l : KeyLit) → In l (claim_reads coding q.design claim moved q.cycles k)
+    → Uses (definitions coding q moved) k l.key
+reads_used coding q claim offset clean moved sound fits asks k m has = by_layer k.layer refl (m, has, refl)
   where
     d : Design
     d = q.design
@@ -407,19 +422,19 @@ reads_used q claim offset clean moved sound fits asks k m has = by_layer k.layer
     j = m.key
 
     Goal : ℕ → Origin → Type 0
-    Goal n o = Among (reads_in_layer d claim moved k n o) j → Uses (definitions Rows q moved) k j
+    Goal n o = Among (reads_in_layer coding d claim moved k n o) j → Uses (definitions coding q moved) k j
 
     in_cycle : k.layer ≡ 0 → Goal 0 (layer_origin d claim moved q.cycles k 0)
     in_cycle layer =
         cond_both (not (k.rail == 0)) Free _ (Goal 0) (λ other a. absurd a.1)
         (λ e. let rail : k.rail ≡ 0 = eqb-true k.rail 0 (not-false (k.rail == 0) e) in
         cond_both (nat_lt k.point (d.nets + length d.regs)) (base_origin d q.cycles k) _ (Goal 0)
-        (λ low a. base_used q moved k j layer rail (subst (λ (ls : List KeyLit). Among ls j) (base_level d claim moved q.cycles k) a))
+        (λ low a. base_used coding q moved k j layer rail (subst (λ (ls : List KeyLit). Among ls j) (base_level coding d claim moved q.cycles k) a))
         (λ high. cond_both (nat_lt k.cycle q.cycles) (extra_origin claim (k.point - (d.nets + length d.regs))) Free (Goal 0)
         (λ early a.
         let above = ltb-false k.point (d.nets + length d.regs) high in
         let point : d.nets + length d.regs + (k.point - (d.nets + length d.regs)) ≡ k.point = omega (arith, above) in
-        extra_used q claim offset clean moved k j asks layer rail (ltb-true k.cycle q.cycles early) (k.point - (d.nets + length d.regs)) point a)
+        extra_used coding q claim offset clean moved k j asks layer rail (ltb-true k.cycle q.cycles early) (k.point - (d.nets + length d.regs)) point a)
         (λ late a. absurd a.1)))
 
     of_net : (l : ℕ) → k.layer ≡ suc l → k.cycle < q.cycles → l < length claim.through + 1 → has_rail claim k.rail ≡ true
@@ -431,9 +446,9 @@ reads_used q claim offset clean moved sound fits asks k m has = by_layer k.layer
         let place : i ≡ found.0 = omega (arith, found.2) in
         let there : slice_get d.gates i ≡ Some g = ap (slice_get d.gates) place ∙ found.3 in
         let owns : has_own claim moved l g.out ≡ true = ap (has_own claim moved l) found.4 ∙ own in
-        subst (λ (x : Key). Uses (definitions Rows q moved) x j) (key_at k k.cycle (suc l) k.rail g.out refl (sym layer) refl found.4)
-        (gate_used q claim offset clean moved k.cycle l k.rail i g j sound asks early low on there owns
-        (subst (λ (o : Option Gate). Among (gate_late d claim moved k.cycle l i o) j) there a))
+        subst (λ (x : Key). Uses (definitions coding q moved) x j) (key_at k k.cycle (suc l) k.rail g.out refl (sym layer) refl found.4)
+        (gate_used coding q claim offset clean moved k.cycle l k.rail i g j sound asks early low on there owns
+        (subst (λ (o : Option Gate). Among (gate_late coding d claim moved k.cycle l i o) j) there a))
 
     of_end : (l : ℕ) → k.layer ≡ suc l → k.cycle < q.cycles → has_rail claim k.rail ≡ true → k.point ≡ d.nets + length d.regs
         → l ≡ length claim.through → (e : End) → claim.end ≡ e → Goal (suc l) (end_origin e)
@@ -441,10 +456,10 @@ reads_used q claim offset clean moved sound fits asks k m has = by_layer k.layer
     of_end l layer early on point last (RegEnd r) is a =
         let low : r < length d.regs = subst (λ e. Rattle.net_model.specs.Fits.IsEndIn d e) is fits.end_ in
         let reg = Rattle.query_model.proofs.Based.get_within d.regs r low in
-        subst (λ (x : Key). Uses (definitions Rows q moved) x j) (key_at k k.cycle (length claim.through + 1) k.rail (d.nets + length d.regs) refl
+        subst (λ (x : Key). Uses (definitions coding q moved) x j) (key_at k k.cycle (length claim.through + 1) k.rail (d.nets + length d.regs) refl
         (omega (arith, layer, last)) refl (sym point))
-        (reg_used q claim offset clean moved k.cycle k.rail r reg.0 j sound asks early on is reg.1
-        (subst (λ (o : Option Reg). Among (reg_late d claim moved k.cycle r o) j) reg.1 a))
+        (reg_used coding q claim offset clean moved k.cycle k.rail r reg.0 j sound asks early on is reg.1
+        (subst (λ (o : Option Reg). Among (reg_late coding d claim moved k.cycle r o) j) reg.1 a))
 
     in_layer : (l : ℕ) → k.layer ≡ suc l → Goal (suc l) (layer_origin d claim moved q.cycles k (suc l))
     in_layer l layer =

@@ -1,6 +1,8 @@
 -- The keys that are found from what is asked, by what each key's definition reads.
 use Rattle.std.specs.Prelude.{◌≡◌, ℕ, ◌+◌, ◌<◌, ◌≤◌, Bool, true, List, [], ◌∷◌, ◌++◌, length, Contains, Option}
 use Rattle.std.specs.Prelude.{None, slice_index_or, if◌then◌else◌}
+use Rattle.net_model.specs.Form.{value}
+use Rattle.net_model.specs.Cycles.{reg_capture}
 use Rattle.net_model.specs.declared.netlist.Design.{Design}
 use Rattle.net_model.specs.declared.netlist.Gate.{Gate}
 use Rattle.net_model.specs.declared.netlist.Reg.{Reg}
@@ -10,6 +12,8 @@ use Rattle.query_model.specs.Defined.{gate_reads, reg_reads, late_key}
 use Rattle.query_model.specs.Formula.{has_key}
 use Rattle.query_model.specs.declared.keys.Key.{Key}
 use Rattle.query_model.specs.declared.keys.KeyLit.{KeyLit}
+use Rattle.query_model.specs.declared.keys.Coding.{Coding}
+use Rattle.frame_unroll.specs.Counting.{counted}
 use Rattle.frame_unroll.specs.Framed.{IsWithin}
 use Rattle.frame_unroll.specs.Origins.{gate_of}
 use Rattle.frame_unroll.specs.declared.origins.Origin.{Origin}
@@ -42,13 +46,15 @@ abbrev pub with_clauses : List Key → List (List KeyLit) → List Key
 with_clauses keys [] = keys
 with_clauses keys (clause ∷ clauses) = with_clauses (with_keys keys clause) clauses
 
--- what a gate's pins read on a rail of a layer, and the key of its net there
-abbrev pub gate_rail : Design → Claim → List (List Bool) → ℕ → ℕ → ℕ → ℕ → Gate → List KeyLit
-gate_rail d claim moved c layer rail k g = gate_reads d claim moved c layer rail k g ++ lit true (key c layer rail g.out) ∷ []
+-- what a gate's pins that count read on a rail of a layer, and the key of its net there
+abbrev pub gate_rail : Coding → Design → Claim → List (List Bool) → ℕ → ℕ → ℕ → ℕ → Gate → List KeyLit
+gate_rail coding d claim moved c layer rail k g =
+    counted coding (value g.func) (gate_reads d claim moved c layer rail k g) ++ lit true (key c layer rail g.out) ∷ []
 
--- what a register's pins read on a rail of the last layer, and the key of the late capture
-abbrev pub reg_rail : Design → Claim → List (List Bool) → ℕ → ℕ → ℕ → Reg → List KeyLit
-reg_rail d claim moved c rail r reg = reg_reads d claim moved c rail true r reg ++ lit true (late_key d claim c rail) ∷ []
+-- what a register's places that count read on a rail of the last layer, and the key of the late capture
+abbrev pub reg_rail : Coding → Design → Claim → List (List Bool) → ℕ → ℕ → ℕ → Reg → List KeyLit
+reg_rail coding d claim moved c rail r reg =
+    counted coding (reg_capture reg) (reg_reads d claim moved c rail true r reg) ++ lit true (late_key d claim c rail) ∷ []
 
 -- the gate or register is one of the design
 abbrev pub IsOriginIn : Design → Origin → Type 0

@@ -8,7 +8,7 @@ use Rattle.query_model.specs.Formula.{definitions, asked_clauses, has_key, AreMo
 use Rattle.query_model.specs.Variables.{number_of}
 use Rattle.query_model.specs.declared.keys.Key.{Key}
 use Rattle.query_model.specs.declared.keys.KeyLit.{KeyLit}
-use Rattle.query_model.specs.declared.keys.Coding.TheVariants.{Rows}
+use Rattle.query_model.specs.declared.keys.Coding.{Coding}
 
 -- the key of a variable, if it has one
 abbrev pub key_of : List Key → ℕ → Option Key
@@ -20,26 +20,26 @@ abbrev pub number_if_any : List Key → Key → Option ℕ
 number_if_any keys k = if has_key keys k then Some (number_of keys k) else None
 
 -- these are the needed keys of a query, ascending
-pub record AreFramesOf (q : Query) (keys : List Key) : Type 0 where
+pub record AreFramesOf (coding : Coding) (q : Query) (keys : List Key) : Type 0 where
   pub moved : List (List Bool)
   pub are_moved : AreMovedFor q.design q.question moved
-  pub are_needed : AreNeeded (definitions Rows q moved) (asked_clauses q) keys
+  pub are_needed : AreNeeded (definitions coding q moved) (asked_clauses q) keys
 
 -- it is so of the clause at a place
 abbrev pub AtPlace : List InvClause → ℕ → (InvClause → Type 0) → Type 0
 AtPlace inv place P = (clause : InvClause) → slice_get inv place ≡ Some clause → P clause
 
 -- these are the needed keys of each query about the claim in so many cycles, where this is what is asked of them
-abbrev pub AreNeededOfClaim : Design → Claim → ℕ → List (List Bool) → List (List KeyLit) → List Key → Type 0
-AreNeededOfClaim d claim cycles moved asked keys =
+abbrev pub AreNeededOfClaim : Coding → Design → Claim → ℕ → List (List Bool) → List (List KeyLit) → List Key → Type 0
+AreNeededOfClaim coding d claim cycles moved asked keys =
     (q : Query) (offset clean : ℕ) → q.design ≡ d → q.cycles ≡ cycles → q.question ≡ Violates claim offset clean
-    → AreNeeded (definitions Rows q moved) asked keys
+    → AreNeeded (definitions coding q moved) asked keys
 
 -- the same of each query about a clause over register bits
-abbrev pub AreNeededOfClause : Design → ℕ → List (List KeyLit) → List Key → Type 0
-AreNeededOfClause d cycles asked keys =
+abbrev pub AreNeededOfClause : Coding → Design → ℕ → List (List KeyLit) → List Key → Type 0
+AreNeededOfClause coding d cycles asked keys =
     (q : Query) (clause : InvClause) → q.design ≡ d → q.cycles ≡ cycles → q.question ≡ Breaks clause
-    → AreNeeded (definitions Rows q []) asked keys
+    → AreNeeded (definitions coding q []) asked keys
 
 -- the key is of one of these cycles or the one after, of a layer and a rail that a fitting claim may have, and of a net, a
 -- register's bit or one of 50 further points

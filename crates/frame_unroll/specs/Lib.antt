@@ -4,5 +4,8 @@ pub mod Drivers
 pub mod Reading
 pub mod Framed
 pub mod Gathered
+pub mod Counting
+pub mod Counted
+pub mod Tabled
 pub mod Origins
 pub mod Found

@@ -1,6 +1,8 @@
 -- What defines each key, and which keys its definition reads.
 use Rattle.std.specs.Prelude.{ℕ, zero, suc, ◌+◌, ◌-◌, ◌==◌, ◌&&◌, ◌||◌, Bool, true, not, List, [], ◌∷◌, ◌++◌, map, length, Contains, Option, Some}
 use Rattle.std.specs.Prelude.{None, slice_get, nat_lt, if◌then◌else◌}
+use Rattle.net_model.specs.Form.{value}
+use Rattle.net_model.specs.Cycles.{reg_capture}
 use Rattle.net_model.specs.Judge.{judged_count}
 use Rattle.net_model.specs.declared.netlist.Design.{Design}
 use Rattle.net_model.specs.declared.netlist.Gate.{Gate}
@@ -14,6 +16,8 @@ use Rattle.query_model.specs.Defined.{Definition, with_own, has_own, gate_reads,
 use Rattle.query_model.specs.Formula.{Mentions}
 use Rattle.query_model.specs.declared.keys.Key.{Key}
 use Rattle.query_model.specs.declared.keys.KeyLit.{KeyLit}
+use Rattle.query_model.specs.declared.keys.Coding.{Coding}
+use Rattle.frame_unroll.specs.Counting.{counted}
 use Rattle.frame_unroll.specs.declared.origins.Origin.{Origin}
 use Rattle.frame_unroll.specs.declared.origins.Origin.TheVariants.{Free, Gate as OfGate, Reg as OfReg, Toggle, Change, Differ, Stale}
 
@@ -76,43 +80,43 @@ layer_origin d claim moved cycles k (suc l) =
 abbrev pub claim_origin : Design → Claim → List (List Bool) → ℕ → Key → Origin
 claim_origin d claim moved cycles k = layer_origin d claim moved cycles k k.layer
 
--- what the pins of a gate or register read in a cycle, if there is one
-abbrev pub gate_base : Design → ℕ → Option Gate → List KeyLit
-gate_base d c None = []
-gate_base d c (Some g) = map (read_base d c) g.ins
+-- what the pins of a gate that count read in a cycle, if there is one
+abbrev pub gate_base : Coding → Design → ℕ → Option Gate → List KeyLit
+gate_base coding d c None = []
+gate_base coding d c (Some g) = counted coding (value g.func) (map (read_base d c) g.ins)
 
 -- the same of a register
-abbrev pub reg_base : Design → ℕ → ℕ → Option Reg → List KeyLit
-reg_base d c r None = []
-reg_base d c r (Some reg) = with_own reg (lit true (bit_key d c r)) (map (read_base d c) reg.ins)
+abbrev pub reg_base : Coding → Design → ℕ → ℕ → Option Reg → List KeyLit
+reg_base coding d c r None = []
+reg_base coding d c r (Some reg) = counted coding (reg_capture reg) (with_own reg (lit true (bit_key d c r)) (map (read_base d c) reg.ins))
 
 -- the literals by which a net or a bit is defined
-abbrev pub reads_of_origin : Design → Key → Origin → List KeyLit
-reads_of_origin d k (OfGate i) = gate_base d k.cycle (slice_get d.gates i)
-reads_of_origin d k (OfReg r) = reg_base d (k.cycle - 1) r (slice_get d.regs r)
-reads_of_origin d k _ = []
+abbrev pub reads_of_origin : Coding → Design → Key → Origin → List KeyLit
+reads_of_origin coding d k (OfGate i) = gate_base coding d k.cycle (slice_get d.gates i)
+reads_of_origin coding d k (OfReg r) = reg_base coding d (k.cycle - 1) r (slice_get d.regs r)
+reads_of_origin coding d k _ = []
 
 -- what is read on each rail of a layer
 abbrev pub on_rails : Claim → (ℕ → List KeyLit) → List KeyLit
 on_rails claim f = f 0 ++ (if claim.hazard then f 1 else [])
 
--- what the pins read in layer suc l, and beside it the defined keys themselves
-abbrev pub gate_late : Design → Claim → List (List Bool) → ℕ → ℕ → ℕ → Option Gate → List KeyLit
-gate_late d claim moved c l k None = []
-gate_late d claim moved c l k (Some g) =
-    on_rails claim (λ rail. gate_reads d claim moved c (suc l) rail k g ++ lit true (key c (suc l) rail g.out) ∷ [])
+-- what the pins that count read in layer suc l, and beside it the defined keys themselves
+abbrev pub gate_late : Coding → Design → Claim → List (List Bool) → ℕ → ℕ → ℕ → Option Gate → List KeyLit
+gate_late coding d claim moved c l k None = []
+gate_late coding d claim moved c l k (Some g) =
+    on_rails claim (λ rail. counted coding (value g.func) (gate_reads d claim moved c (suc l) rail k g) ++ lit true (key c (suc l) rail g.out) ∷ [])
 
 -- the same of a register, in the last layer
-abbrev pub reg_late : Design → Claim → List (List Bool) → ℕ → ℕ → Option Reg → List KeyLit
-reg_late d claim moved c r None = []
-reg_late d claim moved c r (Some reg) =
-    on_rails claim (λ rail. reg_reads d claim moved c rail true r reg ++ lit true (late_key d claim c rail) ∷ [])
+abbrev pub reg_late : Coding → Design → Claim → List (List Bool) → ℕ → ℕ → Option Reg → List KeyLit
+reg_late coding d claim moved c r None = []
+reg_late coding d claim moved c r (Some reg) =
+    on_rails claim (λ rail. counted coding (reg_capture reg) (reg_reads d claim moved c rail true r reg) ++ lit true (late_key d claim c rail) ∷ [])
 
 -- the literals by which a net in layer suc l, or the late capture, is defined
-abbrev pub late_reads : Design → Claim → List (List Bool) → Key → ℕ → Origin → List KeyLit
-late_reads d claim moved k l (OfGate i) = gate_late d claim moved k.cycle l i (slice_get d.gates i)
-late_reads d claim moved k l (OfReg r) = reg_late d claim moved k.cycle r (slice_get d.regs r)
-late_reads d claim moved k l _ = []
+abbrev pub late_reads : Coding → Design → Claim → List (List Bool) → Key → ℕ → Origin → List KeyLit
+late_reads coding d claim moved k l (OfGate i) = gate_late coding d claim moved k.cycle l i (slice_get d.gates i)
+late_reads coding d claim moved k l (OfReg r) = reg_late coding d claim moved k.cycle r (slice_get d.regs r)
+late_reads coding d claim moved k l _ = []
 
 -- the literals by which it is defined whether the late capture differs: where hazards count both rails of the late capture,
 -- else the late capture and the capture
@@ -122,18 +126,18 @@ differ_reads d claim moved c =
     ∷ (if claim.hazard then late_capture_lit d claim moved c 1 claim.end else capture_lit d claim.end c) ∷ []
 
 -- the literals by which a key is defined
-abbrev pub reads_in_layer : Design → Claim → List (List Bool) → Key → ℕ → Origin → List KeyLit
-reads_in_layer d claim moved k zero Toggle = start_lit d claim.start k.cycle ∷ start_lit d claim.start (k.cycle - 1) ∷ []
-reads_in_layer d claim moved k zero Change = capture_lit d claim.end k.cycle ∷ capture_lit d claim.end (k.cycle - 1) ∷ []
-reads_in_layer d claim moved k zero Differ = differ_reads d claim moved k.cycle
-reads_in_layer d claim moved k zero (Stale r) = start_lit d claim.start k.cycle ∷ start_lit d claim.start (k.cycle - r - 1) ∷ []
-reads_in_layer d claim moved k zero origin = reads_of_origin d k origin
-reads_in_layer d claim moved k (suc l) origin = late_reads d claim moved k l origin
+abbrev pub reads_in_layer : Coding → Design → Claim → List (List Bool) → Key → ℕ → Origin → List KeyLit
+reads_in_layer coding d claim moved k zero Toggle = start_lit d claim.start k.cycle ∷ start_lit d claim.start (k.cycle - 1) ∷ []
+reads_in_layer coding d claim moved k zero Change = capture_lit d claim.end k.cycle ∷ capture_lit d claim.end (k.cycle - 1) ∷ []
+reads_in_layer coding d claim moved k zero Differ = differ_reads d claim moved k.cycle
+reads_in_layer coding d claim moved k zero (Stale r) = start_lit d claim.start k.cycle ∷ start_lit d claim.start (k.cycle - r - 1) ∷ []
+reads_in_layer coding d claim moved k zero origin = reads_of_origin coding d k origin
+reads_in_layer coding d claim moved k (suc l) origin = late_reads coding d claim moved k l origin
 
 -- the literals by which the key is defined where a claim is asked about
-abbrev pub claim_reads : Design → Claim → List (List Bool) → ℕ → Key → List KeyLit
-claim_reads d claim moved cycles k = reads_in_layer d claim moved k k.layer (claim_origin d claim moved cycles k)
+abbrev pub claim_reads : Coding → Design → Claim → List (List Bool) → ℕ → Key → List KeyLit
+claim_reads coding d claim moved cycles k = reads_in_layer coding d claim moved k k.layer (claim_origin d claim moved cycles k)
 
 -- the same where a clause over register bits is
-abbrev pub clause_reads : Design → ℕ → Key → List KeyLit
-clause_reads d cycles k = reads_of_origin d k (clause_origin d cycles k)
+abbrev pub clause_reads : Coding → Design → ℕ → Key → List KeyLit
+clause_reads coding d cycles k = reads_of_origin coding d k (clause_origin d cycles k)

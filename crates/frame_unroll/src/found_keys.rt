@@ -1,21 +1,21 @@
 //! The keys that definitions read, added to those that were found.
-ghost use Rattle.std.specs.Prelude.{◌≡◌, ◌<◌, ◌≤◌, ◌+◌, ◌-◌, ◌^◌, [], ◌∷◌, length, slice_get, OnOk};
-ghost use Rattle.net_model.specs.Netlist.{AllBelow, IsSound};
+ghost use Rattle.std.specs.Prelude.{◌≡◌, ◌<◌, ◌≤◌, ◌+◌, ◌-◌, ◌^◌, [], ◌∷◌, Some, length, slice_get, if◌then◌else◌, OnOk};
+ghost use Rattle.net_model.specs.Netlist.{IsSound};
 ghost use Rattle.query_model.specs.Defined as defined;
-ghost use Rattle.frame_unroll.specs.Drivers.{AreDrivers};
+ghost use Rattle.frame_unroll.specs.Counting.{marked};
 ghost use Rattle.frame_unroll.specs.Reading.{IsSubject};
-ghost use Rattle.frame_unroll.specs.Found.{IsOriginIn, IsOriginAt, gate_rail, reg_rail, with_clauses, Finds};
+ghost use Rattle.frame_unroll.specs.Found.{IsOriginIn, IsOriginAt, gate_rail, reg_rail, with_key, with_clauses, Finds};
 ghost use Rattle.frame_unroll.specs.Origins as origins;
 
-use crate::drivers::Driver;
 use crate::gathered::{
     Owner, RailAt, bit_lit, capture_lit, late_capture_lit, pin_literals, pin_literals_at, push_own,
     start_lit,
 };
 use crate::origins::{Origin, claim_origin};
 use crate::subjects::Subject;
+use crate::tables::Tables;
 use indexmap::IndexSet;
-use net_model::{Design, Gate, Reg};
+use net_model::{Gate, Reg};
 use query_model::{Key, KeyLit};
 use sdcv_base::Seq;
 use std::alloc::{AllocError, Global};
@@ -26,6 +26,33 @@ fn add_keys(lits: &Seq<KeyLit>, found: &mut IndexSet<Key>) -> Result<(), AllocEr
 {
     for i in 0..lits.len() {
         found.insert(lits.at(i).key)?;
+    }
+    Ok(())
+}
+
+/// Adds the key where its place counts.
+fn add_where(counts: bool, key: Key, found: &mut IndexSet<Key>) -> Result<(), AllocError>
+    ensures { OnOk result (found.new.keys ≡ (if counts then with_key found.old.keys key else found.old.keys)) }
+{
+    if counts {
+        found.insert(key)?;
+    }
+    Ok(())
+}
+
+/// Adds the keys of those of these literals whose places count, in their order.
+fn add_counted(
+    lits: &Seq<KeyLit>,
+    places: &Seq<bool>,
+    found: &mut IndexSet<Key>,
+) -> Result<(), AllocError>
+    requires { length places.now ≡ length lits.now }
+    ensures { OnOk result (Finds (marked places.now lits.now) found.old.keys found.new.keys) }
+{
+    for i in 0..lits.len() {
+        let counts = places.at(i);
+        let lit = lits.at(i);
+        add_where(counts, lit.key, found)?;
     }
     Ok(())
 }
@@ -51,59 +78,58 @@ fn add_two(first: KeyLit, second: KeyLit, found: &mut IndexSet<Key>) -> Result<(
 
 fn add_base_gate(
     alloc: Global,
-    design: &Design,
-    drivers: &Seq<Driver>,
+    tables: &Tables,
     cycle: usize,
     gate: usize,
     found: &mut IndexSet<Key>,
 ) -> Result<(), AllocError>
-    requires sound { IsSound design.now }
-    requires drivers { AreDrivers design.now drivers.now }
-    requires gate { gate < length design.now.gates }
-    ensures { OnOk result (Finds (origins.gate_base design.now cycle (slice_get design.now.gates gate)) found.old.keys found.new.keys) }
+    requires sound { IsSound tables.now.design }
+    requires gate { gate < length tables.now.design.gates }
+    ensures { OnOk result (Finds (origins.gate_base tables.now.coding tables.now.design cycle (slice_get tables.now.design.gates gate))
+        found.old.keys found.new.keys) }
 {
-    let reads = pin_literals(alloc, design, drivers, cycle, &design.gates.item(gate).ins)?;
-    add_keys(&reads, found)
+    let design = tables.design();
+    let ins = &design.gates.item(gate).ins;
+    let reads = pin_literals(alloc, design, tables.drivers(), cycle, ins)?;
+    add_counted(&reads, tables.gate_places(gate), found)
 }
 
 fn add_base_reg(
     alloc: Global,
-    design: &Design,
-    drivers: &Seq<Driver>,
+    tables: &Tables,
     cycle: usize,
     reg: usize,
     found: &mut IndexSet<Key>,
 ) -> Result<(), AllocError>
-    requires sound { IsSound design.now }
-    requires drivers { AreDrivers design.now drivers.now }
-    requires reg { reg < length design.now.regs }
-    ensures { OnOk result (Finds (origins.reg_base design.now cycle reg (slice_get design.now.regs reg)) found.old.keys found.new.keys) }
+    requires sound { IsSound tables.now.design }
+    requires reg { reg < length tables.now.design.regs }
+    ensures { OnOk result (Finds (origins.reg_base tables.now.coding tables.now.design cycle reg (slice_get tables.now.design.regs reg))
+        found.old.keys found.new.keys) }
 {
+    let design = tables.design();
     let register = design.regs.item(reg);
-    let mut reads = pin_literals(alloc, design, drivers, cycle, &register.ins)?;
+    let mut reads = pin_literals(alloc, design, tables.drivers(), cycle, &register.ins)?;
     push_own(&mut reads, register, bit_lit(design, cycle, reg))?;
-    add_keys(&reads, found)
+    add_counted(&reads, tables.reg_places(reg), found)
 }
 
 /// Adds the keys by which a net or a register's bit is defined in a cycle.
 pub fn add_base_reads(
     alloc: Global,
-    design: &Design,
-    drivers: &Seq<Driver>,
+    tables: &Tables,
     key: Key,
     origin: Origin,
     found: &mut IndexSet<Key>,
 ) -> Result<(), AllocError>
-    requires sound { IsSound design.now }
-    requires drivers { AreDrivers design.now drivers.now }
-    requires origin { IsOriginIn design.now origin }
-    ensures { OnOk result (Finds (origins.reads_of_origin design.now key origin) found.old.keys found.new.keys) }
+    requires sound { IsSound tables.now.design }
+    requires origin { IsOriginIn tables.now.design origin }
+    ensures { OnOk result (Finds (origins.reads_of_origin tables.now.coding tables.now.design key origin) found.old.keys found.new.keys) }
 {
     match origin {
-        Origin::Gate(gate) => add_base_gate(alloc, design, drivers, key.cycle, gate, found),
+        Origin::Gate(gate) => add_base_gate(alloc, tables, key.cycle, gate, found),
         Origin::Reg(reg) => {
             let before = key.cycle.saturating_sub(1);
-            add_base_reg(alloc, design, drivers, before, reg, found)
+            add_base_reg(alloc, tables, before, reg, found)
         }
         _ => Ok(()),
     }
@@ -119,13 +145,13 @@ fn add_gate_rail(
     found: &mut IndexSet<Key>,
 ) -> Result<(), AllocError>
     requires subject { IsSubject subject.now }
-    requires nets { AllBelow subject.now.design.now.nets gate.now.ins }
+    requires gate { slice_get subject.now.design.now.gates number ≡ Some gate.now }
     requires layer { rail_at.layer ≤ length subject.now.claim.now.through + 1 }
-    ensures { OnOk result (Finds (gate_rail subject.now.design.now subject.now.claim.now subject.now.moved rail_at.cycle rail_at.layer rail_at.rail
-        number gate.now) found.old.keys found.new.keys) }
+    ensures { OnOk result (Finds (gate_rail subject.now.tables.now.coding subject.now.design.now subject.now.claim.now subject.now.moved
+        rail_at.cycle rail_at.layer rail_at.rail number gate.now) found.old.keys found.new.keys) }
 {
     let reads = pin_literals_at(alloc, subject, Owner::Gate(number), &gate.ins, rail_at)?;
-    add_keys(&reads, found)?;
+    add_counted(&reads, subject.tables.gate_places(number), found)?;
     found.insert(Key {
         cycle: rail_at.cycle,
         layer: rail_at.layer,
@@ -148,8 +174,8 @@ fn add_late_gate(
     requires late { 0 < rail_at.layer }
     requires layer { rail_at.layer ≤ length subject.now.claim.now.through + 1 }
     requires rail { rail_at.rail ≡ 0 }
-    ensures { OnOk result (Finds (origins.gate_late subject.now.design.now subject.now.claim.now subject.now.moved rail_at.cycle (rail_at.layer - 1)
-        gate (slice_get subject.now.design.now.gates gate)) found.old.keys found.new.keys) }
+    ensures { OnOk result (Finds (origins.gate_late subject.now.tables.now.coding subject.now.design.now subject.now.claim.now subject.now.moved
+        rail_at.cycle (rail_at.layer - 1) gate (slice_get subject.now.design.now.gates gate)) found.old.keys found.new.keys) }
 {
     let driver = subject.design.gates.item(gate);
     add_gate_rail(alloc, subject, gate, driver, rail_at, found)?;
@@ -170,17 +196,16 @@ fn add_reg_rail(
     found: &mut IndexSet<Key>,
 ) -> Result<(), AllocError>
     requires subject { IsSubject subject.now }
-    requires number { number < length subject.now.design.now.regs }
-    requires nets { AllBelow subject.now.design.now.nets reg.now.ins }
+    requires reg { slice_get subject.now.design.now.regs number ≡ Some reg.now }
     requires layer { rail_at.layer ≡ length subject.now.claim.now.through + 1 }
-    ensures { OnOk result (Finds (reg_rail subject.now.design.now subject.now.claim.now subject.now.moved rail_at.cycle rail_at.rail
-        number reg.now) found.old.keys found.new.keys) }
+    ensures { OnOk result (Finds (reg_rail subject.now.tables.now.coding subject.now.design.now subject.now.claim.now subject.now.moved
+        rail_at.cycle rail_at.rail number reg.now) found.old.keys found.new.keys) }
 {
     let design = subject.design;
     let owner = Owner::Reg(number);
     let mut reads = pin_literals_at(alloc, subject, owner, &reg.ins, rail_at)?;
     push_own(&mut reads, reg, bit_lit(design, rail_at.cycle, number))?;
-    add_keys(&reads, found)?;
+    add_counted(&reads, subject.tables.reg_places(number), found)?;
     found.insert(Key {
         cycle: rail_at.cycle,
         layer: rail_at.layer,
@@ -200,7 +225,7 @@ fn add_late_reg(
 ) -> Result<(), AllocError>
     requires subject { IsSubject subject.now }
     requires reg { reg < length subject.now.design.now.regs }
-    ensures { OnOk result (Finds (origins.reg_late subject.now.design.now subject.now.claim.now subject.now.moved cycle reg
+    ensures { OnOk result (Finds (origins.reg_late subject.now.tables.now.coding subject.now.design.now subject.now.claim.now subject.now.moved cycle reg
         (slice_get subject.now.design.now.regs reg)) found.old.keys found.new.keys) }
 {
     let register = subject.design.regs.item(reg);
@@ -229,8 +254,8 @@ fn add_late_reads(
     requires subject { IsSubject subject.now }
     requires late { 0 < key.layer }
     requires origin { IsOriginAt subject.now.design.now subject.now.claim.now key.layer origin }
-    ensures { OnOk result (Finds (origins.late_reads subject.now.design.now subject.now.claim.now subject.now.moved key (key.layer - 1) origin)
-        found.old.keys found.new.keys) }
+    ensures { OnOk result (Finds (origins.late_reads subject.now.tables.now.coding subject.now.design.now subject.now.claim.now subject.now.moved
+        key (key.layer - 1) origin) found.old.keys found.new.keys) }
 {
     match origin {
         Origin::Gate(gate) => {
@@ -309,8 +334,8 @@ fn add_cycle_reads(
     requires subject { IsSubject subject.now }
     requires origin { IsOriginIn subject.now.design.now origin }
     requires early { key.cycle < 2 ^ 32 }
-    ensures { OnOk result (Finds (origins.reads_in_layer subject.now.design.now subject.now.claim.now subject.now.moved key 0 origin)
-        found.old.keys found.new.keys) }
+    ensures { OnOk result (Finds (origins.reads_in_layer subject.now.tables.now.coding subject.now.design.now subject.now.claim.now subject.now.moved
+        key 0 origin) found.old.keys found.new.keys) }
 {
     match origin {
         Origin::Toggle => {
@@ -323,7 +348,7 @@ fn add_cycle_reads(
             let before = key.cycle.saturating_sub(cycles).saturating_sub(1);
             add_starts(subject, key.cycle, before, found)
         }
-        _ => add_base_reads(alloc, subject.design, subject.drivers, key, origin, found),
+        _ => add_base_reads(alloc, subject.tables, key, origin, found),
     }
 }
 
@@ -337,7 +362,7 @@ pub fn add_claim_reads(
 ) -> Result<(), AllocError>
     requires subject { IsSubject subject.now }
     requires early { key.cycle < 2 ^ 32 }
-    ensures { OnOk result (Finds (origins.claim_reads subject.now.design.now subject.now.claim.now subject.now.moved cycles key)
+    ensures { OnOk result (Finds (origins.claim_reads subject.now.tables.now.coding subject.now.design.now subject.now.claim.now subject.now.moved cycles key)
         found.old.keys found.new.keys) }
 {
     let origin = claim_origin(subject, cycles, key);

@@ -7,21 +7,18 @@ ghost use Rattle.net_model.specs.Fits.{NamesRegs};
 ghost use Rattle.std.specs.List.{IsDistinct};
 ghost use Rattle.query_model.specs.Formula.{same_key};
 ghost use Rattle.query_model.specs.declared.keys.Key.{Key};
-ghost use Rattle.frame_unroll.specs.Drivers.{AreDrivers};
 ghost use Rattle.frame_unroll.specs.Reading.{IsSubject};
-ghost use Rattle.frame_unroll.specs.Found.{AreNetGates, AreSmall, AreAscending};
+ghost use Rattle.frame_unroll.specs.Found.{AreSmall, AreAscending};
 ghost use Rattle.frame_unroll.specs.Framed.{AreFramesOf, AreNeededOfClaim, AreNeededOfClause, AtPlace, AreWithin, key_of, number_if_any};
 
 use crate::asked::{claim_asked, clause_asked};
-use crate::drivers::{Driver, net_drivers};
 use crate::found_keys::add_clauses;
-use crate::gate_tables::net_gates;
 use crate::reached_keys::{reach_of_claim, reach_of_clause};
 use crate::spans::{claim_span, clause_span};
 use crate::subjects::Subject;
+use crate::tables::Tables;
 use indexmap::IndexSet;
-use net_model::{Claim, Design, InvClause, Phase};
-use net_paths::Readers;
+use net_model::{Claim, InvClause, Phase};
 use query_model::{Key, KeyLit};
 use sdcv_base::Seq;
 use std::alloc::{AllocError, Global};
@@ -59,7 +56,7 @@ impl Frames {
         requires subject { IsSubject subject.now }
         requires cycles { cycles ≤ 144 }
         requires within { AreWithin subject.now.design.now cycles asked.now }
-        ensures { IfOk result (AreNeededOfClaim subject.now.design.now subject.now.claim.now cycles subject.now.moved asked.now) }
+        ensures { IfOk result (AreNeededOfClaim subject.now.tables.now.coding subject.now.design.now subject.now.claim.now cycles subject.now.moved asked.now) }
     {
         let mut found = IndexSet::new(alloc);
         add_clauses(asked, &mut found)?;
@@ -70,44 +67,38 @@ impl Frames {
     /// The same where it is asked about a clause over register bits.
     pub fn by_clause(
         alloc: Global,
-        design: &Design,
-        drivers: &Seq<Driver>,
-        gates: &Seq<Option<usize>>,
+        tables: &Tables,
         cycles: usize,
         asked: &Seq<Seq<KeyLit>>,
     ) -> Result<Frames, AllocError>
-        requires sound { IsSound design.now }
-        requires drivers { AreDrivers design.now drivers.now }
-        requires gates { AreNetGates design.now gates.now }
+        requires sound { IsSound tables.now.design }
         requires cycles { cycles ≤ 144 }
-        requires within { AreWithin design.now cycles asked.now }
-        ensures { IfOk result (AreNeededOfClause design.now cycles asked.now) }
+        requires within { AreWithin tables.now.design cycles asked.now }
+        ensures { IfOk result (AreNeededOfClause tables.now.coding tables.now.design cycles asked.now) }
     {
         let mut found = IndexSet::new(alloc);
         add_clauses(asked, &mut found)?;
-        reach_of_clause(alloc, design, drivers, gates, cycles, &mut found)?;
+        reach_of_clause(alloc, tables, cycles, &mut found)?;
         Frames::in_order(found)
     }
 
     /// The needed keys of the query whether a claim is violated at a depth.
     pub fn of_claim(
         alloc: Global,
-        design: &Design,
+        tables: &Tables,
         claim: &Claim,
         phase: Phase,
         depth: usize,
         inv: &[InvClause],
     ) -> Result<Frames, AllocError>
-        requires sound { IsSound design.now }
-        requires fits { Fits design.now claim.now }
-        requires names { All (NamesRegs design.now) inv.now }
+        requires sound { IsSound tables.now.design }
+        requires fits { Fits tables.now.design claim.now }
+        requires names { All (NamesRegs tables.now.design) inv.now }
         requires few { depth ≤ 64 }
-        ensures { IfOk result (AreFramesOf (claim_query design.now claim.now phase depth inv.now)) }
+        ensures { IfOk result (AreFramesOf tables.now.coding (claim_query tables.now.design claim.now phase depth inv.now)) }
     {
-        let drivers = net_drivers(alloc, design)?;
-        let gates = net_gates(alloc, design)?;
-        let readers = Readers::of(alloc, design)?;
-        let subject = Subject::of(alloc, design, claim, &drivers, &gates, &readers)?;
+        let design = tables.design();
+        let subject = Subject::of(alloc, tables, claim)?;
         let asked = claim_asked(alloc, design, claim, phase, depth, inv)?;
         let span = claim_span(design, claim, phase, depth);
         Frames::by_claim(alloc, &subject, span.cycles, &asked)
@@ -116,24 +107,24 @@ impl Frames {
     /// The needed keys of the query whether the invariant at a place fails at a depth.
     pub fn of_invariant(
         alloc: Global,
-        design: &Design,
+        tables: &Tables,
         inv: &[InvClause],
         place: usize,
         phase: Phase,
         depth: usize,
     ) -> Result<Frames, AllocError>
-        requires sound { IsSound design.now }
+        requires sound { IsSound tables.now.design }
         requires place { place < length inv.now }
-        requires names { All (NamesRegs design.now) inv.now }
+        requires names { All (NamesRegs tables.now.design) inv.now }
         requires few { depth ≤ 64 }
-        ensures { IfOk result (λ keys. AtPlace inv.now place (λ clause. AreFramesOf (clause_query design.now inv.now clause phase depth) keys)) }
+        ensures { IfOk result (λ keys. AtPlace inv.now place (λ clause.
+            AreFramesOf tables.now.coding (clause_query tables.now.design inv.now clause phase depth) keys)) }
     {
+        let design = tables.design();
         let clause = &inv[place];
-        let drivers = net_drivers(alloc, design)?;
-        let gates = net_gates(alloc, design)?;
         let asked = clause_asked(alloc, design, inv, clause, phase, depth)?;
         let span = clause_span(design, phase, depth);
-        Frames::by_clause(alloc, design, &drivers, &gates, span.cycles, &asked)
+        Frames::by_clause(alloc, tables, span.cycles, &asked)
     }
 
     fn in_order(found: IndexSet<Key>) -> Result<Frames, AllocError>

@@ -96,7 +96,7 @@ pub fn start_lit(subject: &Subject, cycle: usize) -> KeyLit
     let design = subject.design;
     match subject.claim.start {
         Start::Reg(r) => bit_lit(design, cycle, r),
-        Start::Input(i) => base_lit(design, subject.drivers, cycle, design.inputs.at(i)),
+        Start::Input(i) => base_lit(design, subject.tables.drivers(), cycle, design.inputs.at(i)),
     }
 }
 
@@ -137,7 +137,12 @@ pub fn capture_lit(subject: &Subject, cycle: usize) -> KeyLit
     let design = subject.design;
     match subject.claim.end {
         End::Reg(r) => bit_lit(design, cycle + 1, r),
-        End::Output(o) => base_lit(design, subject.drivers, cycle, design.outputs.at(o)),
+        End::Output(o) => base_lit(
+            design,
+            subject.tables.drivers(),
+            cycle,
+            design.outputs.at(o),
+        ),
     }
 }
 

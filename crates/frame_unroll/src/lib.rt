@@ -1,12 +1,13 @@
 //! What a query asks of its keys, what these read, and which keys it needs: which nets a late start moves, the literal
-//! that stands for a net or a pin, and the keys that are reached from what is asked, numbered.
+//! that stands for a net or a pin, which places of a function count, and the keys that are reached from what is asked, numbered.
 //!
-//! Read `subjects` and `moved_nets` first, and `reached_keys` for the needed keys. What it all means is said in
+//! Read `tables`, `subjects` and `moved_nets` first, and `reached_keys` for the needed keys. What it all means is said in
 //! query_model's `specs/Reads` and `specs/Formula`.
 #![tactic(auto)]
 
 mod asked;
 mod conditions;
+mod counted_places;
 mod drivers;
 mod found_keys;
 mod frames;
@@ -15,12 +16,14 @@ mod gathered;
 mod kept;
 mod moved_nets;
 mod origins;
+mod places;
 mod reached_keys;
 mod reads;
 mod spans;
 mod spreads;
 mod starts;
 mod subjects;
+mod tables;
 mod violations;
 
 pub use asked::{claim_asked, clause_asked};
@@ -33,7 +36,9 @@ pub use gathered::{
 };
 pub use moved_nets::MovedNets;
 pub use origins::has_own;
+pub use places::counts;
 pub use reads::{net_lit, pin_lit};
 pub use spans::{Span, claim_span, clause_span};
 pub use starts::start_nets;
 pub use subjects::Subject;
+pub use tables::Tables;

@@ -126,7 +126,7 @@ fn late_origin(subject: &Subject, sets: usize, key: Key) -> Origin
     let (design, claim) = (subject.design, subject.claim);
     if key.point < design.nets {
         if has_own(subject, sets, key.point) {
-            of_gate(subject.gates.at(key.point))
+            of_gate(subject.tables.gates().at(key.point))
         } else {
             Origin::Free
         }
@@ -147,7 +147,7 @@ fn cycle_origin(subject: &Subject, cycles: usize, key: Key) -> Origin
     if key.rail != 0 {
         Origin::Free
     } else if key.point < first {
-        base_origin(design, subject.gates, cycles, key)
+        base_origin(design, subject.tables.gates(), cycles, key)
     } else if key.cycle < cycles {
         extra_origin(subject.claim, key.point - first)
     } else {

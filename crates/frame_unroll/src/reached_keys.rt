@@ -1,19 +1,16 @@
 //! The keys that are reached by what definitions read.
 ghost use Rattle.std.specs.Prelude.{◌≤◌, OnOk};
 ghost use Rattle.net_model.specs.Netlist.{IsSound};
-ghost use Rattle.frame_unroll.specs.Drivers.{AreDrivers};
 ghost use Rattle.frame_unroll.specs.Reading.{IsSubject};
-ghost use Rattle.frame_unroll.specs.Found.{AreNetGates, AreKeysWithin, AreReached};
+ghost use Rattle.frame_unroll.specs.Found.{AreKeysWithin, AreReached};
 ghost use Rattle.frame_unroll.specs.Origins.{claim_reads, clause_reads};
 
-use crate::drivers::Driver;
 use crate::found_keys::{add_base_reads, add_claim_reads};
 use crate::origins::clause_origin;
 use crate::subjects::Subject;
+use crate::tables::Tables;
 use indexmap::IndexSet;
-use net_model::Design;
 use query_model::Key;
-use sdcv_base::Seq;
 use std::alloc::{AllocError, Global};
 
 /// Adds the keys that the definitions of the found keys read, those that their definitions read, and so on, where it is
@@ -27,8 +24,8 @@ pub fn reach_of_claim(
     requires subject { IsSubject subject.now }
     requires cycles { cycles ≤ 144 }
     requires within { AreKeysWithin subject.now.design.now cycles found.old.keys }
-    ensures { OnOk result (AreReached (claim_reads subject.now.design.now subject.now.claim.now subject.now.moved cycles) found.old.keys
-        found.new.keys) }
+    ensures { OnOk result (AreReached (claim_reads subject.now.tables.now.coding subject.now.design.now subject.now.claim.now subject.now.moved
+        cycles) found.old.keys found.new.keys) }
 {
     let mut next = 0;
     while next < found.len() {
@@ -42,22 +39,18 @@ pub fn reach_of_claim(
 /// The same where it is asked about a clause over register bits.
 pub fn reach_of_clause(
     alloc: Global,
-    design: &Design,
-    drivers: &Seq<Driver>,
-    gates: &Seq<Option<usize>>,
+    tables: &Tables,
     cycles: usize,
     found: &mut IndexSet<Key>,
 ) -> Result<(), AllocError>
-    requires sound { IsSound design.now }
-    requires drivers { AreDrivers design.now drivers.now }
-    requires gates { AreNetGates design.now gates.now }
-    ensures { OnOk result (AreReached (clause_reads design.now cycles) found.old.keys found.new.keys) }
+    requires sound { IsSound tables.now.design }
+    ensures { OnOk result (AreReached (clause_reads tables.now.coding tables.now.design cycles) found.old.keys found.new.keys) }
 {
     let mut next = 0;
     while next < found.len() {
         let key = found.as_slice()[next];
-        let origin = clause_origin(design, gates, cycles, key);
-        add_base_reads(alloc, design, drivers, key, origin, found)?;
+        let origin = clause_origin(tables.design(), tables.gates(), cycles, key);
+        add_base_reads(alloc, tables, key, origin, found)?;
         next += 1;
     }
     Ok(())

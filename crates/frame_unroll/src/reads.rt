@@ -52,7 +52,7 @@ pub fn net_lit(subject: &Subject, key: Key) -> KeyLit
     ensures { result ≡ read subject.now.design.now subject.now.claim.now subject.now.moved key.cycle key.layer key.rail key.point }
 {
     let net = key.point;
-    let base = base_lit(subject.design, subject.drivers, key.cycle, net);
+    let base = base_lit(subject.design, subject.tables.drivers(), key.cycle, net);
     if key.layer == 0 || !subject.moved.has(key.layer - 1, net) {
         return flip_if(base, key.rail == 1);
     }

@@ -1,4 +1,2 @@
 mod Freeing
-mod RowPairs
 mod Tables
-mod Marks

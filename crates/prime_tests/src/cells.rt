@@ -4,8 +4,9 @@
 ghost use Rattle.std.specs.Prelude.{◌<◌, IfOk};
 ghost use Rattle.net_model.specs.Form.{IsOver};
 
+use frame_unroll::counts;
 use net_model::{Func, Tern};
-use prime_cubes::{cell_of, counts, primes};
+use prime_cubes::{cell_of, primes};
 use query_model::{Coding, Cube};
 use std::alloc::{AllocError, Global};
 use std::test;

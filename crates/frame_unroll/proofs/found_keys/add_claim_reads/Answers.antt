@@ -23,7 +23,8 @@ pub returns-else-key-eq0 : goal.returns-else-key-eq0
 returns-else-key-eq0 c =
     let d = c.args.subject.now.design.now in
     let claim = c.args.subject.now.claim.now in
-    let reads = late_reads_at d claim c.args.subject.now.moved c.args.cycles c.args.key c.claim_origin-origin.result (omega arith)
+    let reads = late_reads_at c.args.subject.now.tables.now.coding d claim c.args.subject.now.moved c.args.cycles c.args.key c.claim_origin-origin.result
+    (omega arith)
     c.claim_origin-origin.ensures in
     subst (λ (keys : List Key). OnOk c.add_late_reads.result (c.add_late_reads.new.found.keys ≡ keys)) (ap (with_keys c.args.found.now.keys) reads)
     c.add_late_reads.ensures

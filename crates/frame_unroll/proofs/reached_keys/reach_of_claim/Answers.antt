@@ -12,7 +12,7 @@ use Rattle.frame_unroll.proofs.reached_keys.reach_of_claim.Goals as goal
 pub loop-next-init : goal.loop-next-init
 loop-next-init c =
     let subject = c.args.subject.now in
-    reaches_first (claim_reads subject.design.now subject.claim.now subject.moved c.args.cycles) c.args.found.now.keys
+    reaches_first (claim_reads subject.tables.now.coding subject.design.now subject.claim.now subject.moved c.args.cycles) c.args.found.now.keys
 
 pub add_claim_reads-requires-clause-early : goal.add_claim_reads-requires-clause-early
 add_claim_reads-requires-clause-early c =
@@ -24,14 +24,15 @@ add_claim_reads-requires-clause-early c =
     let at : slice_get found next ≡ Some here =
     subst (λ (keys : List Key). slice_get keys next ≡ Some here) c.as_slice.ensures.keys
     (slice_get-get_or c.as_slice.result.now next (key 0 0 0 0) (omega (arith, ap (length {A = Key}) c.as_slice.ensures.keys))) in
-    let within = claim_keys_within subject.design.now subject.claim.now subject.moved c.args.cycles c.args.found.now.keys is.sound is.fits
+    let within = claim_keys_within subject.tables.now.coding subject.design.now subject.claim.now subject.moved c.args.cycles c.args.found.now.keys is.sound
+    is.fits
     c.requires.within here (c.loop-next.invariant.only here (in_place here found next at)) in
     omega (arith, within.cycle, c.requires.cycles)
 
 pub loop-next-preserved : goal.loop-next-preserved
 loop-next-preserved c =
     let subject = c.args.subject.now in
-    let reads = claim_reads subject.design.now subject.claim.now subject.moved c.args.cycles in
+    let reads = claim_reads subject.tables.now.coding subject.design.now subject.claim.now subject.moved c.args.cycles in
     let start = c.args.found.now.keys in
     let found = c.loop-next.found.keys in
     let next = c.loop-next.next in
@@ -45,5 +46,5 @@ loop-next-preserved c =
 pub returns : goal.returns
 returns c =
     let subject = c.args.subject.now in
-    reaches_all (claim_reads subject.design.now subject.claim.now subject.moved c.args.cycles) c.args.found.now.keys
+    reaches_all (claim_reads subject.tables.now.coding subject.design.now subject.claim.now subject.moved c.args.cycles) c.args.found.now.keys
     c.loop-next.found.keys c.loop-next.next (omega arith) c.loop-next.invariant
