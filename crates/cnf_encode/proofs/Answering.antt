@@ -14,7 +14,7 @@ use Rattle.query_model.specs.Laws.{HasFreeBits, AgreesWith, NumberedModelsAnswer
 use Rattle.query_laws.proofs.Railed.{claim_rails, numbered_rails}
 use Rattle.query_laws.proofs.Claims.{claim_models, clause_models}
 use Rattle.query_laws.proofs.Problems.{numbered_models}
-use Rattle.query_model.specs.declared.keys.Coding.TheVariants.{Rows}
+use Rattle.query_model.specs.declared.keys.Coding.{Coding}
 use Rattle.proof_log.specs.Literals.{lit_true}
 use Rattle.proof_log.specs.Clauses.{clause_true}
 use Rattle.proof_log.specs.Formulas.{IsModel, value_in}
@@ -41,35 +41,36 @@ codes_true v (c ∷ cs) all = (
 )
 
 -- a query of the design, whose models answer it
-record IsAnswered (d : Design) (q : Query) : Type 0 where
+record IsAnswered (coding : Coding) (d : Design) (q : Query) : Type 0 where
   design : q.design ≡ d
   some : 0 < q.cycles
-  law : NumberedModelsAnswer Rows q
+  law : NumberedModelsAnswer coding q
 
-answered : (d : Design) (q : Query) → IsSound d → IsClaimQuery d q ⊎ IsClauseQuery d q → IsAnswered d q
-answered d q sound (inl asks) =
-    subst (IsAnswered d) (sym asks.is)
+answered : (coding : Coding) (d : Design) (q : Query) → IsSound d → IsClaimQuery d q ⊎ IsClauseQuery d q → IsAnswered coding d q
+answered coding d q sound (inl asks) =
+    subst (IsAnswered coding d) (sym asks.is)
     (record {
       design = refl;
       some = omega arith;
       law =
-          numbered_models Rows (claim_query d asks.claim asks.phase asks.depth asks.inv)
-          (claim_models Rows d asks.claim asks.phase asks.depth asks.inv sound asks.fits (λ i has. All-contains (NamesRegs d) asks.inv i asks.names has));
+          numbered_models coding (claim_query d asks.claim asks.phase asks.depth asks.inv)
+          (claim_models coding d asks.claim asks.phase asks.depth asks.inv sound asks.fits (λ i has. All-contains (NamesRegs d) asks.inv i asks.names has));
     })
-answered d q sound (inr asks) =
-    subst (IsAnswered d) (sym asks.is)
+answered coding d q sound (inr asks) =
+    subst (IsAnswered coding d) (sym asks.is)
     (record {
       design = refl;
       some = omega arith;
       law =
-          numbered_models Rows (clause_query d asks.inv asks.clause asks.phase asks.depth)
-          (clause_models Rows d asks.inv asks.clause asks.phase asks.depth sound asks.name (λ i has. All-contains (NamesRegs d) asks.inv i asks.names has));
+          numbered_models coding (clause_query d asks.inv asks.clause asks.phase asks.depth)
+          (clause_models coding d asks.inv asks.clause asks.phase asks.depth sound asks.name (λ i has. All-contains (NamesRegs d) asks.inv i asks.names has));
     })
 
 -- the cycles that are read back are those of the query
-cycles_of : (d : Design) (q : Query) (problem : Problem) (values : List Bool) (run : List Cycle) → IsAnswered d q → IsProblemFor q problem
+cycles_of : (coding : Coding) (d : Design) (q : Query) (problem : Problem) (values : List Bool) (run : List Cycle) → IsAnswered coding d q
+    → IsProblemFor coding q problem
     → IsReadBack d problem.frames values problem.live problem.cycles run → AreCyclesOf q run
-cycles_of d q problem values run asked is done =
+cycles_of coding d q problem values run asked is done =
     record {
       linked = subst (λ (e : Design). IsLinked e run) (sym asked.design) done.linked;
       resets = λ t c at.
@@ -79,36 +80,37 @@ cycles_of d q problem values run asked is done =
     }
 
 -- they answer it, and agree with the model
-pub run_answers : (d : Design) (q : Query) (problem : Problem) (model : Model) (run : List Cycle) → IsSound d → IsClaimQuery d q ⊎ IsClauseQuery d q
-    → IsProblemFor q problem → IsModel problem.formula model → IsReadBack d problem.frames model.values problem.live problem.cycles run
+pub run_answers : (coding : Coding) (d : Design) (q : Query) (problem : Problem) (model : Model) (run : List Cycle) → IsSound d
+    → IsClaimQuery d q ⊎ IsClauseQuery d q → IsProblemFor coding q problem → IsModel problem.formula model
+    → IsReadBack d problem.frames model.values problem.live problem.cycles run
     → IsAnswer q run × AgreesWith d problem.frames (by_number problem.frames (value_in model.values)) run
-run_answers d q problem model run sound asks is holds done =
-    let asked = answered d q sound asks in
+run_answers coding d q problem model run sound asks is holds done =
+    let asked = answered coding d q sound asks in
     let v = value_in model.values in
     let free : HasFreeBits q.design problem.frames (by_number problem.frames (value_in model.values)) run =
     subst (λ (e : Design). HasFreeBits e problem.frames (by_number problem.frames (value_in model.values)) run) (sym asked.design)
     (run_free d problem.frames model.values problem.live problem.cycles run done) in
     let found = asked.law problem.frames problem.formula.vars problem.formula.clauses v run is.clauses (codes_true v problem.formula.clauses holds.1)
-    (cycles_of d q problem model.values run asked is done) free in
+    (cycles_of coding d q problem model.values run asked is done) free in
     (found.0, subst (λ (e : Design). AgreesWith e problem.frames (by_number problem.frames (value_in model.values)) run) asked.design found.1)
 
 -- where hazards count, and the layers of its cycles have the rails of the model
-pub run_rails : (d : Design) (q : Query) (problem : Problem) (model : Model) (run : List Cycle) → IsSound d → (asks : IsClaimQuery d q)
-    → asks.claim.hazard ≡ true → IsProblemFor q problem → IsModel problem.formula model → IsReadBack d problem.frames model.values problem.live
+pub run_rails : (coding : Coding) (d : Design) (q : Query) (problem : Problem) (model : Model) (run : List Cycle) → IsSound d → (asks : IsClaimQuery d q)
+    → asks.claim.hazard ≡ true → IsProblemFor coding q problem → IsModel problem.formula model → IsReadBack d problem.frames model.values problem.live
     problem.cycles run → HasRails d asks.claim problem.frames (by_number problem.frames (value_in model.values)) run
-run_rails d q problem model run sound asks hazard is holds done =
-    let asked = answered d q sound (inl asks) in
+run_rails coding d q problem model run sound asks hazard is holds done =
+    let asked = answered coding d q sound (inl asks) in
     let v = value_in model.values in
-    let law : NumberedHaveRails Rows asks.claim q =
-    subst (NumberedHaveRails Rows asks.claim) (sym asks.is) (numbered_rails Rows asks.claim (claim_query d asks.claim asks.phase asks.depth asks.inv)
-    (claim_rails Rows d asks.claim asks.phase asks.depth asks.inv sound asks.fits hazard)) in
+    let law : NumberedHaveRails coding asks.claim q =
+    subst (NumberedHaveRails coding asks.claim) (sym asks.is) (numbered_rails coding asks.claim (claim_query d asks.claim asks.phase asks.depth asks.inv)
+    (claim_rails coding d asks.claim asks.phase asks.depth asks.inv sound asks.fits hazard)) in
     let free : HasFreeBits q.design problem.frames (by_number problem.frames (value_in model.values)) run =
     subst (λ (e : Design). HasFreeBits e problem.frames (by_number problem.frames (value_in model.values)) run) (sym asked.design)
     (run_free d problem.frames model.values problem.live problem.cycles run done) in
     subst (λ (e : Design). HasRails e asks.claim problem.frames (by_number problem.frames (value_in model.values)) run) asked.design
     (law problem.frames problem.formula.vars problem.formula.clauses v run is.clauses (codes_true v problem.formula.clauses holds.1)
-    (cycles_of d q problem model.values run asked is done) free)
+    (cycles_of coding d q problem model.values run asked is done) free)
 
 -- a problem that was made has a cycle
 pub made_some : (d : Design) (problem : Problem) → IsSound d → IsMadeFor d problem → 0 < problem.cycles
-made_some d problem sound made = let asked = answered d made.query sound made.asks in omega (arith, asked.some, made.is.cycles)
+made_some d problem sound made = let asked = answered made.coding d made.query sound made.asks in omega (arith, asked.some, made.is.cycles)

@@ -1,12 +1,8 @@
 -- Literals that are chosen place by place.
-use Rattle.std.proofs.Common.{◌≡◌, ℕ, suc, ◌+◌, ◌-◌, ◌/◌, ◌%◌, ◌<◌, Bool, List, [], ◌∷◌, ◌++◌, map, length, get_or, drop, ap, sym, ◌∙◌, arith, append_assoc}
-use Rattle.std.specs.Prelude.{◌==◌}
-use Rattle.std.proofs.lemmas.Bool.{eq-eqb, ne_eqb}
+use Rattle.std.proofs.Common.{◌≡◌, ℕ, ◌+◌, ◌<◌, List, [], ◌∷◌, ◌++◌, length, get_or, drop, ap, sym, ◌∙◌, arith, append_assoc}
 use Rattle.std.proofs.lemmas.List.{drop_more}
-use Rattle.net_model.specs.Ternary.{tern_of}
 use Rattle.net_model.specs.declared.terns.Tern.{Tern}
 use Rattle.net_model.specs.declared.terns.Tern.TheVariants.{Zero, One, Unknown}
-use Rattle.query_model.specs.Tables.{row_bits}
 use Rattle.cnf_encode.specs.Chosen.{chosen}
 
 -- both lists begin with the items at the place
@@ -43,18 +39,3 @@ pub unknown_more : (lits zeros ones whole : List ℕ) (rest ts : List Tern) (i :
 unknown_more lits zeros ones whole rest ts i lt long fixed done =
     ap (λ (xs : List ℕ). lits ++ xs) (sym (begin zeros ones (Unknown ∷ ts) i 0 0 lt long))
     ∙ ap (λ (us : List Tern). lits ++ chosen (drop i zeros) (drop i ones) us) (sym fixed) ∙ done
-
--- the place's bit, and those after it
-row_rest : (places i rest : ℕ) → i < places → map tern_of (row_bits (places - i) rest) ≡ tern_of (rest % 2 == 1)
-    ∷ map tern_of (row_bits (places - (i + 1)) (rest / 2))
-row_rest places i rest lt = let left : places - i ≡ suc (places - (i + 1)) = omega arith in ap (λ n. map tern_of (row_bits n rest)) left
-
-pub row_one : (places i rest : ℕ) → i < places → rest % 2 ≡ 1 → map tern_of (row_bits (places - i) rest) ≡ One
-    ∷ map tern_of (row_bits (places - (i + 1)) (rest / 2))
-row_one places i rest lt odd =
-    row_rest places i rest lt ∙ ap (λ (b : Bool). tern_of b ∷ map tern_of (row_bits (places - (i + 1)) (rest / 2))) (eq-eqb (rest % 2) 1 odd)
-
-pub row_zero : (places i rest : ℕ) → i < places → (rest % 2 ≡ 1 → ⊥) → map tern_of (row_bits (places - i) rest) ≡ Zero
-    ∷ map tern_of (row_bits (places - (i + 1)) (rest / 2))
-row_zero places i rest lt even =
-    row_rest places i rest lt ∙ ap (λ (b : Bool). tern_of b ∷ map tern_of (row_bits (places - (i + 1)) (rest / 2))) (ne_eqb (rest % 2) 1 even)

@@ -12,21 +12,22 @@ use Rattle.net_model.specs.declared.netlist.Gate.{Gate}
 use Rattle.net_model.specs.declared.netlist.Reg.{Reg}
 use Rattle.net_model.specs.declared.claims.Claim.{Claim}
 use Rattle.query_model.specs.Keys.{key, below}
-use Rattle.query_model.specs.Defined.{Definition, numbered, unit, unit_if, set_in, has_own, input_definition, gate_definition, bit_definition, layer_gate}
+use Rattle.query_model.specs.Defined.{Definition, numbered, unit, unit_if, set_in}
+use Rattle.query_model.specs.Defined.{has_own, input_definition, gate_definition, bit_definition, layer_gate, base_definitions}
 use Rattle.query_model.specs.Formula.{same_key, has_key, listed}
 use Rattle.query_model.specs.declared.keys.Key.{Key}
 use Rattle.query_model.specs.declared.keys.KeyLit.{KeyLit}
-use Rattle.query_model.specs.declared.keys.Coding.TheVariants.{Rows}
+use Rattle.query_model.specs.declared.keys.Coding.{Coding}
 use Rattle.query_model.proofs.Based.{get_within}
 use Rattle.query_model.proofs.Places.{same_key-true}
-use Rattle.cnf_encode.specs.Listed.{IsClosed, Lists, of_item, at_place, alone}
+use Rattle.cnf_encode.specs.Listed.{IsClosed, Lists, of_item, at_place, alone, gate_alone}
 use Rattle.cnf_encode.specs.declared.cones.Cone.{Cone}
 use Rattle.query_model.specs.Defined.{plain_gate, rails_gate}
-use Rattle.cnf_encode.specs.Coned.{AreRows, IsConeFor, Covers, has_point, gate_points, bit_points}
+use Rattle.cnf_encode.specs.Coned.{AreRows, IsConeFor, Covers, has_point, gate_points, bit_points, of_cone}
 use Rattle.cnf_encode.proofs.Covered.{covered}
 use Rattle.cnf_encode.proofs.Standing.{length-below, bit_at_place}
 use Rattle.frame_unroll.proofs.Numbering.{take_at, numbered-take}
-use Rattle.cnf_encode.proofs.Listing.{Lists-same, Lists-append, Closed-none, Closed-same, Closed-numbered, Closed-flat_numbered, flat-push}
+use Rattle.cnf_encode.proofs.Listing.{Lists-same, Lists-append, Closed-none, Closed-same, Closed-map, Closed-numbered, Closed-flat_numbered, flat-push}
 
 pub at_place_is : {X A : Type 0} (f : ℕ → X → List A) (xs : List X) (k : ℕ) (x : X) → slice_get xs k ≡ Some x → at_place f xs k ≡ f k x
 at_place_is f xs k x at = ap (of_item f k) at
@@ -39,6 +40,15 @@ Closed-at_place {keys} {X} f xs k closed = by (slice_get xs k) refl
     by : (o : Option X) → slice_get xs k ≡ o → IsClosed keys (at_place (alone f) xs k)
     by None e = Closed-same (sym (ap (of_item (alone f) k) e)) Closed-none
     by (Some x) e = Closed-same (sym (at_place_is (alone f) xs k x e)) (Closed-numbered f xs k x e closed)
+
+-- so is that of a gate's net with those of all gates' nets
+pub Closed-gate_at : {keys : List Key} (coding : Coding) (d : Design) (c k : ℕ) → IsClosed keys (map (gate_definition coding d c) d.gates)
+    → IsClosed keys (at_place (gate_alone coding d c) d.gates k)
+Closed-gate_at {keys} coding d c k closed = by (slice_get d.gates k) refl
+  where
+    by : (o : Option Gate) → slice_get d.gates k ≡ o → IsClosed keys (at_place (gate_alone coding d c) d.gates k)
+    by None e = Closed-same (sym (ap (of_item (gate_alone coding d c) k) e)) Closed-none
+    by (Some g) e = Closed-same (sym (at_place_is (gate_alone coding d c) d.gates k g e)) (Closed-map (gate_definition coding d c) d.gates k g e closed)
 
 pub Closed-flat_at_place : {keys : List Key} {X : Type 0} (f : ℕ → X → List Definition) (xs : List X) (k : ℕ)
     → IsClosed keys (flat_map (λ (defs : List Definition). defs) (numbered f 0 xs)) → IsClosed keys (at_place f xs k)
@@ -140,70 +150,70 @@ items_left_out {X} keys c point f xs none k p at miss = by (slice_get xs k) (sym
     by (Some x) is = let same : point x ≡ p = cc in none k x (ap (has_point keys c) same ∙ miss)
 
 -- gates in the cycle itself
-abbrev pub gate_defs : Design → ℕ → ℕ → Gate → List Definition
-gate_defs d c k g = gate_definition Rows d c g ∷ []
-
-pub Lists-gates : (d : Design) (keys : List Key) (c : ℕ) (places : List ℕ) (n : ℕ) {old new : List (List ℕ)} → Covers keys c (gate_points d) places
-    → length places ≤ n → Lists keys (flat_map (at_place (gate_defs d c) d.gates) (take n places)) old new
-    → Lists keys (map (gate_definition Rows d c) d.gates) old new
-Lists-gates d keys c places n covers all lists =
+pub Lists-gates : (coding : Coding) (d : Design) (keys : List Key) (c : ℕ) (places : List ℕ) (n : ℕ) {old new : List (List ℕ)}
+    → Covers keys c (gate_points d) places
+    → length places ≤ n → Lists keys (flat_map (at_place (gate_alone coding d c) d.gates) (take n places)) old new
+    → Lists keys (map (gate_definition coding d c) d.gates) old new
+Lists-gates coding d keys c places n covers all lists =
     Lists-same
-    (ap (λ (m : ℕ). flat_map (at_place (gate_defs d c) d.gates) (below m)) (length-map d.gates (λ (g : Gate). g.out))
-    ∙ all_places (gate_defs d c) d.gates ∙ singles (λ k g. gate_definition Rows d c g) 0 d.gates ∙ unnumbered (gate_definition Rows d c) 0 d.gates)
-    (Lists-covered keys c (gate_points d) places (at_place (gate_defs d c) d.gates) n covers
-    (items_left_out keys c (λ (g : Gate). g.out) (gate_defs d c) d.gates
-    (λ k g miss. one_left_out keys (gate_definition Rows d c g) (key c 0 0 g.out) refl (no_key keys c g.out 0 0 miss)))
+    (ap (λ (m : ℕ). flat_map (at_place (gate_alone coding d c) d.gates) (below m)) (length-map d.gates (λ (g : Gate). g.out))
+    ∙ all_places (gate_alone coding d c) d.gates ∙ singles (λ k g. gate_definition coding d c g) 0 d.gates ∙ unnumbered (gate_definition coding d c) 0 d.gates)
+    (Lists-covered keys c (gate_points d) places (at_place (gate_alone coding d c) d.gates) n covers
+    (items_left_out keys c (λ (g : Gate). g.out) (gate_alone coding d c) d.gates
+    (λ k g miss. one_left_out keys (gate_definition coding d c g) (key c 0 0 g.out) refl (no_key keys c g.out 0 0 miss)))
     all lists)
 
 -- and in a layer
-layer_left_out : (d : Design) (claim : Claim) (moved : List (List Bool)) (keys : List Key) (c l k : ℕ) (g : Gate) → has_point keys c g.out ≡ false
-    → flat_map (listed keys) (layer_gate Rows d claim moved c l k g) ≡ []
-layer_left_out d claim moved keys c l k g miss = by (has_own claim moved l g.out) claim.hazard
+layer_left_out : (coding : Coding) (d : Design) (claim : Claim) (moved : List (List Bool)) (keys : List Key) (c l k : ℕ) (g : Gate)
+    → has_point keys c g.out ≡ false
+    → flat_map (listed keys) (layer_gate coding d claim moved c l k g) ≡ []
+layer_left_out coding d claim moved keys c l k g miss = by (has_own claim moved l g.out) claim.hazard
   where
     by : (own hazard : Bool) → flat_map (listed keys) (cond (not own) []
-        (cond hazard (rails_gate Rows d claim moved c (suc l) k g ∷ []) (plain_gate Rows d claim moved c (suc l) k g ∷ []))) ≡ []
+        (cond hazard (rails_gate coding d claim moved c (suc l) k g ∷ []) (plain_gate coding d claim moved c (suc l) k g ∷ []))) ≡ []
     by false hazard = refl
     by true true =
-        two_left_out keys (rails_gate Rows d claim moved c (suc l) k g) (key c (suc l) 0 g.out) (key c (suc l) 1 g.out) refl
+        two_left_out keys (rails_gate coding d claim moved c (suc l) k g) (key c (suc l) 0 g.out) (key c (suc l) 1 g.out) refl
         (no_key keys c g.out (suc l) 0 miss) (no_key keys c g.out (suc l) 1 miss)
-    by true false = one_left_out keys (plain_gate Rows d claim moved c (suc l) k g) (key c (suc l) 0 g.out) refl (no_key keys c g.out (suc l) 0 miss)
+    by true false = one_left_out keys (plain_gate coding d claim moved c (suc l) k g) (key c (suc l) 0 g.out) refl (no_key keys c g.out (suc l) 0 miss)
 
-pub Lists-layer_gates : (d : Design) (claim : Claim) (moved : List (List Bool)) (keys : List Key) (c l : ℕ) (places : List ℕ)
+pub Lists-layer_gates : (coding : Coding) (d : Design) (claim : Claim) (moved : List (List Bool)) (keys : List Key) (c l : ℕ) (places : List ℕ)
     (n : ℕ) {old new : List (List ℕ)} → Covers keys c (gate_points d) places → length places ≤ n
-    → Lists keys (flat_map (at_place (layer_gate Rows d claim moved c l) d.gates) (take n places)) old new
-    → Lists keys (flat_map (λ (defs : List Definition). defs) (numbered (layer_gate Rows d claim moved c l) 0 d.gates)) old new
-Lists-layer_gates d claim moved keys c l places n covers all lists =
+    → Lists keys (flat_map (at_place (layer_gate coding d claim moved c l) d.gates) (take n places)) old new
+    → Lists keys (flat_map (λ (defs : List Definition). defs) (numbered (layer_gate coding d claim moved c l) 0 d.gates)) old new
+Lists-layer_gates coding d claim moved keys c l places n covers all lists =
     Lists-same
-    (ap (λ (m : ℕ). flat_map (at_place (layer_gate Rows d claim moved c l) d.gates) (below m)) (length-map d.gates (λ (g : Gate). g.out))
-    ∙ all_places (layer_gate Rows d claim moved c l) d.gates)
-    (Lists-covered keys c (gate_points d) places (at_place (layer_gate Rows d claim moved c l) d.gates) n covers
-    (items_left_out keys c (λ (g : Gate). g.out) (layer_gate Rows d claim moved c l) d.gates (λ k g miss. layer_left_out d claim moved keys c l k g miss))
+    (ap (λ (m : ℕ). flat_map (at_place (layer_gate coding d claim moved c l) d.gates) (below m)) (length-map d.gates (λ (g : Gate). g.out))
+    ∙ all_places (layer_gate coding d claim moved c l) d.gates)
+    (Lists-covered keys c (gate_points d) places (at_place (layer_gate coding d claim moved c l) d.gates) n covers
+    (items_left_out keys c (λ (g : Gate). g.out) (layer_gate coding d claim moved c l) d.gates (λ k g miss. layer_left_out coding d claim moved keys c l k g
+    miss))
     all lists)
 
 -- register bits, which are those of the cycle after
-bits_left_out : (d : Design) (keys : List Key) (c k p : ℕ) → slice_get (bit_points d) k ≡ Some p → has_point keys (c + 1) p ≡ false
-    → flat_map (listed keys) (at_place (alone (bit_definition Rows d c)) d.regs k) ≡ []
-bits_left_out d keys c k p at miss = by (slice_get d.regs k)
+bits_left_out : (coding : Coding) (d : Design) (keys : List Key) (c k p : ℕ) → slice_get (bit_points d) k ≡ Some p → has_point keys (c + 1) p ≡ false
+    → flat_map (listed keys) (at_place (alone (bit_definition coding d c)) d.regs k) ≡ []
+bits_left_out coding d keys c k p at miss = by (slice_get d.regs k)
   where
-    by : (reg : Option Reg) → flat_map (listed keys) (of_item (alone (bit_definition Rows d c)) k reg) ≡ []
+    by : (reg : Option Reg) → flat_map (listed keys) (of_item (alone (bit_definition coding d c)) k reg) ≡ []
     by None = refl
     by (Some reg) =
         let here : p ≡ d.nets + k = (bit_at_place d k p at).0 in
-        one_left_out keys (bit_definition Rows d c k reg) (key (c + 1) 0 0 (d.nets + k)) refl
+        one_left_out keys (bit_definition coding d c k reg) (key (c + 1) 0 0 (d.nets + k)) refl
         (no_key keys (c + 1) (d.nets + k) 0 0 (ap (has_point keys (c + 1)) (sym here) ∙ miss))
 
 pub length-bit_points : (d : Design) → length (bit_points d) ≡ length d.regs
 length-bit_points d = length-map (below (length d.regs)) (λ r. d.nets + r) ∙ length-below (length d.regs)
 
-pub Lists-bits : (d : Design) (keys : List Key) (c : ℕ) (places : List ℕ) (n : ℕ) {old new : List (List ℕ)}
-    → Covers keys (c + 1) (bit_points d) places → length places ≤ n → Lists keys (flat_map (at_place (alone (bit_definition Rows d c)) d.regs) (take n
+pub Lists-bits : (coding : Coding) (d : Design) (keys : List Key) (c : ℕ) (places : List ℕ) (n : ℕ) {old new : List (List ℕ)}
+    → Covers keys (c + 1) (bit_points d) places → length places ≤ n → Lists keys (flat_map (at_place (alone (bit_definition coding d c)) d.regs) (take n
     places)) old new
-    → Lists keys (numbered (bit_definition Rows d c) 0 d.regs) old new
-Lists-bits d keys c places n covers all lists =
+    → Lists keys (numbered (bit_definition coding d c) 0 d.regs) old new
+Lists-bits coding d keys c places n covers all lists =
     Lists-same
-    (ap (λ (m : ℕ). flat_map (at_place (alone (bit_definition Rows d c)) d.regs) (below m)) (length-bit_points d)
-    ∙ all_places (alone (bit_definition Rows d c)) d.regs ∙ singles (bit_definition Rows d c) 0 d.regs)
-    (Lists-covered keys (c + 1) (bit_points d) places (at_place (alone (bit_definition Rows d c)) d.regs) n covers (bits_left_out d keys c) all lists)
+    (ap (λ (m : ℕ). flat_map (at_place (alone (bit_definition coding d c)) d.regs) (below m)) (length-bit_points d)
+    ∙ all_places (alone (bit_definition coding d c)) d.regs ∙ singles (bit_definition coding d c) 0 d.regs)
+    (Lists-covered keys (c + 1) (bit_points d) places (at_place (alone (bit_definition coding d c)) d.regs) n covers (bits_left_out coding d keys c) all lists)
 
 -- inputs
 unit_left_out : (keys : List Key) (o : Option Bool) (flip : Bool) (out : Key) → has_key keys out ≡ false → flat_map (listed keys) (unit_if o flip out) ≡ []
@@ -225,6 +235,12 @@ pub Lists-inputs : (d : Design) (keys : List Key) (live c : ℕ) (places : List 
     → Lists keys (flat_map (input_definition d live c) (below (length d.inputs))) old new
 Lists-inputs d keys live c places n covers all lists =
     Lists-covered keys c d.inputs places (input_definition d live c) n covers (inputs_left_out d keys live c) all lists
+
+-- the definitions of a cycle of a cone, by the coding and the design of another
+pub base_same : (coding : Coding) (d : Design) (cone : Cone) (live c : ℕ) → cone.cells.now.list.coding ≡ coding → cone.design.now ≡ d
+    → of_cone base_definitions cone live c ≡ base_definitions coding d live c
+base_same coding d cone live c same design =
+    ap (λ (k : Coding). base_definitions k cone.design.now live c) same ∙ ap (λ (e : Design). base_definitions coding e live c) design
 
 -- a place is one of the list
 pub place_below : (keys : List Key) (c : ℕ) (points places : List ℕ) (j k : ℕ) → Covers keys c points places → slice_get places j ≡ Some k → k < length points

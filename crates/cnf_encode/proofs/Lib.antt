@@ -8,13 +8,14 @@ mod Completing
 pub mod Keyed
 mod Choosing
 mod Tabled
-mod Rows
 mod Cubed
+mod CellTables
 pub mod Formed
 pub mod Listing
 mod Inputs
 mod Captures
 mod Layering
+mod CellClauses
 mod Needing
 mod Made
 mod MadeQueries

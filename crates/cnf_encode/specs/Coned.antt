@@ -8,8 +8,10 @@ use Rattle.net_model.specs.declared.netlist.Gate.{Gate}
 use Rattle.net_model.specs.declared.netlist.Fixed.{Fixed}
 use Rattle.query_model.specs.Keys.{below}
 use Rattle.query_model.specs.Defined.{set_in}
+use Rattle.query_model.specs.declared.keys.Coding.{Coding}
 use Rattle.query_model.specs.declared.keys.Key.{Key}
 use Rattle.frame_unroll.specs.Drivers.{AreDrivers}
+use Rattle.cnf_encode.specs.Cells.{AreCells}
 use Rattle.cnf_encode.specs.declared.cones.Cone.{Cone}
 
 -- one of the keys is about this point in this cycle, in whatever layer and on whatever rail
@@ -40,10 +42,11 @@ pub record AreValuesOf (settings : List Fixed) (inputs : ℕ) (values : List (Op
   pub len : length values ≡ inputs
   pub each : (i : ℕ) → i < inputs → slice_index_or values i None ≡ set_in settings i
 
--- of a sound design: what drives its nets, the settings of its inputs, and what the keys are about in the cycles up to this one
+-- of a sound design: what drives its nets, the cubes of its functions, the settings of its inputs, and what the keys are about in the cycles up to this one
 pub record IsConeOf (keys : List Key) (cycles : ℕ) (cone : Cone) : Type 0 where
   pub sound : IsSound cone.design.now
   pub drivers : AreDrivers cone.design.now cone.drivers.now
+  pub cells : AreCells cone.design.now cone.cells.now
   pub fixed : AreValuesOf cone.design.now.fixed (length cone.design.now.inputs) cone.fixed.now
   pub resets : AreValuesOf cone.design.now.resets (length cone.design.now.inputs) cone.resets.now
   pub inputs : AreRows keys cone.design.now.inputs (cycles + 1) cone.inputs
@@ -55,3 +58,7 @@ pub record IsConeFor (keys : List Key) (c : ℕ) (cone : Cone) : Type 0 where
   pub cycles : ℕ
   pub of : IsConeOf keys cycles cone
   pub lt : c < cycles
+
+-- what a definition says of the coding of its cubes and of its design
+abbrev pub of_cone : {A : Type 0} → (Coding → Design → A) → Cone → A
+of_cone f cone = f cone.cells.now.list.coding cone.design.now

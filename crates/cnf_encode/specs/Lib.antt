@@ -3,8 +3,11 @@ pub mod FreeBits
 pub mod Runs
 pub mod Coded
 pub mod Chosen
+pub mod Railed
 pub mod Listed
 pub mod Coned
 pub mod Placed
 pub mod Prepared
 pub mod Late
+pub mod CellLists
+pub mod Cells

@@ -2,9 +2,10 @@
 use Rattle.std.specs.Prelude.{◌≡◌, ℕ, Bool, true, List, [], ◌∷◌, ◌++◌, flat_map, Contains, Option, Some, None, slice_get}
 use Rattle.std.specs.List.{list_any}
 use Rattle.net_model.specs.declared.netlist.Design.{Design}
+use Rattle.net_model.specs.declared.netlist.Gate.{Gate}
 use Rattle.net_model.specs.declared.claims.Claim.{Claim}
-use Rattle.query_model.specs.Defined.{Definition, base_definitions, claim_definitions}
-use Rattle.query_model.specs.declared.keys.Coding.TheVariants.{Rows}
+use Rattle.query_model.specs.Defined.{Definition, gate_definition, base_definitions, claim_definitions}
+use Rattle.query_model.specs.declared.keys.Coding.{Coding}
 use Rattle.query_model.specs.Formula.{has_key, listed}
 use Rattle.query_model.specs.declared.keys.Key.{Key}
 use Rattle.cnf_encode.specs.Coded.{HasKeys, Adds}
@@ -29,10 +30,14 @@ at_place f xs k = of_item f k (slice_get xs k)
 abbrev pub alone : {X : Type 0} → (ℕ → X → Definition) → ℕ → X → List Definition
 alone f k x = f k x ∷ []
 
+-- the definition of a gate's net in a cycle, alone
+abbrev pub gate_alone : Coding → Design → ℕ → ℕ → Gate → List Definition
+gate_alone coding d c k g = gate_definition coding d c g ∷ []
+
 -- the definitions of a cycle in a query about a claim
-abbrev pub claim_cycle : Design → Claim → List (List Bool) → ℕ → ℕ → List Definition
-claim_cycle d claim moved live c = base_definitions Rows d live c ++ claim_definitions Rows d claim moved c
+abbrev pub claim_cycle : Coding → Design → Claim → List (List Bool) → ℕ → ℕ → List Definition
+claim_cycle coding d claim moved live c = base_definitions coding d live c ++ claim_definitions coding d claim moved c
 
 -- and in one about a clause
-abbrev pub clause_cycle : Design → ℕ → ℕ → List Definition
-clause_cycle d live c = base_definitions Rows d live c ++ []
+abbrev pub clause_cycle : Coding → Design → ℕ → ℕ → List Definition
+clause_cycle coding d live c = base_definitions coding d live c ++ []

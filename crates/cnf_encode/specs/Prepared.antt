@@ -1,13 +1,11 @@
 -- The tables that depend on a design alone.
-use Rattle.std.specs.Prelude.{◌+◌, ℕ, List, length, Option}
+use Rattle.std.specs.Prelude.{◌≡◌, ◌+◌, length}
 use Rattle.net_model.specs.declared.netlist.Design.{Design}
-use Rattle.net_model.specs.declared.claims.PinRef.{PinRef}
-use Rattle.net_paths.specs.Readers.{AreReaders}
-use Rattle.frame_unroll.specs.Drivers.{AreDrivers}
-use Rattle.frame_unroll.specs.Found.{AreNetGates}
-use Rattle.frame_unroll.specs.declared.drivers.Driver.{Driver}
+use Rattle.frame_unroll.specs.Tabled.{CodedDesign}
+use Rattle.cnf_encode.specs.Cells.{AreCells}
 use Rattle.cnf_encode.specs.Coned.{AreValuesOf, gate_points, bit_points}
 use Rattle.cnf_encode.specs.Placed.{ArePlaces}
+use Rattle.cnf_encode.specs.declared.cells.Cells.{Cells}
 use Rattle.cnf_encode.specs.declared.point_tables.PointTables.{PointTables}
 
 -- the settings of the design's inputs, and at which place each point stands
@@ -18,9 +16,8 @@ pub record ArePointTables (d : Design) (tables : PointTables) : Type 0 where
   pub gates : ArePlaces (gate_points d) d.nets tables.gates
   pub bits : ArePlaces (bit_points d) (d.nets + length d.regs) tables.bits
 
--- all of these tables are the design's
-pub record IsPrepared (d : Design) (drivers : List Driver) (gates : List (Option ℕ)) (readers : List (List PinRef)) (points : PointTables) : Type 0 where
-  pub drivers_are : AreDrivers d drivers
-  pub gates_are : AreNetGates d gates
-  pub readers_are : AreReaders d readers
-  pub points_are : ArePointTables d points
+-- the points are those of the design, and its cubes those of the coding
+pub record IsPrepared (tables : CodedDesign) (points : PointTables) (cells : Cells) : Type 0 where
+  pub points_are : ArePointTables tables.design points
+  pub cells_are : AreCells tables.design cells
+  pub coding_is : cells.list.coding ≡ tables.coding

@@ -12,14 +12,14 @@ use Rattle.net_model.specs.Fits.{NamesRegs}
 use Rattle.query_model.specs.Laws.{AgreesWith, HasRails}
 use Rattle.proof_log.specs.Formulas.{IsModel, value_in}
 use Rattle.proof_log.specs.declared.models.Model.{Model}
-use Rattle.query_model.specs.declared.keys.Coding.TheVariants.{Rows}
+use Rattle.query_model.specs.declared.keys.Coding.{Coding}
 use Rattle.cnf_encode.specs.declared.problems.Problem.{Problem}
 
--- the problem is that of the query: its clauses over its needed keys, with the query's cycles and resets
-pub record IsProblemFor (q : Query) (problem : Problem) : Type 0 where
+-- the problem is that of the query in a coding: its clauses over its needed keys, with the query's cycles and resets
+pub record IsProblemFor (coding : Coding) (q : Query) (problem : Problem) : Type 0 where
   pub live : problem.live ≡ q.live
   pub cycles : problem.cycles ≡ q.cycles
-  pub clauses : IsProblemOf Rows q problem.frames problem.formula.vars problem.formula.clauses
+  pub clauses : IsProblemOf coding q problem.frames problem.formula.vars problem.formula.clauses
 
 -- some model of the problem's clauses agrees with these cycles
 abbrev pub HasModelFor : Design → Problem → List Cycle → Type 0
@@ -52,14 +52,15 @@ pub record IsClauseQuery (d : Design) (q : Query) : Type 0 where
   pub names : All (NamesRegs d) inv
   pub is : q ≡ clause_query d inv clause phase depth
 
--- the problem is that of some query of the design
+-- the problem is that of some query of the design, in some coding
 pub record IsMadeFor (d : Design) (problem : Problem) : Type 0 where
+  pub coding : Coding
   pub query : Query
   pub asks : IsClaimQuery d query ⊎ IsClauseQuery d query
-  pub is : IsProblemFor query problem
+  pub is : IsProblemFor coding query problem
 
 -- where hazards count, the rails of these cycles' layers are in the model of each query about a claim that the problem is of
 abbrev pub HasRailsFor : Design → Problem → Model → List Cycle → Type 0
 HasRailsFor d problem model run =
-    (q : Query) (asks : IsClaimQuery d q) → asks.claim.hazard ≡ true → IsProblemFor q problem
+    (coding : Coding) (q : Query) (asks : IsClaimQuery d q) → asks.claim.hazard ≡ true → IsProblemFor coding q problem
     → HasRails d asks.claim problem.frames (by_number problem.frames (value_in model.values)) run

@@ -1,34 +1,12 @@
-//! The literals of a clause that says where a row or a cube doesn't hold.
+//! The literals of a clause that says where a cube doesn't hold.
 ghost use Rattle.std.specs.Prelude.{◌≡◌, length, map, IfOk};
-ghost use Rattle.net_model.specs.Ternary.{tern_of};
 ghost use Rattle.proof_log.specs.Literals.{negated};
-ghost use Rattle.query_model.specs.Tables.{row_bits};
 ghost use Rattle.cnf_encode.specs.Chosen.{chosen};
 
 use net_model::Tern;
 use proof_log::Lit;
 use smallvec::SmallVec;
 use std::alloc::{AllocError, Global};
-
-/// For each place the literal for 0 or the one for 1, by the place's bit in the row.
-pub fn row_lits(
-    alloc: Global,
-    zeros: &[Lit],
-    ones: &[Lit],
-    row: usize,
-) -> Result<SmallVec<Lit, 8>, AllocError>
-    requires { length ones.now ≡ length zeros.now }
-    ensures { IfOk result (λ v. v.items ≡ chosen zeros.now ones.now (map tern_of (row_bits (length zeros.now) row))) }
-{
-    let mut lits = SmallVec::new(alloc);
-    let mut rest = row;
-    for i in 0..zeros.len() {
-        let l = if rest % 2 == 1 { ones[i] } else { zeros[i] };
-        lits.push(l)?;
-        rest /= 2;
-    }
-    Ok(lits)
-}
 
 /// For each place that is fixed the literal for 0 or the one for 1.
 pub fn cube_lits(

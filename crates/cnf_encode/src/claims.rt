@@ -2,10 +2,9 @@
 ghost use Rattle.std.specs.Prelude.{◌≡◌, ◌<◌, ◌≤◌, ◌^◌, flat_map, OnOk};
 ghost use Rattle.query_model.specs.Keys.{below};
 ghost use Rattle.query_model.specs.Defined.{claim_definitions};
-ghost use Rattle.query_model.specs.declared.keys.Coding.TheVariants.{Rows};
 ghost use Rattle.cnf_encode.specs.Listed.{IsClosed, Lists, claim_cycle, clause_cycle};
-ghost use Rattle.cnf_encode.specs.Coned.{Covers, IsConeOf, IsConeFor, gate_points};
-ghost use Rattle.cnf_encode.specs.Late.{IsLateStart};
+ghost use Rattle.cnf_encode.specs.Coned.{Covers, IsConeOf, IsConeFor, gate_points, of_cone};
+ghost use Rattle.cnf_encode.specs.Late.{IsLateStart, of_late};
 
 use crate::cones::Cone;
 use crate::cycles::list_cycle;
@@ -31,12 +30,11 @@ fn list_late(
     requires late { IsLateStart late.now }
     requires gates { Covers frames.now cycle (gate_points late.now.subject.design.now) gates.now }
     requires cycle { cycle < 2 ^ 32 }
-    requires closed { IsClosed frames.now (claim_definitions Rows late.now.subject.design.now late.now.subject.claim.now late.now.subject.moved cycle) }
-    ensures { OnOk result (Lists frames.now (claim_definitions Rows late.now.subject.design.now late.now.subject.claim.now late.now.subject.moved cycle)
-        clauses.old clauses.new) }
+    requires closed { IsClosed frames.now (of_late claim_definitions late.now cycle) }
+    ensures { OnOk result (Lists frames.now (of_late claim_definitions late.now cycle) clauses.old clauses.new) }
 {
     list_layers(alloc, frames, late, gates, cycle, clauses)?;
-    list_end(alloc, frames, &late.subject, cycle, clauses)?;
+    list_end(alloc, frames, late, cycle, clauses)?;
     list_points(alloc, frames, &late.subject, cycle, clauses)?;
     Ok(())
 }
@@ -52,10 +50,10 @@ fn list_claim_cycle(
     requires late { IsLateStart late.now }
     requires cone { IsConeFor frames.now cycle cone.now }
     requires same { cone.now.design.now ≡ late.now.subject.design.now }
+    requires coding { cone.now.cells.now.list.coding ≡ late.now.cells.now.list.coding }
     requires cycle { cycle < 2 ^ 32 }
-    requires closed { IsClosed frames.now (claim_cycle late.now.subject.design.now late.now.subject.claim.now late.now.subject.moved cone.now.live cycle) }
-    ensures { OnOk result (Lists frames.now (claim_cycle late.now.subject.design.now late.now.subject.claim.now late.now.subject.moved cone.now.live cycle)
-        clauses.old clauses.new) }
+    requires closed { IsClosed frames.now (of_late claim_cycle late.now cone.now.live cycle) }
+    ensures { OnOk result (Lists frames.now (of_late claim_cycle late.now cone.now.live cycle) clauses.old clauses.new) }
 {
     let gates = cone.gates.item(cycle);
     list_cycle(alloc, frames, cone, cycle, clauses)?;
@@ -75,11 +73,10 @@ pub fn list_claim_cycles(
     requires late { IsLateStart late.now }
     requires cone { IsConeOf frames.now cycles cone.now }
     requires same { cone.now.design.now ≡ late.now.subject.design.now }
+    requires coding { cone.now.cells.now.list.coding ≡ late.now.cells.now.list.coding }
     requires cycles { cycles ≤ 2 ^ 32 }
-    requires closed { IsClosed frames.now (flat_map (claim_cycle late.now.subject.design.now late.now.subject.claim.now late.now.subject.moved cone.now.live)
-        (below cycles)) }
-    ensures { OnOk result (Lists frames.now (flat_map (claim_cycle late.now.subject.design.now late.now.subject.claim.now late.now.subject.moved cone.now.live)
-        (below cycles)) clauses.old clauses.new) }
+    requires closed { IsClosed frames.now (flat_map (of_late claim_cycle late.now cone.now.live) (below cycles)) }
+    ensures { OnOk result (Lists frames.now (flat_map (of_late claim_cycle late.now cone.now.live) (below cycles)) clauses.old clauses.new) }
 {
     for cycle in 0..cycles {
         list_claim_cycle(alloc, frames, late, cone, cycle, clauses)?;
@@ -97,8 +94,8 @@ pub fn list_clause_cycles(
 ) -> Result<(), AllocError>
     requires cone { IsConeOf frames.now cycles cone.now }
     requires cycles { cycles ≤ 2 ^ 32 }
-    requires closed { IsClosed frames.now (flat_map (clause_cycle cone.now.design.now cone.now.live) (below cycles)) }
-    ensures { OnOk result (Lists frames.now (flat_map (clause_cycle cone.now.design.now cone.now.live) (below cycles)) clauses.old clauses.new) }
+    requires closed { IsClosed frames.now (flat_map (of_cone clause_cycle cone.now cone.now.live) (below cycles)) }
+    ensures { OnOk result (Lists frames.now (flat_map (of_cone clause_cycle cone.now cone.now.live) (below cycles)) clauses.old clauses.new) }
 {
     for cycle in 0..cycles {
         list_cycle(alloc, frames, cone, cycle, clauses)?;

@@ -1,7 +1,7 @@
 //! Literals over keys as literals over the numbers of these keys.
 ghost use Rattle.std.specs.Prelude.{◌≡◌, map, All, IfOk};
 ghost use Rattle.query_model.specs.Variables.{code_of};
-ghost use Rattle.cnf_encode.specs.Coded.{HasKey};
+ghost use Rattle.cnf_encode.specs.Coded.{HasKey, AreCodes, IsCode};
 
 use frame_unroll::Frames;
 use proof_log::Lit;
@@ -23,6 +23,34 @@ pub fn codes(
         codes.push(code(frames, l))?;
     }
     Ok(codes)
+}
+
+/// The same, with any literal in place of one whose key has no number.
+pub fn known_codes(
+    alloc: Global,
+    frames: &Frames,
+    lits: &[KeyLit],
+) -> Result<SmallVec<Lit, 8>, AllocError>
+    ensures { IfOk result (λ v. AreCodes frames.now lits.now v.items) }
+{
+    let mut codes = SmallVec::new(alloc);
+    for l in lits {
+        codes.push(known_code(frames, l))?;
+    }
+    Ok(codes)
+}
+
+/// The literal of the number of this literal's key, or any literal where the key has no number.
+fn known_code(frames: &Frames, l: &KeyLit) -> Lit
+    ensures { IsCode frames.now l.now result }
+{
+    match frames.number(&l.key) {
+        None => Lit::default(),
+        Some(number) => {
+            prove!(number <= frames.vars());
+            Lit::new(number, l.positive)
+        }
+    }
 }
 
 /// The literal of the number of this literal's key.

@@ -3,6 +3,7 @@ ghost use Rattle.std.specs.Prelude.{◌≡◌, ◌≤◌, IfOk};
 ghost use Rattle.net_model.specs.Netlist.{IsSound};
 ghost use Rattle.cnf_encode.specs.Coned.{IsConeOf};
 
+use crate::cells::Cells;
 use crate::point_rows::point_rows;
 use crate::prepared_designs::Prepared;
 use frame_unroll::{Driver, Frames, Span};
@@ -10,12 +11,13 @@ use net_model::Design;
 use sdcv_base::Seq;
 use std::alloc::{AllocError, Global};
 
-/// What a query's keys are about: a design with what drives its nets and the settings of its inputs, and for each cycle the
+/// What a query's keys are about: a design with what drives its nets, the cubes of its functions and the settings of its inputs, and for each cycle the
 /// inputs, gates and register bits, by number. Resets are active in the cycles below `live`.
 #[derive(Drop)]
 pub struct Cone<'a> {
     pub design: &'a Design,
     pub drivers: &'a Seq<Driver>,
+    pub cells: &'a Cells,
     pub live: usize,
     pub fixed: &'a Seq<Option<bool>>,
     pub resets: &'a Seq<Option<bool>>,
@@ -34,10 +36,11 @@ impl<'a> Cone<'a> {
         frames: &Frames,
         span: Span,
     ) -> Result<Cone<'a>, AllocError>
-        requires sound { IsSound prepared.now }
+        requires sound { IsSound prepared.now.design }
         requires cycles { span.cycles ≤ 144 }
         ensures cone { IfOk result (IsConeOf frames.now span.cycles) }
-        ensures design { IfOk result (λ cone. cone.design.now ≡ prepared.now) }
+        ensures design { IfOk result (λ cone. cone.design.now ≡ prepared.now.design) }
+        ensures coding { IfOk result (λ cone. cone.cells.now.list.coding ≡ prepared.now.coding) }
         ensures live { IfOk result (λ cone. cone.live ≡ span.live) }
     {
         let count = span.cycles + 1;
@@ -45,6 +48,7 @@ impl<'a> Cone<'a> {
         Ok(Cone {
             design: prepared.bare(),
             drivers: prepared.drivers(),
+            cells: prepared.cells(),
             live: span.live,
             fixed: &points.fixed,
             resets: &points.resets,

@@ -1,17 +1,14 @@
 //! The definitions of the nets of one cycle, and of the register bits of the cycle after.
 ghost use Rattle.std.specs.Prelude.{◌<◌, ◌^◌, [], ◌∷◌, map, flat_map, length, OnOk};
-ghost use Rattle.net_model.specs.Netlist.{IsGateInRange};
 ghost use Rattle.query_model.specs.Keys.{below};
 ghost use Rattle.query_model.specs.Defined.{numbered, unit_if, input_definition, gate_definition, bit_definition, base_definitions};
-ghost use Rattle.query_model.specs.declared.keys.Coding.TheVariants.{Rows};
-ghost use Rattle.cnf_encode.specs.Listed.{IsClosed, Lists, at_place, alone};
-ghost use Rattle.cnf_encode.specs.Coned.{IsConeFor};
+ghost use Rattle.cnf_encode.specs.Listed.{IsClosed, Lists, at_place, alone, gate_alone};
+ghost use Rattle.cnf_encode.specs.Coned.{IsConeFor, of_cone};
 
 use crate::cones::Cone;
 use crate::needed::{is_needed, list_unit};
 use crate::tables::push_plain;
 use frame_unroll::{Frames, bit_lit, pin_literals, push_own};
-use net_model::{Gate, capture_func};
 use proof_log::Clause;
 use query_model::Key;
 use sdcv_base::Seq;
@@ -86,14 +83,15 @@ fn list_gate(
     frames: &Frames,
     cone: &Cone,
     cycle: usize,
-    gate: &Gate,
+    k: usize,
     clauses: &mut Seq<Clause>,
 ) -> Result<(), AllocError>
     requires cone { IsConeFor frames.now cycle cone.now }
-    requires gate { IsGateInRange cone.now.design.now gate.now }
-    requires closed { IsClosed frames.now (gate_definition Rows cone.now.design.now cycle gate.now ∷ []) }
-    ensures { OnOk result (Lists frames.now (gate_definition Rows cone.now.design.now cycle gate.now ∷ []) clauses.old clauses.new) }
+    requires gate { k < length cone.now.design.now.gates }
+    requires closed { IsClosed frames.now (at_place (of_cone gate_alone cone.now cycle) cone.now.design.now.gates k) }
+    ensures { OnOk result (Lists frames.now (at_place (of_cone gate_alone cone.now cycle) cone.now.design.now.gates k) clauses.old clauses.new) }
 {
+    let gate = cone.design.gates.item(k);
     let out = Key {
         cycle,
         layer: 0,
@@ -104,7 +102,8 @@ fn list_gate(
         return Ok(());
     }
     let reads = pin_literals(alloc, cone.design, cone.drivers, cycle, &gate.ins)?;
-    push_plain(alloc, frames, &reads, out, &gate.func, clauses)?;
+    let cell = cone.cells.gate(k);
+    push_plain(alloc, frames, &reads, out, cell.covering(), clauses)?;
     Ok(())
 }
 
@@ -116,13 +115,12 @@ fn list_gates(
     clauses: &mut Seq<Clause>,
 ) -> Result<(), AllocError>
     requires cone { IsConeFor frames.now cycle cone.now }
-    requires closed { IsClosed frames.now (map (gate_definition Rows cone.now.design.now cycle) cone.now.design.now.gates) }
-    ensures { OnOk result (Lists frames.now (map (gate_definition Rows cone.now.design.now cycle) cone.now.design.now.gates) clauses.old clauses.new) }
+    requires closed { IsClosed frames.now (map (of_cone gate_definition cone.now cycle) cone.now.design.now.gates) }
+    ensures { OnOk result (Lists frames.now (map (of_cone gate_definition cone.now cycle) cone.now.design.now.gates) clauses.old clauses.new) }
 {
     let gates = cone.gates.item(cycle);
     for j in 0..gates.len() {
-        let gate = cone.design.gates.item(gates.at(j));
-        list_gate(alloc, frames, cone, cycle, gate, clauses)?;
+        list_gate(alloc, frames, cone, cycle, gates.at(j), clauses)?;
     }
     Ok(())
 }
@@ -139,9 +137,8 @@ fn list_bit(
     requires cone { IsConeFor frames.now cycle cone.now }
     requires cycle { cycle < 2 ^ 32 }
     requires place { r < length cone.now.design.now.regs }
-    requires closed { IsClosed frames.now (at_place (alone (bit_definition Rows cone.now.design.now cycle)) cone.now.design.now.regs r) }
-    ensures { OnOk result (Lists frames.now (at_place (alone (bit_definition Rows cone.now.design.now cycle)) cone.now.design.now.regs r)
-        clauses.old clauses.new) }
+    requires closed { IsClosed frames.now (at_place (alone (of_cone bit_definition cone.now cycle)) cone.now.design.now.regs r) }
+    ensures { OnOk result (Lists frames.now (at_place (alone (of_cone bit_definition cone.now cycle)) cone.now.design.now.regs r) clauses.old clauses.new) }
 {
     let design = cone.design;
     let out = bit_lit(design, cycle + 1, r).key;
@@ -151,8 +148,8 @@ fn list_bit(
     let reg = design.regs.item(r);
     let mut reads = pin_literals(alloc, design, cone.drivers, cycle, &reg.ins)?;
     push_own(&mut reads, reg, bit_lit(design, cycle, r))?;
-    let func = capture_func(alloc, reg)?;
-    push_plain(alloc, frames, &reads, out, &func, clauses)?;
+    let cell = cone.cells.reg(r);
+    push_plain(alloc, frames, &reads, out, cell.covering(), clauses)?;
     Ok(())
 }
 
@@ -165,8 +162,8 @@ fn list_bits(
 ) -> Result<(), AllocError>
     requires cone { IsConeFor frames.now cycle cone.now }
     requires cycle { cycle < 2 ^ 32 }
-    requires closed { IsClosed frames.now (numbered (bit_definition Rows cone.now.design.now cycle) 0 cone.now.design.now.regs) }
-    ensures { OnOk result (Lists frames.now (numbered (bit_definition Rows cone.now.design.now cycle) 0 cone.now.design.now.regs) clauses.old clauses.new) }
+    requires closed { IsClosed frames.now (numbered (of_cone bit_definition cone.now cycle) 0 cone.now.design.now.regs) }
+    ensures { OnOk result (Lists frames.now (numbered (of_cone bit_definition cone.now cycle) 0 cone.now.design.now.regs) clauses.old clauses.new) }
 {
     let regs = cone.bits.item(cycle + 1);
     for j in 0..regs.len() {
@@ -185,8 +182,8 @@ pub fn list_cycle(
 ) -> Result<(), AllocError>
     requires cone { IsConeFor frames.now cycle cone.now }
     requires cycle { cycle < 2 ^ 32 }
-    requires closed { IsClosed frames.now (base_definitions Rows cone.now.design.now cone.now.live cycle) }
-    ensures { OnOk result (Lists frames.now (base_definitions Rows cone.now.design.now cone.now.live cycle) clauses.old clauses.new) }
+    requires closed { IsClosed frames.now (of_cone base_definitions cone.now cone.now.live cycle) }
+    ensures { OnOk result (Lists frames.now (of_cone base_definitions cone.now cone.now.live cycle) clauses.old clauses.new) }
 {
     list_inputs(alloc, frames, cone, cycle, clauses)?;
     list_gates(alloc, frames, cone, cycle, clauses)?;

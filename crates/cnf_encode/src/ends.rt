@@ -3,16 +3,17 @@ ghost use Rattle.std.specs.Prelude.{◌≡◌, ◌<◌, Some, length, slice_get,
 ghost use Rattle.net_model.specs.declared.netlist.Reg.{Reg};
 ghost use Rattle.query_model.specs.Defined.{late_key, late_reg, end_definition};
 ghost use Rattle.query_model.specs.Defined.{reg_reads, plain_reg, rails_reg};
-ghost use Rattle.query_model.specs.declared.keys.Coding.TheVariants.{Rows};
 ghost use Rattle.frame_unroll.specs.Reading.{IsSubject};
 ghost use Rattle.cnf_encode.specs.Listed.{IsClosed, Lists, at_place, alone};
+ghost use Rattle.cnf_encode.specs.Late.{IsLateStart, of_late};
 
 use crate::clauses::lit;
+use crate::late_starts::LateStart;
 use crate::layers::rails_of;
 use crate::needed::{is_either_needed, is_needed};
 use crate::tables::{Rails, push_plain, push_rails};
 use frame_unroll::{Frames, Owner, RailAt, Subject, bit_lit, pin_literals_at, push_own};
-use net_model::{End, capture_func};
+use net_model::End;
 use proof_log::Clause;
 use query_model::{Key, KeyLit};
 use sdcv_base::Seq;
@@ -61,26 +62,23 @@ fn late_reads(
 fn list_plain_reg(
     alloc: Global,
     frames: &Frames,
-    subject: &Subject,
+    late: &LateStart,
     cycle: usize,
     r: usize,
     clauses: &mut Seq<Clause>,
 ) -> Result<(), AllocError>
-    requires subject { IsSubject subject.now }
-    requires place { r < length subject.now.design.now.regs }
-    requires closed { IsClosed frames.now (at_place (alone (plain_reg Rows subject.now.design.now subject.now.claim.now subject.now.moved cycle))
-        subject.now.design.now.regs r) }
-    ensures { OnOk result (Lists frames.now (at_place (alone (plain_reg Rows subject.now.design.now subject.now.claim.now subject.now.moved cycle))
-        subject.now.design.now.regs r) clauses.old clauses.new) }
+    requires late { IsLateStart late.now }
+    requires place { r < length late.now.subject.design.now.regs }
+    requires closed { IsClosed frames.now (at_place (alone (of_late plain_reg late.now cycle)) late.now.subject.design.now.regs r) }
+    ensures { OnOk result (Lists frames.now (at_place (alone (of_late plain_reg late.now cycle)) late.now.subject.design.now.regs r) clauses.old clauses.new) }
 {
-    let (out, _) = late_keys(subject, cycle);
+    let (out, _) = late_keys(&late.subject, cycle);
     if !is_needed(frames, &out) {
         return Ok(());
     }
-    let reads = late_reads(alloc, subject, cycle, 0, true, r)?;
-    let reg = subject.design.regs.item(r);
-    let func = capture_func(alloc, reg)?;
-    push_plain(alloc, frames, &reads, out, &func, clauses)?;
+    let reads = late_reads(alloc, &late.subject, cycle, 0, true, r)?;
+    let cell = late.cells.reg(r);
+    push_plain(alloc, frames, &reads, out, cell.covering(), clauses)?;
     Ok(())
 }
 
@@ -88,33 +86,29 @@ fn list_plain_reg(
 fn list_rails_reg(
     alloc: Global,
     frames: &Frames,
-    subject: &Subject,
+    late: &LateStart,
     cycle: usize,
     r: usize,
     clauses: &mut Seq<Clause>,
 ) -> Result<(), AllocError>
-    requires subject { IsSubject subject.now }
-    requires place { r < length subject.now.design.now.regs }
-    requires closed { IsClosed frames.now (at_place (alone (rails_reg Rows subject.now.design.now subject.now.claim.now subject.now.moved cycle))
-        subject.now.design.now.regs r) }
-    ensures { OnOk result (Lists frames.now (at_place (alone (rails_reg Rows subject.now.design.now subject.now.claim.now subject.now.moved cycle))
-        subject.now.design.now.regs r) clauses.old clauses.new) }
+    requires late { IsLateStart late.now }
+    requires place { r < length late.now.subject.design.now.regs }
+    requires closed { IsClosed frames.now (at_place (alone (of_late rails_reg late.now cycle)) late.now.subject.design.now.regs r) }
+    ensures { OnOk result (Lists frames.now (at_place (alone (of_late rails_reg late.now cycle)) late.now.subject.design.now.regs r) clauses.old clauses.new) }
 {
-    let (high, low) = late_keys(subject, cycle);
+    let (high, low) = late_keys(&late.subject, cycle);
     if !is_either_needed(frames, &high, &low) {
         return Ok(());
     }
-    let highs = late_reads(alloc, subject, cycle, 0, true, r)?;
-    let lows = late_reads(alloc, subject, cycle, 1, false, r)?;
-    let reg = subject.design.regs.item(r);
-    let func = capture_func(alloc, reg)?;
+    let highs = late_reads(alloc, &late.subject, cycle, 0, true, r)?;
+    let lows = late_reads(alloc, &late.subject, cycle, 1, false, r)?;
     let rails = Rails {
         highs: &highs,
         lows: &lows,
         high,
         low,
     };
-    push_rails(alloc, frames, &rails, &func, clauses)?;
+    push_rails(alloc, frames, &rails, late.cells.reg(r), clauses)?;
     Ok(())
 }
 
@@ -122,22 +116,20 @@ fn list_rails_reg(
 fn list_late_reg(
     alloc: Global,
     frames: &Frames,
-    subject: &Subject,
+    late: &LateStart,
     cycle: usize,
     r: usize,
     clauses: &mut Seq<Clause>,
 ) -> Result<(), AllocError>
-    requires subject { IsSubject subject.now }
-    requires place { r < length subject.now.design.now.regs }
-    requires closed { IsClosed frames.now (late_reg Rows subject.now.design.now subject.now.claim.now subject.now.moved cycle r
-        (slice_get subject.now.design.now.regs r)) }
-    ensures { OnOk result (Lists frames.now (late_reg Rows subject.now.design.now subject.now.claim.now subject.now.moved cycle r
-        (slice_get subject.now.design.now.regs r)) clauses.old clauses.new) }
+    requires late { IsLateStart late.now }
+    requires place { r < length late.now.subject.design.now.regs }
+    requires closed { IsClosed frames.now (of_late late_reg late.now cycle r (slice_get late.now.subject.design.now.regs r)) }
+    ensures { OnOk result (Lists frames.now (of_late late_reg late.now cycle r (slice_get late.now.subject.design.now.regs r)) clauses.old clauses.new) }
 {
-    if subject.claim.hazard {
-        list_rails_reg(alloc, frames, subject, cycle, r, clauses)?;
+    if late.subject.claim.hazard {
+        list_rails_reg(alloc, frames, late, cycle, r, clauses)?;
     } else {
-        list_plain_reg(alloc, frames, subject, cycle, r, clauses)?;
+        list_plain_reg(alloc, frames, late, cycle, r, clauses)?;
     }
     Ok(())
 }
@@ -147,17 +139,16 @@ fn list_late_reg(
 pub fn list_end(
     alloc: Global,
     frames: &Frames,
-    subject: &Subject,
+    late: &LateStart,
     cycle: usize,
     clauses: &mut Seq<Clause>,
 ) -> Result<(), AllocError>
-    requires subject { IsSubject subject.now }
-    requires closed { IsClosed frames.now (end_definition Rows subject.now.design.now subject.now.claim.now subject.now.moved cycle subject.now.claim.now.end) }
-    ensures { OnOk result (Lists frames.now (end_definition Rows subject.now.design.now subject.now.claim.now subject.now.moved cycle subject.now.claim.now.end)
-        clauses.old clauses.new) }
+    requires late { IsLateStart late.now }
+    requires closed { IsClosed frames.now (of_late end_definition late.now cycle late.now.subject.claim.now.end) }
+    ensures { OnOk result (Lists frames.now (of_late end_definition late.now cycle late.now.subject.claim.now.end) clauses.old clauses.new) }
 {
-    match subject.claim.end {
-        End::Reg(r) => list_late_reg(alloc, frames, subject, cycle, r, clauses),
+    match late.subject.claim.end {
+        End::Reg(r) => list_late_reg(alloc, frames, late, cycle, r, clauses),
         End::Output(_) => Ok(()),
     }
 }

@@ -67,10 +67,11 @@ fn claim_formula(
     inv: &[InvClause],
 ) -> Result<Problem, AllocError>
     requires late { IsLateStart late.now }
-    requires same { late.now.subject.design.now ≡ prepared.now }
+    requires same { late.now.subject.design.now ≡ prepared.now.design }
+    requires coding { late.now.subject.tables.now.coding ≡ prepared.now.coding }
     requires names { All (NamesRegs late.now.subject.design.now) inv.now }
     requires few { depth ≤ 64 }
-    ensures exact { IfOk result (IsProblemFor (claim_query late.now.subject.design.now late.now.subject.claim.now phase depth inv.now)) }
+    ensures exact { IfOk result (IsProblemFor prepared.now.coding (claim_query late.now.subject.design.now late.now.subject.claim.now phase depth inv.now)) }
     ensures normal { IfOk result (λ p. IsFormula p.formula) }
     ensures complete { IfOk result (IsCompleteFor (claim_query late.now.subject.design.now late.now.subject.claim.now phase depth inv.now)) }
 {
@@ -98,13 +99,13 @@ pub fn formula(
     depth: usize,
     inv: &[InvClause],
 ) -> Result<Problem, AllocError>
-    requires sound { IsSound design.now }
-    requires fits { Fits design.now claim.now }
-    requires names { All (NamesRegs design.now) inv.now }
+    requires sound { IsSound design.now.design }
+    requires fits { Fits design.now.design claim.now }
+    requires names { All (NamesRegs design.now.design) inv.now }
     requires few { depth ≤ 64 }
-    ensures exact { IfOk result (IsProblemFor (claim_query design.now claim.now phase depth inv.now)) }
+    ensures exact { IfOk result (IsProblemFor design.now.coding (claim_query design.now.design claim.now phase depth inv.now)) }
     ensures normal { IfOk result (λ p. IsFormula p.formula) }
-    ensures complete { IfOk result (IsCompleteFor (claim_query design.now claim.now phase depth inv.now)) }
+    ensures complete { IfOk result (IsCompleteFor (claim_query design.now.design claim.now phase depth inv.now)) }
 {
     let late = LateStart::of(alloc, design, claim)?;
     claim_formula(alloc, design, &late, phase, depth, inv)
@@ -122,18 +123,18 @@ fn clause_formula(
     phase: Phase,
     depth: usize,
 ) -> Result<Problem, AllocError>
-    requires sound { IsSound design.now }
-    requires name { NamesRegs design.now clause.now }
-    requires names { All (NamesRegs design.now) inv.now }
+    requires sound { IsSound design.now.design }
+    requires name { NamesRegs design.now.design clause.now }
+    requires names { All (NamesRegs design.now.design) inv.now }
     requires few { depth ≤ 64 }
-    ensures exact { IfOk result (IsProblemFor (clause_query design.now inv.now clause.now phase depth)) }
+    ensures exact { IfOk result (IsProblemFor design.now.coding (clause_query design.now.design inv.now clause.now phase depth)) }
     ensures normal { IfOk result (λ p. IsFormula p.formula) }
-    ensures complete { IfOk result (IsCompleteFor (clause_query design.now inv.now clause.now phase depth)) }
+    ensures complete { IfOk result (IsCompleteFor (clause_query design.now.design inv.now clause.now phase depth)) }
 {
-    let (bare, drivers, gates) = (design.bare(), design.drivers(), design.gates());
+    let (bare, tables) = (design.bare(), design.tables());
     let span = clause_span(bare, phase, depth);
     let asked = clause_asked(alloc, bare, inv, clause, phase, depth)?;
-    let frames = Frames::by_clause(alloc, bare, drivers, gates, span.cycles, &asked)?;
+    let frames = Frames::by_clause(alloc, tables, span.cycles, &asked)?;
     let cone = Cone::of(alloc, design, &frames, span)?;
     let mut clauses = Seq::new(alloc);
     list_clause_cycles(alloc, &frames, &cone, span.cycles, &mut clauses)?;
@@ -150,13 +151,14 @@ pub fn inv_formula(
     phase: Phase,
     depth: usize,
 ) -> Result<Problem, AllocError>
-    requires sound { IsSound design.now }
-    requires names { All (NamesRegs design.now) inv.now }
+    requires sound { IsSound design.now.design }
+    requires names { All (NamesRegs design.now.design) inv.now }
     requires place { place < length inv.now }
     requires few { depth ≤ 64 }
-    ensures exact { IfOk result (λ p. AtPlace inv.now place (λ clause. IsProblemFor (clause_query design.now inv.now clause phase depth) p)) }
+    ensures exact { IfOk result (λ p. AtPlace inv.now place (λ clause.
+        IsProblemFor design.now.coding (clause_query design.now.design inv.now clause phase depth) p)) }
     ensures normal { IfOk result (λ p. IsFormula p.formula) }
-    ensures complete { IfOk result (λ p. AtPlace inv.now place (λ clause. IsCompleteFor (clause_query design.now inv.now clause phase depth) p)) }
+    ensures complete { IfOk result (λ p. AtPlace inv.now place (λ clause. IsCompleteFor (clause_query design.now.design inv.now clause phase depth) p)) }
 {
     clause_formula(alloc, design, inv, &inv[place], phase, depth)
 }

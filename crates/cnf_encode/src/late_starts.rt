@@ -4,6 +4,7 @@ ghost use Rattle.net_model.specs.Netlist.{IsSound};
 ghost use Rattle.net_model.specs.Fits.{Fits};
 ghost use Rattle.cnf_encode.specs.Late.{IsLateStart};
 
+use crate::cells::Cells;
 use crate::point_rows::in_order;
 use crate::prepared_designs::Prepared;
 use frame_unroll::{Subject, start_nets};
@@ -11,11 +12,12 @@ use net_model::Claim;
 use sdcv_base::Seq;
 use std::alloc::{AllocError, Global};
 
-/// What a query about a claim is about, and the nets of the claim's start, ascending.
+/// What a query about a claim is about, the nets of the claim's start, ascending, and the cubes of the design's functions.
 #[derive(Drop)]
 pub struct LateStart<'a> {
     pub subject: Subject<'a>,
     pub nets: Seq<usize>,
+    pub cells: &'a Cells,
 }
 
 impl<'a> LateStart<'a> {
@@ -25,16 +27,19 @@ impl<'a> LateStart<'a> {
         prepared: &'a Prepared,
         claim: &'a Claim,
     ) -> Result<LateStart<'a>, AllocError>
-        requires sound { IsSound prepared.now }
-        requires fits { Fits prepared.now claim.now }
+        requires sound { IsSound prepared.now.design }
+        requires fits { Fits prepared.now.design claim.now }
         ensures late { IfOk result IsLateStart }
-        ensures design { IfOk result (λ late. late.subject.design.now ≡ prepared.now) }
+        ensures design { IfOk result (λ late. late.subject.design.now ≡ prepared.now.design) }
+        ensures coding { IfOk result (λ late. late.subject.tables.now.coding ≡ prepared.now.coding) }
         ensures claim { IfOk result (λ late. late.subject.claim.now ≡ claim.now) }
     {
-        let (design, readers) = (prepared.bare(), prepared.readers());
-        let (drivers, gates) = (prepared.drivers(), prepared.gates());
-        let subject = Subject::of(alloc, design, claim, drivers, gates, readers)?;
-        let nets = in_order(alloc, &start_nets(alloc, design, claim)?)?;
-        Ok(LateStart { subject, nets })
+        let subject = Subject::of(alloc, prepared.tables(), claim)?;
+        let nets = in_order(alloc, &start_nets(alloc, prepared.bare(), claim)?)?;
+        Ok(LateStart {
+            subject,
+            nets,
+            cells: prepared.cells(),
+        })
     }
 }

@@ -3,16 +3,14 @@ ghost use Rattle.std.specs.Prelude.{◌≡◌, ◌<◌, ◌≤◌, ◌+◌, flat
 ghost use Rattle.query_model.specs.Keys.{key};
 ghost use Rattle.query_model.specs.Defined.{layer_gate, layer_gates, start_units, layer_definitions, all_layers};
 ghost use Rattle.query_model.specs.Defined.{plain_gate, rails_gate, start_net};
-ghost use Rattle.query_model.specs.declared.keys.Coding.TheVariants.{Rows};
-ghost use Rattle.frame_unroll.specs.Reading.{IsSubject};
 ghost use Rattle.cnf_encode.specs.Listed.{IsClosed, Lists, at_place, alone};
 ghost use Rattle.cnf_encode.specs.Coned.{Covers, gate_points};
-ghost use Rattle.cnf_encode.specs.Late.{IsLateStart};
+ghost use Rattle.cnf_encode.specs.Late.{IsLateStart, of_late};
 
 use crate::late_starts::LateStart;
 use crate::needed::{is_either_needed, is_needed, list_unit};
 use crate::tables::{Rails, push_plain, push_rails};
-use frame_unroll::{Frames, Owner, RailAt, Subject, has_own, pin_literals_at};
+use frame_unroll::{Frames, Owner, RailAt, has_own, pin_literals_at};
 use proof_log::Clause;
 use query_model::Key;
 use sdcv_base::Seq;
@@ -43,22 +41,20 @@ pub fn rails_of(cycle: usize, layer: usize, point: usize) -> (Key, Key)
 fn list_plain_gate(
     alloc: Global,
     frames: &Frames,
-    subject: &Subject,
+    late: &LateStart,
     layer_at: LayerAt,
     k: usize,
     clauses: &mut Seq<Clause>,
 ) -> Result<(), AllocError>
-    requires subject { IsSubject subject.now }
-    requires layer { layer_at.layer ≤ length subject.now.claim.now.through }
-    requires gate { k < length subject.now.design.now.gates }
-    requires closed { IsClosed frames.now (at_place
-        (alone (plain_gate Rows subject.now.design.now subject.now.claim.now subject.now.moved layer_at.cycle (layer_at.layer + 1)))
-        subject.now.design.now.gates k) }
-    ensures { OnOk result (Lists frames.now (at_place
-        (alone (plain_gate Rows subject.now.design.now subject.now.claim.now subject.now.moved layer_at.cycle (layer_at.layer + 1)))
-        subject.now.design.now.gates k) clauses.old clauses.new) }
+    requires late { IsLateStart late.now }
+    requires layer { layer_at.layer ≤ length late.now.subject.claim.now.through }
+    requires gate { k < length late.now.subject.design.now.gates }
+    requires closed { IsClosed frames.now (at_place (alone (of_late plain_gate late.now layer_at.cycle (layer_at.layer + 1)))
+        late.now.subject.design.now.gates k) }
+    ensures { OnOk result (Lists frames.now (at_place (alone (of_late plain_gate late.now layer_at.cycle (layer_at.layer + 1)))
+        late.now.subject.design.now.gates k) clauses.old clauses.new) }
 {
-    let gate = subject.design.gates.item(k);
+    let gate = late.subject.design.gates.item(k);
     let (cycle, layer) = (layer_at.cycle, layer_at.layer + 1);
     let (out, _) = rails_of(cycle, layer, gate.out);
     if !is_needed(frames, &out) {
@@ -69,8 +65,9 @@ fn list_plain_gate(
         layer,
         rail: 0,
     };
-    let reads = pin_literals_at(alloc, subject, Owner::Gate(k), &gate.ins, rail_at)?;
-    push_plain(alloc, frames, &reads, out, &gate.func, clauses)?;
+    let reads = pin_literals_at(alloc, &late.subject, Owner::Gate(k), &gate.ins, rail_at)?;
+    let cell = late.cells.gate(k);
+    push_plain(alloc, frames, &reads, out, cell.covering(), clauses)?;
     Ok(())
 }
 
@@ -78,22 +75,20 @@ fn list_plain_gate(
 fn list_rails_gate(
     alloc: Global,
     frames: &Frames,
-    subject: &Subject,
+    late: &LateStart,
     layer_at: LayerAt,
     k: usize,
     clauses: &mut Seq<Clause>,
 ) -> Result<(), AllocError>
-    requires subject { IsSubject subject.now }
-    requires layer { layer_at.layer ≤ length subject.now.claim.now.through }
-    requires gate { k < length subject.now.design.now.gates }
-    requires closed { IsClosed frames.now (at_place
-        (alone (rails_gate Rows subject.now.design.now subject.now.claim.now subject.now.moved layer_at.cycle (layer_at.layer + 1)))
-        subject.now.design.now.gates k) }
-    ensures { OnOk result (Lists frames.now (at_place
-        (alone (rails_gate Rows subject.now.design.now subject.now.claim.now subject.now.moved layer_at.cycle (layer_at.layer + 1)))
-        subject.now.design.now.gates k) clauses.old clauses.new) }
+    requires late { IsLateStart late.now }
+    requires layer { layer_at.layer ≤ length late.now.subject.claim.now.through }
+    requires gate { k < length late.now.subject.design.now.gates }
+    requires closed { IsClosed frames.now (at_place (alone (of_late rails_gate late.now layer_at.cycle (layer_at.layer + 1)))
+        late.now.subject.design.now.gates k) }
+    ensures { OnOk result (Lists frames.now (at_place (alone (of_late rails_gate late.now layer_at.cycle (layer_at.layer + 1)))
+        late.now.subject.design.now.gates k) clauses.old clauses.new) }
 {
-    let gate = subject.design.gates.item(k);
+    let gate = late.subject.design.gates.item(k);
     let (cycle, layer) = (layer_at.cycle, layer_at.layer + 1);
     let (high, low) = rails_of(cycle, layer, gate.out);
     if !is_either_needed(frames, &high, &low) {
@@ -104,16 +99,16 @@ fn list_rails_gate(
         layer,
         rail: 0,
     };
-    let highs = pin_literals_at(alloc, subject, Owner::Gate(k), &gate.ins, rail_at)?;
+    let highs = pin_literals_at(alloc, &late.subject, Owner::Gate(k), &gate.ins, rail_at)?;
     let rail_at = RailAt { rail: 1, ..rail_at };
-    let lows = pin_literals_at(alloc, subject, Owner::Gate(k), &gate.ins, rail_at)?;
+    let lows = pin_literals_at(alloc, &late.subject, Owner::Gate(k), &gate.ins, rail_at)?;
     let rails = Rails {
         highs: &highs,
         lows: &lows,
         high,
         low,
     };
-    push_rails(alloc, frames, &rails, &gate.func, clauses)?;
+    push_rails(alloc, frames, &rails, late.cells.gate(k), clauses)?;
     Ok(())
 }
 
@@ -121,29 +116,26 @@ fn list_rails_gate(
 fn list_layer_gate(
     alloc: Global,
     frames: &Frames,
-    subject: &Subject,
+    late: &LateStart,
     layer_at: LayerAt,
     k: usize,
     clauses: &mut Seq<Clause>,
 ) -> Result<(), AllocError>
-    requires subject { IsSubject subject.now }
-    requires layer { layer_at.layer ≤ length subject.now.claim.now.through }
-    requires gate { k < length subject.now.design.now.gates }
-    requires closed { IsClosed frames.now (at_place
-        (layer_gate Rows subject.now.design.now subject.now.claim.now subject.now.moved layer_at.cycle layer_at.layer)
-        subject.now.design.now.gates k) }
-    ensures { OnOk result (Lists frames.now (at_place
-        (layer_gate Rows subject.now.design.now subject.now.claim.now subject.now.moved layer_at.cycle layer_at.layer)
-        subject.now.design.now.gates k) clauses.old clauses.new) }
+    requires late { IsLateStart late.now }
+    requires layer { layer_at.layer ≤ length late.now.subject.claim.now.through }
+    requires gate { k < length late.now.subject.design.now.gates }
+    requires closed { IsClosed frames.now (at_place (of_late layer_gate late.now layer_at.cycle layer_at.layer) late.now.subject.design.now.gates k) }
+    ensures { OnOk result (Lists frames.now (at_place (of_late layer_gate late.now layer_at.cycle layer_at.layer) late.now.subject.design.now.gates k)
+        clauses.old clauses.new) }
 {
-    let gate = subject.design.gates.item(k);
-    if !has_own(subject, layer_at.layer, gate.out) {
+    let gate = late.subject.design.gates.item(k);
+    if !has_own(&late.subject, layer_at.layer, gate.out) {
         return Ok(());
     }
-    if subject.claim.hazard {
-        list_rails_gate(alloc, frames, subject, layer_at, k, clauses)?;
+    if late.subject.claim.hazard {
+        list_rails_gate(alloc, frames, late, layer_at, k, clauses)?;
     } else {
-        list_plain_gate(alloc, frames, subject, layer_at, k, clauses)?;
+        list_plain_gate(alloc, frames, late, layer_at, k, clauses)?;
     }
     Ok(())
 }
@@ -151,20 +143,19 @@ fn list_layer_gate(
 fn list_layer_gates(
     alloc: Global,
     frames: &Frames,
-    subject: &Subject,
+    late: &LateStart,
     gates: &Seq<usize>,
     layer_at: LayerAt,
     clauses: &mut Seq<Clause>,
 ) -> Result<(), AllocError>
-    requires subject { IsSubject subject.now }
-    requires gates { Covers frames.now layer_at.cycle (gate_points subject.now.design.now) gates.now }
-    requires layer { layer_at.layer ≤ length subject.now.claim.now.through }
-    requires closed { IsClosed frames.now (layer_gates Rows subject.now.design.now subject.now.claim.now subject.now.moved layer_at.cycle layer_at.layer) }
-    ensures { OnOk result (Lists frames.now (layer_gates Rows subject.now.design.now subject.now.claim.now subject.now.moved layer_at.cycle layer_at.layer)
-        clauses.old clauses.new) }
+    requires late { IsLateStart late.now }
+    requires gates { Covers frames.now layer_at.cycle (gate_points late.now.subject.design.now) gates.now }
+    requires layer { layer_at.layer ≤ length late.now.subject.claim.now.through }
+    requires closed { IsClosed frames.now (of_late layer_gates late.now layer_at.cycle layer_at.layer) }
+    ensures { OnOk result (Lists frames.now (of_late layer_gates late.now layer_at.cycle layer_at.layer) clauses.old clauses.new) }
 {
     for j in 0..gates.len() {
-        list_layer_gate(alloc, frames, subject, layer_at, gates.at(j), clauses)?;
+        list_layer_gate(alloc, frames, late, layer_at, gates.at(j), clauses)?;
     }
     Ok(())
 }
@@ -233,13 +224,11 @@ fn list_layer(
     requires late { IsLateStart late.now }
     requires gates { Covers frames.now layer_at.cycle (gate_points late.now.subject.design.now) gates.now }
     requires layer { layer_at.layer ≤ length late.now.subject.claim.now.through }
-    requires closed { IsClosed frames.now (layer_definitions Rows late.now.subject.design.now late.now.subject.claim.now late.now.subject.moved
-        layer_at.cycle layer_at.layer) }
-    ensures { OnOk result (Lists frames.now (layer_definitions Rows late.now.subject.design.now late.now.subject.claim.now late.now.subject.moved
-        layer_at.cycle layer_at.layer) clauses.old clauses.new) }
+    requires closed { IsClosed frames.now (of_late layer_definitions late.now layer_at.cycle layer_at.layer) }
+    ensures { OnOk result (Lists frames.now (of_late layer_definitions late.now layer_at.cycle layer_at.layer) clauses.old clauses.new) }
 {
     list_starts(alloc, frames, late, layer_at, clauses)?;
-    list_layer_gates(alloc, frames, &late.subject, gates, layer_at, clauses)?;
+    list_layer_gates(alloc, frames, late, gates, layer_at, clauses)?;
     Ok(())
 }
 
@@ -254,9 +243,8 @@ pub fn list_layers(
 ) -> Result<(), AllocError>
     requires late { IsLateStart late.now }
     requires gates { Covers frames.now cycle (gate_points late.now.subject.design.now) gates.now }
-    requires closed { IsClosed frames.now (all_layers Rows late.now.subject.design.now late.now.subject.claim.now late.now.subject.moved cycle) }
-    ensures { OnOk result (Lists frames.now (all_layers Rows late.now.subject.design.now late.now.subject.claim.now late.now.subject.moved cycle)
-        clauses.old clauses.new) }
+    requires closed { IsClosed frames.now (of_late all_layers late.now cycle) }
+    ensures { OnOk result (Lists frames.now (of_late all_layers late.now cycle) clauses.old clauses.new) }
 {
     for layer in 0..late.subject.claim.through.len() + 1 {
         let layer_at = LayerAt { cycle, layer };

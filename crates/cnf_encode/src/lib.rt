@@ -3,6 +3,8 @@
 //! Which clauses a query is, and that its models are exactly its answers, is said in query_model's `specs/`.
 #![tactic(auto)]
 
+mod cell_lists;
+mod cells;
 mod chosen_lits;
 mod claims;
 mod clauses;

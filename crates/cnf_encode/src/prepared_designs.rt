@@ -1,93 +1,97 @@
 //! A design with all that queries need of it alone.
 ghost use Rattle.std.specs.Prelude.{◌≡◌, IfOk};
 ghost use Rattle.net_model.specs.Netlist.{IsSound};
-ghost use Rattle.net_paths.specs.Readers.{AreReaders};
 ghost use Rattle.frame_unroll.specs.Drivers.{AreDrivers};
-ghost use Rattle.frame_unroll.specs.Found.{AreNetGates};
+ghost use Rattle.cnf_encode.specs.Cells.{AreCells};
 ghost use Rattle.cnf_encode.specs.Prepared.{ArePointTables};
 
+use crate::cells::Cells;
 use crate::point_tables::PointTables;
-use frame_unroll::{Driver, net_drivers, net_gates};
+use frame_unroll::{Driver, Tables};
 use net_model::Design;
-use net_paths::Readers;
+use query_model::Coding;
 use sdcv_base::Seq;
 use std::alloc::{AllocError, Global};
 use std::marker::Model;
 
-/// A design and the tables that depend on it alone, made once and lent to each query: what drives each net, which gate does,
-/// which pins read it, and where each point stands.
+/// A design and the tables that depend on it and on the coding alone, made once and lent to each query: those of its keys, where
+/// each point stands, and the cubes of the functions of gates and registers.
 ///
-/// Contracts see the design.
+/// Contracts see the design and the coding.
 #[derive(Drop)]
 pub struct Prepared<'a> {
-    design: &'a Design,
-    drivers: Seq<Driver>,
-    gates: Seq<Option<usize>>,
-    readers: Readers,
+    tables: Tables<'a>,
     points: PointTables,
+    cells: Cells,
 }
 
 impl<'a> Model for Prepared<'a> {
+    ghost use Rattle.std.specs.Prelude.{refl};
+    ghost use Rattle.std.specs.Coded.{code_by, coded×};
     ghost use Rattle.net_model.specs.declared.netlist.Design.{Design};
-    ghost use Rattle.net_model.specs.contracts.netlist.Design as row;
+    ghost use Rattle.net_model.specs.contracts.netlist.Design as design_row;
+    ghost use Rattle.query_model.specs.declared.keys.Coding.{Coding};
+    ghost use Rattle.query_model.specs.contracts.keys.Coding as coding_row;
+    ghost use Rattle.frame_unroll.specs.Tabled.{CodedDesign};
     ghost use Rattle.cnf_encode.specs.Prepared.{IsPrepared};
 
-    ghost Value = { Design };
+    ghost Value = { CodedDesign };
 
-    ghost coded = { row.the_row.coded };
+    ghost coded = { code_by (Design × Coding) (coded× design_row.the_row.coded coding_row.the_row.coded) (λ t. (t.design, t.coding))
+        (λ p. record { design = p.0; coding = p.1 }) (λ _. refl) };
 
-    ghost view = { λ p. p.design.now };
+    ghost view = { λ p. p.tables };
 
-    ghost invariant = { λ p. IsPrepared p.design.now p.drivers p.gates p.readers.rows.items p.points };
+    ghost invariant = { λ p. IsPrepared p.tables p.points p.cells };
 }
 
 impl<'a> Prepared<'a> {
     /// The design with its tables. It takes the time that the design takes.
-    pub fn of(alloc: Global, design: &'a Design) -> Result<Prepared<'a>, AllocError>
+    pub fn of(alloc: Global, design: &'a Design, coding: Coding) -> Result<Prepared<'a>, AllocError>
         requires sound { IsSound design.now }
-        ensures { IfOk result (λ p. p ≡ design.now) }
+        ensures design { IfOk result (λ p. p.design ≡ design.now) }
+        ensures coding { IfOk result (λ p. p.coding ≡ coding) }
     {
         Ok(Prepared {
-            design,
-            drivers: net_drivers(alloc, design)?,
-            gates: net_gates(alloc, design)?,
-            readers: Readers::of(alloc, design)?,
+            tables: Tables::of(alloc, design, coding)?,
             points: PointTables::of(alloc, design)?,
+            cells: Cells::of(alloc, design, coding)?,
         })
     }
 
     /// The design itself.
     pub fn bare(&self) -> &'a Design
-        ensures { result.now ≡ self.now }
+        ensures { result.now ≡ self.now.design }
     {
-        self.design
+        self.tables.design()
     }
 
     /// What drives each net.
     pub(crate) fn drivers(&self) -> &Seq<Driver>
-        ensures { AreDrivers self.now result.now }
+        ensures { AreDrivers self.now.design result.now }
     {
-        &self.drivers
+        self.tables.drivers()
     }
 
-    /// Which gate drives each net.
-    pub(crate) fn gates(&self) -> &Seq<Option<usize>>
-        ensures { AreNetGates self.now result.now }
+    /// The tables for the keys of its queries.
+    pub(crate) fn tables(&self) -> &Tables<'a>
+        ensures { result.now ≡ self.now }
     {
-        &self.gates
-    }
-
-    /// Which pins read each net.
-    pub(crate) fn readers(&self) -> &Readers
-        ensures { AreReaders self.now result.now.rows.items }
-    {
-        &self.readers
+        &self.tables
     }
 
     /// Where each point stands.
     pub(crate) fn points(&self) -> &PointTables
-        ensures { ArePointTables self.now result.now }
+        ensures { ArePointTables self.now.design result.now }
     {
         &self.points
+    }
+
+    /// The cubes of the functions of its gates and registers.
+    pub(crate) fn cells(&self) -> &Cells
+        ensures cells { AreCells self.now.design result.now }
+        ensures coding { result.now.list.coding ≡ self.now.coding }
+    {
+        &self.cells
     }
 }

@@ -3,6 +3,7 @@ ghost use Rattle.std.specs.Prelude.{◌≡◌, length, IfOk, ◌⊎◌};
 ghost use Rattle.net_model.specs.Netlist.{IsSound};
 ghost use Rattle.proof_log.specs.Formulas.{IsModel, value_in};
 ghost use Rattle.net_model.specs.Queries.{Query, IsAnswer};
+ghost use Rattle.query_model.specs.declared.keys.Coding.{Coding};
 ghost use Rattle.query_model.specs.Variables.{by_number};
 ghost use Rattle.query_model.specs.Laws.{AgreesWith};
 ghost use Rattle.cnf_encode.specs.Problems.{IsClaimQuery, IsClauseQuery, IsProblemFor, IsMadeFor, HasRailsFor};
@@ -52,7 +53,8 @@ pub fn read_back(
     requires sound { IsSound design.now }
     requires made { IsMadeFor design.now problem.now }
     requires model { IsModel problem.now.formula model.now }
-    ensures answers { IfOk result (λ run. (q : Query) → IsClaimQuery design.now q ⊎ IsClauseQuery design.now q → IsProblemFor q problem.now → IsAnswer q run) }
+    ensures answers { IfOk result (λ run. (coding : Coding) (q : Query) → IsClaimQuery design.now q ⊎ IsClauseQuery design.now q
+        → IsProblemFor coding q problem.now → IsAnswer q run) }
     ensures agrees { IfOk result (AgreesWith design.now problem.now.frames (by_number problem.now.frames (value_in model.now.values))) }
     ensures rails { IfOk result (HasRailsFor design.now problem.now model.now) }
     ensures zeros { IfOk result (HasZeros design.now problem.now.frames) }

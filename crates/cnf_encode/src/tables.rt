@@ -1,21 +1,20 @@
 //! The clauses by which a function of what its places read defines a key, or the two keys of its rails.
-ghost use Rattle.std.specs.Prelude.{◌≡◌, ◌≤◌, [], ◌∷◌, ◌++◌, true, length, All, OnOk};
-ghost use Rattle.net_model.specs.Form.{value, IsOver};
+ghost use Rattle.std.specs.Prelude.{◌≡◌, [], ◌∷◌, ◌++◌, true, map, length, OnOk};
 ghost use Rattle.query_model.specs.Keys.{lit};
-ghost use Rattle.query_model.specs.Tables.{may_be};
-ghost use Rattle.query_model.specs.Defined as defined;
-ghost use Rattle.query_model.specs.declared.keys.Coding.TheVariants.{Rows};
-ghost use Rattle.cnf_encode.specs.Coded.{HasKey, HasKeys, Adds, AddsNormals};
-ghost use Rattle.cnf_encode.specs.Chosen.{chosen, row_chosen, may_clauses, must_clauses};
+ghost use Rattle.query_model.specs.Tables.{may_be, plain_clauses};
+ghost use Rattle.cnf_encode.specs.CellLists.{AreWide};
+ghost use Rattle.cnf_encode.specs.Coded.{HasKeys, Adds, AddsNormals};
+ghost use Rattle.cnf_encode.specs.Chosen.{chosen};
+ghost use Rattle.cnf_encode.specs.Railed.{may_be_so, must_be_so, rail_clauses};
 
-use crate::chosen_lits::{complements, cube_lits, row_lits};
+use crate::chosen_lits::{complements, cube_lits};
 use crate::clauses::{lit, push_normal};
-use crate::codes::{code, codes};
-use cell_cubes::{cubes, rows};
+use crate::codes::{code, known_codes};
 use frame_unroll::Frames;
-use net_model::{Func, Tern};
+use net_model::Tern;
+use prime_cubes::Cell;
 use proof_log::{Clause, Lit};
-use query_model::{Key, KeyLit};
+use query_model::{Cube, Key, KeyLit};
 use sdcv_base::Seq;
 use std::alloc::{AllocError, Global};
 
@@ -28,98 +27,102 @@ pub struct Rails<'a> {
     pub low: Key,
 }
 
-/// Adds a clause for each row: some place has another bit than in the row, or the output has the row's value.
+/// Adds a clause for each cube: some place that it fixes has the other bit, or the output has the cube's value.
 pub fn push_plain(
     alloc: Global,
     frames: &Frames,
     reads: &Seq<KeyLit>,
     out: Key,
-    func: &Func,
+    cubes: &[Cube],
     clauses: &mut Seq<Clause>,
 ) -> Result<(), AllocError>
-    requires few { length reads.now ≤ 7 }
-    requires over { IsOver (length reads.now) func.now }
-    requires keys { HasKeys frames.now (defined.plain Rows (value func.now) reads.now out).clauses }
-    ensures { OnOk result (Adds frames.now (defined.plain Rows (value func.now) reads.now out).clauses clauses.old clauses.new) }
+    requires wide { AreWide (length reads.now) cubes.now }
+    requires keys { HasKeys frames.now (plain_clauses reads.now (lit true out) cubes.now) }
+    ensures { OnOk result (Adds frames.now (plain_clauses reads.now (lit true out) cubes.now) clauses.old clauses.new) }
 {
-    let zeros = codes(alloc, frames, reads.as_slice())?;
+    let zeros = known_codes(alloc, frames, reads.as_slice())?;
     let ones = complements(alloc, zeros.as_slice())?;
-    let values = rows(alloc, func, reads.len())?;
-    for w in 0..values.len() {
-        let value = code(frames, &lit(values[w], out));
-        push_row(alloc, zeros.as_slice(), ones.as_slice(), w, value, clauses)?;
+    for cube in cubes {
+        let value = code(frames, &lit(cube.value, out));
+        push_cube(
+            alloc,
+            zeros.as_slice(),
+            ones.as_slice(),
+            cube.fixed.as_slice(),
+            value,
+            clauses,
+        )?;
     }
     Ok(())
 }
 
-/// Adds the clauses by which an output may be 1 and may be 0: for each row some place cannot have its bit, or the output
-/// may have the row's value; for each cube some place may have the other bit, or the output has the cube's value alone.
+/// Adds the clauses by which an output may be 1 and may be 0: for each cube of the first kind some place that it fixes cannot
+/// have its bit, or the output may have the cube's value; for each of the second some such place may have the other bit, or the
+/// output has the cube's value alone.
 pub fn push_rails(
     alloc: Global,
     frames: &Frames,
     rails: &Rails,
-    func: &Func,
+    cell: &Cell,
     clauses: &mut Seq<Clause>,
 ) -> Result<(), AllocError>
-    requires few { length rails.now.highs.now ≤ 7 }
     requires long { length rails.now.lows.now ≡ length rails.now.highs.now }
-    requires over { IsOver (length rails.now.highs.now) func.now }
-    requires keys { HasKeys frames.now (defined.rails Rows (value func.now) rails.now.highs.now rails.now.lows.now rails.now.high rails.now.low).clauses }
-    ensures { OnOk result (Adds frames.now
-        (defined.rails Rows (value func.now) rails.now.highs.now rails.now.lows.now rails.now.high rails.now.low).clauses clauses.old clauses.new) }
+    requires covering { AreWide (length rails.now.highs.now) cell.now.covering }
+    requires settling { AreWide (length rails.now.highs.now) cell.now.settling }
+    requires keys { HasKeys frames.now (rail_clauses rails.now cell.now) }
+    ensures { OnOk result (Adds frames.now (rail_clauses rails.now cell.now) clauses.old clauses.new) }
 {
-    push_may(alloc, frames, rails, func, clauses)?;
-    push_must(alloc, frames, rails, func, clauses)
+    push_may(alloc, frames, rails, cell.covering(), clauses)?;
+    push_must(alloc, frames, rails, cell.settling(), clauses)
 }
 
-/// Adds the clauses of the rows.
+/// Adds the clauses of what the output may be.
 fn push_may(
     alloc: Global,
     frames: &Frames,
     rails: &Rails,
-    func: &Func,
+    cubes: &[Cube],
     clauses: &mut Seq<Clause>,
 ) -> Result<(), AllocError>
-    requires few { length rails.now.highs.now ≤ 7 }
     requires long { length rails.now.lows.now ≡ length rails.now.highs.now }
-    requires over { IsOver (length rails.now.highs.now) func.now }
-    requires keys { HasKeys frames.now (may_clauses func.now rails.now.highs.now rails.now.lows.now rails.now.high rails.now.low) }
-    ensures { OnOk result (Adds frames.now (may_clauses func.now rails.now.highs.now rails.now.lows.now rails.now.high rails.now.low)
-        clauses.old clauses.new) }
+    requires wide { AreWide (length rails.now.highs.now) cubes.now }
+    requires keys { HasKeys frames.now (map (may_be_so rails.now) cubes.now) }
+    ensures { OnOk result (Adds frames.now (map (may_be_so rails.now) cubes.now) clauses.old clauses.new) }
 {
-    let highs = codes(alloc, frames, rails.highs.as_slice())?;
-    let lows = codes(alloc, frames, rails.lows.as_slice())?;
+    let highs = known_codes(alloc, frames, rails.highs.as_slice())?;
+    let lows = known_codes(alloc, frames, rails.lows.as_slice())?;
     let zeros = complements(alloc, lows.as_slice())?;
     let ones = complements(alloc, highs.as_slice())?;
-    let values = rows(alloc, func, rails.highs.len())?;
-    for w in 0..values.len() {
-        let may = code(frames, &lit(true, rail(values[w], rails.high, rails.low)));
-        push_row(alloc, zeros.as_slice(), ones.as_slice(), w, may, clauses)?;
+    for cube in cubes {
+        let may = code(frames, &lit(true, rail(cube.value, rails.high, rails.low)));
+        push_cube(
+            alloc,
+            zeros.as_slice(),
+            ones.as_slice(),
+            cube.fixed.as_slice(),
+            may,
+            clauses,
+        )?;
     }
     Ok(())
 }
 
-/// Adds the clauses of the cubes.
+/// Adds the clauses of what the output must be.
 fn push_must(
     alloc: Global,
     frames: &Frames,
     rails: &Rails,
-    func: &Func,
+    cubes: &[Cube],
     clauses: &mut Seq<Clause>,
 ) -> Result<(), AllocError>
-    requires few { length rails.now.highs.now ≤ 7 }
     requires long { length rails.now.lows.now ≡ length rails.now.highs.now }
-    requires over { IsOver (length rails.now.highs.now) func.now }
-    requires highs { All (HasKey frames.now) rails.now.highs.now }
-    requires lows { All (HasKey frames.now) rails.now.lows.now }
-    requires keys { HasKeys frames.now (must_clauses func.now rails.now.highs.now rails.now.lows.now rails.now.high rails.now.low) }
-    ensures { OnOk result (Adds frames.now (must_clauses func.now rails.now.highs.now rails.now.lows.now rails.now.high rails.now.low)
-        clauses.old clauses.new) }
+    requires wide { AreWide (length rails.now.highs.now) cubes.now }
+    requires keys { HasKeys frames.now (map (must_be_so rails.now) cubes.now) }
+    ensures { OnOk result (Adds frames.now (map (must_be_so rails.now) cubes.now) clauses.old clauses.new) }
 {
-    let zeros = codes(alloc, frames, rails.highs.as_slice())?;
-    let ones = codes(alloc, frames, rails.lows.as_slice())?;
-    let found = cubes(alloc, func, rails.highs.len())?;
-    for cube in found.as_slice() {
+    let zeros = known_codes(alloc, frames, rails.highs.as_slice())?;
+    let ones = known_codes(alloc, frames, rails.lows.as_slice())?;
+    for cube in cubes {
         let cannot = code(
             frames,
             &lit(false, rail(!cube.value, rails.high, rails.low)),
@@ -141,23 +144,6 @@ fn rail(value: bool, high: Key, low: Key) -> Key
     ensures { lit true result ≡ may_be value (lit true high) (lit true low) }
 {
     if value { high } else { low }
-}
-
-/// Adds the clause of a row: some place has the other bit, or the last literal is true.
-pub fn push_row(
-    alloc: Global,
-    zeros: &[Lit],
-    ones: &[Lit],
-    row: usize,
-    last: Lit,
-    clauses: &mut Seq<Clause>,
-) -> Result<(), AllocError>
-    requires { length ones.now ≡ length zeros.now }
-    ensures { OnOk result (AddsNormals ((row_chosen zeros.now ones.now row ++ last ∷ []) ∷ []) clauses.old clauses.new) }
-{
-    let mut lits = row_lits(alloc, zeros, ones, row)?;
-    lits.push(last)?;
-    push_normal(alloc, lits.as_slice(), clauses)
 }
 
 /// Adds the clause of a cube: some place that is fixed has the other bit, or the last literal is true.

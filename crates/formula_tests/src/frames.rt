@@ -2,15 +2,16 @@
 ghost use Rattle.std.specs.Prelude.{IfOk};
 ghost use Rattle.net_model.specs.Netlist.{IsSound};
 ghost use Rattle.net_model.specs.Fits.{Fits};
+ghost use Rattle.frame_unroll.specs.Reading.{IsSubject};
 
-use frame_unroll::{Frames, MovedNets, Subject, net_drivers, net_gates, net_lit, pin_lit};
+use frame_unroll::{Frames, MovedNets, Subject, Tables, net_lit, pin_lit};
 use net_model::PinRef::{GateIn, Net, RegIn};
 use net_model::{Design, InvClause, Phase, PinRef, StateLit};
 use net_paths::Readers;
 use net_samples::Ask::{Either, Hazard, In, To, Via};
 use net_samples::Part::{Drives, Holds, Nets, Outputs};
 use net_samples::{Ask, Case, Controls, Form, Out, Part, case_of};
-use query_model::{Key, KeyLit};
+use query_model::{Coding, Key, KeyLit};
 use sdcv_base::Seq;
 use std::alloc::{AllocError, Global};
 use std::process::Abort;
@@ -142,22 +143,26 @@ const READS: &[Read] = &[
 ];
 
 // What the pin reads, or where there is none the net.
+fn subject_lit(rt: &impl Abort, subject: &Subject, row: &Read) -> KeyLit
+    requires subject { IsSubject subject.now }
+{
+    let key = key(row.2);
+    assert!(rt; key.point < subject.design.nets);
+    assert!(rt; key.layer <= subject.claim.through.len() + 1);
+    match row.1 {
+        None => net_lit(subject, key),
+        Some(pin) => pin_lit(subject, pin, key),
+    }
+}
+
+// The same, of a design and a claim.
 fn read_lit(rt: &impl Abort, alloc: Global, case: &Case, row: &Read) -> Result<KeyLit, AllocError>
     requires sound { IsSound case.now.design }
     requires fits { Fits case.now.design case.now.claim }
 {
-    let (design, claim) = (&case.design, &case.claim);
-    let key = key(row.2);
-    let drivers = net_drivers(alloc, design)?;
-    let gates = net_gates(alloc, design)?;
-    let readers = Readers::of(alloc, design)?;
-    let subject = Subject::of(alloc, design, claim, &drivers, &gates, &readers)?;
-    assert!(rt; key.point < subject.design.nets);
-    assert!(rt; key.layer <= subject.claim.through.len() + 1);
-    Ok(match row.1 {
-        None => net_lit(&subject, key),
-        Some(pin) => pin_lit(&subject, pin, key),
-    })
+    let tables = Tables::of(alloc, &case.design, Coding::Rows)?;
+    let subject = Subject::of(alloc, &tables, &case.claim)?;
+    Ok(subject_lit(rt, &subject, row))
 }
 
 #[test]
@@ -211,6 +216,21 @@ const CLAIM_KEYS: &[(usize, usize, usize)] = &[
     (2, 0, 7),
 ];
 
+// By hand: by prime cubes the second pins of the gates are not read, so that the bit in the second cycle is of no account.
+const CLAIM_PRIME_KEYS: &[(usize, usize, usize)] = &[
+    (0, 0, 0),
+    (1, 0, 0),
+    (1, 0, 4),
+    (1, 0, 5),
+    (1, 0, 8),
+    (1, 0, 10),
+    (1, 0, 28),
+    (1, 1, 4),
+    (1, 1, 5),
+    (1, 1, 8),
+    (2, 0, 7),
+];
+
 // By hand: the register's bit in the second cycle, and all that its capture in the first one reads. The clause is kept in
 // the first cycle, where its bit is read anyway.
 const CLAUSE_KEYS: &[(usize, usize, usize)] = &[
@@ -222,31 +242,69 @@ const CLAUSE_KEYS: &[(usize, usize, usize)] = &[
     (1, 0, 7),
 ];
 
+// By hand: by prime cubes the capture reads the first input alone.
+const CLAUSE_PRIME_KEYS: &[(usize, usize, usize)] = &[
+    (0, 0, 0),
+    (0, 0, 4),
+    (0, 0, 5),
+    (0, 0, 7),
+    (1, 0, 7),
+];
+
 // Whether the register's bit is 1 fails, and is kept, in a stretch.
-fn frames_of_clause(rt: &impl Abort, alloc: Global, design: &Design) -> Result<Frames, AllocError>
+fn frames_of_clause(
+    rt: &impl Abort,
+    alloc: Global,
+    design: &Design,
+    coding: Coding,
+) -> Result<Frames, AllocError>
     requires sound { IsSound design.now }
 {
     assert!(rt; design.regs.len() == 1);
     let (reg, value) = (0, true);
     let lits = Seq::one(alloc, StateLit { reg, value })?;
     let clause = InvClause { lits };
-    Frames::of_invariant(alloc, design, slice::from_ref(&clause), 0, Phase::Step, 1)
+    let tables = Tables::of(alloc, design, coding)?;
+    Frames::of_invariant(alloc, &tables, slice::from_ref(&clause), 0, Phase::Step, 1)
 }
 
 // The claim is violated in a stretch.
-fn frames_of_claim(alloc: Global, case: &Case) -> Result<Frames, AllocError>
+fn frames_of_claim(alloc: Global, case: &Case, coding: Coding) -> Result<Frames, AllocError>
     requires sound { IsSound case.now.design }
     requires fits { Fits case.now.design case.now.claim }
 {
-    Frames::of_claim(alloc, &case.design, &case.claim, Phase::Step, 0, &[])
+    let tables = Tables::of(alloc, &case.design, coding)?;
+    Frames::of_claim(alloc, &tables, &case.claim, Phase::Step, 0, &[])
+}
+
+/// A coding, and the keys of the claim and of the clause in it.
+struct Keyed(
+    Coding,
+    &'static [(usize, usize, usize)],
+    &'static [(usize, usize, usize)],
+);
+
+const KEYED: &[Keyed] = &[
+    Keyed(Coding::Rows, CLAIM_KEYS, CLAUSE_KEYS),
+    Keyed(Coding::Primes, CLAIM_PRIME_KEYS, CLAUSE_PRIME_KEYS),
+];
+
+fn check_keyed(rt: &impl Abort, alloc: Global, case: &Case, row: &Keyed) -> Result<(), AllocError>
+    requires sound { IsSound case.now.design }
+    requires fits { Fits case.now.design case.now.claim }
+{
+    let of_claim = frames_of_claim(alloc, case, row.0)?;
+    check_keys(rt, &of_claim, row.1);
+    let of_clause = frames_of_clause(rt, alloc, &case.design, row.0)?;
+    check_keys(rt, &of_clause, row.2);
+    Ok(())
 }
 
 #[test]
 fn needed_keys_are_numbered_in_order(rt: HostRuntime) -> Result<(), AllocError> {
     let case = case(&rt, rt.alloc(), &[In(0), To(0)])?;
-    let of_claim = frames_of_claim(rt.alloc(), &case)?;
-    check_keys(&rt, &of_claim, CLAIM_KEYS);
-    let of_clause = frames_of_clause(&rt, rt.alloc(), &case.design)?;
-    check_keys(&rt, &of_clause, CLAUSE_KEYS);
+    for row in KEYED {
+        check_keyed(&rt, rt.alloc(), &case, row)?;
+    }
     Ok(())
 }

@@ -2,7 +2,8 @@
 //!
 //! For each row of a table, a design and a query, every assignment of the formula's variables and every run are tried: the
 //! models are just the runs that answer the query by replay, and there are as many of them as another program has found.
-//! The keys of a query, and the rows and cubes of a function, are checked by hand. This crate has tests alone.
+//! The keys of a query, the rows and cubes of a function, and the sizes of formulas in either coding are checked by hand.
+//! This crate has tests alone.
 #![tactic(auto)]
 
 #[cfg(test)]
@@ -11,5 +12,7 @@ mod cubes;
 mod frames;
 #[cfg(test)]
 mod plain_answers;
+#[cfg(test)]
+mod sizes;
 #[cfg(test)]
 mod tests;

@@ -20,7 +20,7 @@ use net_samples::{
     TWO, case_of, design,
 };
 use proof_log::{Clause, Model};
-use query_model::Key;
+use query_model::{Coding, Key};
 use sdcv_base::Seq;
 use std::alloc::{AllocError, Global};
 use std::process::Abort;
@@ -51,11 +51,11 @@ fn claim_problem(
     depth: usize,
     inv: &[InvClause],
 ) -> Result<Problem, AllocError>
-    requires sound { IsSound design.now }
-    requires fits { Fits design.now claim.now }
-    requires names { All (NamesRegs design.now) inv.now }
+    requires sound { IsSound design.now.design }
+    requires fits { Fits design.now.design claim.now }
+    requires names { All (NamesRegs design.now.design) inv.now }
     requires few { depth ≤ 64 }
-    ensures { IfOk result (IsMadeFor design.now) }
+    ensures { IfOk result (IsMadeFor design.now.design) }
 {
     formula(alloc, design, claim, phase, depth, inv)
 }
@@ -68,37 +68,52 @@ fn first_problem(
     phase: Phase,
     depth: usize,
 ) -> Result<Problem, AllocError>
-    requires sound { IsSound design.now }
+    requires sound { IsSound design.now.design }
     requires some { 0 < length inv.now }
-    requires names { All (NamesRegs design.now) inv.now }
+    requires names { All (NamesRegs design.now.design) inv.now }
     requires few { depth ≤ 64 }
-    ensures { IfOk result (IsMadeFor design.now) }
+    ensures { IfOk result (IsMadeFor design.now.design) }
 {
     inv_formula(alloc, design, inv, 0, phase, depth)
 }
 
-/// The formula of a query about the claim, or else about the first clause.
-fn problem_of(
+/// The formula of a query about the claim, or else about the first clause, of a design that is prepared.
+fn prepared_problem(
     rt: &impl Abort,
     alloc: Global,
     case: &Case,
+    design: &Prepared,
+    phase: Phase,
+    depth: usize,
+) -> Result<Problem, AllocError>
+    requires sound { IsSound design.now.design }
+    ensures { IfOk result (IsMadeFor design.now.design) }
+{
+    let (bare, clauses) = (design.bare(), case.clauses.as_slice());
+    assert!(rt; depth <= 64);
+    assert!(rt; all_name_regs(bare, clauses));
+    if case.has_claim {
+        assert!(rt; case.claim.fits(bare));
+        return claim_problem(alloc, design, &case.claim, phase, depth, clauses);
+    }
+    assert!(rt; !clauses.is_empty());
+    first_problem(alloc, design, clauses, phase, depth)
+}
+
+/// The same of a design in a coding.
+pub fn problem_of(
+    rt: &impl Abort,
+    alloc: Global,
+    case: &Case,
+    coding: Coding,
     phase: Phase,
     depth: usize,
 ) -> Result<Problem, AllocError>
     requires sound { IsSound case.now.design }
     ensures { IfOk result (IsMadeFor case.now.design) }
 {
-    let design = &case.design;
-    let clauses = case.clauses.as_slice();
-    assert!(rt; depth <= 64);
-    assert!(rt; all_name_regs(design, clauses));
-    let prepared = Prepared::of(alloc, design)?;
-    if case.has_claim {
-        assert!(rt; case.claim.fits(design));
-        return claim_problem(alloc, &prepared, &case.claim, phase, depth, clauses);
-    }
-    assert!(rt; !clauses.is_empty());
-    first_problem(alloc, &prepared, clauses, phase, depth)
+    let prepared = Prepared::of(alloc, &case.design, coding)?;
+    prepared_problem(rt, alloc, case, &prepared, phase, depth)
 }
 
 /// Each number is that of its key, and keys ascend.
@@ -258,7 +273,7 @@ fn count_answers(
 }
 
 /// The case of a design, which is sound.
-fn sound_case(
+pub fn sound_case(
     rt: &impl Abort,
     alloc: Global,
     parts: &[Part],
@@ -271,13 +286,28 @@ fn sound_case(
     Ok(case)
 }
 
-/// How many runs answer the query of a row, of which this is the case.
+/// How many runs answer the query of a row, of which this is the case, by its formula in a coding.
+fn count_coded(
+    rt: &impl Abort,
+    alloc: Global,
+    row: &Row,
+    case: &Case,
+    coding: Coding,
+) -> Result<usize, AllocError>
+    requires sound { IsSound case.now.design }
+{
+    let problem = problem_of(rt, alloc, case, coding, row.2, row.3)?;
+    check_numbers(rt, &problem);
+    count_answers(rt, alloc, row, case, &problem)
+}
+
+/// The same, as many in either coding.
 fn count_case(rt: &impl Abort, alloc: Global, row: &Row, case: &Case) -> Result<usize, AllocError>
     requires sound { IsSound case.now.design }
 {
-    let problem = problem_of(rt, alloc, case, row.2, row.3)?;
-    check_numbers(rt, &problem);
-    count_answers(rt, alloc, row, case, &problem)
+    let count = count_coded(rt, alloc, row, case, Coding::Rows)?;
+    assert_eq!(rt; count_coded(rt, alloc, row, case, Coding::Primes)?, count);
+    Ok(count)
 }
 
 /// How many runs answer the query of a row, after a check that just these are the runs of models.
@@ -442,7 +472,15 @@ const TOLD: &[Told] = &[
 
 fn told_problem(rt: &impl Abort, alloc: Global, row: &Told) -> Result<Problem, AllocError> {
     let case = sound_case(rt, alloc, TWO, row.0)?;
-    problem_of(rt, alloc, &case, Step, 0)
+    problem_of(rt, alloc, &case, Coding::Rows, Step, 0)
+}
+
+/// The keys, clauses and models of the problem of a row.
+fn found_text(rt: &impl Abort, alloc: Global, row: &Told) -> Result<String, AllocError> {
+    let problem = told_problem(rt, alloc, row)?;
+    let mut text = String::new(alloc);
+    push_problem(rt, alloc, &mut text, &problem)?;
+    Ok(text)
 }
 
 fn told_text(alloc: Global, row: &Told) -> Result<String, AllocError> {
@@ -453,10 +491,9 @@ fn told_text(alloc: Global, row: &Told) -> Result<String, AllocError> {
 #[test]
 fn the_formula_of_two_flops(rt: HostRuntime) -> Result<(), AllocError> {
     for row in TOLD {
-        let problem = told_problem(&rt, rt.alloc(), row)?;
-        let mut text = String::new(rt.alloc());
-        push_problem(&rt, rt.alloc(), &mut text, &problem)?;
-        assert!(rt; text.as_str() == told_text(rt.alloc(), row)?.as_str());
+        let found = found_text(&rt, rt.alloc(), row)?;
+        let told = told_text(rt.alloc(), row)?;
+        assert!(rt; found.as_str() == told.as_str());
     }
     Ok(())
 }

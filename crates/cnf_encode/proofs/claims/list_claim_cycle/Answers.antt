@@ -1,10 +1,9 @@
-use Rattle.std.proofs.Common.{List, ℕ, sym, ap, subst, arith}
+use Rattle.std.proofs.Common.{List, ℕ, sym, subst, arith}
 use Rattle.net_model.specs.declared.netlist.Design.{Design}
 use Rattle.query_model.specs.Defined.{base_definitions, claim_definitions}
-use Rattle.query_model.specs.declared.keys.Coding.TheVariants.{Rows}
 use Rattle.cnf_encode.specs.Coned.{Covers, gate_points}
 use Rattle.cnf_encode.proofs.Listing.{Closed-left, Closed-right, Closed-same, Lists-append, Lists-same}
-use Rattle.cnf_encode.proofs.Covering.{gate_places}
+use Rattle.cnf_encode.proofs.Covering.{base_same, gate_places}
 use Rattle.cnf_encode.proofs.claims.list_claim_cycle.Goals as goal
 
 pub item-gates-requires : goal.item-gates-requires
@@ -12,14 +11,17 @@ item-gates-requires c = omega (arith, c.requires.cone.of.gates.count, c.requires
 
 pub list_cycle-requires-clause-closed : goal.list_cycle-requires-clause-closed
 list_cycle-requires-clause-closed c =
-    Closed-same (ap (λ (d : Design). base_definitions Rows d c.args.cone.now.live c.args.cycle) (sym c.requires.same))
-    (Closed-left (base_definitions Rows c.args.late.now.subject.design.now c.args.cone.now.live c.args.cycle)
-    (claim_definitions Rows c.args.late.now.subject.design.now c.args.late.now.subject.claim.now c.args.late.now.subject.moved c.args.cycle) c.requires.closed)
+    let coding = c.args.late.now.cells.now.list.coding in
+    Closed-same (sym (base_same coding c.args.late.now.subject.design.now c.args.cone.now c.args.cone.now.live c.args.cycle c.requires.coding c.requires.same))
+    (Closed-left (base_definitions coding c.args.late.now.subject.design.now c.args.cone.now.live c.args.cycle)
+    (claim_definitions coding c.args.late.now.subject.design.now c.args.late.now.subject.claim.now c.args.late.now.subject.moved c.args.cycle)
+    c.requires.closed)
 
 pub list_late-requires-clause-closed : goal.list_late-requires-clause-closed
 list_late-requires-clause-closed c =
-    Closed-right (base_definitions Rows c.args.late.now.subject.design.now c.args.cone.now.live c.args.cycle)
-    (claim_definitions Rows c.args.late.now.subject.design.now c.args.late.now.subject.claim.now c.args.late.now.subject.moved c.args.cycle) c.requires.closed
+    let coding = c.args.late.now.cells.now.list.coding in
+    Closed-right (base_definitions coding c.args.late.now.subject.design.now c.args.cone.now.live c.args.cycle)
+    (claim_definitions coding c.args.late.now.subject.design.now c.args.late.now.subject.claim.now c.args.late.now.subject.moved c.args.cycle) c.requires.closed
 
 pub list_late-requires-clause-gates : goal.list_late-requires-clause-gates
 list_late-requires-clause-gates c =
@@ -29,5 +31,6 @@ list_late-requires-clause-gates c =
 
 pub returns : goal.returns
 returns c =
-    Lists-append (Lists-same (ap (λ (d : Design). base_definitions Rows d c.args.cone.now.live c.args.cycle) c.requires.same)
-    c.in_ok-list_cycle.ensures) c.in_ok-list_late.ensures
+    let coding = c.args.late.now.cells.now.list.coding in
+    Lists-append (Lists-same (base_same coding c.args.late.now.subject.design.now c.args.cone.now c.args.cone.now.live c.args.cycle c.requires.coding
+    c.requires.same) c.in_ok-list_cycle.ensures) c.in_ok-list_late.ensures

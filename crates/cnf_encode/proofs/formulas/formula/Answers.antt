@@ -13,15 +13,15 @@ claim_formula-requires-clause-names c = subst (λ (d : Design). All (NamesRegs d
 pub returns-clause-exact : goal.returns-clause-exact
 returns-clause-exact c =
     subst (λ (claim : Claim). IfOk c.claim_formula.result
-    (IsProblemFor (claim_query c.args.design.now claim c.args.phase c.args.depth c.args.inv.now))) c.in_ok-late.ensures.claim
+    (IsProblemFor c.args.design.now.coding (claim_query c.args.design.now.design claim c.args.phase c.args.depth c.args.inv.now))) c.in_ok-late.ensures.claim
     (subst (λ (d : Design). IfOk c.claim_formula.result
-    (IsProblemFor (claim_query d c.in_ok-late.late.subject.claim.now c.args.phase c.args.depth c.args.inv.now))) c.in_ok-late.ensures.design
-    c.claim_formula.ensures.exact)
+    (IsProblemFor c.args.design.now.coding (claim_query d c.in_ok-late.late.subject.claim.now c.args.phase c.args.depth c.args.inv.now)))
+    c.in_ok-late.ensures.design c.claim_formula.ensures.exact)
 
 pub returns-clause-complete : goal.returns-clause-complete
 returns-clause-complete c =
     subst (λ (claim : Claim). IfOk c.claim_formula.result
-    (IsCompleteFor (claim_query c.args.design.now claim c.args.phase c.args.depth c.args.inv.now))) c.in_ok-late.ensures.claim
+    (IsCompleteFor (claim_query c.args.design.now.design claim c.args.phase c.args.depth c.args.inv.now))) c.in_ok-late.ensures.claim
     (subst (λ (d : Design). IfOk c.claim_formula.result
     (IsCompleteFor (claim_query d c.in_ok-late.late.subject.claim.now c.args.phase c.args.depth c.args.inv.now))) c.in_ok-late.ensures.design
     c.claim_formula.ensures.complete)

@@ -15,7 +15,7 @@ returns-clause-answers c =
     let values = c.args.model.now.values in
     let is = is_read_back d problem.frames values problem.live problem.cycles c.in_ok-stimulus.stimulus c.in_ok-cycles.cycles c.in_ok-stimulus.ensures
     c.in_ok-cycles.ensures.linked c.in_ok-cycles.ensures.stands in
-    λ q asks of. (run_answers d q problem c.args.model.now c.in_ok-cycles.cycles c.requires.sound asks of c.requires.model is).0
+    λ coding q asks of. (run_answers coding d q problem c.args.model.now c.in_ok-cycles.cycles c.requires.sound asks of c.requires.model is).0
 
 pub returns-clause-agrees : goal.returns-clause-agrees
 returns-clause-agrees c =
@@ -25,7 +25,7 @@ returns-clause-agrees c =
     let made = c.requires.made in
     let is = is_read_back d problem.frames values problem.live problem.cycles c.in_ok-stimulus.stimulus c.in_ok-cycles.cycles c.in_ok-stimulus.ensures
     c.in_ok-cycles.ensures.linked c.in_ok-cycles.ensures.stands in
-    (run_answers d made.query problem c.args.model.now c.in_ok-cycles.cycles c.requires.sound made.asks made.is c.requires.model is).1
+    (run_answers made.coding d made.query problem c.args.model.now c.in_ok-cycles.cycles c.requires.sound made.asks made.is c.requires.model is).1
 
 pub returns-clause-rails : goal.returns-clause-rails
 returns-clause-rails c =
@@ -34,7 +34,7 @@ returns-clause-rails c =
     let values = c.args.model.now.values in
     let is = is_read_back d problem.frames values problem.live problem.cycles c.in_ok-stimulus.stimulus c.in_ok-cycles.cycles c.in_ok-stimulus.ensures
     c.in_ok-cycles.ensures.linked c.in_ok-cycles.ensures.stands in
-    λ q asks hazard of. run_rails d q problem c.args.model.now c.in_ok-cycles.cycles c.requires.sound asks hazard of c.requires.model is
+    λ coding q asks hazard of. run_rails coding d q problem c.args.model.now c.in_ok-cycles.cycles c.requires.sound asks hazard of c.requires.model is
 
 pub returns-clause-zeros : goal.returns-clause-zeros
 returns-clause-zeros c =

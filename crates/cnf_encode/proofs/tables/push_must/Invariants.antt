@@ -1,10 +1,7 @@
-use Rattle.std.proofs.Common.{true, map, take}
-use Rattle.query_model.specs.Keys.{lit}
-use Rattle.query_model.specs.Tables.{must_clause}
+use Rattle.std.proofs.Common.{map, take}
 use Rattle.cnf_encode.specs.Coded.{Adds}
+use Rattle.cnf_encode.specs.Railed.{must_be_so}
 use Rattle.cnf_encode.proofs.tables.push_must.Given as goal
 
 abbrev pub invariant-loop-cube : goal.invariant-loop-cube
-invariant-loop-cube l =
-    Adds l.frames (map (must_clause l.rails.highs.now l.rails.lows.now (lit true l.rails.high) (lit true l.rails.low)) (take l.cube-index l.cube-items))
-    l.fn.clauses l.clauses
+invariant-loop-cube l = Adds l.frames (map (must_be_so l.rails) (take l.cube-index l.cubes)) l.fn.clauses l.clauses

@@ -1,10 +1,8 @@
-use Rattle.std.proofs.Common.{true, map, length}
-use Rattle.net_model.specs.Form.{value}
-use Rattle.query_model.specs.Keys.{lit, below}
-use Rattle.query_model.specs.Tables.{cube_clause, row_cube}
+use Rattle.std.proofs.Common.{true, map, take}
+use Rattle.query_model.specs.Keys.{lit}
+use Rattle.query_model.specs.Tables.{cube_clause}
 use Rattle.cnf_encode.specs.Coded.{Adds}
 use Rattle.cnf_encode.proofs.tables.push_plain.Given as goal
 
-abbrev pub invariant-loop-w : goal.invariant-loop-w
-invariant-loop-w l =
-    Adds l.frames (map (cube_clause l.reads (lit true l.out)) (map (row_cube (value l.func) (length l.reads)) (below l.w))) l.fn.clauses l.clauses
+abbrev pub invariant-loop-cube : goal.invariant-loop-cube
+invariant-loop-cube l = Adds l.frames (map (cube_clause l.reads (lit true l.out)) (take l.cube-index l.cubes)) l.fn.clauses l.clauses

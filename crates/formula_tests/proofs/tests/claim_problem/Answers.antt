@@ -6,11 +6,12 @@ use Rattle.formula_tests.proofs.tests.claim_problem.Goals as goal
 
 pub returns : goal.returns
 returns c =
-    let d = c.args.design.now in
+    let d = c.args.design.now.design in
     let claim = c.args.claim.now in
     let inv = c.args.inv.now in
     IfOk-weaker c.formula.result _ (IsMadeFor d)
     (λ p exact. record {
+      coding = c.args.design.now.coding;
       query = claim_query d claim c.args.phase c.args.depth inv;
       asks = inl record {
         claim = claim;

@@ -9,11 +9,12 @@ use Rattle.formula_tests.proofs.tests.first_problem.Goals as goal
 
 pub returns : goal.returns
 returns c =
-    let d = c.args.design.now in
+    let d = c.args.design.now.design in
     let first = get_within c.args.inv.now 0 c.requires.some in
     let q = clause_query d c.args.inv.now first.0 c.args.phase c.args.depth in
     IfOk-weaker c.inv_formula.result _ (IsMadeFor d)
     (λ p exact. record {
+      coding = c.args.design.now.coding;
       query = q;
       asks = inr record {
         clause = first.0;

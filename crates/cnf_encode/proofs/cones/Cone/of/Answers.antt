@@ -2,6 +2,7 @@ use Rattle.std.proofs.Common.{◌+◌, length, sym, subst}
 use Rattle.net_model.specs.Netlist.{IsSound}
 use Rattle.net_model.specs.declared.netlist.Design.{Design}
 use Rattle.frame_unroll.specs.Drivers.{AreDrivers}
+use Rattle.cnf_encode.specs.Cells.{AreCells}
 use Rattle.cnf_encode.specs.Coned.{gate_points, bit_points}
 use Rattle.cnf_encode.specs.Prepared.{ArePointTables}
 use Rattle.cnf_encode.proofs.cones.Cone.of.Goals as goal
@@ -14,6 +15,7 @@ returns-clause-cone c =
     record {
       sound = subst IsSound back c.requires.sound;
       drivers = subst (λ (e : Design). AreDrivers e c.drivers.result.now) back c.drivers.ensures;
+      cells = subst (λ (e : Design). AreCells e c.cells.result.now) back c.cells.ensures.cells;
       fixed = are.fixed;
       resets = are.resets;
       inputs = c.in_ok-point_rows.ensures d.inputs d.nets are.inputs;
