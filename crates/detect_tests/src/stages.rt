@@ -4,7 +4,7 @@ ghost use Rattle.link_defs.specs.Usable.{IsUsable};
 ghost use Rattle.mcp_detect.specs.Options.{AreInRange};
 
 use cell_types::builtin;
-use mcp_detect::{DetectOptions, Detected, Tried, detect};
+use mcp_detect::{DetectOptions, Detected, Silent, Tried, detect};
 use net_link::{LinkOptions, Linked, link, top_inputs};
 use sdc_settings::settings;
 use sdc_text::read_sdc;
@@ -66,7 +66,7 @@ pub(crate) fn detected(alloc: Global, texts: &Texts) -> Result<Detected, Fail> {
     if options.inv_depth > 8 || options.bound < 2 || options.bound > 16 {
         return Err("options in range")?;
     }
-    Ok(detect(alloc, &linked, &options)?)
+    Ok(detect(alloc, &linked, &options, &mut Silent)?)
 }
 
 fn shown(alloc: Global, pair: &Tried) -> Result<String, AllocError> {

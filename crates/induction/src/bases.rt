@@ -5,10 +5,9 @@ ghost use Rattle.net_model.specs.Fits.{NamesRegs};
 ghost use Rattle.induction.specs.Bases.{IsRightBase, FailsLive};
 
 use crate::members::{copy_of, holds_in};
-use cnf_encode::Prepared;
 use net_model::{Cycle, InvClause, Phase};
 use proof_log::Derivation;
-use query_asks::{Asked, Probe, ask_clause};
+use query_asks::{Asked, Prepared, Probe, ask_clause};
 use sdcv_base::Seq;
 use std::alloc::{AllocError, Global};
 
@@ -46,7 +45,10 @@ pub(crate) fn ask_bases(
         };
         match ask_clause(alloc, design, one.as_slice(), 0, probe)? {
             Asked::Refuted(derivation) => base.push(derivation)?,
-            Asked::Answered(run) => return Ok(Based::Failing(run)),
+            Asked::Answered(found) => {
+                let run = found.run(alloc, design)?;
+                return Ok(Based::Failing(run));
+            }
             Asked::Spent(log) => return Ok(Based::Spent { offset, log }),
         }
     }

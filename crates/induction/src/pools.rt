@@ -9,9 +9,9 @@ ghost use Rattle.induction.specs.Bases.{FailsInSome};
 
 use crate::bases::{Based, ask_bases, fails_live};
 use crate::members::{Member, copy_of};
-use cnf_encode::Prepared;
 use net_model::{Cycle, InvClause, Phase};
 use proof_log::Derivation;
+use query_asks::Prepared;
 use sdcv_base::Seq;
 use std::alloc::{AllocError, Global};
 use verdicts::InvSpent;

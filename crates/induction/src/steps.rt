@@ -4,10 +4,9 @@ ghost use Rattle.net_model.specs.Netlist.{IsSound};
 ghost use Rattle.net_model.specs.Fits.{NamesRegs};
 ghost use Rattle.induction.specs.Steps.{IsRightRound};
 
-use cnf_encode::Prepared;
 use net_model::{Cycle, InvClause, Phase};
 use proof_log::Derivation;
-use query_asks::{Asked, Probe, ask_clause};
+use query_asks::{Asked, Prepared, Probe, ask_clause};
 use sdcv_base::Seq;
 use std::alloc::{AllocError, Global};
 
@@ -44,7 +43,10 @@ pub(crate) fn ask_steps(
     for place in 0..clauses.len() {
         match ask_clause(alloc, design, clauses.as_slice(), place, probe)? {
             Asked::Refuted(step) => steps.push(step)?,
-            Asked::Answered(stretch) => return Ok(Round::Broken { place, stretch }),
+            Asked::Answered(found) => {
+                let stretch = found.run(alloc, design)?;
+                return Ok(Round::Broken { place, stretch });
+            }
             Asked::Spent(log) => return Ok(Round::Spent { place, log }),
         }
     }

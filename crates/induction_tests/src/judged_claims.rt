@@ -1,13 +1,13 @@
 //! Verdicts, beside those worked out by hand.
 use crate::cases::{one_claim, sound_case};
 use crate::designs::{AFTER_7, LATE, NEVER_7, PARITY, PHASES, RING, TURNS};
-use cnf_encode::Prepared;
 use invariants::invariants;
 use net_model::Phase;
 use net_model::PinRef::Net;
 use net_samples::Ask::{From, Hazard, In, Multi, Out, To, Via};
 use net_samples::{Ask, BOTH, CELL, GATES, PORTS, Part, RESET, TWO};
 use pair_prove::prove;
+use query_asks::Prepared;
 use std::alloc::{AllocError, Global};
 use std::process::Abort;
 use std::test;

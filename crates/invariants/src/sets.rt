@@ -9,11 +9,11 @@ ghost use Rattle.verdicts.specs.Certified.{ProveKept};
 ghost use Rattle.verdict_types.specs.Forms.{IsSetInForm};
 ghost use Rattle.invariants.specs.Invariants.{AreInvariants};
 
-use cnf_encode::Prepared;
 use drawn_runs::survivors;
 use induction::greatest_set;
 use inv_candidates::candidates;
 use net_model::{Claim, Design};
+use query_asks::Prepared;
 use sdcv_base::Seq;
 use std::alloc::{AllocError, Global};
 use verdicts::InvSet;

@@ -7,11 +7,10 @@ ghost use Rattle.verdicts.specs.Inductive.{AreAlwaysMet};
 ghost use Rattle.judgements.specs.Judgements.{AreAllInForm, AreFound, AreJudged};
 
 use crate::judged::Judged;
-use crate::progress::Progress;
-use cnf_encode::Prepared;
 use invariants::invariants;
 use net_model::{Claim, Design};
-use pair_prove::prove;
+use pair_prove::{Progress, prove};
+use query_asks::Prepared;
 use sdcv_base::Seq;
 use std::alloc::{AllocError, Global};
 use verdicts::{InvSet, Limits, Verdict};

@@ -13,21 +13,23 @@ use crate::faults::DetectFault;
 use crate::options::DetectOptions;
 use crate::selecting::selected;
 use crate::tries::tried;
-use cnf_encode::Prepared;
 use exception_expand::Selected;
 use invariants::invariants;
 use link_defs::Linked;
+use pair_prove::Progress;
+use query_asks::Prepared;
 use sdcv_base::Seq;
 use std::alloc::{AllocError, Global};
 use verdicts::InvSet;
 
 /// The pairs of registers between which a path leads, each with the largest multiplier up to which its claims are justified, at
 /// most the bound. The clauses over register bits with which they are proved are kept for all pairs together, by the claims of
-/// multiplier 2.
-pub fn detect(
+/// multiplier 2. How many pairs are tried, `progress` is told before the first and after each.
+pub fn detect<P: Progress>(
     alloc: Global,
     linked: &Linked,
     options: &DetectOptions,
+    progress: &mut P,
 ) -> Result<Detected, DetectFault>
     requires linked { IsUsable linked.now }
     requires range { AreInRange options.now }
@@ -36,19 +38,21 @@ pub fn detect(
     ensures none { OnOk result (HasFewPairs linked.now) }
 {
     let selected = selected(alloc, linked, options.hazard)?;
+    progress.judged(0, selected.claims.len());
     let (depth, budget) = (options.inv_depth, options.budget);
     let inv = invariants(alloc, &linked.design, &selected.claims, depth, budget)?;
     let prepared = Prepared::of(alloc, &linked.design)?;
-    let tried = all_tried(alloc, &prepared, &selected, &inv, options)?;
+    let tried = all_tried(alloc, &prepared, &selected, &inv, options, progress)?;
     Ok(Detected { inv, tried })
 }
 
-fn all_tried(
+fn all_tried<P: Progress>(
     alloc: Global,
     design: &Prepared,
     selected: &Selected,
     inv: &InvSet,
     options: &DetectOptions,
+    progress: &mut P,
 ) -> Result<Seq<Tried>, AllocError>
     requires sound { IsSound design.now }
     requires as_many { length selected.now.claims ≡ length selected.now.pairs }
@@ -64,6 +68,7 @@ fn all_tried(
         let line = selected.pairs.item(place);
         let claim = selected.claims.item(place);
         all.push(tried(alloc, design, line, claim, inv, options)?)?;
+        progress.judged(place + 1, selected.claims.len());
     }
     Ok(all)
 }

@@ -19,3 +19,4 @@ pub use detecting::detect;
 pub use detections::{Detected, Tried};
 pub use faults::DetectFault;
 pub use options::DetectOptions;
+pub use pair_prove::{Progress, Silent};

@@ -25,7 +25,7 @@ use Rattle.verdict_types.specs.declared.outcomes.Verdict.TheVariants.{Justified,
 use Rattle.verdicts.proofs.Cutting.{holds_at}
 use Rattle.verdicts.proofs.Certifying.{justified_holds}
 use Rattle.verdicts.proofs.Extending.{push_cases}
-use Rattle.query_asks.specs.Asks.{IsRefutedBy}
+use Rattle.query_asks.specs.Asks.{HasAnswer, IsRefutedBy}
 use Rattle.pair_prove.specs.Proving.{HoldsWhereJustified, IsLeastWhereRefuted}
 
 -- the queries below a depth leave the claim open, and their base queries are refuted, by derivations in form
@@ -71,9 +71,10 @@ refute_more query count derivations derivation all one =
 
 -- where neither query of a depth decides, and it isn't the greatest, the next one is reached
 pub open_more : (d : Design) (claim : Claim) (kept : List InvClause) (limit depth : ℕ) (base : List Derivation) (derivation : Derivation)
-    (stretch : List Cycle) → IsSound d → OpenSoFar d claim kept limit depth base → depth ≢ limit
-    → IsRefutedBy (claim_query d claim Base depth kept) derivation → IsAnswer (claim_query d claim Step depth kept) stretch → OpenSoFar d claim kept limit (depth + 1) (base ++ derivation ∷ [])
-open_more d claim kept limit depth base derivation stretch sound so other refuted answer =
+    → IsSound d → OpenSoFar d claim kept limit depth base → depth ≢ limit
+    → IsRefutedBy (claim_query d claim Base depth kept) derivation → HasAnswer (claim_query d claim Step depth kept)
+    → OpenSoFar d claim kept limit (depth + 1) (base ++ derivation ∷ [])
+open_more d claim kept limit depth base derivation sound so other refuted answer =
     record {
       reached =
           record {
@@ -82,7 +83,7 @@ open_more d claim kept limit depth base derivation stretch sound so other refute
             open_ =
                 record {
                   holds = up_to (HoldsAtOffset d claim) depth so.reached.open_.holds (holds_at d claim kept depth sound refuted.none);
-                  answered = up_to (IsOpenAt d claim kept) depth so.reached.open_.answered (stretch, answer);
+                  answered = up_to (IsOpenAt d claim kept) depth so.reached.open_.answered answer;
                 };
           };
       refuted = refute_more (λ k. claim_query d claim Base k kept) depth base derivation so.refuted refuted.refutes;

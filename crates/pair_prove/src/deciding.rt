@@ -7,9 +7,8 @@ ghost use Rattle.net_model.specs.Fits.{NamesRegs};
 ghost use Rattle.verdicts.specs.Verdicts.{IsJudged, IsRight};
 ghost use Rattle.verdict_types.specs.Forms.{IsVerdictInForm};
 
-use cnf_encode::Prepared;
 use net_model::{Claim, Cycle, InvClause, Phase, Stimulus};
-use query_asks::{Asked, Probe, ask_claim};
+use query_asks::{Asked, Prepared, Probe, ask_claim};
 use sdcv_base::Seq;
 use std::alloc::{AllocError, Global};
 use verdicts::{Cause, Limits, Proof, Verdict};
@@ -41,7 +40,8 @@ pub(crate) fn decide(
             budget,
         };
         let derivation = match ask_claim(alloc, design, claim, kept, probe)? {
-            Asked::Answered(run) => {
+            Asked::Answered(found) => {
+                let run = found.run(alloc, design)?;
                 let stimulus = stimulus_of(alloc, &run)?;
                 let offset = depth;
                 return Ok(Verdict::Refuted { offset, stimulus });
@@ -55,14 +55,15 @@ pub(crate) fn decide(
             depth,
             budget,
         };
-        let stretch = match ask_claim(alloc, design, claim, kept, probe)? {
+        let found = match ask_claim(alloc, design, claim, kept, probe)? {
             Asked::Refuted(step) => {
                 return Ok(Verdict::Justified(Proof::Depth { depth, base, step }));
             }
             Asked::Spent(log) => return Ok(Verdict::Undecided(Cause::Budget { phase, depth, log })),
-            Asked::Answered(stretch) => stretch,
+            Asked::Answered(found) => found,
         };
         if depth == limits.depth {
+            let stretch = found.run(alloc, design)?;
             return Ok(Verdict::Undecided(Cause::Depth { stretch }));
         }
         base.push(derivation)?;

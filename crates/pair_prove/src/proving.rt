@@ -9,8 +9,8 @@ ghost use Rattle.verdict_types.specs.Forms.{IsVerdictInForm};
 ghost use Rattle.pair_prove.specs.Proving.{HoldsWhereJustified, IsLeastWhereRefuted};
 
 use crate::deciding::decide;
-use cnf_encode::Prepared;
 use net_model::Claim;
+use query_asks::Prepared;
 use std::alloc::{AllocError, Global};
 use verdicts::{InvSet, Limits, Proof, Verdict, is_held_start};
 

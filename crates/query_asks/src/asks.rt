@@ -9,11 +9,12 @@ ghost use Rattle.proof_log.specs.Formulas.{IsFormula};
 ghost use Rattle.cnf_encode.specs.Problems.{IsMadeFor};
 ghost use Rattle.query_asks.specs.Asks.{IsRightOf, IsRightFor};
 
-use cnf_encode::{Prepared, Problem, formula, inv_formula, read_back};
-use net_model::{Claim, Cycle, InvClause, Phase};
+use crate::found::Found;
+use crate::prepared_designs::Prepared;
+use cnf_encode::{Problem, formula, inv_formula};
+use net_model::{Claim, InvClause, Phase};
 use proof_log::Derivation;
 use sat_solver::{Answer, solve};
-use sdcv_base::Seq;
 use std::alloc::{AllocError, Global};
 
 /// Which query is asked, and how many clauses may be learnt for it.
@@ -29,8 +30,8 @@ pub struct Probe {
 pub enum Asked {
     /// No run answers it: the derivation refutes its formula.
     Refuted(Derivation),
-    /// A run or a stretch that answers it.
-    Answered(Seq<Cycle>),
+    /// A run or a stretch answers it: the model that it is read back from.
+    Answered(Found),
     /// The log spends the budget.
     Spent(Derivation),
 }
@@ -50,8 +51,9 @@ pub fn ask_claim(
     requires few { probe.depth ≤ 64 }
     ensures { IfOk result (IsRightOf (claim_query design.now claim.now probe.phase probe.depth kept.now) probe.budget) }
 {
-    let problem = formula(alloc, design, claim, probe.phase, probe.depth, kept)?;
-    answer_of(alloc, design, &problem, probe.budget)
+    let coded = design.coded();
+    let problem = formula(alloc, coded, claim, probe.phase, probe.depth, kept)?;
+    answer_of(alloc, problem, probe.budget)
 }
 
 /// Asks whether the clause at a place of `inv` fails in the live cycle of a depth, counted from 0: in the base phase in a
@@ -70,27 +72,18 @@ pub fn ask_clause(
     ensures { IfOk result (λ a. (clause : Clause) → slice_get inv.now place ≡ Some clause
         → IsRightOf (clause_query design.now inv.now clause probe.phase probe.depth) probe.budget a) }
 {
-    let problem = inv_formula(alloc, design, inv, place, probe.phase, probe.depth)?;
-    answer_of(alloc, design, &problem, probe.budget)
+    let coded = design.coded();
+    let problem = inv_formula(alloc, coded, inv, place, probe.phase, probe.depth)?;
+    answer_of(alloc, problem, probe.budget)
 }
 
-/// What the solver finds of a query's clauses: a model goes back as the run that it is.
-fn answer_of(
-    alloc: Global,
-    design: &Prepared,
-    problem: &Problem,
-    budget: u64,
-) -> Result<Asked, AllocError>
-    requires sound { IsSound design.now }
-    requires made { IsMadeFor design.now problem.now }
-    requires normal { IsFormula problem.now.formula }
-    ensures { IfOk result (IsRightFor design.now problem.now budget) }
+/// What the solver finds of a query's clauses.
+fn answer_of(alloc: Global, problem: Problem, budget: u64) -> Result<Asked, AllocError>
+    requires { IsFormula problem.formula }
+    ensures { IfOk result (IsRightFor problem budget) }
 {
     match solve(alloc, &problem.formula, budget)? {
-        Answer::Sat(model) => {
-            let run = read_back(alloc, design.bare(), problem, &model)?;
-            Ok(Asked::Answered(run))
-        }
+        Answer::Sat(model) => Ok(Asked::Answered(Found { problem, model })),
         Answer::Unsat(derivation) => {
             // It has as many steps as a slice, so fewer than 2^63.
             let _steps = derivation.steps.as_slice();

@@ -18,6 +18,7 @@ use crate::statuses::Ending;
 use design_stages::{Refusal, Reset, linked};
 use detect_lines::{detect_line, detected_lines};
 use found_pairs::{found_is_selected, found_text};
+use judgements::Progress;
 use link_defs::Linked;
 use mcp_detect::{DetectOptions, Detected, detect};
 use sdcv_base::Host;
@@ -25,12 +26,13 @@ use sdcv_words::{Finding, Options, Texts};
 use std::alloc::{AllocError, Global};
 
 /// The texts are read, the netlist is linked, and what is found of its pairs is to be saved and told.
-pub fn found_out<'a, H: Host>(
+pub fn found_out<'a, H: Host, P: Progress>(
     alloc: Global,
     host: &mut H,
     files: Texts<'a>,
     options: Options,
     finding: Finding<'a>,
+    progress: &mut P,
 ) -> Result<Plan<'a>, Stop>
     requires options { AreOptionsInRange options }
     requires finding { IsFindingInRange (seen_finding finding) }
@@ -60,18 +62,23 @@ pub fn found_out<'a, H: Host>(
         len: reset_len,
     };
     let linked = linked(alloc, &texts, reset)?;
-    let detected = detected(alloc, &linked, &trying)?;
+    let detected = detected(alloc, &linked, &trying, progress)?;
     let plan = told(alloc, &linked, &trying, reset_len, finding.out, detected)?;
     Ok(plan)
 }
 
 // What is found out about the pairs.
-fn detected(alloc: Global, linked: &Linked, options: &DetectOptions) -> Result<Detected, Refusal>
+fn detected<P: Progress>(
+    alloc: Global,
+    linked: &Linked,
+    options: &DetectOptions,
+    progress: &mut P,
+) -> Result<Detected, Refusal>
     requires linked { IsUsable linked.now }
     requires range { AreInRange options.now }
     ensures { Finds (Staged (Detects linked.now options.now) detect_line) result }
 {
-    match detect(alloc, linked, options) {
+    match detect(alloc, linked, options, progress) {
         Ok(detected) => Ok(detected),
         Err(fault) => Err(Refusal::Line(detect_line(alloc, &fault)?)),
     }

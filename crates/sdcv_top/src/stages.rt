@@ -49,7 +49,7 @@ pub fn plan<'a, H: Host, P: Progress>(
             texts,
             options,
             finding,
-        } => found_out(alloc, host, texts, options, finding),
+        } => found_out(alloc, host, texts, options, finding, progress),
         Command::Demo { seed, size } => Ok(demonstrated(alloc, seed, size, progress)?),
     }
 }

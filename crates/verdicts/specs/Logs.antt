@@ -4,7 +4,7 @@ use Rattle.net_model.specs.Queries.{Query}
 use Rattle.query_model.specs.Variables.{IsProblemOf}
 use Rattle.query_model.specs.declared.keys.Key.{Key}
 use Rattle.query_model.specs.declared.keys.Coding.{Coding}
-use Rattle.query_model.specs.declared.keys.Coding.TheVariants.{Rows}
+use Rattle.query_model.specs.declared.keys.Coding.TheVariants.{Primes}
 use Rattle.proof_log.specs.Derivations.{Refutes}
 use Rattle.proof_log.specs.NewClauses.{IsSpentLog}
 use Rattle.proof_log.specs.declared.formulas.Formula.{Formula}
@@ -12,7 +12,7 @@ use Rattle.proof_log.specs.declared.derivations.Derivation.{Derivation}
 
 -- the coding of the formulas that are asked here
 abbrev pub own_coding : Coding
-own_coding = Rows
+own_coding = Primes
 
 -- the formula is the query's in a coding, over its needed keys
 abbrev pub IsFormulaFor : Coding → Query → Formula → Type 0

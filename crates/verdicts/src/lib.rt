@@ -7,9 +7,11 @@
 //! crate and on no search.
 #![tactic(auto)]
 
+mod codings;
 mod judged;
 mod laws;
 
+pub use codings::own_coding;
 pub use judged::{is_held_start, is_judged};
 pub use laws::{
     always_met, claim_certified, holds_at, holds_by_induction, justified, kept_certified,

@@ -1,10 +1,21 @@
-use Rattle.std.proofs.Common.{◌≡◌, ◌∙◌, ◌+◌, ◌∷◌, [], ℕ, ap, subst, sym, arith}
+use Rattle.std.proofs.Common.{◌≡◌, ◌∙◌, ◌+◌, ◌∷◌, [], ℕ, refl, ap, subst, sym, arith}
 use Rattle.net_model.specs.Queries.{Query, clause_query}
 use Rattle.net_model.specs.declared.invariants.InvClause.{InvClause}
 use Rattle.net_model.specs.declared.queries.Phase.TheVariants.{Base}
 use Rattle.query_asks.proofs.Asking.{refuted, answered, spent}
 use Rattle.induction.proofs.Basing.{AreOffsetsDone, alone_right, failing_of, offsets_more, offsets_all}
 use Rattle.induction.proofs.bases.ask_bases.Goals as goal
+
+pub run-requires-clause-found : goal.run-requires-clause-found
+run-requires-clause-found c =
+    let d = c.args.design.now in
+    let clause = c.args.clause.now in
+    let offset = c.loop-offset.offset in
+    let query : Query = clause_query d (clause ∷ []) clause Base offset in
+    let one : c.as_slice.result.now ≡ clause ∷ [] =
+    c.as_slice.ensures ∙ c.in_ok-one.ensures ∙ ap (λ (x : InvClause). x ∷ []) c.in_ok-copy_of.ensures in
+    (answered query c.args.budget c.in_ok-derivation.field-0 c.in-Answered.found c.in-Answered.is
+    (alone_right d c.as_slice.result.now clause offset c.args.budget c.in_ok-derivation.field-0 one c.in_ok-derivation.ensures)).found_in
 
 pub returns-in-Answered : goal.returns-in-Answered
 returns-in-Answered c =
@@ -14,9 +25,9 @@ returns-in-Answered c =
     let query : Query = clause_query d (clause ∷ []) clause Base offset in
     let one : c.as_slice.result.now ≡ clause ∷ [] =
     c.as_slice.ensures ∙ c.in_ok-one.ensures ∙ ap (λ (x : InvClause). x ∷ []) c.in_ok-copy_of.ensures in
-    failing_of d clause offset c.in-Answered.run'
-    (answered query c.args.budget c.in_ok-derivation.field-0 c.in-Answered.run' c.in-Answered.is
-    (alone_right d c.as_slice.result.now clause offset c.args.budget c.in_ok-derivation.field-0 one c.in_ok-derivation.ensures))
+    let found = answered query c.args.budget c.in_ok-derivation.field-0 c.in-Answered.found c.in-Answered.is
+    (alone_right d c.as_slice.result.now clause offset c.args.budget c.in_ok-derivation.field-0 one c.in_ok-derivation.ensures) in
+    failing_of d clause offset c.in_ok-run-in-Answered.run' (c.in_ok-run-in-Answered.ensures query refl found)
 
 pub returns-in-Spent : goal.returns-in-Spent
 returns-in-Spent c =

@@ -5,7 +5,7 @@ use Rattle.mcp_detect.proofs.Trying.{tried_none, tried_more}
 use Rattle.mcp_detect.proofs.detecting.all_tried.Goals as goal
 
 pub loop-place-init : goal.loop-place-init
-loop-place-init c =
+loop-place-init g c =
     let d = c.args.design.now in
     let o = c.args.options.now in
     let kept = c.args.inv.now.kept in
@@ -13,7 +13,7 @@ loop-place-init c =
     subst (λ (all : List Tried). AreTriedFirst d o kept s 0 all) (sym c.new-all.ensures) (tried_none d o kept s)
 
 pub loop-place-preserved : goal.loop-place-preserved
-loop-place-preserved c =
+loop-place-preserved g c =
     let d = c.args.design.now in
     let o = c.args.options.now in
     let kept = c.args.inv.now.kept in

@@ -1,22 +1,27 @@
-use Rattle.std.proofs.Common.{arith, sym, subst}
+use Rattle.std.proofs.Common.{◌∙◌, Err, IfErr, ap, arith, sym, subst}
+use Rattle.std.specs.Prelude.{Result}
+use Rattle.std.proofs.lemmas.Result.{err_from_is_err_and}
 use Rattle.net_model.specs.declared.netlist.Design.{Design}
 use Rattle.exception_expand.specs.Pairs.{judging_by}
 use Rattle.verdicts.specs.Inductive.{AreAlwaysMet}
 use Rattle.mcp_detect.specs.Detections.{AreTried}
+use Rattle.mcp_detect.specs.Causes.{IsDetectCause}
+use Rattle.mcp_detect.specs.declared.detections.Detected.{Detected}
+use Rattle.mcp_detect.specs.declared.faults.DetectFault.{DetectFault}
 use Rattle.mcp_detect.proofs.Registers.{all_bare}
 use Rattle.mcp_detect.proofs.Counting.{few_claims}
 use Rattle.mcp_detect.proofs.detecting.detect.Goals as goal
 
 pub all_tried-requires-clause-bare : goal.all_tried-requires-clause-bare
-all_tried-requires-clause-bare c =
+all_tried-requires-clause-bare g c =
     all_bare c.args.linked.now (judging_by c.args.options.now.hazard 0) c.in_ok-selected.selected c.in_ok-selected.ensures.ok
 
 pub all_tried-requires-clause-met : goal.all_tried-requires-clause-met
-all_tried-requires-clause-met c =
+all_tried-requires-clause-met g c =
     subst (λ (d : Design). AreAlwaysMet d c.in_ok-inv.inv.kept) (sym c.in_ok-prepared.ensures) c.in_ok-inv.ensures.met
 
 pub returns-clause-ok : goal.returns-clause-ok
-returns-clause-ok c =
+returns-clause-ok g c =
     let l = c.args.linked.now in
     let o = c.args.options.now in
     let s = c.in_ok-selected.selected in
@@ -31,3 +36,8 @@ returns-clause-ok c =
       tried = all;
       few = omega (arith, all.as_many, few_claims l (judging_by o.hazard 0) s c.in_ok-selected.ensures.ok);
     }
+
+pub returns-in_err-tried-clause-err : goal.returns-in_err-tried-clause-err
+returns-in_err-tried-clause-err g c =
+    let p = err_from_is_err_and c.from_residual-in_err-tried.result c.from_residual-in_err-tried.ensures.1 in
+    subst (λ (r : Result Detected DetectFault). IfErr r (IsDetectCause c.args.linked.now)) (sym (p.1 ∙ ap Err p.2)) tt

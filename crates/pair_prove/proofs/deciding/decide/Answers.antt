@@ -1,10 +1,10 @@
-use Rattle.std.proofs.Common.{◌+◌, List, subst, sym}
+use Rattle.std.proofs.Common.{◌+◌, List, refl, subst, sym}
 use Rattle.net_model.specs.Queries.{Query, claim_query}
 use Rattle.net_model.specs.declared.queries.Phase.TheVariants.{Base, Step}
 use Rattle.proof_log.specs.declared.derivations.Derivation.{Derivation}
 use Rattle.query_asks.proofs.Asking.{refuted, answered, spent}
 use Rattle.verdicts.proofs.Cutting.{holds_at}
-use Rattle.pair_prove.proofs.Growing.{OpenSoFar, open_more, justified_in_form, stays}
+use Rattle.pair_prove.proofs.Growing.{OpenSoFar, open_more, justified_in_form, stays, witness_of}
 use Rattle.pair_prove.proofs.deciding.decide.Goals as goal
 
 pub returns-in-Spent-2-clause-right : goal.returns-in-Spent-2-clause-right
@@ -17,7 +17,7 @@ returns-in-Spent-2-clause-right c =
     let step : Query = claim_query d claim Step depth kept in (
       c.loop-base.invariant.reached,
       holds_at d claim kept depth c.requires.sound
-          (refuted base c.args.limits.budget c.in_ok-run.field-0 c.in-Refuted.derivation c.in-Refuted.is c.in_ok-run.ensures).none,
+          (refuted base c.args.limits.budget c.in_ok-found.field-0 c.in-Refuted.derivation c.in-Refuted.is c.in_ok-found.ensures).none,
       spent step c.args.limits.budget c.in_ok-step.field-0 c.in-Spent-2.log c.in-Spent-2.is c.in_ok-step.ensures,
     )
 
@@ -34,6 +34,25 @@ returns-in-Refuted-2-clause-in_form c =
     justified_in_form c.args.design.now c.args.claim.now c.args.kept.now c.args.limits.depth c.loop-base.depth c.loop-base.base c.in-Refuted-2.step
     c.requires.few c.loop-base.invariant found.in_form
 
+pub stimulus_of-requires : goal.stimulus_of-requires
+stimulus_of-requires c =
+    let base : Query = claim_query c.args.design.now c.args.claim.now Base c.loop-base.depth c.args.kept.now in
+    let found = answered base c.args.limits.budget c.in_ok-found.field-0 c.in-Answered.found c.in-Answered.is c.in_ok-found.ensures in
+    (c.in_ok-run-in-Answered.ensures base refl found).cycles.linked.some
+
+pub returns-in-Answered-clause-right : goal.returns-in-Answered-clause-right
+returns-in-Answered-clause-right c =
+    let d = c.args.design.now in
+    let claim = c.args.claim.now in
+    let kept = c.args.kept.now in
+    let depth = c.loop-base.depth in
+    let base : Query = claim_query d claim Base depth kept in
+    let found = answered base c.args.limits.budget c.in_ok-found.field-0 c.in-Answered.found c.in-Answered.is c.in_ok-found.ensures in (
+      c.loop-base.invariant.reached,
+      witness_of d claim kept depth c.in_ok-run-in-Answered.run' c.in_ok-stimulus-in-Answered.stimulus
+          (c.in_ok-run-in-Answered.ensures base refl found) c.in_ok-stimulus-in-Answered.ensures,
+    )
+
 pub returns-then-depth-limits-clause-right : goal.returns-then-depth-limits-clause-right
 returns-then-depth-limits-clause-right c =
     let d = c.args.design.now in
@@ -42,10 +61,11 @@ returns-then-depth-limits-clause-right c =
     let depth = c.loop-base.depth in
     let base : Query = claim_query d claim Base depth kept in
     let step : Query = claim_query d claim Step depth kept in
-    stays d claim kept c.args.limits depth c.in-Answered-2.stretch c.if-depth-limits.true c.loop-base.invariant.reached
+    let found = answered step c.args.limits.budget c.in_ok-step.field-0 c.in-Answered-2.found c.in-Answered-2.is c.in_ok-step.ensures in
+    stays d claim kept c.args.limits depth c.in_ok-stretch.stretch c.if-depth-limits.true c.loop-base.invariant.reached
     (holds_at d claim kept depth c.requires.sound
-    (refuted base c.args.limits.budget c.in_ok-run.field-0 c.in-Refuted.derivation c.in-Refuted.is c.in_ok-run.ensures).none)
-    (answered step c.args.limits.budget c.in_ok-step.field-0 c.in-Answered-2.stretch c.in-Answered-2.is c.in_ok-step.ensures)
+    (refuted base c.args.limits.budget c.in_ok-found.field-0 c.in-Refuted.derivation c.in-Refuted.is c.in_ok-found.ensures).none)
+    (c.in_ok-stretch.ensures step refl found)
 
 pub loop-base-preserved : goal.loop-base-preserved
 loop-base-preserved c =
@@ -55,8 +75,8 @@ loop-base-preserved c =
     let depth = c.loop-base.depth in
     let base : Query = claim_query d claim Base depth kept in
     let step : Query = claim_query d claim Step depth kept in
-    let none = refuted base c.args.limits.budget c.in_ok-run.field-0 c.in-Refuted.derivation c.in-Refuted.is c.in_ok-run.ensures in
-    let answer = answered step c.args.limits.budget c.in_ok-step.field-0 c.in-Answered-2.stretch c.in-Answered-2.is c.in_ok-step.ensures in
+    let none = refuted base c.args.limits.budget c.in_ok-found.field-0 c.in-Refuted.derivation c.in-Refuted.is c.in_ok-found.ensures in
+    let found = answered step c.args.limits.budget c.in_ok-step.field-0 c.in-Answered-2.found c.in-Answered-2.is c.in_ok-step.ensures in
     subst (λ (logs : List Derivation). OpenSoFar d claim kept c.args.limits.depth (depth + 1) logs) (sym c.in_ok-push.ensures.ok)
-    (open_more d claim kept c.args.limits.depth depth c.loop-base.base c.in-Refuted.derivation c.in-Answered-2.stretch c.requires.sound
-    c.loop-base.invariant c.if-depth-limits.false none answer)
+    (open_more d claim kept c.args.limits.depth depth c.loop-base.base c.in-Refuted.derivation c.requires.sound
+    c.loop-base.invariant c.if-depth-limits.false none found.answer)
