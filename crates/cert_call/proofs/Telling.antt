@@ -2,8 +2,8 @@
 use Rattle.std.proofs.Common.{ℕ, List}
 use Rattle.net_model.specs.declared.netlist.Design.{Design}
 use Rattle.net_model.specs.declared.claims.Claim.{Claim}
-use Rattle.verdicts.specs.Logs.{own_coding}
 use Rattle.cert_values.specs.declared.certs.Cert.{Cert}
+use Rattle.cert_values.specs.Versions.{coding_of}
 use Rattle.cert_values.specs.declared.faults.CertFault.{CertFault}
 use Rattle.cert_values.specs.declared.faults.CertFault.TheVariants.{Form, Version, UnknownRegister, UnknownPair, TwicePair}
 use Rattle.cert_values.specs.declared.faults.CertFault.TheVariants.{NotTrivial, Invariant, Pair, Memory}
@@ -24,11 +24,11 @@ read_cause d claims bytes (Pair number fault) cause = absurd cause
 read_cause d claims bytes Memory cause = tt
 
 refused_of : (d : Design) (claims : List Claim) (bytes : List ℕ) (cert : Cert) (fault : CertFault) → Spells bytes cert
-    → IsCause own_coding d claims cert fault → SpellsRefused d claims bytes fault
+    → IsCause (coding_of cert.version) d claims cert fault → SpellsRefused d claims bytes fault
 refused_of d claims bytes cert fault spells cause = record { cert = cert; spells = spells; cause = cause }
 
 pub check_cause : (d : Design) (claims : List Claim) (bytes : List ℕ) (cert : Cert) (fault : CertFault) → Spells bytes cert
-    → IsCause own_coding d claims cert fault → IsTextCause d claims bytes fault
+    → IsCause (coding_of cert.version) d claims cert fault → IsTextCause d claims bytes fault
 check_cause d claims bytes cert (Form offset) spells cause = absurd cause
 check_cause d claims bytes cert (Version number) spells cause = absurd cause
 check_cause d claims bytes cert (UnknownRegister place) spells cause = refused_of d claims bytes cert (UnknownRegister place) spells cause

@@ -2,8 +2,8 @@
 use Rattle.std.specs.Prelude.{ℕ, List}
 use Rattle.net_model.specs.declared.netlist.Design.{Design}
 use Rattle.net_model.specs.declared.claims.Claim.{Claim}
-use Rattle.verdicts.specs.Logs.{own_coding}
 use Rattle.cert_values.specs.declared.certs.Cert.{Cert}
+use Rattle.cert_values.specs.Versions.{coding_of}
 use Rattle.cert_values.specs.declared.faults.CertFault.{CertFault}
 use Rattle.cert_values.specs.declared.faults.CertFault.TheVariants.{Form, Version, UnknownRegister, UnknownPair, TwicePair}
 use Rattle.cert_values.specs.declared.faults.CertFault.TheVariants.{NotTrivial, Invariant, Pair, Memory}
@@ -16,13 +16,13 @@ use Rattle.cert_text.specs.Causes.{IsReadCause}
 pub record IsAcceptedText (d : Design) (claims : List Claim) (bytes numbers : List ℕ) : Type 0 where
   pub cert : Cert
   pub spells : Spells bytes cert
-  pub accepts : Accepts own_coding d claims cert numbers
+  pub accepts : Accepts (coding_of cert.version) d claims cert numbers
 
 -- the bytes spell a certificate that there is this cause to refuse
 pub record SpellsRefused (d : Design) (claims : List Claim) (bytes : List ℕ) (fault : CertFault) : Type 0 where
   pub cert : Cert
   pub spells : Spells bytes cert
-  pub cause : IsCause own_coding d claims cert fault
+  pub cause : IsCause (coding_of cert.version) d claims cert fault
 
 -- a fault of the text; or it spells a certificate with the cause. Want of memory is free
 abbrev pub IsTextCause : Design → List Claim → List ℕ → CertFault → Type 0

@@ -8,28 +8,30 @@ use Rattle.rup_check.specs.Faults.{IsFirstFault}
 use Rattle.rup_check.specs.declared.faults.CheckFault.{CheckFault}
 use Rattle.cnf_encode.specs.Problems.{IsProblemFor}
 use Rattle.cnf_encode.specs.declared.problems.Problem.{Problem}
-use Rattle.verdicts.specs.Logs.{own_coding, RefutesQuery, RefuteEach}
+use Rattle.query_model.specs.declared.keys.Coding.{Coding}
+use Rattle.verdicts.specs.Logs.{RefutesQuery, RefuteEach}
 use Rattle.cert_defs.specs.Refused.{HasFault, HasFaultIn}
 use Rattle.cert_check.specs.Inducting.{AreBasesRefuted, HasBaseFault}
 
-pub refutes_of : (q : Query) (problem : Problem) (derivation : Derivation) → IsProblemFor q problem → Refutes problem.formula derivation
-    → RefutesQuery own_coding q derivation
-refutes_of q problem derivation is refutes = (problem.formula, (problem.frames, is.clauses), refutes)
+pub refutes_of : (coding : Coding) (q : Query) (problem : Problem) (derivation : Derivation) → IsProblemFor coding q problem
+    → Refutes problem.formula derivation
+    → RefutesQuery coding q derivation
+refutes_of coding q problem derivation is refutes = (problem.formula, (problem.frames, is.clauses), refutes)
 
-pub fault_of : (q : Query) (problem : Problem) (derivation : Derivation) (fault : CheckFault) → IsProblemFor q problem
-    → IsFirstFault problem.formula derivation fault → HasFault own_coding q derivation fault
-fault_of q problem derivation fault is first = (problem.formula, (problem.frames, is.clauses), first)
+pub fault_of : (coding : Coding) (q : Query) (problem : Problem) (derivation : Derivation) (fault : CheckFault) → IsProblemFor coding q problem
+    → IsFirstFault problem.formula derivation fault → HasFault coding q derivation fault
+fault_of coding q problem derivation fault is first = (problem.formula, (problem.frames, is.clauses), first)
 
 -- all base derivations refute their queries
-pub refute_each : (query : ℕ → Query) (base : List Derivation) → AreBasesRefuted query base (length base)
-    → RefuteEach own_coding query (length base) base
-refute_each query base all = record { as_many = refl; each = λ k derivation at. all k derivation (slice_get_within base k derivation at) at }
+pub refute_each : (coding : Coding) (query : ℕ → Query) (base : List Derivation) → AreBasesRefuted coding query base (length base)
+    → RefuteEach coding query (length base) base
+refute_each coding query base all = record { as_many = refl; each = λ k derivation at. all k derivation (slice_get_within base k derivation at) at }
 
 -- a fault of a base derivation, or of the step derivation, is one of all
-pub early_fault : (base_query : ℕ → Query) (step_query : Query) (base : List Derivation) (step : Derivation) (fault : CheckFault)
-    → HasBaseFault base_query base fault → HasFaultIn own_coding base_query step_query base step fault
-early_fault base_query step_query base step fault it = inl (it.k, it.derivation, it.at, it.has)
+pub early_fault : (coding : Coding) (base_query : ℕ → Query) (step_query : Query) (base : List Derivation) (step : Derivation) (fault : CheckFault)
+    → HasBaseFault coding base_query base fault → HasFaultIn coding base_query step_query base step fault
+early_fault coding base_query step_query base step fault it = inl (it.k, it.derivation, it.at, it.has)
 
-pub late_fault : (base_query : ℕ → Query) (step_query : Query) (base : List Derivation) (step : Derivation) (fault : CheckFault)
-    → HasFault own_coding step_query step fault → HasFaultIn own_coding base_query step_query base step fault
-late_fault base_query step_query base step fault it = inr it
+pub late_fault : (coding : Coding) (base_query : ℕ → Query) (step_query : Query) (base : List Derivation) (step : Derivation) (fault : CheckFault)
+    → HasFault coding step_query step fault → HasFaultIn coding base_query step_query base step fault
+late_fault coding base_query step_query base step fault it = inr it

@@ -5,9 +5,9 @@ ghost use Rattle.net_model.specs.Fits.{Fits};
 ghost use Rattle.net_model.specs.declared.claims.Claim.{Claim as TheClaim};
 ghost use Rattle.net_model.specs.Fits.{NamesRegs};
 ghost use Rattle.rup_check.specs.declared.faults.CheckFault.TheVariants.{Memory as NoRoom};
-ghost use Rattle.verdicts.specs.Logs.{own_coding};
 ghost use Rattle.verdicts.specs.Certified.{ProveKept};
 ghost use Rattle.cert_values.specs.Certs.{IsComplete};
+ghost use Rattle.cert_values.specs.Versions as versions;
 ghost use Rattle.cert_defs.specs.Listed.{IsWellListed};
 ghost use Rattle.cert_defs.specs.Accepted.{Accepts, AreProved, HoldEach};
 ghost use Rattle.cert_defs.specs.Refused.{IsCause};
@@ -15,7 +15,7 @@ ghost use Rattle.cert_check.specs.Checking.{clause_fault, pair_fault, IsAnswerFo
 
 use crate::inducting::{prove_claim, prove_clause};
 use crate::listing::{claim_of, well_listed};
-use cert_values::{Cert, CertFault};
+use cert_values::{Cert, CertFault, coding_of};
 use cnf_encode::Prepared;
 use net_model::{Claim, Design};
 use rup_check::CheckFault;
@@ -24,7 +24,7 @@ use std::alloc::Global;
 
 /// The numbers of the claims that the certificate lists, ascending, where it is accepted: its registers and claims are there, each
 /// claim is listed once and what is told of it is of its kind, and the derivations of each kept clause and of each claim refute
-/// the formulas of their queries. Each listed claim then holds in every run from reset, where hazards count and where they don't.
+/// the formulas of their queries, in the coding of its version. Each listed claim then holds in every run from reset, where hazards count and where they don't.
 ///
 /// The causes to refuse are looked for in this order, so a later one is told only where there is none of an earlier kind. Memory
 /// is taken for a mark a claim, for the numbers, for what depends on the design alone, and for one formula at a time.
@@ -37,15 +37,15 @@ pub fn check(
     requires sound { IsSound design.now }
     requires fit { All (Fits design.now) claims.now }
     requires complete { IsComplete cert.now }
-    ensures accepted { IfOk result (Accepts own_coding design.now claims.now cert.now) }
+    ensures accepted { IfOk result (Accepts (versions.coding_of cert.now.version) design.now claims.now cert.now) }
     ensures holds { IfOk result (HoldEach design.now claims.now) }
 
     // Only want of memory is free.
-    ensures cause { IfErr result (IsCause own_coding design.now claims.now cert.now) }
-    ensures only { (numbers : List ℕ) → Accepts own_coding design.now claims.now cert.now numbers → IsAnswerFor numbers result }
+    ensures cause { IfErr result (IsCause (versions.coding_of cert.now.version) design.now claims.now cert.now) }
+    ensures only { (numbers : List ℕ) → Accepts (versions.coding_of cert.now.version) design.now claims.now cert.now numbers → IsAnswerFor numbers result }
 {
     let numbers = well_listed(alloc, design, claims, cert)?;
-    let prepared = Prepared::of(alloc, design)?;
+    let prepared = Prepared::of(alloc, design, coding_of(cert.version))?;
     prove_kept(alloc, &prepared, cert)?;
     prove_pairs(alloc, &prepared, claims, cert)?;
     Ok(numbers)
@@ -53,12 +53,12 @@ pub fn check(
 
 /// Whether the derivations of each kept clause refute its queries.
 fn prove_kept(alloc: Global, design: &Prepared, cert: &Cert) -> Result<(), CertFault>
-    requires sound { IsSound design.now }
-    requires names { All (NamesRegs design.now) cert.now.kept }
+    requires sound { IsSound design.now.design }
+    requires names { All (NamesRegs design.now.design) cert.now.kept }
     requires complete { IsComplete cert.now }
-    ensures ok { IsOk result → ProveKept own_coding design.now cert.now.kept cert.now.depth cert.now.proofs }
-    ensures err { IfErr result (λ e. (claims : List TheClaim) → IsWellListed design.now claims cert.now
-        → IsCause own_coding design.now claims cert.now e) }
+    ensures ok { IsOk result → ProveKept design.now.coding design.now.design cert.now.kept cert.now.depth cert.now.proofs }
+    ensures err { IfErr result (λ e. (claims : List TheClaim) → IsWellListed design.now.design claims cert.now
+        → IsCause design.now.coding design.now.design claims cert.now e) }
 {
     for place in 0..cert.kept.len() {
         let proof = cert.proofs.item(place);
@@ -76,13 +76,13 @@ fn prove_pairs(
     claims: &[Claim],
     cert: &Cert,
 ) -> Result<(), CertFault>
-    requires sound { IsSound design.now }
-    requires fit { All (Fits design.now) claims.now }
+    requires sound { IsSound design.now.design }
+    requires fit { All (Fits design.now.design) claims.now }
     requires complete { IsComplete cert.now }
-    requires listed { IsWellListed design.now claims.now cert.now }
-    requires kept { ProveKept own_coding design.now cert.now.kept cert.now.depth cert.now.proofs }
-    ensures ok { IsOk result → AreProved own_coding design.now claims.now cert.now }
-    ensures err { IfErr result (IsCause own_coding design.now claims.now cert.now) }
+    requires listed { IsWellListed design.now.design claims.now cert.now }
+    requires kept { ProveKept design.now.coding design.now.design cert.now.kept cert.now.depth cert.now.proofs }
+    ensures ok { IsOk result → AreProved design.now.coding design.now.design claims.now cert.now }
+    ensures err { IfErr result (IsCause design.now.coding design.now.design claims.now cert.now) }
 {
     for place in 0..cert.pairs.len() {
         let pair = cert.pairs.item(place);

@@ -6,7 +6,7 @@ ghost use Rattle.net_model.specs.Queries.{claim_query, clause_query};
 ghost use Rattle.net_model.specs.declared.invariants.InvClause.{InvClause as Clause};
 ghost use Rattle.net_model.specs.declared.queries.Phase.TheVariants.{Base, Step};
 ghost use Rattle.net_model.specs.Fits.{NamesRegs};
-ghost use Rattle.verdicts.specs.Logs.{own_coding, RefutesQuery};
+ghost use Rattle.verdicts.specs.Logs.{RefutesQuery};
 ghost use Rattle.verdicts.specs.Certified.{ProvesClause, ProvesPair};
 ghost use Rattle.rup_check.specs.declared.faults.CheckFault.TheVariants.{Memory};
 ghost use Rattle.cert_values.specs.Certs.{HasBases};
@@ -31,14 +31,14 @@ fn refute_clause_bases(
     place: usize,
     base: &Seq<Derivation>,
 ) -> Result<(), CheckFault>
-    requires sound { IsSound design.now }
-    requires names { All (NamesRegs design.now) kept.now }
+    requires sound { IsSound design.now.design }
+    requires names { All (NamesRegs design.now.design) kept.now }
     requires place { place < length kept.now }
     requires few { length base.now ≤ 64 }
     ensures refuted { IsOk result → (clause : Clause) → slice_get kept.now place ≡ Some clause
-        → AreBasesRefuted (λ offset. clause_query design.now kept.now clause Base offset) base.now (length base.now) }
+        → AreBasesRefuted design.now.coding (λ offset. clause_query design.now.design kept.now clause Base offset) base.now (length base.now) }
     ensures fault { IfErr result (λ e. e ≢ Memory → (clause : Clause) → slice_get kept.now place ≡ Some clause
-        → HasBaseFault (λ offset. clause_query design.now kept.now clause Base offset) base.now e) }
+        → HasBaseFault design.now.coding (λ offset. clause_query design.now.design kept.now clause Base offset) base.now e) }
 {
     for offset in 0..base.len() {
         let asked = Asked {
@@ -58,15 +58,15 @@ pub(crate) fn prove_clause(
     place: usize,
     proof: &InvProof,
 ) -> Result<(), CheckFault>
-    requires sound { IsSound design.now }
-    requires names { All (NamesRegs design.now) kept.now }
+    requires sound { IsSound design.now.design }
+    requires names { All (NamesRegs design.now.design) kept.now }
     requires place { place < length kept.now }
     requires few { length proof.now.base ≤ 64 }
     ensures proves { IsOk result → (clause : Clause) → slice_get kept.now place ≡ Some clause
-        → ProvesClause own_coding design.now kept.now (length proof.now.base) clause proof.now }
+        → ProvesClause design.now.coding design.now.design kept.now (length proof.now.base) clause proof.now }
     ensures fault { IfErr result (λ e. e ≢ Memory → (clause : Clause) → slice_get kept.now place ≡ Some clause
-        → HasFaultIn own_coding (λ offset. clause_query design.now kept.now clause Base offset)
-        (clause_query design.now kept.now clause Step (length proof.now.base)) proof.now.base proof.now.step e) }
+        → HasFaultIn design.now.coding (λ offset. clause_query design.now.design kept.now clause Base offset)
+        (clause_query design.now.design kept.now clause Step (length proof.now.base)) proof.now.base proof.now.step e) }
 {
     refute_clause_bases(alloc, design, kept, place, &proof.base)?;
     let asked = Asked {
@@ -84,12 +84,14 @@ fn refute_claim_bases(
     claim: &Claim,
     base: &Seq<Derivation>,
 ) -> Result<(), CheckFault>
-    requires sound { IsSound design.now }
-    requires fits { Fits design.now claim.now }
-    requires names { All (NamesRegs design.now) kept.now }
+    requires sound { IsSound design.now.design }
+    requires fits { Fits design.now.design claim.now }
+    requires names { All (NamesRegs design.now.design) kept.now }
     requires few { length base.now ≤ 64 }
-    ensures refuted { IsOk result → AreBasesRefuted (λ offset. claim_query design.now claim.now Base offset kept.now) base.now (length base.now) }
-    ensures fault { IfErr result (λ e. e ≢ Memory → HasBaseFault (λ offset. claim_query design.now claim.now Base offset kept.now) base.now e) }
+    ensures refuted { IsOk result → AreBasesRefuted design.now.coding
+        (λ offset. claim_query design.now.design claim.now Base offset kept.now) base.now (length base.now) }
+    ensures fault { IfErr result (λ e. e ≢ Memory → HasBaseFault design.now.coding
+        (λ offset. claim_query design.now.design claim.now Base offset kept.now) base.now e) }
 {
     for offset in 0..base.len() {
         let asked = Asked {
@@ -110,14 +112,15 @@ fn prove_at_depth(
     base: &Seq<Derivation>,
     step: &Derivation,
 ) -> Result<(), CheckFault>
-    requires sound { IsSound design.now }
-    requires fits { Fits design.now claim.now }
-    requires names { All (NamesRegs design.now) kept.now }
+    requires sound { IsSound design.now.design }
+    requires fits { Fits design.now.design claim.now }
+    requires names { All (NamesRegs design.now.design) kept.now }
     requires few { length base.now ≤ 64 }
-    ensures refuted { IsOk result → AreBasesRefuted (λ offset. claim_query design.now claim.now Base offset kept.now) base.now (length base.now)
-        × RefutesQuery own_coding (claim_query design.now claim.now Step (length base.now) kept.now) step.now }
-    ensures fault { IfErr result (λ e. e ≢ Memory → HasFaultIn own_coding (λ offset. claim_query design.now claim.now Base offset kept.now)
-        (claim_query design.now claim.now Step (length base.now) kept.now) base.now step.now e) }
+    ensures refuted { IsOk result → AreBasesRefuted design.now.coding
+        (λ offset. claim_query design.now.design claim.now Base offset kept.now) base.now (length base.now)
+        × RefutesQuery design.now.coding (claim_query design.now.design claim.now Step (length base.now) kept.now) step.now }
+    ensures fault { IfErr result (λ e. e ≢ Memory → HasFaultIn design.now.coding (λ offset. claim_query design.now.design claim.now Base offset kept.now)
+        (claim_query design.now.design claim.now Step (length base.now) kept.now) base.now step.now e) }
 {
     refute_claim_bases(alloc, design, kept, claim, base)?;
     let asked = Asked {
@@ -135,13 +138,13 @@ pub(crate) fn prove_claim(
     claim: &Claim,
     proof: &Proof,
 ) -> Result<(), CheckFault>
-    requires sound { IsSound design.now }
-    requires fits { Fits design.now claim.now }
-    requires names { All (NamesRegs design.now) kept.now }
+    requires sound { IsSound design.now.design }
+    requires fits { Fits design.now.design claim.now }
+    requires names { All (NamesRegs design.now.design) kept.now }
     requires bases { HasBases proof.now }
-    requires suits { Suits design.now claim.now proof.now }
-    ensures proves { IsOk result → ProvesPair own_coding design.now kept.now claim.now proof.now }
-    ensures fault { IfErr result (λ e. e ≢ Memory → HasProofFault own_coding design.now kept.now claim.now proof.now e) }
+    requires suits { Suits design.now.design claim.now proof.now }
+    ensures proves { IsOk result → ProvesPair design.now.coding design.now.design kept.now claim.now proof.now }
+    ensures fault { IfErr result (λ e. e ≢ Memory → HasProofFault design.now.coding design.now.design kept.now claim.now proof.now e) }
 {
     match proof {
         Proof::Single | Proof::Fixed => Ok(()),

@@ -2,7 +2,7 @@
 ghost use Rattle.std.specs.Prelude.{◌≡◌, ◌↔◌, ℕ, ◌≤◌, ◌<◌, IsTrue, All, MatchOption, IfOk, IfErr, Some, length};
 ghost use Rattle.net_model.specs.Netlist.{IsSound};
 ghost use Rattle.net_model.specs.Fits.{NamesRegs};
-ghost use Rattle.verdicts.specs.Logs.{own_coding};
+ghost use Rattle.query_model.specs.declared.keys.Coding.{Coding};
 ghost use Rattle.cert_values.specs.Certs.{listed_numbers};
 ghost use Rattle.cert_defs.specs.Listed.{item_numbered, IsClaimNumber, AreSuited, Suits, IsWellListed};
 ghost use Rattle.cert_defs.specs.Accepted.{AreListed};
@@ -138,7 +138,7 @@ pub(crate) fn well_listed(
 ) -> Result<Seq<u64>, CertFault>
     ensures listed { IfOk result (λ _. IsWellListed design.now claims.now cert.now) }
     ensures numbers { IfOk result (AreListed cert.now.pairs) }
-    ensures cause { IfErr result (IsCause own_coding design.now claims.now cert.now) }
+    ensures cause { IfErr result (λ e. (coding : Coding) → IsCause coding design.now claims.now cert.now e) }
 {
     if let Some(place) = unknown_register(design, &cert.kept) {
         return Err(CertFault::UnknownRegister(place));

@@ -5,7 +5,7 @@ ghost use Rattle.net_model.specs.Fits.{Fits};
 ghost use Rattle.net_model.specs.Queries.{claim_query, clause_query};
 ghost use Rattle.net_model.specs.declared.invariants.InvClause.{InvClause as Clause};
 ghost use Rattle.net_model.specs.Fits.{NamesRegs};
-ghost use Rattle.verdicts.specs.Logs.{own_coding, RefutesQuery};
+ghost use Rattle.verdicts.specs.Logs.{RefutesQuery};
 ghost use Rattle.rup_check.specs.declared.faults.CheckFault.TheVariants.{Memory};
 ghost use Rattle.cert_defs.specs.Refused.{HasFault};
 
@@ -31,13 +31,13 @@ pub(crate) fn refute_claim(
     asked: Asked,
     derivation: &Derivation,
 ) -> Result<(), CheckFault>
-    requires sound { IsSound design.now }
-    requires fits { Fits design.now claim.now }
-    requires names { All (NamesRegs design.now) kept.now }
+    requires sound { IsSound design.now.design }
+    requires fits { Fits design.now.design claim.now }
+    requires names { All (NamesRegs design.now.design) kept.now }
     requires few { asked.depth ≤ 64 }
-    ensures refutes { IsOk result → RefutesQuery own_coding (claim_query design.now claim.now asked.phase asked.depth kept.now) derivation.now }
+    ensures refutes { IsOk result → RefutesQuery design.now.coding (claim_query design.now.design claim.now asked.phase asked.depth kept.now) derivation.now }
     ensures fault { IfErr result (λ e. e ≢ Memory
-        → HasFault own_coding (claim_query design.now claim.now asked.phase asked.depth kept.now) derivation.now e) }
+        → HasFault design.now.coding (claim_query design.now.design claim.now asked.phase asked.depth kept.now) derivation.now e) }
 {
     let problem = formula(alloc, design, claim, asked.phase, asked.depth, kept)?;
     rup_check::check(alloc, &problem.formula, derivation)
@@ -52,14 +52,14 @@ pub(crate) fn refute_clause(
     asked: Asked,
     derivation: &Derivation,
 ) -> Result<(), CheckFault>
-    requires sound { IsSound design.now }
-    requires names { All (NamesRegs design.now) kept.now }
+    requires sound { IsSound design.now.design }
+    requires names { All (NamesRegs design.now.design) kept.now }
     requires place { place < length kept.now }
     requires few { asked.depth ≤ 64 }
     ensures refutes { IsOk result → (clause : Clause) → slice_get kept.now place ≡ Some clause
-        → RefutesQuery own_coding (clause_query design.now kept.now clause asked.phase asked.depth) derivation.now }
+        → RefutesQuery design.now.coding (clause_query design.now.design kept.now clause asked.phase asked.depth) derivation.now }
     ensures fault { IfErr result (λ e. e ≢ Memory → (clause : Clause) → slice_get kept.now place ≡ Some clause
-        → HasFault own_coding (clause_query design.now kept.now clause asked.phase asked.depth) derivation.now e) }
+        → HasFault design.now.coding (clause_query design.now.design kept.now clause asked.phase asked.depth) derivation.now e) }
 {
     let problem = inv_formula(alloc, design, kept, place, asked.phase, asked.depth)?;
     rup_check::check(alloc, &problem.formula, derivation)

@@ -1,5 +1,5 @@
 -- Each kind of line: its words have no space or newline, and they tell its value.
-use Rattle.std.proofs.Common.{◌≡◌, ℕ, ◌+◌, ◌*◌, ◌<◌, ◌^◌, Bool, true, false, List, [], ◌∷◌, ◌++◌, map, length, get_or, refl, sym, ap, ◌∙◌, arith}
+use Rattle.std.proofs.Common.{inl, inr, ◌≡◌, ℕ, ◌+◌, ◌*◌, ◌<◌, ◌^◌, Bool, true, false, List, [], ◌∷◌, ◌++◌, map, length, get_or, refl, sym, ap, ◌∙◌, arith}
 use Rattle.std.specs.Prelude.{codes}
 use Rattle.std.specs.List.{list_all}
 use Rattle.std.specs.Fmt.{decimal}
@@ -22,11 +22,23 @@ use Rattle.cert_lines.specs.declared.sections.Section.TheVariants.{Single, Fixed
 use Rattle.cert_lines.specs.Kinds.{first_words, IsVersion, inv_words, IsInvHead, state_word, kept_words, AreKept, IsKept, phase_word}
 use Rattle.cert_lines.specs.Kinds.{head_words, IsCount, section_words, IsSection, step_words, IsStep}
 
+-- a version is a small number
+pub version_small : (version : ℕ) → IsVersion version → version < 2 ^ 63
+version_small version (inl one) = omega arith
+version_small version (inr two) = omega arith
+
+version_told : (v u : ℕ) → IsVersion v → IsVersion u → first_words v ≡ first_words u → v ≡ u
+version_told v u fv fu e =
+    let same : decimal v ≡ decimal u = cc in
+    let few = version_small v fv in
+    let small = version_small u fu in
+    decimal_injective v u (omega arith) (omega arith) same
+
 pub first_kind : IsKind IsVersion first_words
 first_kind = record {
-  plain = λ v fits. rw (number_token v (omega arith)) refl;
+  plain = λ v fits. let few = version_small v fits in rw (number_token v (omega arith)) refl;
   some = λ v. omega arith;
-  told = λ v u fv fu e. fv ∙ sym fu;
+  told = version_told;
 }
 
 abbrev head_of : ℕ → ℕ → InvHead

@@ -1,5 +1,5 @@
 -- What each line goes on with, by its parts.
-use Rattle.std.proofs.Common.{◌≡◌, ℕ, zero, suc, ◌+◌, ◌-◌, ◌<◌, ◌≤◌, ◌^◌, Bool, true, false, List, [], ◌∷◌, ◌++◌, map, length, drop, get_or}
+use Rattle.std.proofs.Common.{inl, inr, ◌⊎◌, ◌≡◌, ◌≢◌, ℕ, zero, suc, ◌+◌, ◌-◌, ◌<◌, ◌≤◌, ◌^◌, Bool, true, false, List, [], ◌∷◌, ◌++◌, map, length, drop, get_or}
 use Rattle.std.proofs.Common.{refl, sym, ap, ◌∙◌, append_assoc, append-nil, arith}
 use Rattle.std.specs.Prelude.{codes}
 use Rattle.std.specs.Fmt.{decimal}
@@ -22,12 +22,37 @@ use Rattle.cert_lines.specs.declared.sections.ProofWord.{ProofWord}
 use Rattle.cert_lines.specs.declared.sections.ProofWord.TheVariants as word
 use Rattle.cert_lines.specs.declared.sections.How.{How}
 use Rattle.cert_lines.specs.declared.sections.How.TheVariants as how
-use Rattle.cert_lines.specs.Kinds.{inv_words, IsInvHead, state_word, kept_words, AreKept, IsKept, section_words, IsSection, step_words, IsStep}
-use Rattle.cert_lines.specs.SectionWords.{IsAny, pair_or_end, proof_word, how_words, IsHow, section_of}
+use Rattle.cert_lines.specs.Kinds.{IsVersion, inv_words, IsInvHead, state_word, kept_words, AreKept, IsKept, section_words, IsSection, step_words, IsStep}
+use Rattle.cert_lines.specs.SectionWords.{IsVersionWord, IsAny, pair_or_end, proof_word, how_words, IsHow, section_of}
 use Rattle.cert_lines.proofs.KindLemmas.{clash, state_fits, step_tail}
 
-pub one_is : decimal 1 ≡ codes "1"
+one_is : decimal 1 ≡ codes "1"
 one_is = decimal_digit 1 (omega arith)
+
+two_is : decimal 2 ≡ codes "2"
+two_is = decimal_digit 2 (omega arith)
+
+-- the words of the versions
+pub version_one : (word : List ℕ) → word ≡ codes "1" → IsVersion 1 × (word ≡ decimal 1)
+version_one word is = (inl refl, is ∙ sym one_is)
+
+pub version_two : (word : List ℕ) → word ≡ codes "2" → IsVersion 2 × (word ≡ decimal 2)
+version_two word is = (inr refl, is ∙ sym two_is)
+
+pub no_version : (word : List ℕ) → word ≢ codes "1" → word ≢ codes "2" → ¬ IsVersionWord word
+no_version word one two (version, inl v, is) = one (is ∙ ap decimal v ∙ one_is)
+no_version word one two (version, inr v, is) = two (is ∙ ap decimal v ∙ two_is)
+
+pub front_of_one : (front more : List ℕ) → front ++ more ≡ codes "1" → (x : List ℕ) × IsVersionWord (front ++ x)
+front_of_one front more is = let v = version_one (front ++ more) is in (more, (1, v.0, v.1))
+
+pub front_of_two : (front more : List ℕ) → front ++ more ≡ codes "2" → (x : List ℕ) × IsVersionWord (front ++ x)
+front_of_two front more is = let v = version_two (front ++ more) is in (more, (2, v.0, v.1))
+
+-- the beginning of a version's word is that of one of the two
+pub front_either : (front more : List ℕ) → IsVersionWord (front ++ more) → (front ++ more ≡ codes "1") ⊎ (front ++ more ≡ codes "2")
+front_either front more (version, inl v, is) = inl (is ∙ ap decimal v ∙ one_is)
+front_either front more (version, inr v, is) = inr (is ∙ ap decimal v ∙ two_is)
 
 -- the count of kept clauses
 pub count_in : (depth most : ℕ) → depth ≤ 8 → (depth ≡ 0 → most ≡ 0) → (0 < depth → most ≡ 9223372036854775807)

@@ -13,7 +13,6 @@ use Rattle.net_model.specs.declared.queries.Phase.{Phase}
 use Rattle.cert_lines.specs.declared.heads.InvHead.{InvHead}
 use Rattle.cert_lines.specs.declared.sections.Section.TheVariants.{Single, Fixed, Depth, End}
 use Rattle.cert_lines.specs.Kinds.{text_of, first_words, inv_words, state_word, led, kept_words, AreKept, phase_word, head_words, section_words, step_words}
-use Rattle.cert_lines.proofs.PartLemmas.{one_is}
 
 pub spaced_two : (a b : List ℕ) → spaced (a ∷ (b ∷ [])) ≡ a ++ 32 ∷ b
 spaced_two a b = first_spaced a (b ∷ []) (omega arith) ∙ ap (λ y. a ++ 32 ∷ y) (one_spaced b)
@@ -50,8 +49,9 @@ pub written_line : (s : DerivStep) (out a b c d new : List ℕ) → a ≡ out ++
 written_line s out a b c d new ea eb ec ed e =
     rw (e, ed, ec, eb, ea, step_written s) (simp append_assoc)
 
-pub first_line : (out new : List ℕ) → new ≡ out ++ codes "sdcv-cert 1\n" → new ≡ out ++ text_of first_words 1
-first_line out new e = rw (e, spaced_two (codes "sdcv-cert") (decimal 1), one_is) refl
+pub first_line : (version : ℕ) (out a new : List ℕ) → a ≡ out ++ codes "sdcv-cert" → new ≡ a ++ 32 ∷ (decimal version ++ 10 ∷ [])
+    → new ≡ out ++ text_of first_words version
+first_line version out a new ea e = rw (e, ea, spaced_two (codes "sdcv-cert") (decimal version)) (simp append_assoc)
 
 pub inv_line : (head : InvHead) (out a b new : List ℕ) → a ≡ out ++ codes "inv " → b ≡ a ++ decimal head.depth
     → new ≡ b ++ 32 ∷ (decimal head.count ++ 10 ∷ []) → new ≡ out ++ text_of inv_words head

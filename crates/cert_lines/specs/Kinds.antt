@@ -1,5 +1,5 @@
 -- The kinds of lines of a certificate: the words of each value, and which values fit.
-use Rattle.std.specs.Prelude.{◌≡◌, ℕ, ◌+◌, ◌<◌, ◌≤◌, ◌^◌, List, [], ◌∷◌, ◌++◌, map, flat_map, codes}
+use Rattle.std.specs.Prelude.{◌≡◌, ◌⊎◌, ℕ, ◌+◌, ◌<◌, ◌≤◌, ◌^◌, List, [], ◌∷◌, ◌++◌, map, flat_map, codes}
 use Rattle.std.specs.Fmt.{decimal}
 use Rattle.proof_log.specs.Literals.{literal, lit_var}
 use Rattle.proof_log.specs.declared.derivations.DerivStep.{DerivStep}
@@ -22,9 +22,9 @@ text_of {V} ws v = spaced (ws v) ++ 10 ∷ []
 abbrev pub first_words : ℕ → List (List ℕ)
 first_words version = codes "sdcv-cert" ∷ (decimal version ∷ [])
 
--- there is one version
+-- there are two versions
 abbrev pub IsVersion : ℕ → Type 0
-IsVersion version = version ≡ 1
+IsVersion version = (version ≡ 1) ⊎ (version ≡ 2)
 
 -- `inv`, the depth, and how many clauses are kept
 abbrev pub inv_words : InvHead → List (List ℕ)

@@ -1,6 +1,7 @@
--- The words that tell a section.
+-- The words that tell a version, and a section.
 use Rattle.std.specs.Prelude.{◌≡◌, ℕ, ◌≤◌, Bool, true, false, List, [], ◌∷◌, codes}
 use Rattle.std.specs.Fmt.{decimal}
+use Rattle.cert_lines.specs.Kinds.{IsVersion}
 use Rattle.cert_lines.specs.declared.sections.ProofWord.{ProofWord}
 use Rattle.cert_lines.specs.declared.sections.ProofWord.TheVariants as word
 use Rattle.cert_lines.specs.declared.sections.How.{How}
@@ -17,6 +18,10 @@ pair_or_end false = codes "end"
 
 abbrev pub IsFirstWord : List ℕ → Type 0
 IsFirstWord word = (pair : Bool) × (word ≡ pair_or_end pair)
+
+-- the word of a version
+abbrev pub IsVersionWord : List ℕ → Type 0
+IsVersionWord word = (version : ℕ) × IsVersion version × (word ≡ decimal version)
 
 abbrev pub proof_word : ProofWord → List ℕ
 proof_word word.Single = codes "single"

@@ -1,10 +1,13 @@
 //! The first line, the line of kept clauses, and the first line of a derivation.
-ghost use Rattle.std.specs.Prelude.{◌≡◌, ◌≢◌, ◌∷◌, [], ◌<◌, false, IfOk, IfErr, OnOk};
+ghost use Rattle.std.specs.Prelude.{◌≡◌, ◌≢◌, ◌↔◌, ◌++◌, ◌∷◌, [], ◌<◌, ℕ, List, false, IfOk, IfErr, OnOk, IsTrue, MatchOption};
+ghost use Rattle.std.specs.Fmt.{decimal};
 ghost use Rattle.cert_words.specs.Lines.{Spells, IsLineStop};
 ghost use Rattle.cert_words.specs.Parts.{one, Passes, IsPartStop};
 ghost use Rattle.cert_lines.specs.Kinds.{first_words, IsVersion, inv_words, IsInvHead, phase_word, head_words, IsCount};
+ghost use Rattle.cert_lines.specs.SectionWords.{IsVersionWord};
 
-use cert_words::{Stop, Words, take_end, take_number, take_word};
+use crate::sections::is_front;
+use cert_words::{NextWord, Stop, Words, cut_off, take_end, take_number, take_word};
 use net_model::Phase;
 
 /// The greatest number of steps, and of kept clauses.
@@ -20,6 +23,41 @@ pub struct InvHead {
     pub count: u64,
 }
 
+/// The version that the word spells.
+fn version_of(word: &[u8]) -> Option<u64>
+    ensures { MatchOption result (¬ IsVersionWord word.now) (λ v. IsVersion v × (word.now ≡ decimal v)) }
+{
+    if word == b"1".as_slice() {
+        return Some(1);
+    }
+    if word == b"2".as_slice() {
+        return Some(2);
+    }
+    None
+}
+
+fn may_be_version(word: &[u8]) -> bool
+    ensures { IsTrue result ↔ ((more : List ℕ) × IsVersionWord (word.now ++ more)) }
+{
+    is_front(word, b"1") || is_front(word, b"2")
+}
+
+/// Passes the number of a version.
+fn take_version(words: &mut Words<'_>) -> Result<u64, Stop>
+    ensures ok { IfOk result (λ v. IsVersion v × Passes (one decimal v) words.old words.new) }
+    ensures err { IfErr result (IsPartStop IsVersion (one decimal) words.old) }
+    ensures told { IfErr result (λ e. e ≢ Stop.Memory) }
+{
+    match words.next() {
+        NextWord::Missing => Err(Stop::Bad),
+        NextWord::Cut(word) => Err(cut_off(may_be_version(word))),
+        NextWord::Whole(word) => match version_of(word) {
+            Some(version) => Ok(version),
+            None => Err(Stop::Bad),
+        },
+    }
+}
+
 /// The version of a first line.
 pub fn read_first(line: &[u8], cut: bool) -> Result<u64, Stop>
     ensures ok { IfOk result (Spells IsVersion first_words line.now) }
@@ -29,9 +67,9 @@ pub fn read_first(line: &[u8], cut: bool) -> Result<u64, Stop>
 {
     let mut words = Words::new(line, cut);
     take_word(&mut words, b"sdcv-cert")?;
-    take_word(&mut words, b"1")?;
+    let version = take_version(&mut words)?;
     take_end(&words)?;
-    Ok(1)
+    Ok(version)
 }
 
 /// How many clauses may be kept at most at a depth.

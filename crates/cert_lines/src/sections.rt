@@ -40,7 +40,7 @@ enum How {
 }
 
 /// Whether these bytes are the beginning of a word.
-fn is_front(front: &[u8], word: &[u8]) -> bool
+pub(crate) fn is_front(front: &[u8], word: &[u8]) -> bool
     ensures { IsTrue result ↔ ((more : List ℕ) × (front.now ++ more ≡ word.now)) }
 {
     word.strip_prefix(front).is_some()

@@ -13,10 +13,11 @@ use sdcv_base::push_decimal;
 use std::alloc::{AllocError, Global};
 
 /// Appends the first line.
-pub fn push_first(out: &mut Vec<u8>) -> Result<(), AllocError>
-    ensures { OnOk result (out.new.items ≡ out.old.items ++ text_of first_words 1) }
+pub fn push_first(alloc: Global, out: &mut Vec<u8>, version: u64) -> Result<(), AllocError>
+    ensures { OnOk result (out.new.items ≡ out.old.items ++ text_of first_words version) }
 {
-    out.extend_from_slice(b"sdcv-cert 1\n")?;
+    out.extend_from_slice(b"sdcv-cert")?;
+    push_last_number(alloc, out, version)?;
     Ok(())
 }
 

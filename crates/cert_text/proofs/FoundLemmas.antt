@@ -1,5 +1,6 @@
 -- What was found in form can be written.
-use Rattle.std.proofs.Common.{◌≡◌, ℕ, ◌+◌, ◌-◌, ◌<◌, ◌≤◌, ◌^◌, List, [], ◌∷◌, ◌++◌, length, take, get_or, refl, sym, ap, ◌∙◌, subst, append_assoc, arith}
+use Rattle.std.proofs.Common.{inl, inr, ◌≡◌, ℕ, ◌+◌, ◌-◌, ◌<◌, ◌≤◌, ◌^◌, List, []}
+use Rattle.std.proofs.Common.{◌∷◌, ◌++◌, length, take, get_or, refl, sym, ap, ◌∙◌, subst, append_assoc, arith}
 use Rattle.std.specs.Prelude.{All}
 use Rattle.std.specs.List.{AllByRecursion}
 use Rattle.std.proofs.lemmas.List.{take_more, flat_map_more, length-take-le}
@@ -20,7 +21,11 @@ use Rattle.cert_words.specs.Numbers.{IsLitAbove, IsHint}
 use Rattle.cert_words.specs.Growth.{Chain}
 use Rattle.cert_values.specs.declared.certs.PairProof.{PairProof}
 use Rattle.cert_values.specs.Certs.{justified_from, cert_of}
-use Rattle.cert_lines.specs.Kinds.{text_of, first_words, inv_words, kept_words, section_words, AreKept, IsKept, IsStep}
+use Rattle.cert_values.specs.Versions.{version_of, own_version}
+use Rattle.query_model.specs.declared.keys.Coding.{Coding}
+use Rattle.query_model.specs.declared.keys.Coding.TheVariants.{Rows, Primes}
+use Rattle.verdicts.specs.Logs.{own_coding}
+use Rattle.cert_lines.specs.Kinds.{text_of, first_words, IsVersion, inv_words, kept_words, section_words, AreKept, IsKept, IsStep}
 use Rattle.cert_lines.specs.declared.sections.Section.TheVariants.{End}
 use Rattle.cert_parts.specs.Texts.{many_text}
 use Rattle.cert_parts.specs.Derivations.{IsWritable}
@@ -141,10 +146,15 @@ pairs_more vs i v old now new less is before fits after more =
     recursion_from_All IsPair (xs ++ ys) (All-append IsPair xs ys (All-from_recursion IsPair xs fits) (All-from_recursion IsPair ys more)) in
     (text ∙ ap (λ (z : List PairProof). old ++ many_text pair_text z) (sym both), subst (λ (z : List PairProof). AllByRecursion IsPair z) (sym both) all)
 
+version_fits : (coding : Coding) → IsVersion (version_of coding)
+version_fits Rows = inl refl
+version_fits Primes = inr refl
+
 -- the certificate of what was found can be spelled, where its derivations can be written and its pairs spelled
 pub found_fits : (inv : InvSet) (verdicts : List Verdict) → IsSetInForm inv → All IsProofWritable inv.proofs
     → AllByRecursion IsPair (justified_from 1 verdicts) → IsSpellable (cert_of inv verdicts)
 found_fits inv verdicts form proofs pairs = record {
+  version = version_fits own_coding;
   head = record { deep = form.low; none = λ none. ap length (form.none none); small = form.few };
   kept = record { count = refl; fit = recursion_from_All IsKept inv.kept (All-weaker IsKeptClause IsKept clause_kept inv.kept form.clauses) };
   proofs = record { count = form.as_many; fit = proofs_fit inv.depth inv.proofs form.each proofs };
@@ -154,13 +164,13 @@ found_fits inv verdicts form proofs pairs = record {
 -- the certificate of what was found is what was written
 pub written_spells : (inv : InvSet) (verdicts : List Verdict) (a b c d e f : List ℕ) → IsSetInForm inv → All IsProofWritable inv.proofs
     → AllByRecursion IsPair (justified_from 1 verdicts)
-    → a ≡ text_of first_words 1 → b ≡ a ++ text_of inv_words (inv_head (cert_of inv verdicts)) → c ≡ b ++ many_text (text_of kept_words) inv.kept
+    → a ≡ text_of first_words own_version → b ≡ a ++ text_of inv_words (inv_head (cert_of inv verdicts)) → c ≡ b ++ many_text (text_of kept_words) inv.kept
     → d ≡ c ++ many_text proof_text inv.proofs
     → e ≡ d ++ many_text pair_text (justified_from 1 verdicts) → f ≡ e ++ text_of section_words End → Spells f (cert_of inv verdicts)
 written_spells inv verdicts a b c d e f form proofs pairs ea eb ec ed ee ef = record {
   is =
       rw (ef, ee, ed, ec, eb, ea)
-      (joined (text_of first_words 1) (text_of inv_words (inv_head (cert_of inv verdicts))) (many_text (text_of kept_words) inv.kept)
+      (joined (text_of first_words own_version) (text_of inv_words (inv_head (cert_of inv verdicts))) (many_text (text_of kept_words) inv.kept)
       (many_text proof_text inv.proofs) (many_text pair_text (justified_from 1 verdicts)) (text_of section_words End));
   fits = found_fits inv verdicts form proofs pairs;
 }

@@ -1,18 +1,13 @@
 -- What the whole bytes are, by what was read of them.
-use Rattle.std.proofs.Common.{inl, inr, ◌⊎◌, ◌≡◌, ◌≢◌, ℕ, ◌+◌, ◌<◌, ◌^◌, Result, Ok, Err, List, [], ◌∷◌, ◌++◌, length, refl, sym, ap, ◌∙◌}
+use Rattle.std.proofs.Common.{inl, ◌≡◌, ℕ, ◌+◌, ◌<◌, List, [], ◌∷◌, ◌++◌, length, refl, sym, ap, ◌∙◌}
 use Rattle.std.proofs.Common.{subst, append_assoc, append-nil, length-append, arith}
 use Rattle.std.proofs.lemmas.List.{append_cancel_left}
 use Rattle.cert_values.specs.declared.certs.Cert.{Cert}
-use Rattle.cert_lines.specs.Kinds.{text_of, first_words, IsVersion, inv_words, section_words}
-use Rattle.cert_lines.specs.declared.sections.Section.TheVariants.{End}
 use Rattle.cert_parts.specs.declared.faults.Fault.TheVariants.{Form}
-use Rattle.cert_parts.specs.Texts.{IsWhole, IsOneLine, BeginsIn, BreaksAt, StopsAt, Sticks, IsFault, many_text}
-use Rattle.cert_parts.proofs.Leading.{whole_later}
-use Rattle.cert_parts.proofs.LineTexts.{line_whole, line_of, IsLineOf}
-use Rattle.cert_parts.proofs.ManyTexts.{many_whole}
-use Rattle.cert_text.specs.Certs.{pair_text, pairs_text, inv_head, cert_bytes, IsSpellable, Spells}
+use Rattle.cert_parts.specs.Texts.{BeginsIn, StopsAt, IsFault}
+use Rattle.cert_parts.proofs.LineTexts.{line_of}
+use Rattle.cert_text.specs.Certs.{cert_bytes, IsSpellable, Spells}
 use Rattle.cert_text.specs.Causes.{IsOtherVersion, IsFormFault}
-use Rattle.cert_text.proofs.PairTexts.{pair_whole}
 use Rattle.cert_text.proofs.CertTexts.{cert_tells, cert_whole, one_version}
 
 -- the whole bytes are the text of a certificate
@@ -72,4 +67,4 @@ form_fault bytes offset e version = record {
 
 -- a certificate's first line spells its version, and no other
 pub not_other : (bytes : List ℕ) (number : ℕ) (c : Cert) → IsOtherVersion bytes number → ¬ Spells bytes c
-not_other bytes number c other spells = other.other (one_version c number other.rest other.small (sym spells.is ∙ other.is))
+not_other bytes number c other spells = other.other (one_version c number other.rest spells.fits.version other.small (sym spells.is ∙ other.is))

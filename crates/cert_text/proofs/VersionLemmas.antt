@@ -1,5 +1,5 @@
 -- The first line of another version.
-use Rattle.std.proofs.Common.{◌≡◌, ◌≢◌, ℕ, ◌+◌, ◌<◌, ◌≤◌, ◌^◌, Bool, true, false, List, [], ◌∷◌, ◌++◌, length, drop, refl, sym, ap, ◌∙◌}
+use Rattle.std.proofs.Common.{◌≡◌, ◌≢◌, ℕ, ◌+◌, ◌≤◌, Bool, true, false, List, ◌∷◌, ◌++◌, length, drop, sym, ap, ◌∙◌}
 use Rattle.std.proofs.Common.{subst, append_assoc, arith}
 use Rattle.std.specs.Prelude.{codes}
 use Rattle.std.specs.Fmt.{decimal}
@@ -41,15 +41,16 @@ pub no_number : (bytes rest line : List ℕ) (place at end : ℕ) (cut : Bool) �
 no_number bytes rest line place at end cut is next whole none n o =
     let small = o.small in none n (omega arith) (line_is bytes rest line place at end cut is next whole n o)
 
-pub version_one : (bytes rest line : List ℕ) (place at end : ℕ) (cut : Bool) (version : ℕ) → bytes ≡ codes "sdcv-cert " ++ rest
-    → IsNextLine rest place line cut at end → cut ≡ false → line ≡ decimal version → version ≡ 1 → (n : ℕ) → ¬ IsOtherVersion bytes n
-version_one bytes rest line place at end cut version is next whole word one n o =
+pub version_known : (bytes rest line : List ℕ) (place at end : ℕ) (cut : Bool) (version : ℕ) → bytes ≡ codes "sdcv-cert " ++ rest
+    → IsNextLine rest place line cut at end → cut ≡ false → line ≡ decimal version → version ≤ 9223372036854775807 → IsVersion version → (n : ℕ)
+    → ¬ IsOtherVersion bytes n
+version_known bytes rest line place at end cut version is next whole word within known n o =
     let small = o.small in
     let same : decimal n ≡ decimal version = sym (line_is bytes rest line place at end cut is next whole n o) ∙ word in
-    o.other (decimal_injective n version (omega arith) (omega arith) same ∙ one)
+    o.other (subst IsVersion (sym (decimal_injective n version (omega arith) (omega arith) same)) known)
 
 pub version_other : (bytes rest line : List ℕ) (place at end : ℕ) (cut : Bool) (version : ℕ) → bytes ≡ codes "sdcv-cert " ++ rest
-    → IsNextLine rest place line cut at end → cut ≡ false → line ≡ decimal version → version ≤ 9223372036854775807 → version ≢ 1
+    → IsNextLine rest place line cut at end → cut ≡ false → line ≡ decimal version → version ≤ 9223372036854775807 → ¬ IsVersion version
     → IsOtherVersion bytes version
 version_other bytes rest line place at end cut version is next whole word within other =
     let parts : rest ≡ line ++ 10 ∷ drop (length line + 1) rest = subst (λ (c : Bool). IsCutAt rest line c) whole next.is in

@@ -1,5 +1,5 @@
 -- The text of a certificate.
-use Rattle.std.specs.Prelude.{◌≡◌, ℕ, ◌<◌, ◌≤◌, ◌^◌, List, [], ◌∷◌, ◌++◌, length, Option, None, Some}
+use Rattle.std.specs.Prelude.{◌≡◌, ℕ, ◌<◌, ◌≤◌, ◌^◌, List, [], ◌++◌, length, Option, None, Some}
 use Rattle.std.specs.List.{AllByRecursion}
 use Rattle.net_model.specs.declared.queries.Phase.TheVariants.{Base, Step}
 use Rattle.verdict_types.specs.declared.kept.InvProof.{InvProof}
@@ -11,7 +11,7 @@ use Rattle.cert_lines.specs.declared.heads.InvHead.{InvHead}
 use Rattle.cert_lines.specs.declared.sections.Section.{Section}
 use Rattle.cert_lines.specs.declared.sections.Section.TheVariants.{End}
 use Rattle.cert_lines.specs.declared.sections.Section.TheVariants as line
-use Rattle.cert_lines.specs.Kinds.{text_of, first_words, inv_words, IsInvHead, kept_words, IsKept, section_words, IsSection}
+use Rattle.cert_lines.specs.Kinds.{text_of, first_words, IsVersion, inv_words, IsInvHead, kept_words, IsKept, section_words}
 use Rattle.cert_parts.specs.Texts.{AreMany, many_text}
 use Rattle.cert_parts.specs.Derivations.{derivation_text, IsWritable}
 
@@ -56,11 +56,12 @@ inv_head c = record { depth = c.depth; count = length c.kept }
 
 abbrev pub cert_bytes : Cert → List ℕ
 cert_bytes c =
-    text_of first_words 1 ++ (text_of inv_words (inv_head c)
+    text_of first_words c.version ++ (text_of inv_words (inv_head c)
     ++ (many_text (text_of kept_words) c.kept ++ (many_text proof_text c.proofs ++ pairs_text c.pairs)))
 
 -- a certificate that the text can spell
 pub record IsSpellable (c : Cert) : Type 0 where
+  pub version : IsVersion c.version
   pub head : IsInvHead (inv_head c)
   pub kept : AreMany (length c.kept) IsKept c.kept
   pub proofs : AreMany (length c.kept) (IsProof c.depth) c.proofs

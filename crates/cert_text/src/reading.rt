@@ -1,7 +1,8 @@
 //! A certificate, read.
-ghost use Rattle.std.specs.Prelude.{◌≡◌, ◌+◌, ◌++◌, ℕ, length, IfOk, IfErr, OnOk, MatchOption};
+ghost use Rattle.std.specs.Prelude.{◌≡◌, ◌↔◌, ◌+◌, ◌++◌, ℕ, length, IfOk, IfErr, OnOk, IsTrue, MatchOption};
 ghost use Rattle.sdcv_base.specs.Cursors.{rest, place_of};
 ghost use Rattle.cert_values.specs.declared.certs.Cert.{Cert};
+ghost use Rattle.cert_lines.specs.Kinds.{IsVersion};
 ghost use Rattle.cert_parts.specs.Texts.{IsFault};
 ghost use Rattle.cert_text.specs.Certs.{cert_bytes, IsSpellable, Spells};
 ghost use Rattle.cert_text.specs.Causes.{IsOtherVersion, IsReadCause, Recalls};
@@ -17,6 +18,12 @@ use std::alloc::Global;
 /// The greatest number of a version.
 const MOST: u64 = 9_223_372_036_854_775_807;
 
+fn is_version(version: u64) -> bool
+    ensures { IsTrue result ↔ IsVersion version }
+{
+    version == 1 || version == 2
+}
+
 /// The version of the first line, where it is another one.
 fn other_version(bytes: &[u8]) -> Option<u64>
     ensures { MatchOption result ((n : ℕ) → ¬ IsOtherVersion bytes.now n) (IsOtherVersion bytes.now) }
@@ -31,7 +38,7 @@ fn other_version(bytes: &[u8]) -> Option<u64>
     let Some(version) = number_of(line.text, MOST) else {
         return None;
     };
-    if version == 1 {
+    if is_version(version) {
         return None;
     }
     Some(version)
@@ -43,12 +50,13 @@ fn take_cert(alloc: Global, cursor: &mut Cursor<'_>) -> Result<Cert, Fault>
     ensures place { OnOk result (place_of cursor.new + length (rest cursor.new) ≡ place_of cursor.old + length (rest cursor.old)) }
     ensures err { IfErr result (IsFault IsSpellable cert_bytes (rest cursor.old) (place_of cursor.old)) }
 {
-    take_first(cursor)?;
+    let version = take_first(cursor)?;
     let head = take_inv(cursor)?;
     let kept = take_clauses(alloc, cursor, head.count)?;
     let proofs = take_proofs(alloc, cursor, head.count, head.depth)?;
     let pairs = take_pairs(alloc, cursor)?;
     Ok(Cert {
+        version,
         depth: head.depth,
         kept,
         proofs,

@@ -12,6 +12,7 @@ ghost use Rattle.cert_text.specs.Found.{HasSmallHints, IsProofFound, IsProofWrit
 
 use cert_lines::{InvHead, Section, push_first, push_inv, push_kept, push_section};
 use cert_parts::push_derivation;
+use cert_values::own_version;
 use net_model::{InvClause, Phase};
 use proof_log::{DerivStep, Derivation};
 use std::alloc::{AllocError, Global};
@@ -163,7 +164,7 @@ pub fn write_cert(alloc: Global, verdicts: &[Verdict], inv: &InvSet) -> Result<V
     ensures { IfOk result (λ bytes. Spells bytes.items (cert_of inv.now verdicts.now)) }
 {
     let mut out = Vec::new(alloc);
-    push_first(&mut out)?;
+    push_first(alloc, &mut out, own_version())?;
     let head = InvHead {
         depth: inv.depth,
         count: inv.kept.len() as u64,

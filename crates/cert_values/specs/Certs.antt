@@ -8,6 +8,7 @@ use Rattle.verdict_types.specs.declared.outcomes.Verdict.{Verdict}
 use Rattle.verdict_types.specs.declared.outcomes.Verdict.TheVariants.{Justified, Refuted, Undecided}
 use Rattle.cert_values.specs.declared.certs.PairProof.{PairProof}
 use Rattle.cert_values.specs.declared.certs.Cert.{Cert}
+use Rattle.cert_values.specs.Versions.{own_version}
 
 -- a proof at a depth has a base derivation for each smaller one, and the depth is at most 64
 abbrev pub HasBases : Proof → Type 0
@@ -35,6 +36,8 @@ justified_from number (Justified proof ∷ verdicts) = record { number = number;
 justified_from number (Refuted offset stimulus ∷ verdicts) = justified_from (number + 1) verdicts
 justified_from number (Undecided cause ∷ verdicts) = justified_from (number + 1) verdicts
 
--- the certificate of a set of kept clauses and of verdicts: all that is kept, and the claims that are justified
+-- the certificate of a set of kept clauses and of verdicts, in the version that is written: all that is kept, and the claims that are
+-- justified
 abbrev pub cert_of : InvSet → List Verdict → Cert
-cert_of inv verdicts = record { depth = inv.depth; kept = inv.kept; proofs = inv.proofs; pairs = justified_from 1 verdicts }
+cert_of inv verdicts =
+    record { version = own_version; depth = inv.depth; kept = inv.kept; proofs = inv.proofs; pairs = justified_from 1 verdicts }

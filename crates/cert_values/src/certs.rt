@@ -11,9 +11,10 @@ pub struct PairProof {
 }
 
 /// Clauses over register bits, each with its derivations at the same place of `proofs`, by an induction of this depth; and
-/// the claims that are justified with them.
+/// the claims that are justified with them. The version says of which formulas the derivations speak.
 #[derive(Drop)]
 pub struct Cert {
+    pub version: u64,
     pub depth: usize,
     pub kept: Seq<InvClause>,
     pub proofs: Seq<InvProof>,

@@ -117,6 +117,7 @@ pub fn cert_telling(alloc: Global, rows: &[(u64, Told)]) -> Result<Cert, AllocEr
         pairs.push(PairProof { number, proof })?;
     }
     Ok(Cert {
+        version: 2,
         depth: 0,
         kept: Seq::new(alloc),
         proofs: Seq::new(alloc),
@@ -143,6 +144,7 @@ pub fn cert_keeping(
     let proofs = Seq::one(alloc, InvProof { base, step })?;
     let kept = Seq::one(alloc, clause)?;
     Ok(Cert {
+        version: 2,
         depth: 1,
         kept,
         proofs,

@@ -42,16 +42,18 @@ const LIMITS: Limits = Limits {
     budget: 20_000,
 };
 
+// Of registers 2 and 3 exactly one is 1, which two clauses say. So register 1 keeps its bit in the cycle of the toggle, and takes
+// the new one in the next cycle.
+const SWAPS: Row = Row(
+    SWAP,
+    &[&[Multi(2)], &[Multi(3)], &[Multi(1)], &[In(1)]],
+    1,
+    2,
+    &[At(1, 0), Single(3), Fixed(4)],
+);
+
 const ROWS: &[Row] = &[
-    // Of registers 2 and 3 exactly one is 1, which two clauses say. So register 1 keeps its bit in the cycle of the toggle, and takes
-    // the new one in the next cycle.
-    Row(
-        SWAP,
-        &[&[Multi(2)], &[Multi(3)], &[Multi(1)], &[In(1)]],
-        1,
-        2,
-        &[At(1, 0), Single(3), Fixed(4)],
-    ),
+    SWAPS,
     // Register 3 is 0 after one cycle and register 2 after two, from which on it does not toggle.
     Row(DRAINS, &[&[], &[From(2)]], 0, 0, &[At(1, 1), At(2, 2)]),
     // The gates may glitch.
@@ -182,5 +184,39 @@ fn what_is_found_is_accepted_whole_and_no_front_of_it(rt: HostRuntime) -> Result
     for row in ROWS {
         assert!(rt; try_row(&rt, rt.alloc(), row).is_ok());
     }
+    Ok(())
+}
+
+/// The text with the other version in its first line.
+fn of_other_version(alloc: Global, text: &[u8]) -> Result<Vec<u8>, AllocError> {
+    let mut other = Vec::new(alloc);
+    if let Some(rest) = text.strip_prefix(b"sdcv-cert 1\n") {
+        other.extend_from_slice(b"sdcv-cert 2\n")?;
+        other.extend_from_slice(rest)?;
+    } else if let Some(rest) = text.strip_prefix(b"sdcv-cert 2\n") {
+        other.extend_from_slice(b"sdcv-cert 1\n")?;
+        other.extend_from_slice(rest)?;
+    }
+    Ok(other)
+}
+
+// A derivation is refused as one of the other version.
+fn is_refused_as_other(rt: &impl Abort, alloc: Global, row: &Row) -> Result<bool, CertFault> {
+    assert!(rt; row.2 <= 8);
+    let design = sound_design(rt, alloc, row.0)?;
+    let claims = claims_of(rt, alloc, &design, row.0, row.1)?;
+    let text = find(alloc, &design, &claims, row.2, LIMITS)?.text;
+    let other = of_other_version(alloc, text.as_slice())?;
+    match check_cert(alloc, &design, claims.as_slice(), other.as_slice()) {
+        Err(CertFault::Invariant(..) | CertFault::Pair(..)) => Ok(true),
+        _ => Ok(false),
+    }
+}
+
+// A choice has eight rows and six prime cubes, so the clauses have other numbers.
+#[test]
+fn what_is_found_is_refused_as_of_the_other_version(rt: HostRuntime) -> Result<(), test::Fail> {
+    let refused = is_refused_as_other(&rt, rt.alloc(), &SWAPS);
+    assert!(rt; refused.is_ok_and(|told| told));
     Ok(())
 }

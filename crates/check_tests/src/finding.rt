@@ -10,10 +10,10 @@ ghost use Rattle.cert_call.specs.Texts.{IsAcceptedText};
 
 use cert_call::found_is_writable;
 use cert_text::write_cert;
-use cnf_encode::Prepared;
 use invariants::invariants;
 use net_model::{Claim, Design};
 use pair_prove::prove;
+use query_asks::Prepared;
 use sdcv_base::Seq;
 use std::alloc::{AllocError, Global};
 use verdicts::{InvSet, Limits, Verdict};

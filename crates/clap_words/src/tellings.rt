@@ -7,7 +7,7 @@ use clap::{Arg, ArgAction, Command};
 use std::alloc::{AllocError, Global};
 
 // The program's version, and that of the certificates.
-const VERSION: &str = "0.9.0 (reads and writes certificates sdcv-cert 1)";
+const VERSION: &str = "0.9.0 (reads certificates sdcv-cert 1 and 2, writes 2)";
 
 const ABOUT: &str =
     "Prove or refute the timing exceptions of a script, for each register pair that they select";

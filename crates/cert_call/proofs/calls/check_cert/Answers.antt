@@ -1,7 +1,7 @@
 use Rattle.std.proofs.Common.{sym, subst}
 use Rattle.std.proofs.lemmas.Result.{IfOk-weaker, IfErr-weaker, err_from_is_err_and}
-use Rattle.verdicts.specs.Logs.{own_coding}
 use Rattle.cert_values.specs.declared.certs.Cert.{Cert}
+use Rattle.cert_values.specs.Versions.{coding_of}
 use Rattle.cert_defs.specs.Accepted.{Accepts}
 use Rattle.cert_defs.specs.Refused.{IsCause}
 use Rattle.cert_text.proofs.Complete.{spellable_complete}
@@ -28,7 +28,7 @@ returns-clause-accepted c =
     let claims = c.args.claims.now in
     let bytes = c.args.bytes.now in
     let cert = c.in_ok-cert.cert in
-    IfOk-weaker c.check.result (Accepts own_coding d claims cert) (IsAcceptedText d claims bytes)
+    IfOk-weaker c.check.result (Accepts (coding_of cert.version) d claims cert) (IsAcceptedText d claims bytes)
     (λ numbers accepts. record { cert = cert; spells = c.in_ok-cert.ensures.ok; accepts = accepts }) c.check.ensures.accepted
 
 pub returns-clause-cause : goal.returns-clause-cause
@@ -37,11 +37,11 @@ returns-clause-cause c =
     let claims = c.args.claims.now in
     let bytes = c.args.bytes.now in
     let cert = c.in_ok-cert.cert in
-    IfErr-weaker c.check.result (IsCause own_coding d claims cert) (IsTextCause d claims bytes)
+    IfErr-weaker c.check.result (IsCause (coding_of cert.version) d claims cert) (IsTextCause d claims bytes)
     (λ fault cause. check_cause d claims bytes cert fault c.in_ok-cert.ensures.ok cause) c.check.ensures.cause
 
 pub returns-clause-only : goal.returns-clause-only
 returns-clause-only c numbers accepted =
     c.check.ensures.only numbers
-    (subst (λ (x : Cert). Accepts own_coding c.args.design.now c.args.claims.now x numbers)
+    (subst (λ (x : Cert). Accepts (coding_of x.version) c.args.design.now c.args.claims.now x numbers)
     (sym (c.in_ok-cert.ensures.only accepted.cert accepted.spells)) accepted.accepts)

@@ -2,7 +2,6 @@ use Rattle.std.proofs.Common.{◌≡◌, ℕ, Some, arith}
 use Rattle.net_model.specs.Fits.{Fits}
 use Rattle.net_model.proofs.Settling.{All-at}
 use Rattle.net_model.specs.declared.claims.Claim.{Claim}
-use Rattle.verdicts.specs.Logs.{own_coding}
 use Rattle.verdicts.specs.Certified.{ProvesPair}
 use Rattle.cert_values.specs.Certs.{HasBases}
 use Rattle.cert_values.specs.declared.certs.PairProof.{PairProof}
@@ -18,7 +17,8 @@ claim_of-claim-requires c =
 
 pub prove_claim-requires-clause-fits : goal.prove_claim-requires-clause-fits
 prove_claim-requires-clause-fits c =
-    All-numbered (Fits c.args.design.now) c.args.claims.now c.item-pair.result.now.number c.claim_of-claim.result.now c.claim_of-claim.ensures c.requires.fit
+    All-numbered (Fits c.args.design.now.design) c.args.claims.now c.item-pair.result.now.number c.claim_of-claim.result.now c.claim_of-claim.ensures
+    c.requires.fit
 
 pub prove_claim-requires-clause-bases : goal.prove_claim-requires-clause-bases
 prove_claim-requires-clause-bases c =
@@ -28,5 +28,6 @@ prove_claim-requires-clause-bases c =
 pub returns-clause-ok : goal.returns-clause-ok
 returns-clause-ok c ok pair claim listed =
     each_of (λ (j : ℕ) (p : PairProof). (x : Claim) → item_numbered c.args.claims.now p.number ≡ Some x
-    → ProvesPair own_coding c.args.design.now c.args.cert.now.kept x p.proof) c.args.cert.now.pairs c.loop-place.place c.loop-place.invariant
+    → ProvesPair c.args.design.now.coding c.args.design.now.design c.args.cert.now.kept x p.proof) c.args.cert.now.pairs
+    c.loop-place.place c.loop-place.invariant
     (omega (arith, c.loop-place-test.false, c.len-place-end.ensures)) listed.place pair listed.at claim listed.claim_at

@@ -5,4 +5,4 @@ use Rattle.cert_check.specs.Inducting.{AreBasesRefuted}
 use Rattle.cert_check.proofs.inducting.refute_claim_bases.Given as goal
 
 abbrev pub invariant-loop-offset : goal.invariant-loop-offset
-invariant-loop-offset l = AreBasesRefuted (λ (o : ℕ). claim_query l.design l.claim Base o l.kept) l.base l.offset
+invariant-loop-offset l = AreBasesRefuted l.design.coding (λ (o : ℕ). claim_query l.design.design l.claim Base o l.kept) l.base l.offset

@@ -9,4 +9,4 @@ use Rattle.cert_check.proofs.inducting.refute_clause_bases.Given as goal
 abbrev pub invariant-loop-offset : goal.invariant-loop-offset
 invariant-loop-offset l =
     (clause : InvClause) → slice_get l.kept l.place ≡ Some clause
-    → AreBasesRefuted (λ (o : ℕ). clause_query l.design l.kept clause Base o) l.base l.offset
+    → AreBasesRefuted l.design.coding (λ (o : ℕ). clause_query l.design.design l.kept clause Base o) l.base l.offset

@@ -1,11 +1,8 @@
 use Rattle.std.proofs.Common.{◌≡◌, ◌+◌, ◌++◌, length}
 use Rattle.std.specs.List.{AllByRecursion}
 use Rattle.sdcv_base.specs.Cursors.{rest, place_of}
-use Rattle.net_model.specs.declared.queries.Phase.TheVariants.{Base}
 use Rattle.cert_lines.specs.Kinds.{text_of, kept_words, IsKept}
 use Rattle.cert_parts.specs.Texts.{many_text}
-use Rattle.cert_parts.specs.Derivations.{derivation_text, IsWritable}
-use Rattle.cert_text.specs.Certs.{proof_text, IsProof}
 use Rattle.cert_text.proofs.proofs_at.take_clauses.Given as goal
 
 abbrev pub invariant-loop : goal.invariant-loop

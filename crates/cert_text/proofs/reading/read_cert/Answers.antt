@@ -1,7 +1,6 @@
-use Rattle.std.proofs.Common.{◌≡◌, ◌∙◌, ◌++◌, ◌+◌, ◌<◌, ◌≤◌, [], ◌∷◌, ℕ, List, Bool, true, false, eqb, length, refl, sym, ap, subst, inl, inr, arith}
+use Rattle.std.proofs.Common.{◌≡◌, ◌∙◌, ◌<◌, [], ◌∷◌, ℕ, List, Bool, true, false, eqb, length, refl, sym, ap, inl, inr, arith}
 use Rattle.std.proofs.lemmas.Bool.{cases_lt, eqb-true, eqb-false}
 use Rattle.sdcv_base.specs.Cursors.{rest}
-use Rattle.cert_text.specs.Certs.{cert_bytes, Spells}
 use Rattle.cert_text.proofs.ReadLemmas.{spells_all, spells_one, trailing, not_other}
 use Rattle.cert_text.proofs.reading.read_cert.Goals as goal
 

@@ -1,84 +1,81 @@
-use Rattle.std.proofs.Common.{◌≡◌, ◌+◌, ◌++◌, length, sym, ap, ◌∙◌, append_assoc, subst}
+use Rattle.std.proofs.Common.{◌∙◌}
 use Rattle.std.proofs.lemmas.Result.{err_from_is_err_and}
 use Rattle.sdcv_base.specs.Cursors.{rest, place_of}
-use Rattle.cert_lines.specs.Kinds.{text_of, first_words, inv_words, kept_words}
-use Rattle.cert_parts.specs.Texts.{many_text}
-use Rattle.cert_text.specs.Certs.{proof_text}
-use Rattle.cert_text.proofs.CertTexts.{first_fault, head_fault, kept_fault, proofs_fault, tail_fault, cert_read, first_front, head_front}
+use Rattle.cert_text.proofs.CertTexts.{first_fault, head_fault, kept_fault, proofs_fault, tail_fault, cert_read, head_front}
 use Rattle.cert_text.proofs.CertTexts.{kept_front, proofs_front}
 use Rattle.cert_text.proofs.reading.take_cert.Goals as goal
 
-pub returns-in_err-take_first-clause-err : goal.returns-in_err-take_first-clause-err
-returns-in_err-take_first-clause-err c =
+pub returns-in_err-version-clause-err : goal.returns-in_err-version-clause-err
+returns-in_err-version-clause-err c =
     let p = err_from_is_err_and c.from_residual.result c.from_residual.ensures.1 in
-    rw (p.1, p.2) (first_fault (rest c.args.cursor.now) (place_of c.args.cursor.now) c.in_err-take_first.field-0.0 c.in_err-take_first.ensures.err)
+    rw (p.1, p.2) (first_fault (rest c.args.cursor.now) (place_of c.args.cursor.now) c.in_err-version.field-0.0 c.in_err-version.ensures.err)
 
 pub returns-in_err-head-clause-err : goal.returns-in_err-head-clause-err
 returns-in_err-head-clause-err c =
     let p = err_from_is_err_and c.from_residual-in_err-head.result c.from_residual-in_err-head.ensures.1 in
-    let b1 =
-    first_front c.in_ok-take_first.field-0 (rest c.args.cursor.now)
-    (rest c.take_first.new.cursor) c.in_ok-take_first.ensures.ok.0 c.in_ok-take_first.ensures.ok.1 in
+    let v = c.in_ok-version.version in
+    let fv = c.in_ok-version.ensures.ok.0 in
+    let b1 = c.in_ok-version.ensures.ok.1 in
     rw (p.1, p.2)
-    (head_fault (rest c.take_first.new.cursor) (rest c.args.cursor.now) (place_of c.take_first.new.cursor)
-    (place_of c.args.cursor.now) b1 c.in_ok-take_first.ensures.place c.in_err-head.field-0.0 c.in_err-head.ensures.err)
+    (head_fault v fv (rest c.take_first.new.cursor) (rest c.args.cursor.now) (place_of c.take_first.new.cursor)
+    (place_of c.args.cursor.now) b1 c.in_ok-version.ensures.place c.in_err-head.field-0.0 c.in_err-head.ensures.err)
 
 pub returns-in_err-kept-clause-err : goal.returns-in_err-kept-clause-err
 returns-in_err-kept-clause-err c =
     let p = err_from_is_err_and c.from_residual-in_err-kept.result c.from_residual-in_err-kept.ensures.1 in
-    let b1 =
-    first_front c.in_ok-take_first.field-0 (rest c.args.cursor.now)
-    (rest c.take_first.new.cursor) c.in_ok-take_first.ensures.ok.0 c.in_ok-take_first.ensures.ok.1 in
-    let b2 = head_front c.in_ok-head.head (rest c.args.cursor.now) (rest c.take_first.new.cursor) (rest c.take_inv.new.cursor) b1 c.in_ok-head.ensures.ok.1 in
+    let v = c.in_ok-version.version in
+    let fv = c.in_ok-version.ensures.ok.0 in
+    let b1 = c.in_ok-version.ensures.ok.1 in
+    let b2 = head_front v c.in_ok-head.head (rest c.args.cursor.now) (rest c.take_first.new.cursor) (rest c.take_inv.new.cursor) b1 c.in_ok-head.ensures.ok.1 in
     rw (p.1, p.2)
-    (kept_fault c.in_ok-head.head c.in_ok-head.ensures.ok.0 (rest c.take_inv.new.cursor) (rest c.args.cursor.now) (place_of c.take_inv.new.cursor)
+    (kept_fault v fv c.in_ok-head.head c.in_ok-head.ensures.ok.0 (rest c.take_inv.new.cursor) (rest c.args.cursor.now) (place_of c.take_inv.new.cursor)
     (place_of c.args.cursor.now) b2
-    (c.in_ok-head.ensures.place ∙ c.in_ok-take_first.ensures.place) c.in_err-kept.field-0.0 c.in_err-kept.ensures.err)
+    (c.in_ok-head.ensures.place ∙ c.in_ok-version.ensures.place) c.in_err-kept.field-0.0 c.in_err-kept.ensures.err)
 
 pub returns-in_err-proofs-clause-err : goal.returns-in_err-proofs-clause-err
 returns-in_err-proofs-clause-err c =
     let p = err_from_is_err_and c.from_residual-in_err-proofs.result c.from_residual-in_err-proofs.ensures.1 in
-    let b1 =
-    first_front c.in_ok-take_first.field-0 (rest c.args.cursor.now)
-    (rest c.take_first.new.cursor) c.in_ok-take_first.ensures.ok.0 c.in_ok-take_first.ensures.ok.1 in
-    let b2 = head_front c.in_ok-head.head (rest c.args.cursor.now) (rest c.take_first.new.cursor) (rest c.take_inv.new.cursor) b1 c.in_ok-head.ensures.ok.1 in
+    let v = c.in_ok-version.version in
+    let fv = c.in_ok-version.ensures.ok.0 in
+    let b1 = c.in_ok-version.ensures.ok.1 in
+    let b2 = head_front v c.in_ok-head.head (rest c.args.cursor.now) (rest c.take_first.new.cursor) (rest c.take_inv.new.cursor) b1 c.in_ok-head.ensures.ok.1 in
     let b3 =
-    kept_front c.in_ok-head.head c.in_ok-kept.kept (rest c.args.cursor.now) (rest c.take_inv.new.cursor)
+    kept_front v c.in_ok-head.head c.in_ok-kept.kept (rest c.args.cursor.now) (rest c.take_inv.new.cursor)
     (rest c.take_clauses.new.cursor) b2 c.in_ok-kept.ensures.ok.1 in
     rw (p.1, p.2)
-    (proofs_fault c.in_ok-head.head c.in_ok-head.ensures.ok.0 c.in_ok-kept.kept c.in_ok-kept.ensures.ok.0 (rest c.take_clauses.new.cursor)
+    (proofs_fault v fv c.in_ok-head.head c.in_ok-head.ensures.ok.0 c.in_ok-kept.kept c.in_ok-kept.ensures.ok.0 (rest c.take_clauses.new.cursor)
     (rest c.args.cursor.now) (place_of c.take_clauses.new.cursor) (place_of c.args.cursor.now) b3
-    (c.in_ok-kept.ensures.place ∙ c.in_ok-head.ensures.place ∙ c.in_ok-take_first.ensures.place) c.in_err-proofs.field-0.0
+    (c.in_ok-kept.ensures.place ∙ c.in_ok-head.ensures.place ∙ c.in_ok-version.ensures.place) c.in_err-proofs.field-0.0
     c.in_err-proofs.ensures.err)
 
 pub returns-in_err-pairs-clause-err : goal.returns-in_err-pairs-clause-err
 returns-in_err-pairs-clause-err c =
     let p = err_from_is_err_and c.from_residual-in_err-pairs.result c.from_residual-in_err-pairs.ensures.1 in
-    let b1 =
-    first_front c.in_ok-take_first.field-0 (rest c.args.cursor.now)
-    (rest c.take_first.new.cursor) c.in_ok-take_first.ensures.ok.0 c.in_ok-take_first.ensures.ok.1 in
-    let b2 = head_front c.in_ok-head.head (rest c.args.cursor.now) (rest c.take_first.new.cursor) (rest c.take_inv.new.cursor) b1 c.in_ok-head.ensures.ok.1 in
+    let v = c.in_ok-version.version in
+    let fv = c.in_ok-version.ensures.ok.0 in
+    let b1 = c.in_ok-version.ensures.ok.1 in
+    let b2 = head_front v c.in_ok-head.head (rest c.args.cursor.now) (rest c.take_first.new.cursor) (rest c.take_inv.new.cursor) b1 c.in_ok-head.ensures.ok.1 in
     let b3 =
-    kept_front c.in_ok-head.head c.in_ok-kept.kept (rest c.args.cursor.now) (rest c.take_inv.new.cursor)
+    kept_front v c.in_ok-head.head c.in_ok-kept.kept (rest c.args.cursor.now) (rest c.take_inv.new.cursor)
     (rest c.take_clauses.new.cursor) b2 c.in_ok-kept.ensures.ok.1 in
     let b4 =
-    proofs_front c.in_ok-head.head c.in_ok-kept.kept c.in_ok-proofs.proofs (rest c.args.cursor.now) (rest c.take_clauses.new.cursor)
+    proofs_front v c.in_ok-head.head c.in_ok-kept.kept c.in_ok-proofs.proofs (rest c.args.cursor.now) (rest c.take_clauses.new.cursor)
     (rest c.take_proofs.new.cursor) b3 c.in_ok-proofs.ensures.ok.1 in
     rw (p.1, p.2)
-    (tail_fault c.in_ok-head.head c.in_ok-head.ensures.ok.0 c.in_ok-kept.kept c.in_ok-kept.ensures.ok.0 c.in_ok-proofs.proofs
+    (tail_fault v fv c.in_ok-head.head c.in_ok-head.ensures.ok.0 c.in_ok-kept.kept c.in_ok-kept.ensures.ok.0 c.in_ok-proofs.proofs
     c.in_ok-proofs.ensures.ok.0
     (rest c.take_proofs.new.cursor) (rest c.args.cursor.now) (place_of c.take_proofs.new.cursor) (place_of c.args.cursor.now) b4
-    (c.in_ok-proofs.ensures.place ∙ c.in_ok-kept.ensures.place ∙ c.in_ok-head.ensures.place ∙ c.in_ok-take_first.ensures.place)
+    (c.in_ok-proofs.ensures.place ∙ c.in_ok-kept.ensures.place ∙ c.in_ok-head.ensures.place ∙ c.in_ok-version.ensures.place)
     c.in_err-pairs.field-0.0 c.in_err-pairs.ensures.err)
 
 pub returns-clause-ok : goal.returns-clause-ok
 returns-clause-ok c =
-    let b1 =
-    first_front c.in_ok-take_first.field-0 (rest c.args.cursor.now)
-    (rest c.take_first.new.cursor) c.in_ok-take_first.ensures.ok.0 c.in_ok-take_first.ensures.ok.1 in
+    let v = c.in_ok-version.version in
+    let fv = c.in_ok-version.ensures.ok.0 in
+    let b1 = c.in_ok-version.ensures.ok.1 in
     let r =
-    cert_read c.in_ok-head.head c.in_ok-kept.kept c.in_ok-proofs.proofs c.in_ok-pairs.pairs (rest c.args.cursor.now)
+    cert_read v c.in_ok-head.head c.in_ok-kept.kept c.in_ok-proofs.proofs c.in_ok-pairs.pairs (rest c.args.cursor.now)
     (rest c.take_first.new.cursor) (rest c.take_inv.new.cursor) (rest c.take_clauses.new.cursor) (rest c.take_proofs.new.cursor)
-    (rest c.take_pairs.new.cursor) c.in_ok-head.ensures.ok.0 c.in_ok-kept.ensures.ok.0 c.in_ok-proofs.ensures.ok.0 c.in_ok-pairs.ensures.ok.0 b1
+    (rest c.take_pairs.new.cursor) fv c.in_ok-head.ensures.ok.0 c.in_ok-kept.ensures.ok.0 c.in_ok-proofs.ensures.ok.0 c.in_ok-pairs.ensures.ok.0 b1
     c.in_ok-head.ensures.ok.1 c.in_ok-kept.ensures.ok.1 c.in_ok-proofs.ensures.ok.1 c.in_ok-pairs.ensures.ok.1 in
     (r.fits, r.is)

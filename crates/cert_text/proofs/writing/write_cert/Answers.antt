@@ -19,7 +19,8 @@ returns c =
     written_spells c.args.inv.now c.args.verdicts.now c.push_first.new.out.items c.push_inv.new.out.items c.push_clauses.new.out.items
     c.push_proofs.new.out.items c.push_pairs.new.out.items c.push_section.new.out.items
     c.requires.set (subst A c.as_slice-2.ensures c.in_ok-push_proofs.ensures.fits) c.in_ok-push_pairs.ensures.fits
-    (c.in_ok-push_first.ensures ∙ ap (λ z. z ++ text_of first_words 1) c.new-out.ensures.items)
+    (c.in_ok-push_first.ensures
+    ∙ ap (λ z. z ++ text_of first_words c.own_version.result) c.new-out.ensures.items ∙ ap (text_of first_words) c.own_version.ensures)
     (c.in_ok-push_inv.ensures ∙ ap (λ (n : ℕ). c.push_first.new.out.items ++ text_of inv_words (head_of c.args.inv.now.depth n)) c.len.ensures)
     (c.in_ok-push_clauses.ensures ∙ ap (λ (k : List InvClause). c.push_inv.new.out.items ++ many_text (text_of kept_words) k) c.as_slice.ensures)
     (c.in_ok-push_proofs.ensures.text ∙ ap (λ (p : List InvProof). c.push_clauses.new.out.items ++ many_text proof_text p) c.as_slice-2.ensures)
