@@ -1,0 +1,4 @@
+pub mod Gated
+pub mod Rewritten
+pub mod Runs
+pub mod Faults
