@@ -13,12 +13,22 @@ pub struct DesignWords<'a> {
     pub cycles: Option<&'a str>,
 }
 
+/// A pair of a report, by its number from 1, and the files of its design.
+#[derive(Clone, Copy)]
+pub struct RunWords<'a> {
+    pub design: DesignWords<'a>,
+    pub report: &'a str,
+    pub pair: u64,
+}
+
 /// What the words ask for.
 #[derive(Clone, Copy)]
 pub enum Asked<'a> {
     Groups { report: &'a str, csv: bool },
     Gate { report: &'a str },
     Bits(DesignWords<'a>),
+    Show(RunWords<'a>),
+    Wave { run: RunWords<'a>, out: &'a str },
 }
 
 fn position<'a>(alloc: Global, id: &'static str, help: &'static str) -> Arg<'a> {
@@ -68,6 +78,16 @@ fn with_design<'a>(alloc: Global, command: Command<'a>) -> Result<Command<'a>, A
         .arg(cycles)
 }
 
+// The arguments of a pair of a report.
+fn with_run<'a>(alloc: Global, command: Command<'a>) -> Result<Command<'a>, AllocError> {
+    let pair = position(alloc, "PAIR", "The number of a refuted pair").value_parser(
+        ValueParser::unsigned(1, u64::MAX),
+    );
+    with_design(alloc, command)?
+        .arg(report_arg(alloc))?
+        .arg(pair)
+}
+
 fn groups_command<'a>(alloc: Global) -> Result<Command<'a>, AllocError> {
     let csv = Arg::new(alloc, "csv")
         .long("csv")
@@ -92,17 +112,34 @@ fn bits_command<'a>(alloc: Global) -> Result<Command<'a>, AllocError> {
     with_design(alloc, command)
 }
 
+fn show_command<'a>(alloc: Global) -> Result<Command<'a>, AllocError> {
+    let command = Command::new(alloc, "show").about(
+        "Print the run of a refuted pair by cycles, and what of it is late",
+    );
+    with_run(alloc, command)
+}
+
+fn wave_command<'a>(alloc: Global) -> Result<Command<'a>, AllocError> {
+    let command = Command::new(alloc, "wave").about(
+        "Save the run of a refuted pair as a value change dump",
+    );
+    let out = option(alloc, "out", "FILE", "Save the wave as FILE").required(true);
+    with_run(alloc, command)?.arg(out)
+}
+
 fn whole_command<'a>(alloc: Global) -> Result<Command<'a>, AllocError> {
     Command::new(alloc, "sdcv_view")
         .bin_name("sdcv_view")?
         .no_binary_name(true)
         .version("0.9.0")
-        .about("Show a report of sdcv, and the bits of a stimulus")
+        .about("Show a report of sdcv, the bits of a stimulus, and the run of a refuted pair")
         .arg_required_else_help(true)
         .subcommand_required(true)
         .subcommand(groups_command(alloc)?)?
         .subcommand(gate_command(alloc)?)?
-        .subcommand(bits_command(alloc)?)
+        .subcommand(bits_command(alloc)?)?
+        .subcommand(show_command(alloc)?)?
+        .subcommand(wave_command(alloc)?)
 }
 
 // A required argument, which is there.
@@ -120,6 +157,14 @@ fn design_of<'a>(matches: &ArgMatches<'a>) -> DesignWords<'a> {
     }
 }
 
+fn run_of<'a>(matches: &ArgMatches<'a>) -> RunWords<'a> {
+    RunWords {
+        design: design_of(matches),
+        report: given(matches, "REPORT"),
+        pair: matches.get_one::<u64>("PAIR").unwrap_or(0),
+    }
+}
+
 // What the matches of a subcommand ask for.
 fn asked_of<'a>(name: &str, matches: &ArgMatches<'a>) -> Asked<'a> {
     match name {
@@ -128,6 +173,11 @@ fn asked_of<'a>(name: &str, matches: &ArgMatches<'a>) -> Asked<'a> {
             csv: matches.get_flag("csv"),
         },
         "bits" => Asked::Bits(design_of(matches)),
+        "show" => Asked::Show(run_of(matches)),
+        "wave" => Asked::Wave {
+            run: run_of(matches),
+            out: given(matches, "out"),
+        },
         _ => Asked::Gate {
             report: given(matches, "REPORT"),
         },

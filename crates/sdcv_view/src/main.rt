@@ -1,9 +1,10 @@
 //! The program that shows a report of `sdcv` from other sides. It proves and refutes nothing.
 //!
-//! `groups` tells the pairs of a report by groups, `gate` what of it stops a build, and `bits` which bit of a stimulus is
-//! which register or input. Texts are read from the files of the system, and an answer goes to standard output; everything
-//! else is told on standard error. The status is 0, 1 where something stops the build, 2 where the words are no command, 3
-//! where a text is refused, 5 where the host fails, 6 where memory is wanted, and 9 where a word is not UTF-8.
+//! `groups` tells the pairs of a report by groups, `gate` what of it stops a build, `bits` which bit of a stimulus is which
+//! register or input; `show` tells the run of a refuted pair by cycles, and `wave` saves it as a waveform. Texts are read from
+//! the files of the system, and an answer goes to standard output or to the file that is named; everything else is told on
+//! standard error. The status is 0, 1 where something stops the build, 2 where the words are no command, 3 where a text is
+//! refused, 5 where the host fails, 6 where memory is wanted, and 9 where a word is not UTF-8.
 #![tactic(auto)]
 
 mod bits;
@@ -11,8 +12,12 @@ mod commands;
 mod designs;
 mod gate;
 mod groups;
+mod pairs;
 mod reports;
+mod runs;
+mod shows;
 mod stops;
+mod waves;
 
 use crate::commands::{Asked, asked_by};
 use crate::stops::Stop;
@@ -84,5 +89,7 @@ fn done<H: Host>(alloc: Global, host: &mut H, asked: &Asked<'_>) -> Result<u8, S
         Asked::Groups { report, csv } => groups::groups(alloc, host, report, csv),
         Asked::Gate { report } => gate::gate(alloc, host, report),
         Asked::Bits(words) => bits::bits(alloc, host, &words),
+        Asked::Show(words) => shows::print_run(alloc, host, &words),
+        Asked::Wave { run, out } => waves::save_wave(alloc, host, &run, out),
     }
 }

@@ -1,0 +1,41 @@
+-- What is late in a cycle.
+use Rattle.std.specs.Prelude.{◌≡◌, ℕ, ◌==◌, Bool, true, false, List, [], map, find, Option, Some, None, IfSome}
+use Rattle.net_model.specs.Judge.{start_bit}
+use Rattle.net_model.specs.Layers.{IsLateCapture}
+use Rattle.net_model.specs.Ternary.{IsTernaryCapture}
+use Rattle.net_model.specs.declared.netlist.Design.{Design}
+use Rattle.net_model.specs.declared.cycles.Cycle.{Cycle}
+use Rattle.net_model.specs.declared.claims.Claim.{Claim}
+use Rattle.net_model.specs.declared.terns.Tern.{Tern}
+use Rattle.link_defs.specs.declared.names.NetName.{NetName}
+use Rattle.link_defs.specs.declared.names.Linked.{Linked}
+use Rattle.carried_paths.specs.Carried.{IsCarried}
+use Rattle.shown_runs.specs.declared.lates.Late.{Late}
+
+abbrev pub name_if_any : Option NetName → List ℕ
+name_if_any None = []
+name_if_any (Some n) = n.name
+
+-- the first full name of a net
+abbrev pub first_name : List NetName → ℕ → List ℕ
+first_name names net = name_if_any (find (λ (n : NetName). n.net == net) names)
+
+-- the nets of a path that carries the change, each by its first full name
+pub record IsNamedPath (l : Linked) (claim : Claim) (c : Cycle) (stale : Bool) (names : List (List ℕ)) : Type 0 where
+  pub nets : List ℕ
+  pub carried : IsCarried l.design claim c stale nets
+  pub by_name : names ≡ map (first_name l.names.nets) nets
+
+-- the ternary capture where hazards count, and else none
+abbrev pub IsTernaryIf : Bool → Design → Claim → Cycle → Option Tern → Type 0
+IsTernaryIf false d claim c value = value ≡ None
+IsTernaryIf true d claim c None = ⊥
+IsTernaryIf true d claim c (Some value) = IsTernaryCapture d claim c value
+
+-- what is late in a cycle, given the cycle before the start changed: the start's bit then, which is the stale bit, the late
+-- capture with it, the ternary capture, and a path if one is told
+pub record IsLateIn (l : Linked) (claim : Claim) (old now : Cycle) (t : Late) : Type 0 where
+  pub stale_is : t.stale ≡ start_bit claim.start old
+  pub is_late : IsLateCapture l.design claim now t.stale t.captured
+  pub is_ternary : IsTernaryIf claim.hazard l.design claim now t.ternary
+  pub is_path : IfSome t.path (IsNamedPath l claim now t.stale)
