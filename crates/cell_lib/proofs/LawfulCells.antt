@@ -14,6 +14,7 @@ use Rattle.lib_words.specs.declared.groups.Part.{Part}
 use Rattle.lib_words.specs.declared.groups.CellGroup.{CellGroup}
 use Rattle.cell_types.specs.declared.libraries.CombOut.{CombOut}
 use Rattle.cell_types.specs.declared.libraries.Flop.{Flop}
+use Rattle.cell_types.specs.declared.libraries.GateCell.{GateCell}
 use Rattle.cell_lib.specs.declared.flops.Resets.{Resets}
 use Rattle.cell_lib.specs.declared.pins.Role.TheVariants as role
 use Rattle.cell_lib.specs.declared.pins.OutPin.{OutPin}
@@ -24,7 +25,8 @@ use Rattle.cell_lib.specs.Values.{expr_of}
 use Rattle.cell_lib.specs.Combs.{comb_out, comb_outs}
 use Rattle.cell_lib.specs.Flops.{data_inputs, states_of, clock_of, next_of, reset_of, resets_of, both_of, flop_outs, flop_on, flop_of}
 use Rattle.cell_lib.specs.Pins.{names_of, outs_of}
-use Rattle.cell_lib.specs.Cells.{comb_kind, flop_shape, shape_by, shape_of, is_modelled, first_ff, cell_of}
+use Rattle.cell_lib.specs.Cells.{comb_kind, flop_shape, shape_by, plain_shape, shape_with, shape_of, is_modelled, first_ff, cell_of}
+use Rattle.cell_lib.specs.Gates.{gate_of}
 use Rattle.texts.proofs.ReadLemmas.{bind_gave}
 use Rattle.texts.proofs.EachLemmas.{each_holds}
 use Rattle.cell_lib.proofs.Inversions.{map_gave, some_holds}
@@ -75,11 +77,11 @@ comb_out_over inputs o x e =
     subst (λ (y : CombOut). IsOver (length inputs) y.func) e2 (resolved_over inputs None t f fs)
 
 comb_kind_over : (inputs : List (List ℕ)) (o : Option (List CombOut))
-    → ((ys : List CombOut) → o ≡ Some ys → All (λ (y : CombOut). IsOver (length inputs) y.func) ys) → IsLawfulKind (length inputs) (comb_kind o)
+    → ((ys : List CombOut) → o ≡ Some ys → All (λ (y : CombOut). IsOver (length inputs) y.func) ys) → IsLawfulKind inputs (comb_kind o)
 comb_kind_over inputs None all = tt
 comb_kind_over inputs (Some ys) all = all ys refl
 
-comb_lawful : (inputs : List (List ℕ)) (outs : List OutPin) → IsLawfulKind (length inputs) (comb_kind (comb_outs inputs outs))
+comb_lawful : (inputs : List (List ℕ)) (outs : List OutPin) → IsLawfulKind inputs (comb_kind (comb_outs inputs outs))
 comb_lawful inputs outs =
     let P : CombOut → Type 0 = λ (y : CombOut). IsOver (length inputs) y.func in
     comb_kind_over inputs (comb_outs inputs outs) (λ ys e. each_holds P (comb_out inputs) (comb_out_over inputs) outs ys e)
@@ -139,7 +141,7 @@ flop_over inputs outs ff flop e =
     subst (λ (n : List ℕ). IsLawfulFlop (length (data_inputs n inputs)) flop) (sym same) lawful
 
 IsLawfulShape : Shape → Type 0
-IsLawfulShape s = IsLawfulKind (length s.inputs) s.kind
+IsLawfulShape s = IsLawfulKind s.inputs s.kind
 
 flop_lawful : (inputs : List (List ℕ)) (o : Option Flop) → ((flop : Flop) → o ≡ Some flop → IsLawfulFlop (length (data_inputs flop.clock inputs))
     flop) → IsLawfulShape (flop_shape inputs o)
@@ -152,14 +154,20 @@ unfolding IsLawfulShape
 by_lawful inputs outs None = comb_lawful (each_once inputs) outs
 by_lawful inputs outs (Some ff) = flop_lawful inputs (flop_of inputs outs ff) (flop_over inputs outs ff)
 
-shape_cases : (g : CellGroup) (b : Bool) → is_modelled g ≡ b → IsLawfulShape (shape_of g)
-unfolding shape_of IsLawfulShape
-shape_cases g true e = rw e (by_lawful (names_of role.Input g.parts) (outs_of g.parts) (first_ff g.parts))
-shape_cases g false e = rw e tt
+plain_cases : (g : CellGroup) (b : Bool) → is_modelled g ≡ b → IsLawfulShape (plain_shape g)
+unfolding plain_shape IsLawfulShape
+plain_cases g true e = rw e (by_lawful (names_of role.Input g.parts) (outs_of g.parts) (first_ff g.parts))
+plain_cases g false e = rw e tt
+
+-- the inputs of a clock gate are its enables
+with_lawful : (g : CellGroup) (gate : Option GateCell) → IsLawfulShape (shape_with g gate)
+unfolding IsLawfulShape
+with_lawful g None = plain_cases g (is_modelled g) refl
+with_lawful g (Some gate) = refl
 
 pub cell_lawful : (g : CellGroup) → IsLawfulCell (cell_of g)
-unfolding cell_of IsLawfulShape
-cell_lawful g = shape_cases g (is_modelled g) refl
+unfolding cell_of shape_of IsLawfulShape
+cell_lawful g = with_lawful g (gate_of g)
 
 -- every cell that was read is lawful
 pub cells_lawful : (groups : List CellGroup) → All IsLawfulCell (map cell_of groups)

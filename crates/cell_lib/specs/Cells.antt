@@ -1,4 +1,4 @@
--- What a cell is: combinational, a flop, or not modelled.
+-- What a cell is: combinational, a flop, a clock gate, or not modelled.
 use Rattle.std.specs.Prelude.{ℕ, Bool, nat_le, ◌&&◌, if◌then◌else◌, List, find, count_by, Option, Some, None}
 use Rattle.std.specs.List.{list_all}
 use Rattle.texts.specs.Names.{each_once}
@@ -9,12 +9,14 @@ use Rattle.cell_types.specs.declared.libraries.CellKind.{CellKind}
 use Rattle.cell_types.specs.declared.libraries.CellKind.TheVariants as kind
 use Rattle.cell_types.specs.declared.libraries.CombOut.{CombOut}
 use Rattle.cell_types.specs.declared.libraries.Flop.{Flop}
+use Rattle.cell_types.specs.declared.libraries.GateCell.{GateCell}
 use Rattle.cell_lib.specs.declared.pins.Role.TheVariants as role
 use Rattle.cell_lib.specs.declared.pins.OutPin.{OutPin}
 use Rattle.cell_lib.specs.declared.shapes.Shape.{Shape}
 use Rattle.cell_lib.specs.Pins.{is_ff, is_directed, can_be_modelled, names_differ, names_of, outs_of}
 use Rattle.cell_lib.specs.Combs.{comb_outs}
 use Rattle.cell_lib.specs.Flops.{flop_of, data_inputs}
+use Rattle.cell_lib.specs.Gates.{gate_of}
 
 -- the input pins of a cell that is not modelled
 abbrev pub other_shape : List (List ℕ) → Shape
@@ -42,17 +44,26 @@ first_ff parts = find (λ (p : Part). is_ff p.kind) parts
 
 -- each group and attribute can be modelled, each pin is an input or an output, names differ, and there is one `ff` at most
 unfoldable pub is_modelled : CellGroup → Bool
-is_modelled g = can_be_modelled g && (list_all is_directed g.parts && (nat_le (ff_count g.parts) 1 && names_differ g.parts))
+is_modelled g = can_be_modelled g && (list_all is_directed g.parts && (nat_le (ff_count g.parts) 1 && names_differ role.Any g.parts))
 
 -- what pins, and an `ff` where there is one, make of a cell
 abbrev pub shape_by : List (List ℕ) → List OutPin → Option Part → Shape
 shape_by inputs outs None = comb_shape inputs outs
 shape_by inputs outs (Some ff) = flop_shape inputs (flop_of inputs outs ff)
 
-unfoldable pub shape_of : CellGroup → Shape
-shape_of g =
+-- a cell that is no clock gate
+unfoldable pub plain_shape : CellGroup → Shape
+plain_shape g =
     let inputs = names_of role.Input g.parts in
     if is_modelled g then shape_by inputs (outs_of g.parts) (first_ff g.parts) else other_shape inputs
+
+-- a cell by the clock gate that it is, if it is one: the clock is not among the inputs
+abbrev pub shape_with : CellGroup → Option GateCell → Shape
+shape_with g (Some gate) = record { inputs = gate.enables; kind = kind.Gate gate }
+shape_with g None = plain_shape g
+
+unfoldable pub shape_of : CellGroup → Shape
+shape_of g = shape_with g (gate_of g)
 
 -- the cell that a group is
 unfoldable pub cell_of : CellGroup → Cell

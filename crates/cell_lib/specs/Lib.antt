@@ -2,6 +2,7 @@ pub mod Cells
 pub mod Combs
 pub mod Fails
 pub mod Flops
+pub mod Gates
 pub mod Pins
 pub mod Scopes
 pub mod Texts

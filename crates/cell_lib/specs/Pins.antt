@@ -56,10 +56,27 @@ is_input p = is_pin p.kind && says attribute.Direction (codes "input") p.attribu
 abbrev pub is_output : Part → Bool
 is_output p = is_pin p.kind && says attribute.Direction (codes "output") p.attributes
 
--- the group names what is asked for: input pins, power pins, or whatever has a name of its own in a cell
+-- the attribute is given, quoted or not, as true
+abbrev pub has_true : AttributeKind → Part → Bool
+has_true kind p = says kind (codes "true") p.attributes
+
+-- the group is of the clock pin of a clock gate
+abbrev pub is_gate_clock : Part → Bool
+is_gate_clock p = is_input p && has_true attribute.ClockGateClockPin p
+
+-- it is of other input pins
+abbrev pub is_gate_data : Part → Bool
+is_gate_data p = is_input p && not (has_true attribute.ClockGateClockPin p)
+
+-- the group names what is asked for: input pins, or of a clock gate the clock pin or the other input pins; output pins; power pins; pins and
+-- power pins; or whatever has a name of its own in a cell
 abbrev pub has_role : Role → Part → Bool
 has_role role.Input p = is_input p
+has_role role.GateClock p = is_gate_clock p
+has_role role.GateData p = is_gate_data p
+has_role role.Output p = is_output p
 has_role role.Power p = is_power p.kind
+has_role role.Pin p = is_pin p.kind || is_power p.kind
 has_role role.Any p = is_pin p.kind || (is_power p.kind || is_ff p.kind)
 
 abbrev pub names_in : Role → Part → List (List ℕ)
@@ -86,6 +103,6 @@ has_unmodelled_part parts = list_any (λ (p : Part). has_unmodelled_attribute p.
 abbrev pub can_be_modelled : CellGroup → Bool
 can_be_modelled g = not (has_unmodelled_group g.parts) && not (has_unmodelled_attribute g.attributes || has_unmodelled_part g.parts)
 
--- pins, power pins and states have names that differ
-abbrev pub names_differ : List Part → Bool
-names_differ parts = are_distinct (names_of role.Any parts)
+-- what is asked for has names that differ
+abbrev pub names_differ : Role → List Part → Bool
+names_differ role parts = are_distinct (names_of role parts)

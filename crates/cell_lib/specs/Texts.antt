@@ -1,6 +1,6 @@
 -- The library that a text is, and why a text is none.
 use Rattle.std.specs.Prelude.{◌≡◌, ◌⊎◌, ℕ, Bool, true, false, ◌&&◌, ◌≤◌, if◌then◌else◌, List, [], ◌∷◌, length, map, take, slice_get, Option, Some, None}
-use Rattle.std.specs.Prelude.{is_none, Result, Ok, Err}
+use Rattle.std.specs.Prelude.{◌||◌, is_some, is_none, Result, Ok, Err}
 use Rattle.std.specs.Option.{option_or}
 use Rattle.texts.specs.Names.{is_among, are_distinct}
 use Rattle.lib_func.specs.Functions.{function_of, is_deep}
@@ -20,6 +20,7 @@ use Rattle.cell_lib.specs.declared.flaws.Flaw.TheVariants as flaws
 use Rattle.cell_lib.specs.declared.faults.LibFault.{LibFault}
 use Rattle.cell_lib.specs.declared.faults.LibFault.TheVariants as fault
 use Rattle.cell_lib.specs.Pins.{has_unmodelled_group}
+use Rattle.cell_lib.specs.Gates.{gate_of}
 use Rattle.cell_lib.specs.Cells.{cell_of}
 
 -- the attribute of such a group is read as a function
@@ -58,9 +59,9 @@ flaw_in_part flaw p = first_of (flawed flaw p.kind) p.attributes
 abbrev pub flaw_in_parts : Flaw → List Part → Option ℕ
 flaw_in_parts flaw parts = first_of (flaw_in_part flaw) parts
 
--- the same of a cell; beside a group that is not modelled no function is read
+-- the same of a cell; beside a group that is not modelled, and in a clock gate, no function is read
 unfoldable pub flaw_in_cell : Flaw → CellGroup → Option ℕ
-flaw_in_cell flaw g = if has_unmodelled_group g.parts then None else flaw_in_parts flaw g.parts
+flaw_in_cell flaw g = if has_unmodelled_group g.parts || is_some (gate_of g) then None else flaw_in_parts flaw g.parts
 
 abbrev pub flaw_in : Flaw → List CellGroup → Option ℕ
 flaw_in flaw groups = first_of (flaw_in_cell flaw) groups

@@ -8,6 +8,7 @@ use Rattle.lib_func.specs.Functions.{low_function}
 use Rattle.lib_words.specs.declared.kinds.AttributeKind.{AttributeKind}
 use Rattle.lib_words.specs.declared.kinds.AttributeKind.TheVariants.{Direction, Function, ThreeState, ClockedOn, ClockedOnAlso, NextState, Clear}
 use Rattle.lib_words.specs.declared.kinds.AttributeKind.TheVariants.{Preset, ClearPresetVar1, ClockGatingIntegratedCell}
+use Rattle.lib_words.specs.declared.kinds.AttributeKind.TheVariants.{ClockGateClockPin, ClockGateEnablePin, ClockGateTestPin, ClockGateOutPin}
 use Rattle.lib_words.specs.declared.groups.Attribute.{Attribute}
 use Rattle.lib_words.specs.declared.groups.Value.{Value}
 
@@ -22,6 +23,10 @@ same_kind Clear Clear = true
 same_kind Preset Preset = true
 same_kind ClearPresetVar1 ClearPresetVar1 = true
 same_kind ClockGatingIntegratedCell ClockGatingIntegratedCell = true
+same_kind ClockGateClockPin ClockGateClockPin = true
+same_kind ClockGateEnablePin ClockGateEnablePin = true
+same_kind ClockGateTestPin ClockGateTestPin = true
+same_kind ClockGateOutPin ClockGateOutPin = true
 same_kind _ _ = false
 
 -- the value that the last attribute of this kind gives

@@ -3,6 +3,7 @@ ghost use Rattle.std.specs.Prelude.{◌≡◌, IfOk};
 ghost use Rattle.lib_func.specs.Functions as functions;
 ghost use Rattle.cell_lib.specs.Texts as spec;
 
+use crate::gates::is_gate;
 use crate::pins::has_unmodelled_group;
 use lib_func::{is_function, read_function};
 use lib_words::{Attribute, AttributeKind, CellGroup, Part, PartKind};
@@ -89,13 +90,13 @@ fn flaw_in_parts(alloc: Global, flaw: Flaw, parts: &[Part]) -> Result<Option<usi
     Ok(None)
 }
 
-/// The same of a cell: beside a group that is not modelled no function is read.
+/// The same of a cell: beside a group that is not modelled, and in a clock gate, no function is read.
 #[tactic(auto, unfolding(crate::specs::Texts::flaw_in_cell))]
 fn flaw_in_cell(alloc: Global, flaw: Flaw, group: &CellGroup) -> Result<Option<usize>, AllocError>
     ensures { IfOk result (λ place. place ≡ spec.flaw_in_cell flaw group.now) }
 {
     let parts = group.parts.as_slice();
-    if has_unmodelled_group(parts) {
+    if has_unmodelled_group(parts) || is_gate(alloc, group)? {
         return Ok(None);
     }
     flaw_in_parts(alloc, flaw, parts)

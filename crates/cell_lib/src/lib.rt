@@ -1,7 +1,7 @@
 //! Cells of a library: what each computes from its input pins, as a Liberty file says it.
 //!
-//! A cell is combinational, a rising-edge flop, or not modelled (`Other`), by rules that are total: a cell that can't be
-//! modelled never refuses its text, and is refused only where a design uses it. `read_lib` is the call to read first. The
+//! A cell is combinational, a rising-edge flop, a clock gate, or not modelled (`Other`), by rules that are total: a cell
+//! that can't be modelled never refuses its text, and is refused only where a design uses it. `read_lib` is the call to read first. The
 //! values that it makes, and the cells that are known without a file, are those of `cell_types`.
 #![tactic(auto)]
 
@@ -10,6 +10,7 @@ mod combs;
 mod faults;
 mod flaws;
 mod flops;
+mod gates;
 mod misfits;
 mod pins;
 mod readers;
@@ -17,6 +18,6 @@ mod scopes;
 mod shapes;
 mod values;
 
-pub use cell_types::{Cell, CellKind, CombOut, Flop, FlopOut, Library, builtin};
+pub use cell_types::{Cell, CellKind, CombOut, Flop, FlopOut, GateCell, Library, builtin};
 pub use faults::LibFault;
 pub use readers::read_lib;

@@ -14,7 +14,14 @@ use texts::NameTable;
 #[derive(Clone, Copy)]
 pub enum Role {
     Input,
+    /// The clock pin of a clock gate.
+    GateClock,
+    /// The other input pins of a clock gate.
+    GateData,
+    Output,
     Power,
+    /// Pins and power pins.
+    Pin,
     /// Whatever has a name of its own in a cell: pins, power pins, and the state and its complement.
     Any,
 }
@@ -27,7 +34,7 @@ pub struct OutPin {
 }
 
 /// Whether the group is of input pins.
-fn is_input(part: &Part) -> bool
+pub fn is_input(part: &Part) -> bool
     ensures { result ≡ spec.is_input part.now }
 {
     matches!(part.kind, PartKind::Pin)
@@ -39,7 +46,7 @@ fn is_input(part: &Part) -> bool
 }
 
 /// Whether the group is of output pins.
-fn is_output(part: &Part) -> bool
+pub fn is_output(part: &Part) -> bool
     ensures { result ≡ spec.is_output part.now }
 {
     matches!(part.kind, PartKind::Pin)
@@ -121,19 +128,44 @@ pub fn can_be_modelled(group: &CellGroup) -> bool
     !has_unmodelled_group(parts) && !(has_attribute || has_unmodelled_part(parts))
 }
 
+/// Whether the attribute is given as true.
+pub fn has_true(part: &Part, kind: AttributeKind) -> bool
+    ensures { result ≡ spec.has_true kind part.now }
+{
+    says(part.attributes.as_slice(), kind, "true")
+}
+
+/// Whether the group is of the clock pin of a clock gate.
+fn is_gate_clock(part: &Part) -> bool
+    ensures { result ≡ spec.is_gate_clock part.now }
+{
+    is_input(part) && has_true(part, AttributeKind::ClockGateClockPin)
+}
+
+/// Whether the group is of other input pins.
+fn is_gate_data(part: &Part) -> bool
+    ensures { result ≡ spec.is_gate_data part.now }
+{
+    is_input(part) && !has_true(part, AttributeKind::ClockGateClockPin)
+}
+
 /// Whether the names of the group are meant.
 fn has_role(role: Role, part: &Part) -> bool
     ensures { result ≡ spec.has_role role part.now }
 {
     match role {
         Role::Input => is_input(part),
+        Role::GateClock => is_gate_clock(part),
+        Role::GateData => is_gate_data(part),
+        Role::Output => is_output(part),
         Role::Power => matches!(part.kind, PartKind::PgPin),
+        Role::Pin => matches!(part.kind, PartKind::Pin | PartKind::PgPin),
         Role::Any => matches!(part.kind, PartKind::Pin | PartKind::PgPin | PartKind::Ff),
     }
 }
 
 /// Appends copies of names.
-fn push_names(alloc: Global, found: &mut Seq<Name>, names: &[Name]) -> Result<(), AllocError>
+pub fn push_names(alloc: Global, found: &mut Seq<Name>, names: &[Name]) -> Result<(), AllocError>
     ensures { OnOk result (found.new ≡ found.old ++ names.now) }
 {
     for name in names {
@@ -181,12 +213,12 @@ pub fn outs_of(alloc: Global, parts: &[Part]) -> Result<Seq<OutPin>, AllocError>
     Ok(found)
 }
 
-/// Whether pins, power pins and states have names that differ.
+/// Whether the names that are meant differ.
 #[tactic(auto, using(texts::proofs::NameLemmas::are_new_none))]
-pub fn names_differ(alloc: Global, parts: &[Part]) -> Result<bool, AllocError>
-    ensures { IfOk result (λ b. b ≡ spec.names_differ parts.now) }
+pub fn names_differ(alloc: Global, parts: &[Part], role: Role) -> Result<bool, AllocError>
+    ensures { IfOk result (λ b. b ≡ spec.names_differ role parts.now) }
 {
-    let names = names_of(alloc, parts, Role::Any)?;
+    let names = names_of(alloc, parts, role)?;
     let mut table = NameTable::new(alloc);
     let differ = table.add_all(alloc, names.as_slice())?;
     Ok(differ)

@@ -6,12 +6,16 @@ ghost use Rattle.cell_lib.specs.Pins as pins_spec;
 ghost use Rattle.cell_lib.specs.Flops as flops_spec;
 ghost use Rattle.cell_lib.specs.Combs.{comb_outs};
 ghost use Rattle.cell_lib.specs.Cells as spec;
+ghost use Rattle.cell_types.specs.declared.libraries.CellKind.TheVariants as kinds;
 
 use crate::combs::comb_outs;
 use crate::flops::{data_inputs, flop_of};
+use crate::gates::gate_of;
 use crate::misfits::Misfit;
-use crate::pins::{OutPin, Role, are_directed, can_be_modelled, names_differ, names_of, outs_of};
-use crate::{CellKind, Flop};
+use crate::pins::{
+    OutPin, Role, are_directed, can_be_modelled, names_differ, names_of, outs_of, push_names,
+};
+use crate::{CellKind, Flop, GateCell};
 use lib_words::{CellGroup, Part, PartKind};
 use sdcv_base::{Name, Seq};
 use std::alloc::{AllocError, Global};
@@ -126,7 +130,7 @@ fn is_modelled(alloc: Global, group: &CellGroup) -> Result<bool, AllocError>
     if ff_count(parts) > 1 {
         return Ok(false);
     }
-    names_differ(alloc, parts)
+    names_differ(alloc, parts, Role::Any)
 }
 
 /// What pins, and an `ff` where there is one, make of a cell that is modelled.
@@ -140,10 +144,32 @@ fn modelled_shape(alloc: Global, parts: &[Part], inputs: &[Name]) -> Result<Shap
     }
 }
 
+/// A cell that is this clock gate: its clock is not among the inputs.
+fn gate_shape(alloc: Global, gate: GateCell) -> Result<Shape, AllocError>
+    ensures { IfOk result (λ s. s ≡ record { inputs = gate.enables; kind = kinds.Gate gate }) }
+{
+    let mut inputs = Seq::new(alloc);
+    push_names(alloc, &mut inputs, gate.enables.as_slice())?;
+    let kind = CellKind::Gate(gate);
+    Ok(Shape { inputs, kind })
+}
+
 /// What a cell's groups make of it.
 #[tactic(auto, unfolding(crate::specs::Cells::shape_of))]
 pub fn shape_of(alloc: Global, group: &CellGroup) -> Result<Shape, AllocError>
     ensures { IfOk result (λ s. s ≡ spec.shape_of group.now) }
+{
+    match gate_of(alloc, group) {
+        Ok(gate) => gate_shape(alloc, gate),
+        Err(Misfit::Other) => plain_shape(alloc, group),
+        Err(Misfit::Memory) => Err(AllocError),
+    }
+}
+
+/// What the groups of a cell that is no clock gate make of it.
+#[tactic(auto, unfolding(crate::specs::Cells::plain_shape))]
+fn plain_shape(alloc: Global, group: &CellGroup) -> Result<Shape, AllocError>
+    ensures { IfOk result (λ s. s ≡ spec.plain_shape group.now) }
 {
     let parts = group.parts.as_slice();
     let inputs = names_of(alloc, parts, Role::Input)?;

@@ -33,6 +33,15 @@ clocked next clear preset = record {
 abbrev pub flop_cell : List ℕ → List (List ℕ) → Form → Option Form → Option Form → Cell
 flop_cell name inputs next clear preset = record { name = name; inputs = inputs; power = []; kind = kind.Flop (clocked next clear preset) }
 
+-- a clock gate with these enables, whose output is gated from the clock pin
+abbrev pub gate_cell : List ℕ → List (List ℕ) → List ℕ → List ℕ → Cell
+gate_cell name enables clock out = record {
+  name = name;
+  inputs = enables;
+  power = [];
+  kind = kind.Gate (record { clock = clock; enables = enables; out = out });
+}
+
 -- the input places
 abbrev pub p0 : Form
 p0 = PinForm 0
@@ -114,7 +123,12 @@ choosing_flop_cells =
     ∷ flop_cell (codes "SDFFC") (codes "D" ∷ codes "SI" ∷ codes "SE" ∷ codes "C" ∷ []) (choice 2 1 0) (Some p3) None
     ∷ []
 
+-- the clock gate
+abbrev pub gate_cells : List Cell
+gate_cells = gate_cell (codes "ICG") (codes "EN" ∷ []) (codes "CK") (codes "GCK") ∷ []
+
 -- the whole table
 abbrev pub builtin_cells : List Cell
 builtin_cells =
     plain_cells ++ and_cells ++ or_cells ++ complement_cells ++ xor_cells ++ mixed_cells ++ flop_cells ++ choosing_flop_cells
+    ++ gate_cells

@@ -1,5 +1,5 @@
 -- Cells by name, and lawful libraries.
-use Rattle.std.specs.Prelude.{ℕ, ◌+◌, List, length, map, All, Option}
+use Rattle.std.specs.Prelude.{◌≡◌, ℕ, ◌+◌, List, length, map, All, Option}
 use Rattle.std.specs.List.{position, IsDistinct}
 use Rattle.std.specs.Str.{bytes_eq}
 use Rattle.net_model.specs.Form.{IsOver}
@@ -20,16 +20,17 @@ pub record IsLawfulFlop (inputs : ℕ) (flop : Flop) : Type 0 where
   pub clear : IsOptionOver inputs flop.clear
   pub preset : IsOptionOver inputs flop.preset
 
--- every function of the cell reads the places of its input pins
-abbrev pub IsLawfulKind : ℕ → CellKind → Type 0
-IsLawfulKind inputs (kind.Comb outs) = All (λ (o : CombOut). IsOver inputs o.func) outs
-IsLawfulKind inputs (kind.Flop flop) = IsLawfulFlop inputs flop
+-- every function of the cell reads the places of its input pins, and the enables of a clock gate are its input pins
+abbrev pub IsLawfulKind : List (List ℕ) → CellKind → Type 0
+IsLawfulKind inputs (kind.Comb outs) = All (λ (o : CombOut). IsOver (length inputs) o.func) outs
+IsLawfulKind inputs (kind.Flop flop) = IsLawfulFlop (length inputs) flop
+IsLawfulKind inputs (kind.Gate gate) = gate.enables ≡ inputs
 IsLawfulKind inputs kind.Other = Unit {0}
 
 abbrev pub IsLawfulCell : Cell → Type 0
-IsLawfulCell cell = IsLawfulKind (length cell.inputs) cell.kind
+IsLawfulCell cell = IsLawfulKind cell.inputs cell.kind
 
--- the names of the cells differ, and each function reads only places of its cell
+-- the names of the cells differ, each function reads only places of its cell, and clock gates have their enables as inputs
 pub record IsLawful (cells : List Cell) : Type 0 where
   pub names_differ : IsDistinct bytes_eq (map (λ (cell : Cell). cell.name) cells)
   pub functions : All IsLawfulCell cells

@@ -4,6 +4,7 @@ ghost use Rattle.cell_types.specs.Builtin.{plain_cells, and_cells, or_cells, com
 ghost use Rattle.cell_types.specs.Libraries.{IsLawful};
 
 use crate::builtin_flops::{push_choosing_flops, push_flops};
+use crate::builtin_gates::push_gates;
 use crate::builtin_parts::{and2, and3, choose, comb, or2, or3};
 use crate::{Cell, Library};
 use net_model::Func;
@@ -11,7 +12,7 @@ use sdcv_base::Seq;
 use std::alloc::{AllocError, Global};
 
 /// TIE0, TIE1, BUF, INV; AND2 to AND4, OR2 to OR4; NAND2, NAND3, NOR2, NOR3; XOR2, XNOR2, MUX2, AOI21, OAI21;
-/// DFF, DFFC (clear), DFFP (preset), DFFE (enable) and SDFFC (scan, clear).
+/// DFF, DFFC (clear), DFFP (preset), DFFE (enable) and SDFFC (scan, clear); ICG, a clock gate.
 pub fn builtin(alloc: Global) -> Result<Library, AllocError>
     ensures table { IfOk result (λ library. library.cells ≡ builtin_cells) }
     ensures lawful { IfOk result (λ library. IsLawful library.cells) }
@@ -33,6 +34,7 @@ fn table(alloc: Global) -> Result<Seq<Cell>, AllocError>
     push_mixed(alloc, &mut cells)?;
     push_flops(alloc, &mut cells)?;
     push_choosing_flops(alloc, &mut cells)?;
+    push_gates(alloc, &mut cells)?;
     Ok(cells)
 }
 

@@ -58,7 +58,12 @@ pub(crate) fn named(alloc: Global, text: &str) -> Result<Seq<Name>, AllocError>
 }
 
 /// A cell without power pins.
-fn cell(alloc: Global, name: &str, inputs: Seq<Name>, kind: CellKind) -> Result<Cell, AllocError>
+pub(crate) fn cell(
+    alloc: Global,
+    name: &str,
+    inputs: Seq<Name>,
+    kind: CellKind,
+) -> Result<Cell, AllocError>
     ensures { IfOk result (λ cell. cell ≡ record { name = name.now; inputs = inputs; power = []; kind = kind }) }
 {
     let name = Name::new(alloc, name.as_bytes())?;

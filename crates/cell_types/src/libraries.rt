@@ -33,15 +33,27 @@ pub struct Flop {
     pub outs: Seq<FlopOut>,
 }
 
+/// A clock gate (Liberty, attribute `clock_gating_integrated_cell`): `out` follows `clock` in a cycle where an enable is 1,
+/// and stays 0 in every other.
+///
+/// The enables are the cell's `inputs`, which leave out the clock.
+#[derive(Drop)]
+pub struct GateCell {
+    pub clock: Name,
+    pub enables: Seq<Name>,
+    pub out: Name,
+}
+
 /// What a cell is. `Other` can't be modelled, and is refused only where a design uses it.
 #[derive(Drop)]
 pub enum CellKind {
     Comb(Seq<CombOut>),
     Flop(Flop),
+    Gate(GateCell),
     Other,
 }
 
-/// A cell with its input pins in order, without the clock of a flop, and its power pins.
+/// A cell with its input pins in order, without the clock of a flop or a clock gate, and its power pins.
 #[derive(Drop)]
 pub struct Cell {
     pub name: Name,

@@ -33,4 +33,8 @@ attribute_kind x = in_table (
     ∷ (codes "preset", attribute.Preset)
     ∷ (codes "clear_preset_var1", attribute.ClearPresetVar1)
     ∷ (codes "clock_gating_integrated_cell", attribute.ClockGatingIntegratedCell)
+    ∷ (codes "clock_gate_clock_pin", attribute.ClockGateClockPin)
+    ∷ (codes "clock_gate_enable_pin", attribute.ClockGateEnablePin)
+    ∷ (codes "clock_gate_test_pin", attribute.ClockGateTestPin)
+    ∷ (codes "clock_gate_out_pin", attribute.ClockGateOutPin)
     ∷ []) x

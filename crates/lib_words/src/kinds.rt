@@ -31,6 +31,10 @@ pub enum AttributeKind {
     Preset,
     ClearPresetVar1,
     ClockGatingIntegratedCell,
+    ClockGateClockPin,
+    ClockGateEnablePin,
+    ClockGateTestPin,
+    ClockGateOutPin,
 }
 
 pub fn is(name: &[u8], word: &str) -> bool
@@ -92,6 +96,14 @@ pub fn attribute_kind(name: &[u8]) -> Option<AttributeKind>
         Some(AttributeKind::ClearPresetVar1)
     } else if is(name, "clock_gating_integrated_cell") {
         Some(AttributeKind::ClockGatingIntegratedCell)
+    } else if is(name, "clock_gate_clock_pin") {
+        Some(AttributeKind::ClockGateClockPin)
+    } else if is(name, "clock_gate_enable_pin") {
+        Some(AttributeKind::ClockGateEnablePin)
+    } else if is(name, "clock_gate_test_pin") {
+        Some(AttributeKind::ClockGateTestPin)
+    } else if is(name, "clock_gate_out_pin") {
+        Some(AttributeKind::ClockGateOutPin)
     } else {
         None
     }
