@@ -127,6 +127,10 @@ cell_leaves_are nets conns first full c (kind.Flop f) is =
     (none_both (pin_ties conns first c.inputs) (ties (outs_from first c + length f.outs) (wires_of conns f.clock)) (pin_ties_none conns c.inputs first)
     (ties_none (wires_of conns f.clock) (outs_from first c + length f.outs)))
     (λ d same. length_pin_nets nets conns c.inputs first ∙ (let e : c ≡ d = cc in ap (λ (x : Cell). length x.inputs) e)))
+cell_leaves_are nets conns first full c (kind.Gate g) is =
+    let none : cell_ties conns first c ++ cell_part nets conns first c ≡ [] = rw is refl in
+    subst (λ (ps : List Part). AreLeavesOf ps (leaf_if_any full (Some c) (last_part ps))) (sym none)
+    (record { regs = refl; shaped = all_none IsShaped })
 cell_leaves_are nets conns first full c kind.Other is =
     let none : cell_ties conns first c ++ cell_part nets conns first c ≡ [] = rw is refl in
     subst (λ (ps : List Part). AreLeavesOf ps (leaf_if_any full (Some c) (last_part ps))) (sym none)

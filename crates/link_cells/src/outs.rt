@@ -47,6 +47,7 @@ pub(crate) fn out_names(alloc: Global, kind: &CellKind) -> Result<Seq<Name>, All
     match kind {
         CellKind::Comb(outs) => comb_names(alloc, outs),
         CellKind::Flop(flop) => flop_names(alloc, &flop.outs),
+        CellKind::Gate(_) => Ok(Seq::new(alloc)),
         CellKind::Other => Ok(Seq::new(alloc)),
     }
 }

@@ -97,6 +97,7 @@ fn push_clock(alloc: Global, list: &mut Seq<PinName>, kind: &CellKind) -> Result
                 role: PinRole::Clock,
             })?;
         }
+        CellKind::Gate(_) => {}
         CellKind::Other => {}
     }
     Ok(())

@@ -97,7 +97,7 @@ is_open = (
       refl,
       refl,
     ),
-    λ e. cc,
+    refl,
   )
       (0, omega arith, refl) refl,
 )

@@ -27,16 +27,18 @@ use Rattle.link_defs.specs.Parts.{parts_of}
 use Rattle.link_defs.specs.Circuits.{part_regs, part_outs}
 use Rattle.link_defs.specs.Designs.{is_on_tree}
 
--- the output pins of a cell
+-- the output pins of a cell that is modelled
 abbrev pub out_pins : CellKind → List (List ℕ)
 out_pins (kind.Comb outs) = map (λ (o : CombOut). o.name) outs
 out_pins (kind.Flop f) = map (λ (o : FlopOut). o.name) f.outs
+out_pins (kind.Gate g) = []
 out_pins kind.Other = []
 
 -- the clock pin of a flop
 abbrev pub clock_pins : CellKind → List (List ℕ)
 clock_pins (kind.Comb outs) = []
 clock_pins (kind.Flop f) = f.clock ∷ []
+clock_pins (kind.Gate g) = []
 clock_pins kind.Other = []
 
 -- a leaf of the flat netlist: its full name, its cell (a primitive has none), and its part

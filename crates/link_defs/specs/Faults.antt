@@ -14,14 +14,13 @@ use Rattle.netlist_types.specs.declared.sources.Wire.TheVariants as wire
 use Rattle.netlist_types.specs.declared.sources.Dir.TheVariants as dir
 use Rattle.cell_types.specs.declared.libraries.Library.{Library}
 use Rattle.cell_types.specs.declared.libraries.Cell.{Cell}
-use Rattle.cell_types.specs.declared.libraries.CellKind.TheVariants as kind
 use Rattle.link_defs.specs.declared.circuits.Part.TheVariants as part
 use Rattle.link_defs.specs.declared.circuits.Circuit.{Circuit}
 use Rattle.link_defs.specs.declared.options.LinkOptions.{LinkOptions}
 use Rattle.sdcv_base.specs.declared.settings.Setting.{Setting}
 use Rattle.link_defs.specs.declared.faults.LinkFault.{LinkFault}
 use Rattle.link_defs.specs.declared.faults.LinkFault.TheVariants as fault
-use Rattle.link_defs.specs.Hierarchy.{cell_of, wires_of, tops, IsRecursive}
+use Rattle.link_defs.specs.Hierarchy.{cell_of, is_modelled, wires_of, tops, IsRecursive}
 use Rattle.netlist_types.specs.Lawful.{module_of}
 use Rattle.link_defs.specs.Flatten.{Flat, Located, flat_of, full_names}
 use Rattle.link_defs.specs.Circuits.{PortBit, circuit_of, input_bits, output_bits, data_bits, clock_bits, regs_of, all_gates, all_drivers}
@@ -59,7 +58,7 @@ IsOfCell s lib flat c full conns = (cell : List ℕ) × IsInstance flat cell ful
 
 -- an instance of a cell that can be modelled: no pin of another is looked at
 abbrev pub IsOfModelled : Source → Library → Flat → Cell → List ℕ → List Conn → Type 0
-IsOfModelled s lib flat c full conns = IsOfCell s lib flat c full conns × (c.kind ≢ kind.Other)
+IsOfModelled s lib flat c full conns = IsOfCell s lib flat c full conns × (is_modelled c.kind ≡ true)
 
 -- a connection to a pin that isn't there
 pub data IsUnknownPin (s : Source) (lib : Library) (flat : Flat) : List ℕ → Type 0 where
@@ -146,7 +145,7 @@ abbrev pub IsFlatCause : Source → Library → LinkOptions → Module → Flat 
 IsFlatCause s lib o top flat c (fault.UnknownCell cell) = (full : List ℕ) × (conns : List Conn) × IsInstance flat cell full conns
     × (module_of s cell ≡ None) × (cell_of lib cell ≡ None)
 IsFlatCause s lib o top flat c (fault.UnsupportedCell cell) =
-    (full : List ℕ) × (conns : List Conn) × (found : Cell) × IsOfCell s lib flat found full conns × (found.name ≡ cell) × (found.kind ≡ kind.Other)
+    (full : List ℕ) × (conns : List Conn) × (found : Cell) × IsOfCell s lib flat found full conns × (found.name ≡ cell) × (is_modelled found.kind ≡ false)
 IsFlatCause s lib o top flat c (fault.UnknownPin pin) = IsUnknownPin s lib flat pin
 IsFlatCause s lib o top flat c (fault.OpenInput pin) = IsOpenInput s lib flat pin
 IsFlatCause s lib o top flat c (fault.Undriven name) = (net : ℕ) × Contains (full_names flat) (name, net) × Contains (all_reads c) net

@@ -1,5 +1,5 @@
 -- Modules and cells by name, and which modules stand in which.
-use Rattle.std.specs.Prelude.{◌≡◌, ℕ, Bool, not, List, [], ◌∷◌, map, filter, find, flat_map, Option, Some, None, slice_get}
+use Rattle.std.specs.Prelude.{◌≡◌, ℕ, Bool, true, false, not, List, [], ◌∷◌, map, filter, find, flat_map, Option, Some, None, slice_get}
 use Rattle.std.specs.List.{list_any, position_or_len}
 use Rattle.std.specs.Str.{bytes_eq}
 use Rattle.netlist_types.specs.declared.sources.Source.{Source}
@@ -10,12 +10,21 @@ use Rattle.netlist_types.specs.declared.sources.Conn.{Conn}
 use Rattle.netlist_types.specs.declared.sources.Wire.{Wire}
 use Rattle.cell_types.specs.declared.libraries.Library.{Library}
 use Rattle.cell_types.specs.declared.libraries.Cell.{Cell}
+use Rattle.cell_types.specs.declared.libraries.CellKind.{CellKind}
+use Rattle.cell_types.specs.declared.libraries.CellKind.TheVariants as kind
 use Rattle.graph_order.specs.Needs.{IsOnCycle}
 use Rattle.netlist_types.specs.Lawful.{module_of}
 
 -- the cell of that name
 unfoldable pub cell_of : Library → List ℕ → Option Cell
 cell_of lib name = find (λ (c : Cell). bytes_eq c.name name) lib.cells
+
+-- a cell of this kind can be linked: no clock gate can as yet, and is refused as one that is not modelled
+abbrev pub is_modelled : CellKind → Bool
+is_modelled (kind.Comb outs) = true
+is_modelled (kind.Flop f) = true
+is_modelled (kind.Gate g) = false
+is_modelled kind.Other = false
 
 -- the references of an item: an instance has one
 abbrev pub refs : Item → List (List ℕ)

@@ -145,6 +145,7 @@ cell_part nets conns first c = elim c.kind [
       let ins = pin_nets nets conns first c.inputs in
       part.Comb (is_buffer_cell c.inputs outs) ins (comb_gates nets conns ins (outs_from first c) outs) ∷ []
   | kind.Flop f ↦ part.Flop (clock_net nets conns first c f) (flop_reg nets conns first c f) ∷ []
+  | kind.Gate g ↦ []
   | kind.Other ↦ []
 ]
 
@@ -153,6 +154,7 @@ abbrev pub cell_ties : List Conn → ℕ → Cell → List Part
 cell_ties conns first c = elim c.kind [
   | kind.Comb outs ↦ pin_ties conns first c.inputs
   | kind.Flop f ↦ pin_ties conns first c.inputs ++ ties (outs_from first c + length f.outs) (wires_of conns f.clock)
+  | kind.Gate g ↦ []
   | kind.Other ↦ []
 ]
 

@@ -1,5 +1,5 @@
 -- What each kind of item adds is what an item adds.
-use Rattle.std.proofs.Common.{◌≡◌, ◌≢◌, ℕ, ◌+◌, ◌-◌, ◌<◌, ◌≤◌, List, [], ◌∷◌, ◌++◌, length, All, Some, None, refl, ap, sym, subst, ◌∙◌}
+use Rattle.std.proofs.Common.{◌≡◌, ℕ, ◌+◌, ◌-◌, ◌<◌, ◌≤◌, true, false, List, [], ◌∷◌, ◌++◌, length, All, Some, None, refl, ap, sym, subst, ◌∙◌}
 use Rattle.std.proofs.Common.{arith, append_assoc, length-append}
 use Rattle.std.specs.Prelude.{Option, slice_get, flat_map, Contains}
 use Rattle.std.specs.List.{IsDistinct}
@@ -20,7 +20,7 @@ use Rattle.cell_types.specs.declared.libraries.CellKind.{CellKind}
 use Rattle.cell_types.specs.declared.libraries.CellKind.TheVariants as kind
 use Rattle.link_defs.specs.declared.circuits.Part.{Part}
 use Rattle.link_defs.specs.declared.faults.LinkFault.{LinkFault}
-use Rattle.link_defs.specs.Hierarchy.{cell_of, wires_of, place_of_module}
+use Rattle.link_defs.specs.Hierarchy.{cell_of, is_modelled, wires_of, place_of_module}
 use Rattle.link_defs.specs.Flatten.{Scope, inst_nets, inner_scope, inner_nets, instance_of, with_slash, other_pins}
 use Rattle.link_defs.specs.Parts.{inst_parts, bit_ties, cell_ties, cell_part, ties, wire_nets}
 use Rattle.link_defs.specs.CellNames.{Leaf, last_part, leaf_if_any, leaves_of}
@@ -124,19 +124,22 @@ leaves_cell s lib scope cell name conns first c none is =
 abbrev kind_part : List ℕ → List Conn → ℕ → Cell → CellKind → List Part
 kind_part nets conns first c (kind.Comb outs) = comb_part nets conns first c outs ∷ []
 kind_part nets conns first c (kind.Flop f) = flop_part nets conns first c f ∷ []
+kind_part nets conns first c (kind.Gate g) = []
 kind_part nets conns first c kind.Other = []
 
 kind_part_is : (nets : List ℕ) (conns : List Conn) (first : ℕ) (c : Cell) (k : CellKind) → c.kind ≡ k → cell_part nets conns first c ≡ kind_part nets conns
     first c k
 kind_part_is nets conns first c (kind.Comb outs) is = rw is refl
 kind_part_is nets conns first c (kind.Flop f) is = rw is refl
+kind_part_is nets conns first c (kind.Gate g) is = rw is refl
 kind_part_is nets conns first c kind.Other is = rw is refl
 
-one_part : (nets : List ℕ) (conns : List Conn) (first : ℕ) (c : Cell) (k : CellKind) → c.kind ≡ k → c.kind ≢ kind.Other
+one_part : (nets : List ℕ) (conns : List Conn) (first : ℕ) (c : Cell) (k : CellKind) → c.kind ≡ k → is_modelled c.kind ≡ true
     → (p : Part) × (cell_part nets conns first c ≡ p ∷ [])
 one_part nets conns first c (kind.Comb outs) is modelled = (comb_part nets conns first c outs, kind_part_is nets conns first c (kind.Comb outs) is)
 one_part nets conns first c (kind.Flop f) is modelled = (flop_part nets conns first c f, kind_part_is nets conns first c (kind.Flop f) is)
-one_part nets conns first c kind.Other is modelled = absurd (modelled is)
+one_part nets conns first c (kind.Gate g) is modelled = let no : false ≡ true = rw is at modelled in absurd cc
+one_part nets conns first c kind.Other is modelled = let no : false ≡ true = rw is at modelled in absurd cc
 
 -- an instance of a module
 pub module_added : (s : Source) (lib : Library) (scope : Scope) (cell name : List ℕ) (conns : List Conn) (m : Module) (old new : Made) (nets : List ℕ)
@@ -282,7 +285,7 @@ cell_faulty s lib scope cell name conns c e none is bad =
     (subst (λ (o : Option Cell). IsInstFault None o cell (scope.prefix ++ name) conns e) (sym is) bad)
 
 pub cell_faultless : (s : Source) (lib : Library) (scope : Scope) (cell name : List ℕ) (conns : List Conn) (c : Cell) → module_of s cell ≡ None
-    → cell_of lib cell ≡ Some c → c.kind ≢ kind.Other → IsFineCell conns c → IsFaultless s lib scope (item.Inst cell name conns)
+    → cell_of lib cell ≡ Some c → is_modelled c.kind ≡ true → IsFineCell conns c → IsFaultless s lib scope (item.Inst cell name conns)
 cell_faultless s lib scope cell name conns c none is modelled fine = λ e other bad.
     cell_fine c (scope.prefix ++ name) conns modelled fine e other (at_cell s lib (scope.prefix ++ name) cell conns c e none is bad)
 

@@ -1,5 +1,5 @@
 -- Refusals of an item: their causes in a flat netlist, and that an item without them has none.
-use Rattle.std.proofs.Common.{◌≡◌, ◌≢◌, ℕ, ◌≤◌, false, List, ◌++◌, length, All, Some, None, refl, sym, subst, arith}
+use Rattle.std.proofs.Common.{◌≡◌, ◌≢◌, ℕ, ◌≤◌, true, false, List, ◌++◌, length, All, Some, None, refl, sym, subst, arith}
 use Rattle.std.specs.Prelude.{Option, Contains, slice_get}
 use Rattle.std.proofs.lemmas.List.Elements.{All-contains, All-append}
 use Rattle.sdcv_base.specs.declared.limits.LimitName.{LimitName}
@@ -17,12 +17,11 @@ use Rattle.netlist_types.specs.declared.sources.Dir.{Dir}
 use Rattle.netlist_types.specs.declared.sources.Dir.TheVariants as dir
 use Rattle.cell_types.specs.declared.libraries.Library.{Library}
 use Rattle.cell_types.specs.declared.libraries.Cell.{Cell}
-use Rattle.cell_types.specs.declared.libraries.CellKind.TheVariants as kind
 use Rattle.link_defs.specs.declared.circuits.Circuit.{Circuit}
 use Rattle.link_defs.specs.declared.options.LinkOptions.{LinkOptions}
 use Rattle.link_defs.specs.declared.faults.LinkFault.{LinkFault}
 use Rattle.link_defs.specs.declared.faults.LinkFault.TheVariants as fault
-use Rattle.link_defs.specs.Hierarchy.{cell_of}
+use Rattle.link_defs.specs.Hierarchy.{cell_of, is_modelled}
 use Rattle.link_defs.specs.Flatten.{Flat, Scope}
 use Rattle.link_defs.specs.CellNames.{out_pins, clock_pins}
 use Rattle.link_defs.specs.Faults.{in_pins, all_pins, IsFlatCause, IsInstance, IsOfModule, IsOfCell, IsOfModelled}
@@ -114,10 +113,10 @@ pins_fine cell full conns fine (fault.BadSetting name) other bad = bad
 pins_fine cell full conns fine fault.Memory other bad = other refl
 
 -- so has one of a cell that is modelled
-pub cell_fine : (cell : Cell) (full : List ℕ) (conns : List Conn) → cell.kind ≢ kind.Other → IsFineCell conns cell → (e : LinkFault) → e ≢ fault.Memory
+pub cell_fine : (cell : Cell) (full : List ℕ) (conns : List Conn) → is_modelled cell.kind ≡ true → IsFineCell conns cell → (e : LinkFault) → e ≢ fault.Memory
     → IsCellFault cell full conns e → ⊥
 cell_fine cell full conns modelled fine (fault.UnknownCell name) other bad = pins_fine cell full conns fine (fault.UnknownCell name) other bad.1
-cell_fine cell full conns modelled fine (fault.UnsupportedCell name) other bad = modelled bad.1
+cell_fine cell full conns modelled fine (fault.UnsupportedCell name) other bad = not_both (is_modelled cell.kind) modelled bad.1
 cell_fine cell full conns modelled fine (fault.UnknownPin name) other bad = pins_fine cell full conns fine (fault.UnknownPin name) other bad.1
 cell_fine cell full conns modelled fine (fault.OpenInput name) other bad = pins_fine cell full conns fine (fault.OpenInput name) other bad.1
 cell_fine cell full conns modelled fine (fault.Undriven name) other bad = pins_fine cell full conns fine (fault.Undriven name) other bad.1
@@ -133,7 +132,8 @@ cell_fine cell full conns modelled fine (fault.BadSetting name) other bad = pins
 cell_fine cell full conns modelled fine fault.Memory other bad = other refl
 
 -- a refusal for the pins of a modelled cell is one of the cell
-pub pins_to_cell : (cell : Cell) (full : List ℕ) (conns : List Conn) → cell.kind ≢ kind.Other → (e : LinkFault) → IsPinFault cell full conns e → IsCellFault
+pub pins_to_cell : (cell : Cell) (full : List ℕ) (conns : List Conn) → is_modelled cell.kind ≡ true → (e : LinkFault)
+    → IsPinFault cell full conns e → IsCellFault
     cell full conns e
 pins_to_cell cell full conns modelled (fault.UnknownCell name) bad = (modelled, bad)
 pins_to_cell cell full conns modelled (fault.UnsupportedCell name) bad = absurd bad

@@ -1,5 +1,5 @@
 -- Why an item of a module is refused.
-use Rattle.std.specs.Prelude.{◌≡◌, ◌≢◌, ℕ, ◌<◌, Bool, List, [], ◌++◌, length, Contains, Option, Some, None, slice_get}
+use Rattle.std.specs.Prelude.{◌≡◌, ◌≢◌, ℕ, ◌<◌, Bool, true, false, List, [], ◌++◌, length, Contains, Option, Some, None, slice_get}
 use Rattle.sdcv_base.specs.declared.limits.LimitName.{LimitName}
 use Rattle.sdcv_base.specs.declared.limits.LimitName.TheVariants as what
 use Rattle.netlist_types.specs.declared.sources.Source.{Source}
@@ -13,12 +13,11 @@ use Rattle.netlist_types.specs.Lawful.{module_of}
 use Rattle.netlist_types.specs.declared.sources.Dir.TheVariants as dir
 use Rattle.cell_types.specs.declared.libraries.Library.{Library}
 use Rattle.cell_types.specs.declared.libraries.Cell.{Cell}
-use Rattle.cell_types.specs.declared.libraries.CellKind.TheVariants as kind
 use Rattle.link_defs.specs.declared.circuits.Circuit.{Circuit}
 use Rattle.link_defs.specs.declared.options.LinkOptions.{LinkOptions}
 use Rattle.link_defs.specs.declared.faults.LinkFault.{LinkFault}
 use Rattle.link_defs.specs.declared.faults.LinkFault.TheVariants as fault
-use Rattle.link_defs.specs.Hierarchy.{cell_of, wires_of}
+use Rattle.link_defs.specs.Hierarchy.{cell_of, is_modelled, wires_of}
 use Rattle.link_defs.specs.Flatten.{Flat, Scope}
 use Rattle.link_defs.specs.CellNames.{out_pins}
 use Rattle.link_defs.specs.Faults.{in_pins, all_pins, pin_of, IsFlatCause}
@@ -71,9 +70,9 @@ IsPinFault cell full conns e = ⊥
 
 -- why an instance of a cell is refused: no pin of one that is not modelled is looked at
 abbrev pub IsCellFault : Cell → List ℕ → List Conn → LinkFault → Type 0
-IsCellFault cell full conns (fault.UnsupportedCell name) = (name ≡ cell.name) × (cell.kind ≡ kind.Other)
+IsCellFault cell full conns (fault.UnsupportedCell name) = (name ≡ cell.name) × (is_modelled cell.kind ≡ false)
 IsCellFault cell full conns fault.Memory = Unit {0}
-IsCellFault cell full conns e = (cell.kind ≢ kind.Other) × IsPinFault cell full conns e
+IsCellFault cell full conns e = (is_modelled cell.kind ≡ true) × IsPinFault cell full conns e
 
 -- why an instance of neither a module nor a cell is
 abbrev pub IsUnknownFault : List ℕ → LinkFault → Type 0

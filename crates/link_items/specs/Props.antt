@@ -57,9 +57,10 @@ option_over : (n : ℕ) (f : Option Form) → IsProp (IsOptionOver n f)
 option_over n None = hlevel props
 option_over n (Some f) = over n f
 
-pub lawful_kind : (inputs : ℕ) (k : CellKind) → IsProp (IsLawfulKind inputs k)
+pub lawful_kind : (inputs : List (List ℕ)) (k : CellKind) → IsProp (IsLawfulKind inputs k)
 lawful_kind inputs (kind.Comb outs) = hlevel (props, over)
 lawful_kind inputs (kind.Flop flop) = hlevel (props, over, option_over)
+lawful_kind inputs (kind.Gate gate) = hlevel props
 lawful_kind inputs kind.Other = hlevel props
 
 pub ruleset lawful_props = (props, lawful_item, lawful_kind)

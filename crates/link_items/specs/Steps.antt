@@ -1,5 +1,5 @@
 -- What each kind of item adds.
-use Rattle.std.specs.Prelude.{◌≡◌, ◌≢◌, ℕ, ◌+◌, ◌-◌, ◌≤◌, List, [], ◌∷◌, ◌++◌, length, flat_map, Option, Some, None}
+use Rattle.std.specs.Prelude.{◌≡◌, ℕ, ◌+◌, ◌-◌, ◌≤◌, true, List, [], ◌∷◌, ◌++◌, length, flat_map, Option, Some, None}
 use Rattle.netlist_types.specs.declared.sources.Module.{Module}
 use Rattle.netlist_types.specs.declared.sources.Port.{Port}
 use Rattle.netlist_types.specs.declared.sources.Item.{Item}
@@ -10,7 +10,7 @@ use Rattle.netlist_types.specs.declared.gates.PrimKind.{PrimKind}
 use Rattle.cell_types.specs.declared.libraries.Cell.{Cell}
 use Rattle.cell_types.specs.declared.libraries.CellKind.{CellKind}
 use Rattle.cell_types.specs.declared.libraries.CellKind.TheVariants as kind
-use Rattle.link_defs.specs.Hierarchy.{wires_of}
+use Rattle.link_defs.specs.Hierarchy.{is_modelled, wires_of}
 use Rattle.link_defs.specs.Flatten.{inner_nets, other_pins}
 use Rattle.link_defs.specs.Parts.{bit_ties, cell_ties, cell_part, ties, wire_nets}
 use Rattle.link_items.specs.declared.items.Inst.{Inst}
@@ -29,6 +29,7 @@ inst_item i = item.Inst i.cell.now i.name.now i.conns.now
 abbrev pub kind_pins : CellKind → ℕ
 kind_pins (kind.Comb outs) = length outs
 kind_pins (kind.Flop f) = length f.outs + 1
+kind_pins (kind.Gate g) = 0
 kind_pins kind.Other = 0
 
 -- an instance of a module brings a net for each of its module's, and the constants that its ports are connected to
@@ -44,7 +45,7 @@ pub record IsCellAdded (outer : List ℕ) (conns : List Conn) (c : Cell) (old ne
   pub count : new.count ≡ old.count + (length c.inputs + other_pins c)
   pub parts : new.parts ≡ old.parts ++ (cell_ties conns old.count c ++ cell_part outer conns old.count c)
   pub leaves : new.leaves ≡ old.leaves
-  pub modelled : c.kind ≢ kind.Other
+  pub modelled : is_modelled c.kind ≡ true
   pub fine : IsFineCell conns c
 
 -- a leaf more, whose part is the last

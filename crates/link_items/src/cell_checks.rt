@@ -32,6 +32,7 @@ fn is_clock_pin(kind: &CellKind, pin: &Name) -> bool
     match kind {
         CellKind::Comb(_) => false,
         CellKind::Flop(flop) => *pin == flop.clock,
+        CellKind::Gate(_) => false,
         CellKind::Other => false,
     }
 }
@@ -57,6 +58,7 @@ fn is_out_pin(kind: &CellKind, pin: &Name) -> bool
     match kind {
         CellKind::Comb(outs) => is_comb_out(outs.as_slice(), pin),
         CellKind::Flop(flop) => is_flop_out(flop.outs.as_slice(), pin),
+        CellKind::Gate(_) => false,
         CellKind::Other => false,
     }
 }
@@ -129,6 +131,7 @@ fn check_clock_pin(alloc: Global, full: &Name, conns: &[Conn], cell: &Cell) -> R
             Ok(())
         }
         CellKind::Comb(_) => Ok(()),
+        CellKind::Gate(_) => Ok(()),
         CellKind::Other => Ok(()),
     }
 }
@@ -163,6 +166,7 @@ fn tied_out<'a>(conns: &[Conn], kind: &'a CellKind) -> Option<&'a Name>
             Some(out) => Some(&out.name),
             None => None,
         },
+        CellKind::Gate(_) => None,
         CellKind::Other => None,
     }
 }

@@ -207,6 +207,7 @@ pub(crate) fn push_cell(
             parts.push(flop_part(alloc, nets, conns, first, cell, flop)?)?;
             Ok(())
         }
+        CellKind::Gate(_) => Ok(()),
         CellKind::Other => Ok(()),
     }
 }

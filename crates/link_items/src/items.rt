@@ -1,15 +1,15 @@
 //! One item of an instance.
-ghost use Rattle.std.specs.Prelude.{◌≡◌, ◌≢◌, ◌≤◌, ◌<◌, ◌+◌, All, length, IfOk, IfErr, OnOk, None, true, false};
+ghost use Rattle.std.specs.Prelude.{◌≡◌, ◌≤◌, ◌<◌, ◌+◌, All, length, IfOk, IfErr, OnOk, None, true, false};
 ghost use Rattle.std.specs.List.{IsDistinct};
 ghost use Rattle.std.specs.Str.{bytes_eq};
 ghost use Rattle.net_model.specs.Netlist.{AllBelow};
 ghost use Rattle.netlist_types.specs.declared.sources.Port.{Port as PortRecord};
 ghost use Rattle.netlist_types.specs.declared.sources.Conn.{Conn as ConnRecord};
 ghost use Rattle.netlist_types.specs.Lawful.{IsLawfulItem, IsBelow, IsWireBelow, AreWiresBelow, HasWidths, HasTerminals};
-ghost use Rattle.cell_types.specs.declared.libraries.CellKind.TheVariants as kinds;
 ghost use Rattle.cell_types.specs.Libraries.{IsLawfulCell};
 ghost use Rattle.link_defs.specs.declared.faults.LinkFault.TheVariants as fault;
 ghost use Rattle.link_defs.specs.Flatten.{other_pins as other};
+ghost use Rattle.link_defs.specs.Hierarchy as hierarchy;
 ghost use Rattle.link_defs.specs.Hierarchy.{wires_of};
 ghost use Rattle.link_items.specs.declared.netlists.Referent.TheVariants as to;
 ghost use Rattle.link_items.specs.Faults.{IsItemFault, IsModuleFault, IsCellFault, IsPrimFault, IsFaultless, IsCauseWithin};
@@ -54,6 +54,7 @@ fn other_pins(kind: &CellKind) -> Result<usize, LinkFault>
     match kind {
         CellKind::Comb(outs) => Ok(outs.len()),
         CellKind::Flop(flop) => sum(flop.outs.len(), 1),
+        CellKind::Gate(_) => Ok(0),
         CellKind::Other => Ok(0),
     }
 }
@@ -67,15 +68,15 @@ fn pin_count(cell: &Cell) -> Result<usize, LinkFault>
     sum(cell.inputs.len(), others)
 }
 
-/// Whether a cell is not modelled.
-fn is_other(kind: &CellKind) -> bool
-    ensures yes { result ≡ true → kind.now ≡ kinds.Other }
-    ensures no { result ≡ false → kind.now ≢ kinds.Other }
+/// Whether a cell is modelled.
+fn is_modelled(kind: &CellKind) -> bool
+    ensures { result ≡ hierarchy.is_modelled kind.now }
 {
     match kind {
-        CellKind::Other => true,
-        CellKind::Comb(_) => false,
-        CellKind::Flop(_) => false,
+        CellKind::Comb(_) => true,
+        CellKind::Flop(_) => true,
+        CellKind::Gate(_) => false,
+        CellKind::Other => false,
     }
 }
 
@@ -120,7 +121,7 @@ fn add_cell(
     ensures ok { OnOk result (IsCellAdded outer.now conns.now cell.now made.old made.new) }
     ensures err { IfErr result (IsCellFault cell.now full.now conns.now) }
 {
-    if is_other(&cell.kind) {
+    if !is_modelled(&cell.kind) {
         return Err(LinkFault::UnsupportedCell(cell.name.copy(alloc)?));
     }
     check_modelled(alloc, full, conns, cell)?;
@@ -133,7 +134,7 @@ fn add_cell(
 
 /// Refuses an instance of a cell that is modelled for its pins.
 fn check_modelled(alloc: Global, full: &Name, conns: &[Conn], cell: &Cell) -> Result<(), LinkFault>
-    requires { cell.now.kind ≢ kinds.Other }
+    requires { hierarchy.is_modelled cell.now.kind ≡ true }
     ensures ok { OnOk result (IsFineCell conns.now cell.now) }
     ensures err { IfErr result (IsCellFault cell.now full.now conns.now) }
 {

@@ -153,10 +153,9 @@ flop_spread nets conns first c f is wired =
     (omega arith) (omega arith) (omega arith) (omega arith) (λ n a b c d. omega (arith, b, c)) (pin_ties_spread nets conns c.inputs first wired.widths) later in
     subst (λ (ns : List ℕ). IsSpread nets first to ns) (sym (all ∙ joined_twice (outs_of pins) (outs_of clock) outs)) joined
 
-other_spread : (nets : List ℕ) (conns : List Conn) (first : ℕ) (c : Cell) → c.kind ≡ kind.Other
+none_spread : (nets : List ℕ) (conns : List Conn) (first : ℕ) (c : Cell) → cell_ties conns first c ++ cell_part nets conns first c ≡ []
     → IsSpread nets first (first + (length c.inputs + 0)) (outs_of (cell_ties conns first c ++ cell_part nets conns first c))
-other_spread nets conns first c is =
-    let none : cell_ties conns first c ++ cell_part nets conns first c ≡ [] = rw is refl in
+none_spread nets conns first c none =
     subst (λ (ps : List Part). IsSpread nets first (first + (length c.inputs + 0)) (outs_of ps)) (sym none)
     (spread_none nets first (first + (length c.inputs + 0)))
 
@@ -170,10 +169,14 @@ cell_spread nets conns first c (kind.Flop f) is wired =
     let pins : other_pins c ≡ length f.outs + 1 = rw is refl in
     subst (λ (n : ℕ). IsSpread nets first (first + (length c.inputs + n)) (outs_of (cell_ties conns first c ++ cell_part nets conns first c))) (sym pins)
     (flop_spread nets conns first c f is wired)
+cell_spread nets conns first c (kind.Gate g) is wired =
+    let pins : other_pins c ≡ 0 = rw is refl in
+    subst (λ (n : ℕ). IsSpread nets first (first + (length c.inputs + n)) (outs_of (cell_ties conns first c ++ cell_part nets conns first c))) (sym pins)
+    (none_spread nets conns first c (rw is refl))
 cell_spread nets conns first c kind.Other is wired =
     let pins : other_pins c ≡ 0 = rw is refl in
     subst (λ (n : ℕ). IsSpread nets first (first + (length c.inputs + n)) (outs_of (cell_ties conns first c ++ cell_part nets conns first c))) (sym pins)
-    (other_spread nets conns first c is)
+    (none_spread nets conns first c (rw is refl))
 
 -- the constants at the bits of a port
 bit_from : (n first count : ℕ) (bits : List ℕ) (ws : List Wire) → AllBelow count bits → In n (outs_of (bit_ties first bits ws))

@@ -358,6 +358,9 @@ cell_leaf nets full conns first c (kind.Flop f) clock reg is has =
     let same = last_flop (pins ++ tied) own clock reg none (subst (λ (ps : List Part). In (part.Flop clock reg) ps) all has) in
     leaf_some full c (last_part (cell_ties conns first c ++ cell_part nets conns first c)) own clock reg
     (ap last_part all ∙ last_is (pins ++ tied) own) same
+cell_leaf nets full conns first c (kind.Gate g) clock reg is has =
+    let none : cell_ties conns first c ++ cell_part nets conns first c ≡ [] = rw is refl in
+    absurd (subst (λ (ps : List Part). In (part.Flop clock reg) ps) none has)
 cell_leaf nets full conns first c kind.Other clock reg is has =
     let none : cell_ties conns first c ++ cell_part nets conns first c ≡ [] = rw is refl in
     absurd (subst (λ (ps : List Part). In (part.Flop clock reg) ps) none has)

@@ -30,7 +30,7 @@ use Rattle.link_defs.specs.declared.faults.LinkFault.TheVariants as fault
 use Rattle.link_defs.specs.CellNames.{clock_pins}
 use Rattle.link_defs.specs.Circuits.{part_reads, part_gates}
 use Rattle.link_defs.specs.Faults.{in_pins, pin_of}
-use Rattle.link_defs.specs.Hierarchy.{cell_of, wires_of}
+use Rattle.link_defs.specs.Hierarchy.{cell_of, is_modelled, wires_of}
 use Rattle.link_defs.specs.Flatten.{Scope}
 use Rattle.link_defs.specs.Parts.{constant, ties, wire_nets, wire_net, bit_ties, pin_ties, pin_net, pin_nets, comb_gates, cell_ties, cell_part}
 use Rattle.link_defs.specs.Parts.{inst_parts, item_parts, is_buffer_cell, is_buffer_prim, prim_gate, outs_from, clock_net, flop_reg}
@@ -207,7 +207,7 @@ flop_known nets conns first c f n is joined has =
     (λ pin there. joined.some pin (In-left pin c.inputs (clock_pins c.kind) there)) read))
 
 -- the pins of a cell that is not refused are connected
-joined_if : (nets : List ℕ) (full : List ℕ) (conns : List Conn) (c : Cell) → c.kind ≢ kind.Other
+joined_if : (nets : List ℕ) (full : List ℕ) (conns : List Conn) (c : Cell) → is_modelled c.kind ≡ true
     → ((e : LinkFault) → e ≢ fault.Memory → IsCellFault c full conns e → ⊥) → All (λ (c : Conn). AreWiresBelow (length nets) c.wires) conns
     → AreJoined nets conns (in_pins c)
 joined_if nets full conns c modelled free wires = record {
@@ -220,9 +220,12 @@ cell_known : (nets : List ℕ) (full : List ℕ) (conns : List Conn) (first : �
     → ((e : LinkFault) → e ≢ fault.Memory → IsCellFault c full conns e → ⊥) → All (λ (c : Conn). AreWiresBelow (length nets) c.wires) conns
     → In n (reads_of (cell_ties conns first c ++ cell_part nets conns first c)) → IsKnown nets (cell_ties conns first c ++ cell_part nets conns first c) n
 cell_known nets full conns first c (kind.Comb outs) n is free wires has =
-    comb_known nets conns first c outs n is (joined_if nets full conns c (λ e. let no = sym is ∙ e in cc) free wires) has
+    comb_known nets conns first c outs n is (joined_if nets full conns c (rw is refl) free wires) has
 cell_known nets full conns first c (kind.Flop f) n is free wires has =
-    flop_known nets conns first c f n is (joined_if nets full conns c (λ e. let no = sym is ∙ e in cc) free wires) has
+    flop_known nets conns first c f n is (joined_if nets full conns c (rw is refl) free wires) has
+cell_known nets full conns first c (kind.Gate g) n is free wires has =
+    let none : cell_ties conns first c ++ cell_part nets conns first c ≡ [] = rw is refl in
+    absurd (subst (λ (ps : List Part). In n (reads_of ps)) none has)
 cell_known nets full conns first c kind.Other n is free wires has =
     let none : cell_ties conns first c ++ cell_part nets conns first c ≡ [] = rw is refl in
     absurd (subst (λ (ps : List Part). In n (reads_of ps)) none has)
