@@ -31,7 +31,7 @@ use Rattle.link_defs.specs.declared.circuits.Part.{Part}
 use Rattle.link_defs.specs.declared.circuits.Part.TheVariants as part
 use Rattle.link_defs.specs.declared.faults.LinkFault.{LinkFault}
 use Rattle.link_defs.specs.declared.faults.LinkFault.TheVariants as fault
-use Rattle.link_defs.specs.Hierarchy.{cell_of, wires_of}
+use Rattle.link_defs.specs.Hierarchy.{cell_of, is_modelled, wires_of}
 use Rattle.link_defs.specs.Flatten.{Scope, other_pins, own_nets, inst_nets}
 use Rattle.link_defs.specs.Parts.{ties, wire_nets, wire_net, bit_ties, pin_ties, pin_nets, comb_gates, cell_ties, cell_part, inst_parts, item_parts}
 use Rattle.link_defs.specs.Parts.{is_buffer_cell, is_buffer_form, is_buffer_prim, prim_gate, outs_from, clock_net, flop_reg}
@@ -109,7 +109,7 @@ flop_lawful total nets conns first c f is are widths few room over =
     (subst (λ (ps : List Part). All (IsLawfulPart total) (before ++ ps)) (sym part_is) whole)
 
 -- a cell that is not refused has at most six inputs
-few_inputs : (c : Cell) (full : List ℕ) (conns : List Conn) → c.kind ≢ kind.Other
+few_inputs : (c : Cell) (full : List ℕ) (conns : List Conn) → is_modelled c.kind ≡ true
     → ((e : LinkFault) → e ≢ fault.Memory → IsCellFault c full conns e → ⊥) → length c.inputs ≤ 6
 few_inputs c full conns modelled free = elim (cases_lt 6 (length c.inputs)) [
   | inl wide ↦ absurd (free (fault.Limit what.Pins 7) (λ e. cc) (modelled, (wide, refl)))
@@ -119,26 +119,31 @@ few_inputs c full conns modelled free = elim (cases_lt 6 (length c.inputs)) [
 pins_of : CellKind → ℕ
 pins_of (kind.Comb outs) = length outs
 pins_of (kind.Flop f) = length f.outs + 1
+pins_of (kind.Gate g) = 0
 pins_of kind.Other = 0
 
 other_is : (c : Cell) (k : CellKind) → c.kind ≡ k → other_pins c ≡ pins_of k
 unfolding pins_of
 other_is c (kind.Comb outs) is = rw is refl
 other_is c (kind.Flop f) is = rw is refl
+other_is c (kind.Gate g) is = rw is refl
 other_is c kind.Other is = rw is refl
 
 -- an instance of a cell that is not refused
 cell_lawful : (total : ℕ) (nets : List ℕ) (full : List ℕ) (conns : List Conn) (first : ℕ) (c : Cell) (k : CellKind) → c.kind ≡ k
     → ((e : LinkFault) → e ≢ fault.Memory → IsCellFault c full conns e → ⊥) → AreConns total nets conns → HasWidths None conns
-    → first + (length c.inputs + other_pins c) ≤ total → IsLawfulKind (length c.inputs) k
+    → first + (length c.inputs + other_pins c) ≤ total → IsLawfulKind c.inputs k
     → All (IsLawfulPart total) (cell_ties conns first c ++ cell_part nets conns first c)
 unfolding pins_of
 cell_lawful total nets full conns first c (kind.Comb outs) is free are widths room over =
-    comb_lawful total nets conns first c outs is are widths (few_inputs c full conns (λ e. let no = sym is ∙ e in cc) free)
+    comb_lawful total nets conns first c outs is are widths (few_inputs c full conns (rw is refl) free)
     (omega (arith, room, other_is c (kind.Comb outs) is)) over
 cell_lawful total nets full conns first c (kind.Flop f) is free are widths room over =
-    flop_lawful total nets conns first c f is are widths (few_inputs c full conns (λ e. let no = sym is ∙ e in cc) free)
+    flop_lawful total nets conns first c f is are widths (few_inputs c full conns (rw is refl) free)
     (omega (arith, room, other_is c (kind.Flop f) is)) over
+cell_lawful total nets full conns first c (kind.Gate g) is free are widths room over =
+    let none : cell_ties conns first c ++ cell_part nets conns first c ≡ [] = rw is refl in
+    subst (λ (ps : List Part). All (IsLawfulPart total) ps) (sym none) (all_none (IsLawfulPart total))
 cell_lawful total nets full conns first c kind.Other is free are widths room over =
     let none : cell_ties conns first c ++ cell_part nets conns first c ≡ [] = rw is refl in
     subst (λ (ps : List Part). All (IsLawfulPart total) ps) (sym none) (all_none (IsLawfulPart total))

@@ -6,6 +6,8 @@ pub mod Making
 pub mod Needing
 pub mod Ordering
 pub mod Parted
+pub mod Readings
 pub mod Readying
 pub mod Sounding
 pub mod Treed
+pub mod Walking

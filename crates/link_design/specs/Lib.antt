@@ -6,5 +6,7 @@ pub mod Made
 pub mod Netlists
 pub mod Numbered
 pub mod Orders
+pub mod Readers
 pub mod Rows
 pub mod Trees
+pub mod Walks

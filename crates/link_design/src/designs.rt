@@ -53,7 +53,7 @@ pub fn design_of(
     ensures none { OnOk result (IsFaultless circuit.now) }
 {
     let ordered = ordered_gates(alloc, circuit)?;
-    let clock = clock_tree(alloc, circuit, &ordered)?;
+    let clock = clock_tree(alloc, circuit)?;
     check_clock(alloc, circuit, &clock)?;
     let kept = kept_places(alloc, &ordered, &clock.tree)?;
     let numbers = net_numbers(alloc, circuit, &ordered, &kept)?;

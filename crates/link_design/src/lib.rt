@@ -12,8 +12,10 @@ mod marks;
 mod numbers;
 mod ordered;
 mod orders;
+mod readers;
 mod rows;
 mod trees;
+mod walks;
 
 pub use designs::{CircuitDesign, Held, design_of};
 pub use faults::CircuitFault;
