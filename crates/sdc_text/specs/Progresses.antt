@@ -46,12 +46,20 @@ what_of kind.Passed head said = Ok what.Passed
 abbrev pub after_said : Progress → CommandKind → Head → List Said → Result Progress SdcFault
 after_said p kind head said = what_of kind head said >>= λ what. Ok (with_command p head.line what)
 
+-- after a command that sets a variable, where the words follow its name
+abbrev pub after_set_words : Progress → Head → List Word → Result Progress SdcFault
+after_set_words p head words = said_words p.variables head.line words >>= λ said. after_set p head said
+
+-- after a command of another kind, where the words follow its name
+abbrev pub after_told_words : Progress → CommandKind → Head → List Word → Result Progress SdcFault
+after_told_words p kind head words = said_words p.variables head.line words >>= λ said. after_said p kind head said
+
 -- after a command of this kind, where the words follow its name; no word of a command that is passed over is valued
 unfoldable pub after_kind : Progress → CommandKind → Head → List Word → Result Progress SdcFault
-after_kind p kind.Set head words = said_words p.variables head.line words >>= λ said. after_set p head said
-after_kind p kind.Clock head words = said_words p.variables head.line words >>= λ said. after_said p kind.Clock head said
-after_kind p kind.Case head words = said_words p.variables head.line words >>= λ said. after_said p kind.Case head said
-after_kind p (kind.Path path) head words = said_words p.variables head.line words >>= λ said. after_said p (kind.Path path) head said
+after_kind p kind.Set head words = after_set_words p head words
+after_kind p kind.Clock head words = after_told_words p kind.Clock head words
+after_kind p kind.Case head words = after_told_words p kind.Case head words
+after_kind p (kind.Path path) head words = after_told_words p (kind.Path path) head words
 after_kind p kind.Passed head words = Ok (with_command p head.line what.Passed)
 
 -- a command that begins like this one is passed over

@@ -12,17 +12,17 @@ use sdcv_base::Name;
 use std::alloc::Global;
 
 /// The two words of a command that takes two.
-fn two_words<'a>(
+fn two_words<'a, 'v>(
     alloc: Global,
     head: &Head,
-    words: &'a [Said],
-) -> Result<(&'a Said, &'a Said), SdcFault>
+    words: &'a [Said<'v>],
+) -> Result<(&'a Said<'v>, &'a Said<'v>), SdcFault>
     ensures { Gives Fails (λ w. (w.0.now, w.1.now)) result (spec.two_words head.now words.entry.now) }
 {
     match words {
         [] | [_] => Err(head.lacking(alloc)?),
         [first, second] => Ok((first, second)),
-        [_, _, third, ..] => Err(head.surplus(alloc, &third.value)?),
+        [_, _, third, ..] => Err(head.surplus(alloc, third.value.get())?),
     }
 }
 
@@ -53,10 +53,10 @@ fn case_value(alloc: Global, head: &Head, value: &Value) -> Result<bool, SdcFaul
     }
 }
 
-fn refuse_option(alloc: Global, head: &Head, word: &Said) -> Result<(), SdcFault>
+fn refuse_option(alloc: Global, head: &Head, word: &Said<'_>) -> Result<(), SdcFault>
     ensures { Gives Fails (λ _. word.now) result (spec.no_option head.now word.now) }
 {
-    match option_of(&word.value) {
+    match option_of(word.value.get()) {
         Some(name) => Err(head.bad_option(alloc, name)?),
         None => Ok(()),
     }
@@ -64,11 +64,11 @@ fn refuse_option(alloc: Global, head: &Head, word: &Said) -> Result<(), SdcFault
 
 /// What the words of `set_case_analysis` say, after the command's name.
 #[tactic(auto, unfolding(crate::specs::Cases::case_of))]
-pub fn take_case(alloc: Global, head: &Head, words: &[Said]) -> Result<What, SdcFault>
+pub fn take_case(alloc: Global, head: &Head, words: &[Said<'_>]) -> Result<What, SdcFault>
     ensures { Gives Fails (λ what. what) result (spec.case_of head.now words.now) }
 {
     let (value, objects) = two_words(alloc, head, words)?;
-    let value = case_value(alloc, head, &value.value)?;
+    let value = case_value(alloc, head, value.value.get())?;
     refuse_option(alloc, head, objects)?;
     let objects = objects_of(alloc, objects)?;
     Ok(What::Case { value, objects })
@@ -76,10 +76,10 @@ pub fn take_case(alloc: Global, head: &Head, words: &[Said]) -> Result<What, Sdc
 
 /// The variable that the words of `set` set after the command's name, and its value.
 #[tactic(auto, unfolding(crate::specs::Cases::set_of))]
-pub fn take_set(alloc: Global, head: &Head, words: &[Said]) -> Result<(Name, Value), SdcFault>
+pub fn take_set(alloc: Global, head: &Head, words: &[Said<'_>]) -> Result<(Name, Value), SdcFault>
     ensures { Gives Fails (λ v. v) result (spec.set_of head.now words.now) }
 {
     let (name, value) = two_words(alloc, head, words)?;
-    let name = head.wanted_text(alloc, &name.value)?;
-    Ok((name.copy(alloc)?, value.value.copy(alloc)?))
+    let name = head.wanted_text(alloc, name.value.get())?;
+    Ok((name.copy(alloc)?, value.value.get().copy(alloc)?))
 }

@@ -34,12 +34,12 @@ impl ClockReading {
     }
 
     #[tactic(auto, unfolding(crate::specs::Clocks::given))]
-    fn give(&mut self, alloc: Global, option: ClockOption, word: &Said) -> Result<(), SdcFault>
+    fn give(&mut self, alloc: Global, option: ClockOption, word: &Said<'_>) -> Result<(), SdcFault>
         ensures { Gives Fails (λ _. self.new) result (spec.given self.old option word.now) }
     {
         match option {
             ClockOption::Called => {
-                let text = self.head.wanted_text(alloc, &word.value)?;
+                let text = self.head.wanted_text(alloc, word.value.get())?;
                 self.name = Some(text.copy(alloc)?);
             }
             ClockOption::Timing | ClockOption::Added => {}
@@ -48,21 +48,21 @@ impl ClockReading {
     }
 
     #[tactic(auto, unfolding(crate::specs::Clocks::with_source))]
-    fn take_source(&mut self, alloc: Global, word: &Said) -> Result<(), SdcFault>
+    fn take_source(&mut self, alloc: Global, word: &Said<'_>) -> Result<(), SdcFault>
         ensures { Gives Fails (λ _. self.new) result (spec.with_source self.old word.now) }
     {
         if self.source.is_some() {
-            return Err(self.head.surplus(alloc, &word.value)?);
+            return Err(self.head.surplus(alloc, word.value.get())?);
         }
         self.source = Some(objects_of(alloc, word)?);
         Ok(())
     }
 
     #[tactic(auto, unfolding(crate::specs::Clocks::with_word))]
-    fn take_word(&mut self, alloc: Global, word: &Said) -> Result<(), SdcFault>
+    fn take_word(&mut self, alloc: Global, word: &Said<'_>) -> Result<(), SdcFault>
         ensures { Gives Fails (λ _. self.new) result (spec.with_word self.old word.now) }
     {
-        let Some(name) = option_of(&word.value) else {
+        let Some(name) = option_of(word.value.get()) else {
             return self.take_source(alloc, word);
         };
         match clock_option(name.as_bytes()) {
@@ -76,7 +76,7 @@ impl Gather for ClockReading {
     ghost adds = { spec.adds_word };
 
     #[tactic(auto, unfolding(crate::specs::Clocks::adds_word))]
-    fn add(&mut self, alloc: Global, word: &Said) -> Result<(), SdcFault> {
+    fn add(&mut self, alloc: Global, word: &Said<'_>) -> Result<(), SdcFault> {
         match self.awaited.take() {
             Some((option, _)) => self.give(alloc, option, word),
             None => self.take_word(alloc, word),
@@ -101,7 +101,7 @@ fn concluded(alloc: Global, reading: ClockReading) -> Result<What, SdcFault>
 }
 
 /// What the words of `create_clock` say, after the command's name.
-pub fn take_clock(alloc: Global, head: Head, words: &[Said]) -> Result<What, SdcFault>
+pub fn take_clock(alloc: Global, head: Head, words: &[Said<'_>]) -> Result<What, SdcFault>
     ensures { Gives Fails (λ what. what) result (spec.clock_of head words.now) }
 {
     let mut reading = ClockReading {

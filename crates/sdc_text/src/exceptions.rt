@@ -116,7 +116,7 @@ impl Reading {
     }
 
     #[tactic(auto, unfolding(crate::specs::Exceptions::given))]
-    fn give(&mut self, alloc: Global, option: PathOption, word: &Said) -> Result<(), SdcFault>
+    fn give(&mut self, alloc: Global, option: PathOption, word: &Said<'_>) -> Result<(), SdcFault>
         ensures { Gives Fails (λ _. self.new) result (spec.given self.old option word.now) }
     {
         match option {
@@ -160,10 +160,10 @@ impl Gather for Reading {
     ghost adds = { spec.adds_word };
 
     #[tactic(auto, unfolding(crate::specs::Exceptions::adds_word))]
-    fn add(&mut self, alloc: Global, word: &Said) -> Result<(), SdcFault> {
+    fn add(&mut self, alloc: Global, word: &Said<'_>) -> Result<(), SdcFault> {
         match self.awaited.take() {
             Some((option, _)) => self.give(alloc, option, word),
-            None => self.take_word(alloc, &word.value),
+            None => self.take_word(alloc, word.value.get()),
         }
     }
 }
@@ -263,7 +263,7 @@ pub fn take_exception(
     alloc: Global,
     path: PathCommand,
     head: Head,
-    words: &[Said],
+    words: &[Said<'_>],
 ) -> Result<What, SdcFault>
     ensures { Gives Fails (λ what. what) result (spec.exception_of path head words.now) }
 {

@@ -14,12 +14,12 @@ pub trait Gather: Drop {
     /// What a word adds to what was gathered before it.
     ghost adds: { Self → TheSaid → Result Self TheFault };
 
-    fn add(&mut self, alloc: Global, word: &Said) -> Result<(), SdcFault>
+    fn add(&mut self, alloc: Global, word: &Said<'_>) -> Result<(), SdcFault>
         ensures { Gives Fails (λ _. self.new) result (adds self.old word.now) };
 }
 
 /// Gathers all these words.
-pub fn take_all<G: Gather>(alloc: Global, words: &[Said], found: &mut G) -> Result<(), SdcFault>
+pub fn take_all<G: Gather>(alloc: Global, words: &[Said<'_>], found: &mut G) -> Result<(), SdcFault>
     ensures { Gives Fails (λ _. found.new) result (after_all G.adds found.old words.now) }
 {
     for word in words {

@@ -42,10 +42,13 @@ impl Progress {
     }
 
     #[tactic(auto, unfolding(crate::specs::Progresses::after_set))]
-    fn set(&mut self, alloc: Global, head: &Head, said: &[Said]) -> Result<(), SdcFault>
-        ensures { Gives Fails (λ _. self.new) result (spec.after_set self.old head.now said.now) }
+    fn set(&mut self, alloc: Global, head: &Head, words: &[Word]) -> Result<(), SdcFault>
+        ensures { Gives Fails (λ _. self.new) result (spec.after_set_words self.old head.now words.now) }
     {
-        let (name, value) = take_set(alloc, head, said)?;
+        let (name, value) = {
+            let said = said_words(alloc, &self.variables, head.line, words)?;
+            take_set(alloc, head, said.as_slice())?
+        };
         self.variables.set(name, value)?;
         self.push(head.line, What::Passed)?;
         Ok(())
@@ -56,12 +59,15 @@ impl Progress {
         alloc: Global,
         kind: CommandKind,
         head: Head,
-        said: &[Said],
+        words: &[Word],
     ) -> Result<(), SdcFault>
-        ensures { Gives Fails (λ _. self.new) result (spec.after_said self.old kind head said.now) }
+        ensures { Gives Fails (λ _. self.new) result (spec.after_told_words self.old kind head words.now) }
     {
         let line = head.line;
-        let what = what_of(alloc, kind, head, said)?;
+        let what = {
+            let said = said_words(alloc, &self.variables, line, words)?;
+            what_of(alloc, kind, head, said.as_slice())?
+        };
         self.push(line, what)?;
         Ok(())
     }
@@ -76,14 +82,13 @@ impl Progress {
     ) -> Result<(), SdcFault>
         ensures { Gives Fails (λ _. self.new) result (spec.after_kind self.old kind head words.now) }
     {
-        if let CommandKind::Passed = kind {
-            self.push(head.line, What::Passed)?;
-            return Ok(());
-        }
-        let said = said_words(alloc, &self.variables, head.line, words)?;
         match kind {
-            CommandKind::Set => self.set(alloc, &head, said.as_slice()),
-            _ => self.tell(alloc, kind, head, said.as_slice()),
+            CommandKind::Passed => {
+                self.push(head.line, What::Passed)?;
+                Ok(())
+            }
+            CommandKind::Set => self.set(alloc, &head, words),
+            _ => self.tell(alloc, kind, head, words),
         }
     }
 
@@ -132,7 +137,12 @@ fn after_first(words: &[Word]) -> &[Word]
 }
 
 /// What the words of a command say that sets no variable.
-fn what_of(alloc: Global, kind: CommandKind, head: Head, said: &[Said]) -> Result<What, SdcFault>
+fn what_of(
+    alloc: Global,
+    kind: CommandKind,
+    head: Head,
+    said: &[Said<'_>],
+) -> Result<What, SdcFault>
     ensures { Gives Fails (λ what. what) result (spec.what_of kind head said.now) }
 {
     match kind {

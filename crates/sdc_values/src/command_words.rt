@@ -5,6 +5,7 @@ ghost use Rattle.sdc_values.specs.Told.{Fails};
 ghost use Rattle.sdc_values.specs.Lines as spec;
 
 use crate::faults::SdcFault;
+use crate::loans::Loan;
 use crate::nested::nested;
 use crate::values::{Said, Value};
 use crate::variables::Variables;
@@ -23,15 +24,15 @@ pub fn words_after(words: &[Word], count: usize) -> &[Word]
 
 /// Adds what the first word says, and tells how many words that took.
 #[tactic(auto, unfolding(crate::specs::Lines::adds_word))]
-fn add_word(
+fn add_word<'a>(
     alloc: Global,
-    vars: &Variables,
+    vars: &'a Variables,
     line: u64,
     words: &[Word],
-    said: &mut Seq<Said>,
+    said: &mut Seq<Said<'a>>,
 ) -> Result<usize, SdcFault>
     requires { 0 < length words.now }
-    ensures value { Gives Fails (λ n. (said.new, drop n words.now)) result (spec.adds_word vars.now line said.old words.now) }
+    ensures value { Gives Fails (λ n. (said.new, drop n words.now)) result (spec.adds_word vars.entry.now line said.old words.now) }
     ensures some { IfOk result (λ n. 0 < n) }
     ensures within { IfOk result (λ n. n ≤ length words.now) }
 {
@@ -44,7 +45,7 @@ fn add_word(
             let (objects, count) = nested(alloc, vars, line, *offset, &words[1..])?;
             said.push(Said {
                 offset: *offset,
-                value: Value::Objects(objects),
+                value: Loan::own(Value::Objects(objects)),
             })?;
             Ok(count + 1)
         }
@@ -53,13 +54,13 @@ fn add_word(
 }
 
 /// What the words of a command on this line say, one after the other.
-pub fn said_words(
+pub fn said_words<'a>(
     alloc: Global,
-    vars: &Variables,
+    vars: &'a Variables,
     line: u64,
     words: &[Word],
-) -> Result<Seq<Said>, SdcFault>
-    ensures { Gives Fails (λ said. said) result (spec.said_words vars.now line words.now) }
+) -> Result<Seq<Said<'a>>, SdcFault>
+    ensures { Gives Fails (λ said. said) result (spec.said_words vars.entry.now line words.now) }
 {
     let mut said = Seq::new(alloc);
     let mut place = 0;
@@ -83,7 +84,7 @@ pub fn command_name(
     match words.first() {
         Some(Word::Text { offset, pieces }) => {
             let value = value(alloc, vars, line, *offset, pieces.as_slice())?;
-            Ok(text_within(*offset, &value)?.copy(alloc)?)
+            Ok(text_within(*offset, value.get())?.copy(alloc)?)
         }
         Some(Word::Opens(offset)) => Err(SdcFault::Syntax(*offset)),
         Some(Word::Closes) | None => Ok(Name::from_vec(Vec::new(alloc))),

@@ -1,13 +1,13 @@
 //! Nested commands that give objects of a class, or all objects of a kind.
-ghost use Rattle.std.specs.Prelude.{◌≡◌, ◌≢◌, ◌<◌, ◌≤◌, length, drop, OnOk, IfOk};
+ghost use Rattle.std.specs.Prelude.{◌≡◌, ◌<◌, ◌≤◌, length, drop, OnOk, IfOk};
 ghost use Rattle.texts.specs.Rules.{Gives};
 ghost use Rattle.sdc_values.specs.Told.{Fails};
-ghost use Rattle.sdc_values.specs.declared.faults.SdcFault.TheVariants as fault;
 ghost use Rattle.sdc_values.specs.Gets as spec;
 
 use crate::command_words::words_after;
 use crate::faults::SdcFault;
 use crate::lists::list_at;
+use crate::loans::Loan;
 use crate::nested_kinds::{is_hier, is_option, is_quiet};
 use crate::values::Value;
 use crate::variables::Variables;
@@ -15,7 +15,8 @@ use crate::word_texts::value;
 use script_types::{Class, Object};
 use sdc_words::Word;
 use sdcv_base::{Name, Seq};
-use std::alloc::Global;
+use std::alloc::{AllocError, Global};
+use std::borrow::Cow;
 
 /// Where a nested command is read.
 #[derive(Clone, Copy)]
@@ -30,55 +31,69 @@ pub struct Scene<'a> {
 
 /// The list of patterns of a `get_` command, and where its word begins in the whole text, from 0.
 #[derive(Drop)]
-pub struct Pattern {
+pub struct Pattern<'a> {
     pub offset: usize,
-    pub text: Name,
+    pub text: Loan<'a, Name>,
 }
 
 /// What the words of a `get_` command ask for.
 #[derive(Drop)]
-pub struct Asking {
-    pub pattern: Option<Pattern>,
+pub struct Asking<'a> {
+    pub pattern: Option<Pattern<'a>>,
     pub hier: bool,
 }
 
 #[tactic(auto, unfolding(crate::specs::Gets::adds_text))]
-fn add_text(line: u64, offset: usize, asking: &mut Asking, text: Name) -> Result<(), SdcFault>
-    ensures { Gives Fails (λ _. asking.new) result (spec.adds_text line offset asking.old text) }
+fn add_text<'a>(
+    scene: &Scene<'_>,
+    offset: usize,
+    asking: &mut Asking<'a>,
+    text: Loan<'a, Name>,
+) -> Result<(), SdcFault>
+    ensures { Gives Fails (λ _. asking.new) result (spec.adds_text scene.now.line offset asking.old text.entry) }
 {
-    if is_hier(text.as_bytes()) {
+    let word = text.get();
+    if is_hier(word.as_bytes()) {
         asking.hier = true;
         return Ok(());
     }
-    if is_quiet(text.as_bytes()) {
+    if is_quiet(word.as_bytes()) {
         return Ok(());
     }
-    if is_option(text.as_bytes()) || asking.pattern.is_some() {
-        return Err(SdcFault::BadOption(line, text));
+    if is_option(word.as_bytes()) || asking.pattern.is_some() {
+        return Err(SdcFault::BadOption(scene.line, word.copy(scene.alloc)?));
     }
     asking.pattern = Some(Pattern { offset, text });
     Ok(())
 }
 
 #[tactic(auto, unfolding(crate::specs::Gets::adds_value))]
-fn add_value(
+fn add_value<'a>(
     scene: &Scene<'_>,
     own: &Name,
     offset: usize,
-    asking: &mut Asking,
-    value: Value,
+    asking: &mut Asking<'a>,
+    value: Loan<'a, Value>,
 ) -> Result<(), SdcFault>
-    ensures { Gives Fails (λ _. asking.new) result (spec.adds_value scene.now.line own.now offset asking.old value) }
+    ensures { Gives Fails (λ _. asking.new) result (spec.adds_value scene.now.line own.now offset asking.old value.entry) }
 {
-    match value {
-        Value::Text(text) => add_text(scene.line, offset, asking, text),
-        Value::Objects(_) => Err(SdcFault::BadOption(scene.line, own.copy(scene.alloc)?)),
+    match value.into_held() {
+        Cow::Borrowed(Value::Text(text)) => add_text(scene, offset, asking, Loan::lent(text)),
+        Cow::Owned(Value::Text(text)) => add_text(scene, offset, asking, Loan::own(text)),
+        Cow::Borrowed(Value::Objects(_)) | Cow::Owned(Value::Objects(_)) => {
+            Err(SdcFault::BadOption(scene.line, own.copy(scene.alloc)?))
+        }
     }
 }
 
 /// Reads the next word of a `get_` command of this name.
 #[tactic(auto, unfolding(crate::specs::Gets::asks))]
-fn ask(scene: &Scene<'_>, own: &Name, asking: &mut Asking, words: &[Word]) -> Result<(), SdcFault>
+fn ask<'a>(
+    scene: &Scene<'a>,
+    own: &Name,
+    asking: &mut Asking<'a>,
+    words: &[Word],
+) -> Result<(), SdcFault>
     ensures value { Gives Fails (λ _. asking.new) result (spec.asks scene.now.vars.now scene.now.line scene.now.place own.now asking.old words.now) }
     ensures some { OnOk result (0 < length words.now) }
 {
@@ -105,7 +120,7 @@ fn asked(
     scene: &Scene<'_>,
     own: &Name,
     class: Class,
-    asking: &Asking,
+    asking: &Asking<'_>,
 ) -> Result<Seq<Object>, SdcFault>
     ensures { Gives Fails (λ objects. objects) result (spec.asked scene.now.line own.now class asking.now) }
 {
@@ -117,7 +132,7 @@ fn asked(
                 pattern.offset,
                 class,
                 asking.hier,
-                pattern.text.as_bytes(),
+                pattern.text.get().as_bytes(),
             )
         }
     }
@@ -159,16 +174,14 @@ pub fn get(
 }
 
 /// A word too many in a command of this name.
-fn surplus(scene: &Scene<'_>, own: &Name, value: Value) -> SdcFault
-    ensures { result ≢ fault.Memory → result ≡ spec.surplus scene.now.line own.now value }
+fn surplus(scene: &Scene<'_>, own: &Name, value: &Value) -> Result<SdcFault, AllocError>
+    ensures { IfOk result (λ e. e ≡ spec.surplus scene.now.line own.now value.now) }
 {
-    match value {
-        Value::Text(text) => SdcFault::BadOption(scene.line, text),
-        Value::Objects(_) => match own.copy(scene.alloc) {
-            Ok(own) => SdcFault::BadOption(scene.line, own),
-            Err(error) => SdcFault::from(error),
-        },
-    }
+    let word = match value {
+        Value::Text(text) => text.copy(scene.alloc)?,
+        Value::Objects(_) => own.copy(scene.alloc)?,
+    };
+    Ok(SdcFault::BadOption(scene.line, word))
 }
 
 /// The objects of an `all_` command of this name, whose words these are, and how many of them it has with its `]`.
@@ -195,7 +208,7 @@ pub fn all(
                 *offset,
                 pieces.as_slice(),
             )?;
-            Err(surplus(scene, own, value))
+            Err(surplus(scene, own, value.get())?)
         }
     }
 }

@@ -218,10 +218,10 @@ pub fn list_at(
 /// The objects that a word says: those of a list of objects, or the patterns of a text, of any class. `Syntax` comes at the
 /// word's offset where a brace of the text is not closed, or something stands directly after one.
 #[tactic(auto, unfolding(crate::specs::Lists::objects_of))]
-pub fn objects_of(alloc: Global, said: &Said) -> Result<Seq<Object>, SdcFault>
+pub fn objects_of(alloc: Global, said: &Said<'_>) -> Result<Seq<Object>, SdcFault>
     ensures { Gives Fails (λ objects. objects) result (spec.objects_of said.now) }
 {
-    match &said.value {
+    match said.value.get() {
         Value::Text(text) => list_at(alloc, said.offset, Class::Any, false, text.as_bytes()),
         Value::Objects(objects) => Ok(copy_objects(alloc, objects.as_slice())?),
     }

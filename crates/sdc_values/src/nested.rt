@@ -50,7 +50,7 @@ fn name(scene: &Scene<'_>, words: &[Word]) -> Result<Name, SdcFault>
                 *offset,
                 pieces.as_slice(),
             )?;
-            Ok(text_within(*offset, &value)?.copy(scene.alloc)?)
+            Ok(text_within(*offset, value.get())?.copy(scene.alloc)?)
         }
         Some(Word::Opens(offset)) => Err(SdcFault::Syntax(*offset)),
         Some(Word::Closes) | None => Err(SdcFault::Syntax(scene.place)),

@@ -1,6 +1,7 @@
 //! Values of words and of variables.
 ghost use Rattle.std.specs.Prelude.{◌≡◌, IfOk};
 
+use crate::loans::Loan;
 use script_types::{Object, copy_objects};
 use sdcv_base::{Name, Seq};
 use std::alloc::{AllocError, Global};
@@ -12,12 +13,12 @@ pub enum Value {
     Objects(Seq<Object>),
 }
 
-/// What a word of a command says.
+/// What a word of a command says. The value of a variable that a word is alone is lent, and not copied.
 #[derive(Debug, Drop)]
-pub struct Said {
+pub struct Said<'a> {
     /// Where the word begins in the whole text, from 0.
     pub offset: usize,
-    pub value: Value,
+    pub value: Loan<'a, Value>,
 }
 
 impl Value {

@@ -7,6 +7,7 @@ ghost use Rattle.sdc_values.specs.Texts as spec;
 ghost use Rattle.sdcv_base.specs.Steps.{after_all};
 
 use crate::faults::SdcFault;
+use crate::loans::Loan;
 use crate::values::{Said, Value};
 use crate::variables::Variables;
 use sdc_words::Piece;
@@ -85,33 +86,33 @@ fn lone_variable(pieces: &[Piece]) -> Option<&Name>
 }
 
 #[tactic(auto, unfolding(crate::specs::Texts::value_by))]
-pub fn value(
+pub fn value<'a>(
     alloc: Global,
-    vars: &Variables,
+    vars: &'a Variables,
     line: u64,
     offset: usize,
     pieces: &[Piece],
-) -> Result<Value, SdcFault>
-    ensures { Gives Fails (λ v. v) result (spec.value_by vars.now line offset pieces.now) }
+) -> Result<Loan<'a, Value>, SdcFault>
+    ensures { Gives Fails (λ v. v) result (spec.value_by vars.entry.now line offset pieces.now) }
 {
     if let Some(name) = lone_variable(pieces) {
         let value = variable(alloc, vars, line, name)?;
-        return Ok(value.copy(alloc)?);
+        return Ok(Loan::lent(value));
     }
     let text = joined(alloc, vars, line, offset, pieces)?;
-    Ok(Value::Text(Name::from_vec(text)))
+    Ok(Loan::own(Value::Text(Name::from_vec(text))))
 }
 
 /// What a word of these pieces says, at this offset of a command on this line. `UnknownVariable` comes for a variable that
 /// is not set, and `Syntax` at the offset where a list of objects is only a part of the word.
-pub fn said_text(
+pub fn said_text<'a>(
     alloc: Global,
-    vars: &Variables,
+    vars: &'a Variables,
     line: u64,
     offset: usize,
     pieces: &Seq<Piece>,
-) -> Result<Said, SdcFault>
-    ensures { Gives Fails (λ s. s) result (spec.said_text vars.now line offset pieces.now) }
+) -> Result<Said<'a>, SdcFault>
+    ensures { Gives Fails (λ s. s) result (spec.said_text vars.entry.now line offset pieces.now) }
 {
     let value = value(alloc, vars, line, offset, pieces.as_slice())?;
     Ok(Said { offset, value })
