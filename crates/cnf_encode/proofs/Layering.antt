@@ -1,9 +1,10 @@
 -- The definitions of a gate's net and of the start's nets in a layer.
 use Rattle.std.proofs.Common.{◌≡◌, ℕ, suc, ◌+◌, ◌<◌, inl, inr, Bool, true, false, not, cond}
-use Rattle.std.proofs.Common.{Some, List, [], ◌∷◌, ◌++◌, length, refl, ap, sym, ◌∙◌, subst, arith, add-one}
+use Rattle.std.proofs.Common.{Some, None, List, [], ◌∷◌, ◌++◌, length, refl, ap, sym, ◌∙◌, subst, arith, add-one}
 use Rattle.std.specs.Prelude.{filter, flat_map, slice_get, Contains, ◌==◌}
 use Rattle.std.specs.List.{list_any}
-use Rattle.std.proofs.lemmas.Bool.{cases_Bool, eq-eqb, eqb-true}
+use Rattle.std.proofs.lemmas.Bool.{cases_Bool, cond-true, cond-false, eq-eqb, eqb-true, not_from_true, not_from_false}
+use Rattle.net_model.specs.Form.{value}
 use Rattle.std.proofs.lemmas.List.Folds.{list_any_at}
 use Rattle.std.proofs.lemmas.List.Kept.{AllPairs-from_increasing}
 use Rattle.std.proofs.lemmas.Map.Views.{Contains-from_any}
@@ -13,17 +14,16 @@ use Rattle.net_model.proofs.Settling.{All-at}
 use Rattle.net_model.specs.declared.netlist.Design.{Design}
 use Rattle.net_model.specs.declared.netlist.Gate.{Gate}
 use Rattle.net_model.specs.declared.claims.Claim.{Claim}
-use Rattle.net_model.specs.declared.claims.PinRef.TheVariants.{GateIn}
 use Rattle.query_model.specs.Keys.{below}
-use Rattle.query_model.specs.Reads.{read_pin, is_start_net}
+use Rattle.query_model.specs.Reads.{is_start_net}
 use Rattle.net_model.specs.Fits.{IsStartIn}
 use Rattle.net_model.specs.Pins.{start_nets}
 use Rattle.frame_unroll.proofs.Starting.{start_low}
 use Rattle.query_model.specs.Defined.{has_own, layer_gate}
 use Rattle.query_model.specs.declared.keys.Coding.{Coding}
-use Rattle.query_model.proofs.Lists.{length-numbered}
-use Rattle.cnf_encode.specs.Listed.{at_place, alone}
-use Rattle.query_model.specs.Defined.{gate_reads, plain_gate, rails_gate}
+use Rattle.frame_unroll.specs.Sites.{gate_rail, late_gate_site, defined_on, defined_at}
+use Rattle.cnf_encode.specs.Listed.{at_place}
+use Rattle.query_model.specs.Defined.{plain_gate, rails_gate}
 use Rattle.cnf_encode.specs.Placed.{IsInOrder}
 use Rattle.cnf_encode.proofs.Covered.{through, Rises-from_pairs, below_is}
 use Rattle.cnf_encode.proofs.Covering.{at_place_is}
@@ -32,52 +32,26 @@ use Rattle.cnf_encode.proofs.Covering.{at_place_is}
 pub gate_in_range : (d : Design) (k : ℕ) (g : Gate) → IsSound d → slice_get d.gates k ≡ Some g → IsGateInRange d g
 gate_in_range d k g sound at = All-at (IsGateInRange d) d.gates k g at sound.in_range.gates
 
--- as many literals as pins
-pub length-gate_reads : (d : Design) (claim : Claim) (moved : List (List Bool)) (c layer rail k : ℕ) (g : Gate)
-    → length (gate_reads d claim moved c layer rail k g) ≡ length g.ins
-length-gate_reads d claim moved c layer rail k g = length-numbered (λ i n. read_pin d claim moved c layer rail (GateIn k i) n) 0 g.ins
+-- the definition of a gate's net that has keys of its own after l through sets
+pub layer_gate_is : (coding : Coding) (d : Design) (claim : Claim) (moved : List (List Bool)) (c l k : ℕ) (g : Gate) → slice_get d.gates k ≡ Some g
+    → has_own claim moved l g.out ≡ true
+    → at_place (layer_gate coding d claim moved c l) d.gates k ≡ defined_at coding (value g.func) (late_gate_site d claim moved c (l + 1) k g) ∷ []
+layer_gate_is coding d claim moved c l k g at own =
+    at_place_is (layer_gate coding d claim moved c l) d.gates k g at
+    ∙ cond-false (not (has_own claim moved l g.out)) [] _ (not_from_true (has_own claim moved l g.out) own) ∙ by claim.hazard
+    ∙ ap (λ n. defined_at coding (value g.func) (late_gate_site d claim moved c n k g) ∷ []) (sym (add-one l))
+  where
+    by : (h : Bool) → cond h (rails_gate coding d claim moved c (suc l) k g ∷ []) (plain_gate coding d claim moved c (suc l) k g ∷ [])
+        ≡ defined_on coding (value g.func) (gate_rail d claim moved c (suc l) 0 k g) (cond h (Some (gate_rail d claim moved c (suc l) 1 k g)) None) ∷ []
+    by true = refl
+    by false = refl
 
--- the definition of a net after l through sets
-by_own : (coding : Coding) (d : Design) (claim : Claim) (moved : List (List Bool)) (c l k : ℕ) (g : Gate) (own hazard : Bool)
-    → has_own claim moved l g.out ≡ own
-    → claim.hazard ≡ hazard → layer_gate coding d claim moved c l k g ≡ cond (not own) []
-    (cond hazard (rails_gate coding d claim moved c (l + 1) k g ∷ []) (plain_gate coding d claim moved c (l + 1) k g ∷ []))
-by_own coding d claim moved c l k g own hazard own_is hazard_is =
-    ap (λ (b : Bool). cond (not b) [] (cond claim.hazard (rails_gate coding d claim moved c (suc l) k g ∷ [])
-    (plain_gate coding d claim moved c (suc l) k g ∷ []))) own_is
-    ∙ ap (λ (b : Bool). cond (not own) [] (cond b (rails_gate coding d claim moved c (suc l) k g ∷ [])
-    (plain_gate coding d claim moved c (suc l) k g ∷ []))) hazard_is
-    ∙ ap (λ (n : ℕ). cond (not own) [] (cond hazard (rails_gate coding d claim moved c n k g ∷ []) (plain_gate coding d claim moved c n k g ∷ [])))
-    (sym (add-one l))
-
-pub layer_rails : (coding : Coding) (d : Design) (claim : Claim) (moved : List (List Bool)) (c l k : ℕ) (g : Gate) → has_own claim moved l g.out ≡ true
-    → claim.hazard ≡ true → layer_gate coding d claim moved c l k g ≡ rails_gate coding d claim moved c (l + 1) k g ∷ []
-layer_rails coding d claim moved c l k g own hazard = by_own coding d claim moved c l k g true true own hazard
-
-pub layer_plain : (coding : Coding) (d : Design) (claim : Claim) (moved : List (List Bool)) (c l k : ℕ) (g : Gate) → has_own claim moved l g.out ≡ true
-    → claim.hazard ≡ false → layer_gate coding d claim moved c l k g ≡ plain_gate coding d claim moved c (l + 1) k g ∷ []
-layer_plain coding d claim moved c l k g own hazard = by_own coding d claim moved c l k g true false own hazard
-
--- the same of the gate of a number
-pub layer_rails_at : (coding : Coding) (d : Design) (claim : Claim) (moved : List (List Bool)) (c l k : ℕ) (g : Gate) → slice_get d.gates k ≡ Some g
-    → has_own claim moved l g.out ≡ true → claim.hazard ≡ true
-    → at_place (layer_gate coding d claim moved c l) d.gates k ≡ at_place (alone (rails_gate coding d claim moved c (l + 1))) d.gates k
-layer_rails_at coding d claim moved c l k g at own hazard =
-    at_place_is (layer_gate coding d claim moved c l) d.gates k g at ∙ layer_rails coding d claim moved c l k g own hazard
-    ∙ sym (at_place_is (alone (rails_gate coding d claim moved c (l + 1))) d.gates k g at)
-
-pub layer_plain_at : (coding : Coding) (d : Design) (claim : Claim) (moved : List (List Bool)) (c l k : ℕ) (g : Gate) → slice_get d.gates k ≡ Some g
-    → has_own claim moved l g.out ≡ true → claim.hazard ≡ false
-    → at_place (layer_gate coding d claim moved c l) d.gates k ≡ at_place (alone (plain_gate coding d claim moved c (l + 1))) d.gates k
-layer_plain_at coding d claim moved c l k g at own hazard =
-    at_place_is (layer_gate coding d claim moved c l) d.gates k g at ∙ layer_plain coding d claim moved c l k g own hazard
-    ∙ sym (at_place_is (alone (plain_gate coding d claim moved c (l + 1))) d.gates k g at)
-
--- a net without a key of its own there
+-- and of one that has none
 pub layer_none_at : (coding : Coding) (d : Design) (claim : Claim) (moved : List (List Bool)) (c l k : ℕ) (g : Gate) → slice_get d.gates k ≡ Some g
     → has_own claim moved l g.out ≡ false → at_place (layer_gate coding d claim moved c l) d.gates k ≡ []
-layer_none_at coding d claim moved c l k g at own =
-    at_place_is (layer_gate coding d claim moved c l) d.gates k g at ∙ by_own coding d claim moved c l k g false claim.hazard own refl
+layer_none_at coding d claim moved c l k g at other =
+    at_place_is (layer_gate coding d claim moved c l) d.gates k g at
+    ∙ cond-true (not (has_own claim moved l g.out)) [] _ (not_from_false (has_own claim moved l g.out) other)
 
 -- the numbers that pass a test, one by one
 filter_each : (p : ℕ → Bool) (xs : List ℕ) → flat_map (λ n. cond (p n) (n ∷ []) []) xs ≡ filter p xs

@@ -1,8 +1,7 @@
 -- Cubes of functions, in the order in which they were made.
-use Rattle.std.specs.Prelude.{◌≡◌, ℕ, ◌+◌, ◌^◌, ◌<◌, Bool, List, ◌++◌, map, length, All, Some, slice_get, if◌then◌else◌}
+use Rattle.std.specs.Prelude.{◌≡◌, ℕ, ◌^◌, ◌<◌, Bool, List, ◌++◌, map, length, All, Some, slice_get}
 use Rattle.net_model.specs.Form.{value}
 use Rattle.net_model.specs.Cycles.{reg_capture}
-use Rattle.net_model.specs.Mentions.{reads_own}
 use Rattle.net_model.specs.declared.netlist.Design.{Design}
 use Rattle.net_model.specs.declared.netlist.Gate.{Gate}
 use Rattle.net_model.specs.declared.netlist.Reg.{Reg}
@@ -12,6 +11,7 @@ use Rattle.query_model.specs.Defined.{covering, settling}
 use Rattle.query_model.specs.declared.keys.Coding.{Coding}
 use Rattle.query_model.specs.declared.keys.Cube.{Cube}
 use Rattle.prime_cubes.specs.Cells.{CellCubes}
+use Rattle.frame_unroll.specs.Counted.{capture_places}
 
 -- the cubes that a coding takes, of one function after the other
 pub record CellList : Type 0 where
@@ -57,14 +57,10 @@ IsKnown list items k = (place : ℕ) × (slice_get items k ≡ Some place) × (p
 abbrev pub AreAt : CellList → List ℕ → ℕ → CellCubes → Type 0
 AreAt list items k cubes = (place : ℕ) × (slice_get items k ≡ Some place) × (slice_get list.cells place ≡ Some cubes)
 
--- how many literals a register's capture reads: those of its pins, and where it reads its own bit that
-abbrev pub reg_places : Reg → ℕ
-reg_places reg = length reg.ins + (if reads_own reg then 1 else 0)
-
 -- for each gate the place of the cubes of its function
 abbrev pub AreGateCells : Design → CellList → List ℕ → Type 0
 AreGateCells d list items = (k : ℕ) (g : Gate) → slice_get d.gates k ≡ Some g → HasCell list items k (value g.func) (length g.ins)
 
 -- for each register the place of the cubes of what it captures
 abbrev pub AreRegCells : Design → CellList → List ℕ → Type 0
-AreRegCells d list items = (r : ℕ) (reg : Reg) → slice_get d.regs r ≡ Some reg → HasCell list items r (reg_capture reg) (reg_places reg)
+AreRegCells d list items = (r : ℕ) (reg : Reg) → slice_get d.regs r ≡ Some reg → HasCell list items r (reg_capture reg) (capture_places reg)

@@ -11,3 +11,4 @@ pub mod Prepared
 pub mod Late
 pub mod CellLists
 pub mod Cells
+pub mod Sited

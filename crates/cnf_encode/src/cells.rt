@@ -1,12 +1,14 @@
 //! The cubes of the functions of a design.
 ghost use Rattle.std.specs.Prelude.{◌≡◌, ◌+◌, ◌≤◌, length, IfOk, OnOk};
-ghost use Rattle.net_model.specs.Form.{IsOver};
 ghost use Rattle.net_model.specs.Cycles.{reg_capture};
-ghost use Rattle.net_model.specs.Netlist.{IsOptionOver, IsSound};
-ghost use Rattle.cnf_encode.specs.CellLists.{IsCellAt, AreGateCells, AreRegCells, IsGrown, IsKnown, AreAt, reg_places};
+ghost use Rattle.net_model.specs.Mentions.{IsRegOver};
+ghost use Rattle.net_model.specs.Netlist.{IsSound};
+ghost use Rattle.cnf_encode.specs.CellLists.{IsCellAt, AreGateCells, AreRegCells, IsGrown, IsKnown, AreAt};
+ghost use Rattle.frame_unroll.specs.Counted.{capture_places};
 ghost use Rattle.cnf_encode.specs.Cells.{AreCells};
 
 use crate::cell_lists::CellList;
+use frame_unroll::capture_places;
 use net_model::{Design, Reg, capture_func};
 use prime_cubes::Cell;
 use query_model::Coding;
@@ -81,13 +83,10 @@ fn reg_cells(alloc: Global, design: &Design, list: &mut CellList) -> Result<Seq<
 /// The place of the cubes of what a register captures.
 fn reg_cell(alloc: Global, reg: &Reg, list: &mut CellList) -> Result<usize, AllocError>
     requires few { length reg.now.ins ≤ 6 }
-    requires next { IsOver (length reg.now.ins + 1) reg.now.next }
-    requires clear { IsOptionOver (length reg.now.ins + 1) reg.now.clear }
-    requires preset { IsOptionOver (length reg.now.ins + 1) reg.now.preset }
-    ensures is { IfOk result (λ place. IsCellAt list.new place (reg_capture reg.now) (reg_places reg.now)) }
+    requires over { IsRegOver (length reg.now.ins + 1) reg.now }
+    ensures is { IfOk result (λ place. IsCellAt list.new place (reg_capture reg.now) (capture_places reg.now)) }
     ensures grown { OnOk result (IsGrown list.old list.new) }
 {
     let func = capture_func(alloc, reg)?;
-    let places = reg.ins.len() + usize::from(reg.reads_own());
-    list.place(alloc, &func, places)
+    list.place(alloc, &func, capture_places(reg))
 }

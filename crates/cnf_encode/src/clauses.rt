@@ -102,7 +102,7 @@ pub fn lit(positive: bool, key: Key) -> KeyLit
 }
 
 /// The complement.
-pub fn opposite(l: KeyLit) -> KeyLit
+fn opposite(l: KeyLit) -> KeyLit
     ensures { result ≡ opposite l }
 {
     KeyLit {

@@ -6,9 +6,9 @@ ghost use Rattle.cnf_encode.specs.Listed.{IsClosed, Lists, at_place, alone, gate
 ghost use Rattle.cnf_encode.specs.Coned.{IsConeFor, of_cone};
 
 use crate::cones::Cone;
-use crate::needed::{is_needed, list_unit};
-use crate::tables::push_plain;
-use frame_unroll::{Frames, bit_lit, pin_literals, push_own};
+use crate::needed::list_unit;
+use crate::sites::list_site;
+use frame_unroll::{Frames, bit_site, gate_site};
 use proof_log::Clause;
 use query_model::Key;
 use sdcv_base::Seq;
@@ -91,19 +91,8 @@ fn list_gate(
     requires closed { IsClosed frames.now (at_place (of_cone gate_alone cone.now cycle) cone.now.design.now.gates k) }
     ensures { OnOk result (Lists frames.now (at_place (of_cone gate_alone cone.now cycle) cone.now.design.now.gates k) clauses.old clauses.new) }
 {
-    let gate = cone.design.gates.item(k);
-    let out = Key {
-        cycle,
-        layer: 0,
-        rail: 0,
-        point: gate.out,
-    };
-    if !is_needed(frames, &out) {
-        return Ok(());
-    }
-    let reads = pin_literals(alloc, cone.design, cone.drivers, cycle, &gate.ins)?;
-    let cell = cone.cells.gate(k);
-    push_plain(alloc, frames, &reads, out, cell.covering(), clauses)?;
+    let site = gate_site(alloc, cone.design, cone.drivers, cycle, k)?;
+    list_site(alloc, frames, &site, cone.cells.gate(k), clauses)?;
     Ok(())
 }
 
@@ -140,16 +129,8 @@ fn list_bit(
     requires closed { IsClosed frames.now (at_place (alone (of_cone bit_definition cone.now cycle)) cone.now.design.now.regs r) }
     ensures { OnOk result (Lists frames.now (at_place (alone (of_cone bit_definition cone.now cycle)) cone.now.design.now.regs r) clauses.old clauses.new) }
 {
-    let design = cone.design;
-    let out = bit_lit(design, cycle + 1, r).key;
-    if !is_needed(frames, &out) {
-        return Ok(());
-    }
-    let reg = design.regs.item(r);
-    let mut reads = pin_literals(alloc, design, cone.drivers, cycle, &reg.ins)?;
-    push_own(&mut reads, reg, bit_lit(design, cycle, r))?;
-    let cell = cone.cells.reg(r);
-    push_plain(alloc, frames, &reads, out, cell.covering(), clauses)?;
+    let site = bit_site(alloc, cone.design, cone.drivers, cycle, r)?;
+    list_site(alloc, frames, &site, cone.cells.reg(r), clauses)?;
     Ok(())
 }
 

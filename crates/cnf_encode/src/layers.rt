@@ -2,15 +2,15 @@
 ghost use Rattle.std.specs.Prelude.{◌≡◌, ◌<◌, ◌≤◌, ◌+◌, flat_map, length, OnOk};
 ghost use Rattle.query_model.specs.Keys.{key};
 ghost use Rattle.query_model.specs.Defined.{layer_gate, layer_gates, start_units, layer_definitions, all_layers};
-ghost use Rattle.query_model.specs.Defined.{plain_gate, rails_gate, start_net};
-ghost use Rattle.cnf_encode.specs.Listed.{IsClosed, Lists, at_place, alone};
+ghost use Rattle.query_model.specs.Defined.{start_net};
+ghost use Rattle.cnf_encode.specs.Listed.{IsClosed, Lists, at_place};
 ghost use Rattle.cnf_encode.specs.Coned.{Covers, gate_points};
 ghost use Rattle.cnf_encode.specs.Late.{IsLateStart, of_late};
 
 use crate::late_starts::LateStart;
-use crate::needed::{is_either_needed, is_needed, list_unit};
-use crate::tables::{Rails, push_plain, push_rails};
-use frame_unroll::{Frames, Owner, RailAt, has_own, pin_literals_at};
+use crate::needed::list_unit;
+use crate::sites::list_site;
+use frame_unroll::{Frames, has_own, late_gate_site};
 use proof_log::Clause;
 use query_model::Key;
 use sdcv_base::Seq;
@@ -24,7 +24,7 @@ pub struct LayerAt {
 }
 
 /// The keys of a point of a layer, by which it may be 1 and may be 0.
-pub fn rails_of(cycle: usize, layer: usize, point: usize) -> (Key, Key)
+fn rails_of(cycle: usize, layer: usize, point: usize) -> (Key, Key)
     ensures high { result.0 ≡ key cycle layer 0 point }
     ensures low { result.1 ≡ key cycle layer 1 point }
 {
@@ -35,81 +35,6 @@ pub fn rails_of(cycle: usize, layer: usize, point: usize) -> (Key, Key)
         point,
     };
     (high, Key { rail: 1, ..high })
-}
-
-/// The definition of a gate's net that has a key of its own in a layer, where hazards don't count.
-fn list_plain_gate(
-    alloc: Global,
-    frames: &Frames,
-    late: &LateStart,
-    layer_at: LayerAt,
-    k: usize,
-    clauses: &mut Seq<Clause>,
-) -> Result<(), AllocError>
-    requires late { IsLateStart late.now }
-    requires layer { layer_at.layer ≤ length late.now.subject.claim.now.through }
-    requires gate { k < length late.now.subject.design.now.gates }
-    requires closed { IsClosed frames.now (at_place (alone (of_late plain_gate late.now layer_at.cycle (layer_at.layer + 1)))
-        late.now.subject.design.now.gates k) }
-    ensures { OnOk result (Lists frames.now (at_place (alone (of_late plain_gate late.now layer_at.cycle (layer_at.layer + 1)))
-        late.now.subject.design.now.gates k) clauses.old clauses.new) }
-{
-    let gate = late.subject.design.gates.item(k);
-    let (cycle, layer) = (layer_at.cycle, layer_at.layer + 1);
-    let (out, _) = rails_of(cycle, layer, gate.out);
-    if !is_needed(frames, &out) {
-        return Ok(());
-    }
-    let rail_at = RailAt {
-        cycle,
-        layer,
-        rail: 0,
-    };
-    let reads = pin_literals_at(alloc, &late.subject, Owner::Gate(k), &gate.ins, rail_at)?;
-    let cell = late.cells.gate(k);
-    push_plain(alloc, frames, &reads, out, cell.covering(), clauses)?;
-    Ok(())
-}
-
-/// The same where hazards count.
-fn list_rails_gate(
-    alloc: Global,
-    frames: &Frames,
-    late: &LateStart,
-    layer_at: LayerAt,
-    k: usize,
-    clauses: &mut Seq<Clause>,
-) -> Result<(), AllocError>
-    requires late { IsLateStart late.now }
-    requires layer { layer_at.layer ≤ length late.now.subject.claim.now.through }
-    requires gate { k < length late.now.subject.design.now.gates }
-    requires closed { IsClosed frames.now (at_place (alone (of_late rails_gate late.now layer_at.cycle (layer_at.layer + 1)))
-        late.now.subject.design.now.gates k) }
-    ensures { OnOk result (Lists frames.now (at_place (alone (of_late rails_gate late.now layer_at.cycle (layer_at.layer + 1)))
-        late.now.subject.design.now.gates k) clauses.old clauses.new) }
-{
-    let gate = late.subject.design.gates.item(k);
-    let (cycle, layer) = (layer_at.cycle, layer_at.layer + 1);
-    let (high, low) = rails_of(cycle, layer, gate.out);
-    if !is_either_needed(frames, &high, &low) {
-        return Ok(());
-    }
-    let rail_at = RailAt {
-        cycle,
-        layer,
-        rail: 0,
-    };
-    let highs = pin_literals_at(alloc, &late.subject, Owner::Gate(k), &gate.ins, rail_at)?;
-    let rail_at = RailAt { rail: 1, ..rail_at };
-    let lows = pin_literals_at(alloc, &late.subject, Owner::Gate(k), &gate.ins, rail_at)?;
-    let rails = Rails {
-        highs: &highs,
-        lows: &lows,
-        high,
-        low,
-    };
-    push_rails(alloc, frames, &rails, late.cells.gate(k), clauses)?;
-    Ok(())
 }
 
 /// The definition of a gate's net after so many through sets, if it has keys of its own there.
@@ -132,11 +57,8 @@ fn list_layer_gate(
     if !has_own(&late.subject, layer_at.layer, gate.out) {
         return Ok(());
     }
-    if late.subject.claim.hazard {
-        list_rails_gate(alloc, frames, late, layer_at, k, clauses)?;
-    } else {
-        list_plain_gate(alloc, frames, late, layer_at, k, clauses)?;
-    }
+    let site = late_gate_site(alloc, &late.subject, layer_at.cycle, layer_at.layer + 1, k)?;
+    list_site(alloc, frames, &site, late.cells.gate(k), clauses)?;
     Ok(())
 }
 

@@ -24,6 +24,7 @@ mod points;
 mod prepared_designs;
 mod problems;
 mod runs;
+mod sites;
 mod tables;
 
 pub use formulas::{formula, inv_formula};

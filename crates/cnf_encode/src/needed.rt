@@ -3,10 +3,11 @@ ghost use Rattle.std.specs.Prelude.{◌≡◌, [], ◌∷◌, OnOk};
 ghost use Rattle.std.specs.List.{list_any};
 ghost use Rattle.query_model.specs.Defined.{unit, exclusive, both};
 ghost use Rattle.query_model.specs.Formula.{has_key};
+ghost use Rattle.frame_unroll.specs.Pairs.{defined_by};
 ghost use Rattle.cnf_encode.specs.Listed.{IsClosed, Lists};
 
 use crate::clauses::{push_both, push_exclusive, push_unit};
-use frame_unroll::Frames;
+use frame_unroll::{Frames, Pair};
 use proof_log::Clause;
 use query_model::{Key, KeyLit};
 use sdcv_base::Seq;
@@ -44,7 +45,7 @@ pub fn list_unit(
 }
 
 /// That a key says that two literals differ, where the key is needed.
-pub fn list_exclusive(
+fn list_exclusive(
     alloc: Global,
     frames: &Frames,
     z: Key,
@@ -62,7 +63,7 @@ pub fn list_exclusive(
 }
 
 /// That a key says that two literals are true, where the key is needed.
-pub fn list_both(
+fn list_both(
     alloc: Global,
     frames: &Frames,
     z: Key,
@@ -77,4 +78,20 @@ pub fn list_both(
         return Ok(());
     }
     push_both(alloc, frames, z, x, y, clauses)
+}
+
+/// The definition by a pair, where its key is needed.
+pub fn list_pair(
+    alloc: Global,
+    frames: &Frames,
+    pair: Pair,
+    clauses: &mut Seq<Clause>,
+) -> Result<(), AllocError>
+    requires closed { IsClosed frames.now (defined_by pair ∷ []) }
+    ensures { OnOk result (Lists frames.now (defined_by pair ∷ []) clauses.old clauses.new) }
+{
+    if pair.both {
+        return list_both(alloc, frames, pair.out, pair.first, pair.second, clauses);
+    }
+    list_exclusive(alloc, frames, pair.out, pair.first, pair.second, clauses)
 }

@@ -14,6 +14,8 @@ use Rattle.net_model.specs.Layers.{net_at, held_set}
 use Rattle.net_model.specs.declared.netlist.Design.{Design}
 use Rattle.net_model.specs.declared.netlist.Gate.{Gate}
 use Rattle.net_model.specs.declared.netlist.Reg.{Reg}
+use Rattle.sdcv_base.specs.declared.kinds.Edge.{Edge}
+use Rattle.sdcv_base.specs.declared.kinds.Edge.TheVariants.{Any, Rise, Fall}
 use Rattle.net_model.specs.declared.claims.Claim.{Claim}
 use Rattle.net_model.specs.declared.claims.PinRef.{PinRef}
 use Rattle.net_model.specs.declared.claims.PinRef.TheVariants.{Net, GateIn, RegIn, OutPort}
@@ -26,11 +28,13 @@ use Rattle.net_model.proofs.Settling.{All-at}
 use Rattle.query_model.specs.Keys.{key, lit, opposite, flipped}
 use Rattle.query_model.specs.Reads.{bit_key, shown_in, bit_or, read_from, read_base, is_start_net, read_late, read, read_pin}
 use Rattle.net_model.specs.Mentions.{reads_own}
-use Rattle.query_model.specs.Defined.{numbered, with_own, late_key, start_lit, capture_lit, late_capture_lit}
+use Rattle.query_model.specs.Defined.{numbered, with_own, late_key, toggle_key, start_lit, capture_lit, late_capture_lit}
 use Rattle.query_model.specs.declared.keys.Key.{Key}
 use Rattle.query_model.specs.declared.keys.KeyLit.{KeyLit}
 use Rattle.query_model.proofs.Based.{placed, in_place, from_numbered}
 use Rattle.query_model.specs.declared.keys.Coding.{Coding}
+use Rattle.frame_unroll.specs.Sites.{own_sign}
+use Rattle.frame_unroll.specs.Pairs.{reads_of, edge_pair}
 use Rattle.frame_unroll.specs.declared.origins.Origin.{Origin}
 use Rattle.frame_unroll.specs.declared.origins.Origin.TheVariants.{Free, Gate as OfGate, Reg as OfReg, Toggle, Change, Differ, Stale}
 use Rattle.frame_unroll.specs.Origins.{gate_of, of_gate, base_origin, extra_origin, layer_origin, clause_origin, gate_base, reg_base, reads_of_origin}
@@ -198,11 +202,11 @@ reg_late_within coding d claim moved cycles c r (Some reg) sound fits in_time at
     let few = fits.few in
     let last = length claim.through + 1 in
     let pins : ℕ → List KeyLit = λ rail. numbered (λ j n. read_pin d claim moved c last rail (RegIn r j) n) 0 reg.ins in
-    let reads : ℕ → List KeyLit = λ rail. with_own reg (lit true (bit_key d c r)) (pins rail) in
+    let reads : ℕ → List KeyLit = λ rail. with_own reg (lit (own_sign rail) (bit_key d c r)) (pins rail) in
     rails_within d claim cycles (λ rail. counted coding (reg_capture reg) (reads rail) ++ lit true (late_key d claim c rail) ∷ [])
     (λ rail on_rail. both_within d cycles (counted coding (reg_capture reg) (reads rail)) (lit true (late_key d claim c rail) ∷ [])
     (counted_within coding (reg_capture reg) d cycles (reads rail)
-    (own_within d cycles reg (lit true (bit_key d c r)) (pins rail) (bit_within d cycles c r in_time (slice_get_within d.regs r reg at))
+    (own_within d cycles reg (lit (own_sign rail) (bit_key d c r)) (pins rail) (bit_within d cycles c r in_time (slice_get_within d.regs r reg at))
     (pins_within d claim moved cycles c last rail (RegIn r) reg.ins in_time (omega arith) on_rail range.ins)))
     (one_within d cycles (lit true (late_key d claim c rail)) (late_within d claim cycles c rail fits in_time on_rail)))
 
@@ -281,6 +285,12 @@ differ_within coding d claim moved cycles k sound fits early =
     fits.end_ (omega arith) (omega arith))
     (λ plain. capture_within d cycles k.cycle claim.end sound fits.end_ early))
 
+edge_within : (d : Design) (cycles : ℕ) (edge : Edge) (z : Key) (x y : KeyLit) → IsLitWithin d cycles x → IsLitWithin d cycles y
+    → AreLitsWithin d cycles (reads_of (edge_pair edge z x y))
+edge_within d cycles Any z x y first second = two_within d cycles x y first second
+edge_within d cycles Rise z x y first second = two_within d cycles x (opposite y) first second
+edge_within d cycles Fall z x y first second = two_within d cycles (opposite x) y first second
+
 cycle_reads_within : (coding : Coding) (d : Design) (claim : Claim) (moved : List (List Bool)) (cycles : ℕ) (k : Key) (origin : Origin) → IsSound d
     → Fits d claim
     → k.cycle ≤ cycles → IsBeforeLast cycles k origin → AreLitsWithin d cycles (reads_in_layer coding d claim moved k 0 origin)
@@ -288,7 +298,7 @@ cycle_reads_within coding d claim moved cycles k Free sound fits in_time before 
 cycle_reads_within coding d claim moved cycles k (OfGate i) sound fits in_time before = base_reads_within coding d cycles k (OfGate i) sound in_time
 cycle_reads_within coding d claim moved cycles k (OfReg r) sound fits in_time before = base_reads_within coding d cycles k (OfReg r) sound in_time
 cycle_reads_within coding d claim moved cycles k Toggle sound fits in_time before =
-    two_within d cycles (start_lit d claim.start k.cycle) (start_lit d claim.start (k.cycle - 1))
+    edge_within d cycles claim.edge (toggle_key d k.cycle) (start_lit d claim.start k.cycle) (start_lit d claim.start (k.cycle - 1))
     (start_within d cycles k.cycle claim.start sound fits.start in_time)
     (start_within d cycles (k.cycle - 1) claim.start sound fits.start (omega arith))
 cycle_reads_within coding d claim moved cycles k Change sound fits in_time before =

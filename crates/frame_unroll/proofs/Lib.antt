@@ -14,8 +14,10 @@ mod OriginRange
 mod RowBits
 mod Marks
 pub mod Captured
-mod Tabled
+pub mod Tabled
+mod Marking
 mod Saying
+pub mod Paired
 pub mod Using
 pub mod UsingLate
 pub mod UsedRead

@@ -209,29 +209,6 @@ place_counted Rows cell reads l i at counts = in_place l reads i at
 place_counted Primes cell reads l i at counts =
     place_marked (marks Primes cell (length reads)) reads l i at ((marks_count Primes cell (length reads) i).1 counts)
 
--- a literal with a key, at the place where another list has one with the key
-at_keys : (xs ys : List KeyLit) (i : ℕ) (l : KeyLit) → map (λ (x : KeyLit). x.key) xs ≡ map (λ (x : KeyLit). x.key) ys → slice_get xs i ≡ Some l
-    → (m : KeyLit) × (slice_get ys i ≡ Some m) × (m.key ≡ l.key)
-at_keys [] ys i l same at = absurd cc
-at_keys (x ∷ xs) [] i l same at = absurd cc
-at_keys (x ∷ xs) (y ∷ ys) zero l same at =
-    let is : x ≡ l = cc in
-    let first : x.key ≡ y.key = cc in
-    (y, refl, sym first ∙ ap (λ (z : KeyLit). z.key) is)
-at_keys (x ∷ xs) (y ∷ ys) (suc i) l same at =
-    let rest : map (λ (z : KeyLit). z.key) xs ≡ map (λ (z : KeyLit). z.key) ys = cc in at_keys xs ys i l rest at
-
--- literals with the same keys count alike
-pub counted_keys : (coding : Coding) (cell : (ℕ → Bool) → Bool) (xs ys : List KeyLit) (l : KeyLit)
-    → map (λ (x : KeyLit). x.key) xs ≡ map (λ (x : KeyLit). x.key) ys → In l (counted coding cell xs)
-    → (m : KeyLit) × In m (counted coding cell ys) × (m.key ≡ l.key)
-counted_keys coding cell xs ys l same has =
-    let at = counted_place coding cell xs l has in
-    let other = at_keys xs ys at.0 l same at.1 in
-    let long : length xs ≡ length ys =
-    sym (length-map xs (λ (x : KeyLit). x.key)) ∙ ap length same ∙ length-map ys (λ (x : KeyLit). x.key) in
-    (other.0, place_counted coding cell ys other.0 at.0 other.1 (subst (λ n. Counts coding cell n at.0) long at.2), other.2)
-
 marked_all : (reads : List KeyLit) → marked (replicate (length reads) true) reads ≡ reads
 marked_all [] = refl
 marked_all (l ∷ ls) = ap (λ (xs : List KeyLit). l ∷ xs) (marked_all ls)

@@ -17,6 +17,7 @@ use Rattle.frame_unroll.specs.declared.origins.Origin.TheVariants.{Free, Reg as 
 use Rattle.frame_unroll.specs.Origins.{gate_of, of_gate, base_origin, clause_origin, extra_origin, end_origin, has_rail, late_origin, layer_origin}
 use Rattle.frame_unroll.specs.Origins.{claim_origin}
 use Rattle.frame_unroll.specs.Found.{IsOriginIn, IsOriginAt}
+use Rattle.frame_unroll.proofs.Asking.{judged_few}
 
 -- what holds of both values of a choice
 pub if_holds : {X : Type 0} (P : X → Type 0) (b : Bool) (x y : X) → (b ≡ true → P x) → (b ≡ false → P y) → P (cond b x y)
@@ -63,20 +64,23 @@ pub clause_origin_in : (d : Design) (cycles : ℕ) (k : Key) → IsOriginIn d (c
 clause_origin_in d cycles k = if_holds (IsOriginIn d) ((k.layer == 0) && (k.rail == 0)) (base_origin d cycles k) Free
     (λ first. base_origin_in d cycles k) (λ other. tt)
 
-extra_origin_in : (d : Design) (claim : Claim) (place : ℕ) → IsOriginIn d (extra_origin claim place)
-extra_origin_in d claim zero = tt
-extra_origin_in d claim (suc zero) = tt
-extra_origin_in d claim (suc (suc zero)) = tt
-extra_origin_in d claim (suc (suc (suc r))) = if_holds (IsOriginIn d) (nat_lt r (judged_count claim - 1)) (Stale (r + 1)) Free (λ judged. tt) (λ other. tt)
+extra_origin_in : (d : Design) (claim : Claim) (place : ℕ) → Fits d claim → IsOriginIn d (extra_origin claim place)
+extra_origin_in d claim zero fits = tt
+extra_origin_in d claim (suc zero) fits = tt
+extra_origin_in d claim (suc (suc zero)) fits = tt
+extra_origin_in d claim (suc (suc (suc r))) fits =
+    if_holds (IsOriginIn d) (nat_lt r (judged_count claim - 1)) (Stale (r + 1)) Free
+    (λ judged. omega (arith, ltb-true r (judged_count claim - 1) judged, judged_few d claim fits)) (λ other. tt)
 
-cycle_origin_in : (d : Design) (claim : Claim) (moved : List (List Bool)) (cycles : ℕ) (k : Key) → IsOriginIn d (layer_origin d claim moved cycles k 0)
-cycle_origin_in d claim moved cycles k =
+cycle_origin_in : (d : Design) (claim : Claim) (moved : List (List Bool)) (cycles : ℕ) (k : Key) → Fits d claim
+    → IsOriginIn d (layer_origin d claim moved cycles k 0)
+cycle_origin_in d claim moved cycles k fits =
     let extra : Origin = cond (nat_lt k.cycle cycles) (extra_origin claim (k.point - (d.nets + length d.regs))) Free in
     let first : Origin = cond (nat_lt k.point (d.nets + length d.regs)) (base_origin d cycles k) extra in
     if_holds (IsOriginIn d) (not (k.rail == 0)) Free first (λ railed. tt)
     (λ plain. if_holds (IsOriginIn d) (nat_lt k.point (d.nets + length d.regs)) (base_origin d cycles k) extra (λ low. base_origin_in d cycles k)
     (λ high. if_holds (IsOriginIn d) (nat_lt k.cycle cycles) (extra_origin claim (k.point - (d.nets + length d.regs))) Free
-    (λ early. extra_origin_in d claim (k.point - (d.nets + length d.regs))) (λ late. tt)))
+    (λ early. extra_origin_in d claim (k.point - (d.nets + length d.regs)) fits) (λ late. tt)))
 
 end_origin_at : (d : Design) (claim : Claim) (layer : ℕ) (end : End) → IsEndIn d end → IsOriginAt d claim layer (end_origin end)
 end_origin_at d claim layer (RegEnd r) is = is
@@ -106,10 +110,10 @@ layer_origin_at d claim moved cycles k l fits =
     (λ other. tt)
 
 -- where it is asked about a claim: in a cycle itself
-pub claim_origin_in : (d : Design) (claim : Claim) (moved : List (List Bool)) (cycles : ℕ) (k : Key) → k.layer ≡ 0
+pub claim_origin_in : (d : Design) (claim : Claim) (moved : List (List Bool)) (cycles : ℕ) (k : Key) → Fits d claim → k.layer ≡ 0
     → IsOriginIn d (claim_origin d claim moved cycles k)
-claim_origin_in d claim moved cycles k first =
-    subst (λ (l : ℕ). IsOriginIn d (layer_origin d claim moved cycles k l)) (sym first) (cycle_origin_in d claim moved cycles k)
+claim_origin_in d claim moved cycles k fits first =
+    subst (λ (l : ℕ). IsOriginIn d (layer_origin d claim moved cycles k l)) (sym first) (cycle_origin_in d claim moved cycles k fits)
 
 -- and in a layer after it
 pub claim_origin_at : (d : Design) (claim : Claim) (moved : List (List Bool)) (cycles : ℕ) (k : Key) → Fits d claim → 0 < k.layer

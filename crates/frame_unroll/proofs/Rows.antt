@@ -1,6 +1,8 @@
 -- What is read on the rails of a layer.
-use Rattle.std.proofs.Common.{◌≡◌, ℕ, suc, ◌-◌, ◌<◌, Bool, true, false, cond, List, [], ◌++◌, Some, ap, ◌∙◌, arith}
+use Rattle.std.proofs.Common.{◌≡◌, ℕ, suc, ◌-◌, ◌<◌, Bool, List, Some, ap, ◌∙◌, arith}
 use Rattle.std.specs.Prelude.{slice_get}
+use Rattle.net_model.specs.Form.{value}
+use Rattle.net_model.specs.Cycles.{reg_capture}
 use Rattle.net_model.specs.declared.netlist.Design.{Design}
 use Rattle.net_model.specs.declared.netlist.Gate.{Gate}
 use Rattle.net_model.specs.declared.netlist.Reg.{Reg}
@@ -10,29 +12,21 @@ use Rattle.query_model.specs.declared.keys.KeyLit.{KeyLit}
 use Rattle.query_model.specs.declared.keys.Coding.{Coding}
 use Rattle.frame_unroll.specs.declared.origins.Origin.{Origin}
 use Rattle.frame_unroll.specs.Origins.{on_rails, gate_late, reg_late, late_reads, reads_in_layer, claim_origin, claim_reads}
-use Rattle.frame_unroll.specs.Found.{gate_rail, reg_rail, with_keys}
-use Rattle.frame_unroll.proofs.Adding.{with_keys-append}
+use Rattle.frame_unroll.specs.Sites.{gate_rail, own_sign, reg_rail, counted_rail}
 
--- where hazards don't count there is one rail
-pub rails_one : (claim : Claim) (keys : List Key) (f : ℕ → List KeyLit) → claim.hazard ≡ false → with_keys keys (on_rails claim f) ≡ with_keys keys (f 0)
-rails_one claim keys f plain =
-    ap (λ (b : Bool). with_keys keys (f 0 ++ cond b (f 1) [])) plain ∙ with_keys-append keys (f 0) []
-
--- and else there are two
-pub rails_two : (claim : Claim) (keys : List Key) (f : ℕ → List KeyLit) → claim.hazard ≡ true → with_keys keys (on_rails claim f) ≡ with_keys
-    (with_keys keys (f 0)) (f 1)
-rails_two claim keys f hazard =
-    ap (λ (b : Bool). with_keys keys (f 0 ++ cond b (f 1) [])) hazard ∙ with_keys-append keys (f 0) (f 1)
-
+-- of a gate and of a late capture
 pub gate_late-rows : (coding : Coding) (d : Design) (claim : Claim) (moved : List (List Bool)) (c layer k : ℕ) (g : Gate) → 0 < layer
     → slice_get d.gates k ≡ Some g
-    → gate_late coding d claim moved c (layer - 1) k (slice_get d.gates k) ≡ on_rails claim (λ rail. gate_rail coding d claim moved c layer rail k g)
+    → gate_late coding d claim moved c (layer - 1) k (slice_get d.gates k)
+    ≡ on_rails claim (λ rail. counted_rail coding (value g.func) (gate_rail d claim moved c layer rail k g))
 gate_late-rows coding d claim moved c layer k g late at =
     let e : suc (layer - 1) ≡ layer = omega arith in
-    ap (gate_late coding d claim moved c (layer - 1) k) at ∙ ap (λ (m : ℕ). on_rails claim (λ rail. gate_rail coding d claim moved c m rail k g)) e
+    ap (gate_late coding d claim moved c (layer - 1) k) at
+    ∙ ap (λ (m : ℕ). on_rails claim (λ rail. counted_rail coding (value g.func) (gate_rail d claim moved c m rail k g))) e
 
 pub reg_late-rows : (coding : Coding) (d : Design) (claim : Claim) (moved : List (List Bool)) (c r : ℕ) (reg : Reg) → slice_get d.regs r ≡ Some reg
-    → reg_late coding d claim moved c r (slice_get d.regs r) ≡ on_rails claim (λ rail. reg_rail coding d claim moved c rail r reg)
+    → reg_late coding d claim moved c r (slice_get d.regs r)
+    ≡ on_rails claim (λ rail. counted_rail coding (reg_capture reg) (reg_rail d claim moved c rail (own_sign rail) r reg))
 reg_late-rows coding d claim moved c r reg at = ap (reg_late coding d claim moved c r) at
 
 -- what is read in a layer after the cycle itself

@@ -8,9 +8,7 @@ use Rattle.net_model.specs.declared.terns.Tern.TheVariants.{Zero, One, Unknown}
 use Rattle.net_model.proofs.Members.{In, In-left, In-right, In-cases, In-from_Contains, Contains-from_In, In-map, from_map}
 use Rattle.query_model.specs.Keys.{lit, opposite, flipped}
 use Rattle.query_model.specs.Tables.{outside, cube_clause, barred, escapes, may_be, may_clause, must_clause}
-use Rattle.sdcv_base.specs.declared.kinds.Edge.{Edge}
-use Rattle.sdcv_base.specs.declared.kinds.Edge.TheVariants.{Any, Rise, Fall}
-use Rattle.query_model.specs.Defined.{Definition, covering, settling, plain, rails, unit, exclusive, both, edge_definition}
+use Rattle.query_model.specs.Defined.{Definition, covering, settling, plain, rails, unit, exclusive, both}
 use Rattle.query_model.specs.Depends.{IsFixedAt}
 use Rattle.query_model.specs.Formula.{Mentions}
 use Rattle.query_model.proofs.Needs.{mentioned}
@@ -406,30 +404,3 @@ both_read z x y = record { given = given; only = only } where
 
   only : (j : Key) → Mentions (both z x y).clauses j → In j (z ∷ []) ⊎ Among (x ∷ y ∷ []) j
   only j m = let at = in_clause (both z x y).clauses j m in by_clause j at.0 at.1 at.2
-
--- what reads two literals reads any two of the same keys
-ReadsOf-keys : (def : Definition) (x y a b : KeyLit) → x.key ≡ a.key → y.key ≡ b.key → ReadsOf def (x ∷ y ∷ []) → ReadsOf def (a ∷ b ∷ [])
-ReadsOf-keys def x y a b first second says = record { given = given; only = only } where
-  given : (l : KeyLit) → In l (a ∷ b ∷ []) → Mentions def.clauses l.key
-  given l (inl here) = subst (Mentions def.clauses) (first ∙ ap (λ (m : KeyLit). m.key) here) (says.given x (inl refl))
-  given l (inr (inl here)) = subst (Mentions def.clauses) (second ∙ ap (λ (m : KeyLit). m.key) here) (says.given y (inr (inl refl)))
-  given l (inr (inr none)) = absurd none
-
-  among : (j : Key) (l : KeyLit) → l.key ≡ j → In l (x ∷ y ∷ []) → Among (a ∷ b ∷ []) j
-  among j l is (inl here) = (a, inl refl, sym first ∙ ap (λ (m : KeyLit). m.key) here ∙ is)
-  among j l is (inr (inl here)) = (b, inr (inl refl), sym second ∙ ap (λ (m : KeyLit). m.key) here ∙ is)
-  among j l is (inr (inr none)) = absurd none
-
-  only : (j : Key) → Mentions def.clauses j → In j def.outs ⊎ Among (a ∷ b ∷ []) j
-  only j m = elim (says.only j m) [ inl out ↦ inl out | inr read ↦ inr (among j read.0 read.2 read.1) ]
-
--- the change of an edge reads both literals
-pub edge_read : (edge : Edge) (z : Key) (x y : KeyLit) → ReadsOf (edge_definition edge z x y) (x ∷ y ∷ [])
-edge_read Any z x y = exclusive_read z x y
-edge_read Rise z x y = ReadsOf-keys (both z x (opposite y)) x (opposite y) x y refl refl (both_read z x (opposite y))
-edge_read Fall z x y = ReadsOf-keys (both z (opposite x) y) (opposite x) y x y refl refl (both_read z (opposite x) y)
-
-pub edge_outs : (edge : Edge) (z : Key) (x y : KeyLit) → (edge_definition edge z x y).outs ≡ z ∷ []
-edge_outs Any z x y = refl
-edge_outs Rise z x y = refl
-edge_outs Fall z x y = refl

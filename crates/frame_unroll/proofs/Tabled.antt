@@ -1,18 +1,24 @@
 -- What the tables of a design say of the places that count.
 use Rattle.std.proofs.Common.{◌≡◌, ◌+◌, ◌∙◌, ℕ, zero, suc, Bool, true, false, cond, List, [], ◌∷◌, ◌++◌, length, map, take, Some, ap, sym, subst, arith}
 use Rattle.std.specs.Prelude.{slice_get}
-use Rattle.std.proofs.lemmas.List.{length-append}
+use Rattle.std.proofs.lemmas.List.{length-append, length-map}
 use Rattle.net_model.specs.Form.{value}
 use Rattle.net_model.specs.Cycles.{reg_capture}
 use Rattle.net_model.specs.Mentions.{reads_own}
 use Rattle.net_model.specs.declared.netlist.Design.{Design}
 use Rattle.net_model.specs.declared.netlist.Gate.{Gate}
 use Rattle.net_model.specs.declared.netlist.Reg.{Reg}
-use Rattle.query_model.specs.Defined.{with_own}
+use Rattle.net_model.specs.declared.claims.Claim.{Claim}
+use Rattle.net_model.specs.declared.claims.PinRef.TheVariants.{GateIn, RegIn}
+use Rattle.query_model.specs.Keys.{lit}
+use Rattle.query_model.specs.Reads.{bit_key, read_base, read_pin}
+use Rattle.query_model.specs.Defined.{numbered, with_own, gate_reads, reg_reads}
+use Rattle.query_model.proofs.Lists.{length-numbered}
 use Rattle.query_model.specs.declared.keys.KeyLit.{KeyLit}
 use Rattle.frame_unroll.specs.Counting.{counted, marked}
 use Rattle.frame_unroll.specs.Counted.{gate_marks, reg_marks, capture_places}
 use Rattle.frame_unroll.specs.Tabled.{CodedDesign}
+use Rattle.frame_unroll.specs.Sites.{bit_reads}
 use Rattle.frame_unroll.proofs.Marks.{length-marks, marked_counted}
 
 -- what a table says of a gate of the design
@@ -38,6 +44,20 @@ length-own reg own pins long = by (reads_own reg)
     by : (b : Bool) → length (pins ++ cond b (own ∷ []) []) ≡ length reg.ins + cond b 1 0
     by true = omega (arith, length-append pins (own ∷ []), long)
     by false = omega (arith, length-append pins [], long)
+
+-- as much is read on each rail: of a gate, of a register in a cycle, and of its late capture
+pub length-gate_reads : (d : Design) (claim : Claim) (moved : List (List Bool)) (c layer rail k : ℕ) (g : Gate)
+    → length (gate_reads d claim moved c layer rail k g) ≡ length g.ins
+length-gate_reads d claim moved c layer rail k g = length-numbered (λ i n. read_pin d claim moved c layer rail (GateIn k i) n) 0 g.ins
+
+pub length-bit_reads : (d : Design) (c r : ℕ) (reg : Reg) → length (bit_reads d c r reg) ≡ capture_places reg
+length-bit_reads d c r reg = length-own reg (lit true (bit_key d c r)) (map (read_base d c) reg.ins) (length-map reg.ins (read_base d c))
+
+pub length-reg_reads : (d : Design) (claim : Claim) (moved : List (List Bool)) (c rail : ℕ) (own : Bool) (r : ℕ) (reg : Reg)
+    → length (reg_reads d claim moved c rail own r reg) ≡ capture_places reg
+length-reg_reads d claim moved c rail own r reg =
+    let read : ℕ → ℕ → KeyLit = λ i n. read_pin d claim moved c (length claim.through + 1) rail (RegIn r i) n in
+    length-own reg (lit own (bit_key d c r)) (numbered read 0 reg.ins) (length-numbered read 0 reg.ins)
 
 -- what a table says of a register of the design
 reg_says : (t : CodedDesign) (d : Design) (r : ℕ) (reg : Reg) (ms : List Bool) → t.design ≡ d → slice_get d.regs r ≡ Some reg

@@ -21,7 +21,8 @@ use Rattle.query_model.specs.Reads.{is_start_net}
 use Rattle.net_model.specs.Queries.{Query, Violates}
 use Rattle.query_model.specs.Defined.{Definition, numbered, exclusive, base_definitions, unit, has_own, layer_gate, start_units, layer_definitions}
 use Rattle.query_model.specs.Defined.{late_key, late_reg, end_definition, start_lit, capture_lit, extra, change_key, stale_key}
-use Rattle.query_model.specs.Defined.{toggle_definition, differ_definition, extra_definitions, claim_definitions}
+use Rattle.query_model.specs.Defined.{toggle_definition, differ_definition, stale_definition, extra_definitions, claim_definitions}
+use Rattle.query_model.specs.Defined.{gate_reads, plain_gate, rails_gate, reg_reads, plain_reg, rails_reg}
 use Rattle.query_model.specs.Formula.{Mentions, definitions, cycle_definitions, question_definitions}
 use Rattle.query_model.proofs.Members.{below_less}
 use Rattle.query_model.proofs.Based.{from_numbered}
@@ -31,13 +32,13 @@ use Rattle.query_model.specs.declared.keys.Coding.{Coding}
 use Rattle.frame_unroll.specs.Counting.{counted}
 use Rattle.frame_unroll.specs.Origins.{Uses, gate_of, of_gate, base_origin, extra_origin, end_origin, has_rail, late_origin, layer_origin}
 use Rattle.frame_unroll.specs.Origins.{claim_origin, reads_of_origin, gate_late, reg_late, late_reads, reads_in_layer, claim_reads}
+use Rattle.frame_unroll.specs.Pairs.{reads_of, toggle_pair, differ_pair}
 use Rattle.frame_unroll.specs.declared.origins.Origin.{Origin}
 use Rattle.frame_unroll.specs.declared.origins.Origin.TheVariants.{Free, Stale}
 use Rattle.frame_unroll.proofs.Saying.{Among, Among-left, Among-right, ReadsOf, plain_read, rails_reads, unit_read, exclusive_read}
 use Rattle.frame_unroll.proofs.Using.{gate_own, base_use}
-use Rattle.frame_unroll.proofs.UsingLate.{zero_more, gate_layer, gate_pins, gate_plain, gate_rails, gate_says, reg_rail, reg_plain, reg_rails}
-use Rattle.frame_unroll.proofs.UsingLate.{reg_says, from_rails, reg_counted, reg_listed, differ_reads, differ_says, differ_out, stale_definition, earlier}
-use Rattle.frame_unroll.proofs.UsingLate.{toggle_read, toggle_outs, base_level}
+use Rattle.frame_unroll.proofs.Paired.{toggle_says, toggle_outs, differ_says, differ_outs}
+use Rattle.frame_unroll.proofs.UsingLate.{zero_more, gate_layer, gate_says, reg_says, reg_counted, reg_listed, earlier, base_level}
 
 -- the key itself, or one that its definition reads
 abbrev IsRead : Coding → Design → Claim → List (List Bool) → ℕ → Key → Key → Type 0
@@ -155,7 +156,7 @@ from_gate coding d claim moved cycles c l i g def k j sound early low at has out
     ]
   where
     pins : ℕ → List KeyLit
-    pins n = gate_pins d claim moved c l i g n
+    pins n = gate_reads d claim moved c (suc l) n i g
 
     counts : ℕ → List KeyLit
     counts n = counted coding (value g.func) (pins n)
@@ -170,29 +171,32 @@ from_gate coding d claim moved cycles c l i g def k j sound early low at has out
         → claim_reads coding d claim moved cycles (own_key rail) ≡ gate_late coding d claim moved c l i (Some g)
     eval rail on own = gate_eval coding d claim moved cycles c l rail i g sound early low on at own
 
-    of_plain : has_own claim moved l g.out ≡ true → gate_plain coding d claim moved c l i g ≡ def → IsRead coding d claim moved cycles k j
+    of_plain : has_own claim moved l g.out ≡ true → plain_gate coding d claim moved c (suc l) i g ≡ def → IsRead coding d claim moved cycles k j
     of_plain own is =
-        from_one coding d claim moved cycles (gate_plain coding d claim moved c l i g) (counts 0) (own_key 0) k j refl
+        from_one coding d claim moved cycles (plain_gate coding d claim moved c (suc l) i g) (counts 0) (own_key 0) k j refl
         (plain_read coding (value g.func) (pins 0) (own_key 0))
         (λ a. subst (λ (ls : List KeyLit). Among ls j) (sym (eval 0 (on_low claim) own))
         (Among-left (f 0) _ j (Among-left (counts 0) (lit true (own_key 0) ∷ []) j a)))
         (subst (λ (x : Definition). In k x.outs) (sym is) out) (subst (λ (x : Definition). Mentions x.clauses j) (sym is) m)
 
     on_key : (rail : ℕ) → has_own claim moved l g.out ≡ true → claim.hazard ≡ true → has_rail claim rail ≡ true
-        → Mentions (gate_rails coding d claim moved c l i g).clauses j → IsRead coding d claim moved cycles (own_key rail) j
+        → Mentions (rails_gate coding d claim moved c (suc l) i g).clauses j → IsRead coding d claim moved cycles (own_key rail) j
     on_key rail own hazard on said =
-        from_both coding d claim moved cycles (gate_rails coding d claim moved c l i g) (counts 0) (counts 1) (own_key 0) (own_key 1) (own_key rail) j refl
+        from_both coding d claim moved cycles (rails_gate coding d claim moved c (suc l) i g) (counts 0) (counts 1)
+        (own_key 0) (own_key 1) (own_key rail) j refl
         (gate_says coding d claim moved c l i g)
         (λ z a. subst (λ (ls : List KeyLit). Among ls z) (sym (eval rail on own)) (subst (λ h. Among (f 0 ++ cond h (f 1) []) z) (sym hazard) a)) said
 
-    of_rails : has_own claim moved l g.out ≡ true → claim.hazard ≡ true → gate_rails coding d claim moved c l i g ≡ def → IsRead coding d claim moved cycles k j
+    of_rails : has_own claim moved l g.out ≡ true → claim.hazard ≡ true → rails_gate coding d claim moved c (suc l) i g ≡ def
+        → IsRead coding d claim moved cycles k j
     of_rails own hazard is =
         let said = subst (λ (x : Definition). Mentions x.clauses j) (sym is) m in
         of_two coding d claim moved cycles (own_key 0) (own_key 1) k j (subst (λ (x : Definition). In k x.outs) (sym is) out)
         (on_key 0 own hazard (on_low claim) said) (on_key 1 own hazard (on_high claim hazard) said)
 
     by_mode : has_own claim moved l g.out ≡ true → (h : Bool) → claim.hazard ≡ h
-        → In def (cond h (gate_rails coding d claim moved c l i g ∷ []) (gate_plain coding d claim moved c l i g ∷ [])) → IsRead coding d claim moved cycles k j
+        → In def (cond h (rails_gate coding d claim moved c (suc l) i g ∷ []) (plain_gate coding d claim moved c (suc l) i g ∷ []))
+        → IsRead coding d claim moved cycles k j
     by_mode own true hazard (inl is) = of_rails own hazard is
     by_mode own true hazard (inr none) = absurd none
     by_mode own false plain_mode (inl is) = of_plain own is
@@ -234,26 +238,25 @@ from_end coding d claim moved cycles c def k j sound early (RegEnd r) is has out
     own_key : ℕ → Key
     own_key n = late_key d claim c n
 
-    of_plain : (reg : Reg) → slice_get d.regs r ≡ Some reg → reg_plain coding d claim moved c r reg ≡ def → IsRead coding d claim moved cycles k j
+    of_plain : (reg : Reg) → slice_get d.regs r ≡ Some reg → plain_reg coding d claim moved c r reg ≡ def → IsRead coding d claim moved cycles k j
     of_plain reg at same =
-        from_one coding d claim moved cycles (reg_plain coding d claim moved c r reg) (reg_counted coding d claim moved c r reg true 0) (own_key 0) k j refl
-        (plain_read coding (reg_capture reg) (reg_rail d claim moved c r reg true 0) (own_key 0))
+        from_one coding d claim moved cycles (plain_reg coding d claim moved c r reg) (reg_counted coding d claim moved c r reg 0) (own_key 0) k j refl
+        (plain_read coding (reg_capture reg) (reg_reads d claim moved c 0 true r reg) (own_key 0))
         (λ a. subst (λ (ls : List KeyLit). Among ls j) (sym (reg_eval coding d claim moved cycles c 0 r reg early (on_low claim) is at))
-        (Among-left (reg_listed coding d claim moved c r reg 0) _ j (Among-left (reg_counted coding d claim moved c r reg true 0) (lit true (own_key 0) ∷ []) j
+        (Among-left (reg_listed coding d claim moved c r reg 0) _ j (Among-left (reg_counted coding d claim moved c r reg 0) (lit true (own_key 0) ∷ []) j
         a)))
         (subst (λ (x : Definition). In k x.outs) (sym same) out) (subst (λ (x : Definition). Mentions x.clauses j) (sym same) m)
 
     on_key : (reg : Reg) (rail : ℕ) → slice_get d.regs r ≡ Some reg → claim.hazard ≡ true → has_rail claim rail ≡ true
-        → Mentions (reg_rails coding d claim moved c r reg).clauses j → IsRead coding d claim moved cycles (own_key rail) j
+        → Mentions (rails_reg coding d claim moved c r reg).clauses j → IsRead coding d claim moved cycles (own_key rail) j
     on_key reg rail at hazard on said =
-        from_both coding d claim moved cycles (reg_rails coding d claim moved c r reg) (reg_counted coding d claim moved c r reg true 0)
-        (reg_counted coding d claim moved c r reg false 1) (own_key 0) (own_key 1) (own_key rail) j refl (reg_says coding d claim moved c r reg)
+        from_both coding d claim moved cycles (rails_reg coding d claim moved c r reg) (reg_counted coding d claim moved c r reg 0)
+        (reg_counted coding d claim moved c r reg 1) (own_key 0) (own_key 1) (own_key rail) j refl (reg_says coding d claim moved c r reg)
         (λ z a. subst (λ (ls : List KeyLit). Among ls z) (sym (reg_eval coding d claim moved cycles c rail r reg early on is at))
-        (subst (λ h. Among (reg_listed coding d claim moved c r reg 0 ++ cond h (reg_listed coding d claim moved c r reg 1) []) z) (sym hazard)
-        (from_rails coding d claim moved c r reg z a))) said
+        (subst (λ h. Among (reg_listed coding d claim moved c r reg 0 ++ cond h (reg_listed coding d claim moved c r reg 1) []) z) (sym hazard) a)) said
 
     by_mode : (reg : Reg) → slice_get d.regs r ≡ Some reg → (h : Bool) → claim.hazard ≡ h
-        → In def (cond h (reg_rails coding d claim moved c r reg ∷ []) (reg_plain coding d claim moved c r reg ∷ [])) → IsRead coding d claim moved cycles k j
+        → In def (cond h (rails_reg coding d claim moved c r reg ∷ []) (plain_reg coding d claim moved c r reg ∷ [])) → IsRead coding d claim moved cycles k j
     by_mode reg at true hazard (inl same) =
         let said = subst (λ (x : Definition). Mentions x.clauses j) (sym same) m in
         of_two coding d claim moved cycles (own_key 0) (own_key 1) k j (subst (λ (x : Definition). In k x.outs) (sym same) out)
@@ -291,7 +294,7 @@ from_extra coding d claim moved cycles c def k j early has out m = by_place has
         from_one coding d claim moved cycles this reads (extra d c n) k j outs says (read_at n reads same)
         (subst (λ (x : Definition). In k x.outs) (sym is) out) (subst (λ (x : Definition). Mentions x.clauses j) (sym is) m)
 
-    of_stale : (r : ℕ) → r < judged_count claim - 1 → stale_definition d claim c r ≡ def → IsRead coding d claim moved cycles k j
+    of_stale : (r : ℕ) → r < judged_count claim - 1 → stale_definition d claim.start c r ≡ def → IsRead coding d claim moved cycles k j
     of_stale r lt is =
         let place : 2 + (r + 1) ≡ suc (suc (suc r)) = omega arith in
         let origin : extra_origin claim (2 + (r + 1)) ≡ Stale (r + 1) = ap (extra_origin claim) place
@@ -300,20 +303,19 @@ from_extra coding d claim moved cycles c def k j early has out m = by_place has
         ∷ start_lit d claim.start (c - r - 2) ∷ [] =
         ap (reads_in_layer coding d claim moved (extra d c (2 + (r + 1))) 0) origin
         ∙ ap (λ (n : ℕ). start_lit d claim.start c ∷ start_lit d claim.start n ∷ []) (earlier c r) in
-        one_of (2 + (r + 1)) (stale_definition d claim c r) (start_lit d claim.start c ∷ start_lit d claim.start (c - r - 2) ∷ []) refl
+        one_of (2 + (r + 1)) (stale_definition d claim.start c r) (start_lit d claim.start c ∷ start_lit d claim.start (c - r - 2) ∷ []) refl
         (exclusive_read (stale_key d c (r + 1)) (start_lit d claim.start c) (start_lit d claim.start (c - r - 2))) reads is
 
     by_place : In def (extra_definitions d claim moved c) → IsRead coding d claim moved cycles k j
-    by_place (inl is) = one_of 0 (toggle_definition d claim.edge claim.start c)
-        (start_lit d claim.start c ∷ start_lit d claim.start (c - 1) ∷ []) (toggle_outs d claim.edge claim.start c)
-        (toggle_read d claim.edge claim.start c) refl is
+    by_place (inl is) = one_of 0 (toggle_definition d claim.edge claim.start c) (reads_of (toggle_pair d claim c)) (toggle_outs d claim c)
+        (toggle_says d claim c) refl is
     by_place (inr (inl is)) = one_of 1 (exclusive (change_key d c) (capture_lit d claim.end c) (capture_lit d claim.end (c - 1)))
         (capture_lit d claim.end c ∷ capture_lit d claim.end (c - 1) ∷ []) refl
         (exclusive_read (change_key d c) (capture_lit d claim.end c) (capture_lit d claim.end (c - 1))) refl is
-    by_place (inr (inr (inl is))) = one_of 2 (differ_definition d claim moved c) (differ_reads d claim moved c) (differ_out d claim moved c)
+    by_place (inr (inr (inl is))) = one_of 2 (differ_definition d claim moved c) (reads_of (differ_pair d claim moved c)) (differ_outs d claim moved c)
         (differ_says d claim moved c) refl is
     by_place (inr (inr (inr later))) =
-        let of = from_map (stale_definition d claim c) def (below (judged_count claim - 1)) later in
+        let of = from_map (stale_definition d claim.start c) def (below (judged_count claim - 1)) later in
         of_stale of.0 (below_less (judged_count claim - 1) of.0 of.1) of.2
 
 -- a used key is read

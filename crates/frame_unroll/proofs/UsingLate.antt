@@ -3,7 +3,6 @@ use Rattle.std.proofs.Common.{◌≡◌, ◌≢◌, ℕ, zero, suc, ◌+◌, ◌
 use Rattle.std.proofs.Common.{Some, None, refl, ap, sym, ◌∙◌, arith, inl, inr, ◌⊎◌, subst, add-one}
 use Rattle.std.specs.Prelude.{slice_get, flat_map, nat_lt, ◌==◌, ◌&&◌}
 use Rattle.std.proofs.lemmas.Bool.{cond-false, cond_both, ltb-true, ltb-false, eqb-true, and_parts, or_cases, not-false, not_from_true}
-use Rattle.std.proofs.lemmas.List.{length-append}
 use Rattle.net_model.specs.Form.{value}
 use Rattle.net_model.specs.Netlist.{IsSound}
 use Rattle.net_model.specs.Fits.{Fits}
@@ -14,22 +13,16 @@ use Rattle.net_model.specs.declared.netlist.Design.{Design}
 use Rattle.net_model.specs.declared.netlist.Gate.{Gate}
 use Rattle.net_model.specs.declared.netlist.Reg.{Reg}
 use Rattle.net_model.specs.declared.claims.Claim.{Claim}
-use Rattle.net_model.specs.declared.claims.Start.{Start}
 use Rattle.net_model.specs.declared.claims.End.{End}
 use Rattle.net_model.specs.declared.claims.End.TheVariants.{Reg as RegEnd, Output as OutputEnd}
-use Rattle.net_model.specs.declared.claims.PinRef.TheVariants.{GateIn, RegIn}
-use Rattle.sdcv_base.specs.declared.kinds.Edge.{Edge}
 use Rattle.query_model.specs.Keys.{key, lit, below}
-use Rattle.query_model.specs.Reads.{bit_key, read_pin}
 use Rattle.net_model.specs.Queries.{Query, Violates}
-use Rattle.net_model.specs.Mentions.{reads_own}
 use Rattle.query_model.specs.Defined.{Definition, numbered, plain, rails, exclusive, both, with_own, base_definitions, has_own, layer_gate}
 use Rattle.query_model.specs.Defined.{start_units, layer_definitions, late_key, late_reg, end_definition, start_lit, capture_lit, late_capture_lit}
 use Rattle.query_model.specs.Defined.{extra, toggle_key, change_key, differ_key, stale_key, toggle_definition, differ_definition, extra_definitions}
-use Rattle.query_model.specs.Defined.{claim_definitions}
+use Rattle.query_model.specs.Defined.{claim_definitions, gate_reads, reg_reads, plain_gate, rails_gate, plain_reg, rails_reg, stale_definition}
 use Rattle.query_model.specs.Formula.{Mentions, definitions, cycle_definitions, question_definitions}
 use Rattle.query_model.proofs.Members.{In-below}
-use Rattle.query_model.proofs.Lists.{length-numbered}
 use Rattle.query_model.proofs.Based.{placed, in_place, from_numbered, in_numbered}
 use Rattle.query_model.specs.declared.keys.Key.{Key}
 use Rattle.query_model.specs.declared.keys.KeyLit.{KeyLit}
@@ -37,11 +30,13 @@ use Rattle.query_model.specs.declared.keys.Coding.{Coding}
 use Rattle.frame_unroll.specs.Counting.{counted}
 use Rattle.frame_unroll.specs.Origins.{Uses, gate_of, of_gate, base_origin, extra_origin, end_origin, has_rail, late_origin, layer_origin}
 use Rattle.frame_unroll.specs.Origins.{reads_of_origin, gate_late, reg_late, reads_in_layer, claim_reads}
+use Rattle.frame_unroll.specs.Sites.{own_sign}
+use Rattle.frame_unroll.specs.Pairs.{reads_of, toggle_pair, differ_pair}
 use Rattle.frame_unroll.specs.declared.origins.Origin.{Origin}
 use Rattle.frame_unroll.specs.declared.origins.Origin.TheVariants.{Free, Reg as OfReg, Stale}
-use Rattle.frame_unroll.proofs.Marks.{counted_keys}
-use Rattle.frame_unroll.proofs.Saying.{Among, Among-left, Among-right, ReadsOf, plain_read, plain_out, rails_reads, rails_read, exclusive_read, both_read}
-use Rattle.frame_unroll.proofs.Saying.{edge_read, edge_outs}
+use Rattle.frame_unroll.proofs.Saying.{Among, Among-left, Among-right, ReadsOf, plain_read, plain_out, rails_reads, rails_read, exclusive_read}
+use Rattle.frame_unroll.proofs.Paired.{toggle_says, toggle_outs, differ_says, differ_outs}
+use Rattle.frame_unroll.proofs.Tabled.{length-gate_reads, length-reg_reads}
 use Rattle.frame_unroll.proofs.Using.{key_at, use_by, gate_found, base_used}
 
 pub zero_more : (r : ℕ) → 0 + r ≡ r
@@ -72,31 +67,19 @@ gate_in coding d claim moved c l i g def at has =
     (subst (λ (n : ℕ). In (layer_gate coding d claim moved c l n g) layer) (zero_more i)
     (in_numbered (layer_gate coding d claim moved c l) 0 d.gates i g at)) has)
 
--- what a gate's pins read in layer suc l on a rail
-abbrev pub gate_pins : Design → Claim → List (List Bool) → ℕ → ℕ → ℕ → Gate → ℕ → List KeyLit
-gate_pins d claim moved c l i g rail = numbered (λ p n. read_pin d claim moved c (suc l) rail (GateIn i p) n) 0 g.ins
-
-abbrev pub gate_plain : Coding → Design → Claim → List (List Bool) → ℕ → ℕ → ℕ → Gate → Definition
-gate_plain coding d claim moved c l i g = plain coding (value g.func) (gate_pins d claim moved c l i g 0) (key c (suc l) 0 g.out)
-
-abbrev pub gate_rails : Coding → Design → Claim → List (List Bool) → ℕ → ℕ → ℕ → Gate → Definition
-gate_rails coding d claim moved c l i g =
-    rails coding (value g.func) (gate_pins d claim moved c l i g 0) (gate_pins d claim moved c l i g 1) (key c (suc l) 0 g.out) (key c (suc l) 1 g.out)
-
 pub gate_layer : (coding : Coding) (d : Design) (claim : Claim) (moved : List (List Bool)) (c l i : ℕ) (g : Gate) → has_own claim moved l g.out ≡ true
-    → layer_gate coding d claim moved c l i g ≡ cond claim.hazard (gate_rails coding d claim moved c l i g ∷ []) (gate_plain coding d claim moved c l i g ∷ [])
+    → layer_gate coding d claim moved c l i g
+    ≡ cond claim.hazard (rails_gate coding d claim moved c (suc l) i g ∷ []) (plain_gate coding d claim moved c (suc l) i g ∷ [])
 gate_layer coding d claim moved c l i g own =
-    cond-false (not (has_own claim moved l g.out)) [] (cond claim.hazard (gate_rails coding d claim moved c l i g ∷ [])
-    (gate_plain coding d claim moved c l i g ∷ [])) (not_from_true (has_own claim moved l g.out) own)
+    cond-false (not (has_own claim moved l g.out)) [] (cond claim.hazard (rails_gate coding d claim moved c (suc l) i g ∷ [])
+    (plain_gate coding d claim moved c (suc l) i g ∷ [])) (not_from_true (has_own claim moved l g.out) own)
 
 pub gate_says : (coding : Coding) (d : Design) (claim : Claim) (moved : List (List Bool)) (c l i : ℕ) (g : Gate)
-    → ReadsOf (gate_rails coding d claim moved c l i g) (rails_reads (counted coding (value g.func) (gate_pins d claim moved c l i g 0))
-    (counted coding (value g.func) (gate_pins d claim moved c l i g 1)) (key c (suc l) 0 g.out) (key c (suc l) 1 g.out))
+    → ReadsOf (rails_gate coding d claim moved c (suc l) i g) (rails_reads (counted coding (value g.func) (gate_reads d claim moved c (suc l) 0 i g))
+    (counted coding (value g.func) (gate_reads d claim moved c (suc l) 1 i g)) (key c (suc l) 0 g.out) (key c (suc l) 1 g.out))
 gate_says coding d claim moved c l i g =
-    let long : (rail : ℕ) → length (gate_pins d claim moved c l i g rail) ≡ length g.ins = λ rail.
-    length-numbered (λ p n. read_pin d claim moved c (suc l) rail (GateIn i p) n) 0 g.ins in
-    rails_read coding (value g.func) (gate_pins d claim moved c l i g 0) (gate_pins d claim moved c l i g 1) (key c (suc l) 0 g.out) (key c (suc l) 1 g.out)
-    (long 1 ∙ sym (long 0))
+    rails_read coding (value g.func) (gate_reads d claim moved c (suc l) 0 i g) (gate_reads d claim moved c (suc l) 1 i g) (key c (suc l) 0 g.out)
+    (key c (suc l) 1 g.out) (length-gate_reads d claim moved c (suc l) 1 i g ∙ sym (length-gate_reads d claim moved c (suc l) 0 i g))
 
 -- a key of a layer is on one of its rails
 on_rail : (claim : Claim) (c l rail p : ℕ) → claim.hazard ≡ true → has_rail claim rail ≡ true → In (key c l rail p) (key c l 0 p ∷ key c l 1 p ∷ [])
@@ -146,9 +129,10 @@ gate_used coding q claim offset clean moved c l rail i g j sound asks early low 
     d = q.design
 
     f : ℕ → List KeyLit
-    f n = counted coding (value g.func) (gate_pins d claim moved c l i g n) ++ lit true (key c (suc l) n g.out) ∷ []
+    f n = counted coding (value g.func) (gate_reads d claim moved c (suc l) n i g) ++ lit true (key c (suc l) n g.out) ∷ []
 
-    listed : (def : Definition) → In def (cond claim.hazard (gate_rails coding d claim moved c l i g ∷ []) (gate_plain coding d claim moved c l i g ∷ []))
+    listed : (def : Definition) → In def
+        (cond claim.hazard (rails_gate coding d claim moved c (suc l) i g ∷ []) (plain_gate coding d claim moved c (suc l) i g ∷ []))
         → In def (definitions coding q moved)
     listed def has = claim_in coding q claim offset clean moved c def asks early
         (layer_in coding d claim moved c l def low (gate_in coding d claim moved c l i g def at (subst (In def) (sym
@@ -156,111 +140,35 @@ gate_used coding q claim offset clean moved c l rail i g j sound asks early low 
 
     by_mode : (h : Bool) → claim.hazard ≡ h → Among (f 0 ++ cond h (f 1) []) j → Uses (definitions coding q moved) (key c (suc l) rail g.out) j
     by_mode true hazard a =
-        use_by (definitions coding q moved) (gate_rails coding d claim moved c l i g) (f 0 ++ f 1) (key c (suc l) rail g.out) j
-        (listed (gate_rails coding d claim moved c l i g) (subst (λ h. In (gate_rails coding d claim moved c l i g)
-        (cond h (gate_rails coding d claim moved c l i g ∷ []) (gate_plain coding d claim moved c l i g ∷ []))) (sym hazard) (inl refl)))
+        use_by (definitions coding q moved) (rails_gate coding d claim moved c (suc l) i g) (f 0 ++ f 1) (key c (suc l) rail g.out) j
+        (listed (rails_gate coding d claim moved c (suc l) i g) (subst (λ h. In (rails_gate coding d claim moved c (suc l) i g)
+        (cond h (rails_gate coding d claim moved c (suc l) i g ∷ []) (plain_gate coding d claim moved c (suc l) i g ∷ []))) (sym hazard) (inl refl)))
         (on_rail claim c (suc l) rail g.out hazard on) (gate_says coding d claim moved c l i g) a
     by_mode false plain_mode a =
         subst (λ (n : ℕ). Uses (definitions coding q moved) (key c (suc l) n g.out) j) (sym (plain_rail claim rail plain_mode on))
-        (plain_use coding (definitions coding q moved) (value g.func) (gate_pins d claim moved c l i g 0) (key c (suc l) 0 g.out) j
-        (listed (gate_plain coding d claim moved c l i g) (subst (λ h. In (gate_plain coding d claim moved c l i g)
-        (cond h (gate_rails coding d claim moved c l i g ∷ []) (gate_plain coding d claim moved c l i g ∷ []))) (sym plain_mode) (inl refl))) a)
+        (plain_use coding (definitions coding q moved) (value g.func) (gate_reads d claim moved c (suc l) 0 i g) (key c (suc l) 0 g.out) j
+        (listed (plain_gate coding d claim moved c (suc l) i g) (subst (λ h. In (plain_gate coding d claim moved c (suc l) i g)
+        (cond h (rails_gate coding d claim moved c (suc l) i g ∷ []) (plain_gate coding d claim moved c (suc l) i g ∷ []))) (sym plain_mode) (inl refl))) a)
 
--- the late capture of a register
-abbrev pub reg_pins : Design → Claim → List (List Bool) → ℕ → ℕ → Reg → ℕ → List KeyLit
-reg_pins d claim moved c r reg rail = numbered (λ p n. read_pin d claim moved c (length claim.through + 1) rail (RegIn r p) n) 0 reg.ins
-
--- its own bit is read as it is, or as its complement
-abbrev pub reg_rail : Design → Claim → List (List Bool) → ℕ → ℕ → Reg → Bool → ℕ → List KeyLit
-reg_rail d claim moved c r reg positive rail = with_own reg (lit positive (bit_key d c r)) (reg_pins d claim moved c r reg rail)
-
-abbrev pub reg_plain : Coding → Design → Claim → List (List Bool) → ℕ → ℕ → Reg → Definition
-reg_plain coding d claim moved c r reg = plain coding (reg_capture reg) (reg_rail d claim moved c r reg true 0) (late_key d claim c 0)
-
-abbrev pub reg_rails : Coding → Design → Claim → List (List Bool) → ℕ → ℕ → Reg → Definition
-reg_rails coding d claim moved c r reg =
-    rails coding (reg_capture reg) (reg_rail d claim moved c r reg true 0) (reg_rail d claim moved c r reg false 1) (late_key d claim c 0)
-    (late_key d claim c 1)
-
-same_length : (reg : Reg) (x y : KeyLit) (xs ys : List KeyLit) → length xs ≡ length ys → length (with_own reg x xs) ≡ length (with_own reg y ys)
-same_length reg x y xs ys same = by_own (reads_own reg)
-  where
-    by_own : (b : Bool) → length (xs ++ cond b (x ∷ []) []) ≡ length (ys ++ cond b (y ∷ []) [])
-    by_own true = omega (arith, same, length-append xs (x ∷ []), length-append ys (y ∷ []))
-    by_own false = omega (arith, same, length-append xs [], length-append ys [])
-
+-- the late capture reads what counts on both rails
 pub reg_says : (coding : Coding) (d : Design) (claim : Claim) (moved : List (List Bool)) (c r : ℕ) (reg : Reg)
-    → ReadsOf (reg_rails coding d claim moved c r reg) (rails_reads (counted coding (reg_capture reg) (reg_rail d claim moved c r reg true 0))
-    (counted coding (reg_capture reg) (reg_rail d claim moved c r reg false 1)) (late_key d claim c 0) (late_key d claim c 1))
+    → ReadsOf (rails_reg coding d claim moved c r reg) (rails_reads (counted coding (reg_capture reg) (reg_reads d claim moved c 0 true r reg))
+    (counted coding (reg_capture reg) (reg_reads d claim moved c 1 false r reg)) (late_key d claim c 0) (late_key d claim c 1))
 reg_says coding d claim moved c r reg =
-    let long : (rail : ℕ) → length (reg_pins d claim moved c r reg rail) ≡ length reg.ins = λ rail.
-    length-numbered (λ p n. read_pin d claim moved c (length claim.through + 1) rail (RegIn r p) n) 0 reg.ins in
-    rails_read coding (reg_capture reg) (reg_rail d claim moved c r reg true 0) (reg_rail d claim moved c r reg false 1) (late_key d claim c 0)
-    (late_key d claim c 1)
-    (same_length reg (lit false (bit_key d c r)) (lit true (bit_key d c r)) (reg_pins d claim moved c r reg 1) (reg_pins d claim moved c r reg 0)
-    (long 1 ∙ sym (long 0)))
-
--- the same keys whatever the sign of the own bit
-own_keys : (pins xs ys : List KeyLit) → map (λ (l : KeyLit). l.key) xs ≡ map (λ (l : KeyLit). l.key) ys
-    → map (λ (l : KeyLit). l.key) (pins ++ xs) ≡ map (λ (l : KeyLit). l.key) (pins ++ ys)
-own_keys [] xs ys same = same
-own_keys (p ∷ ps) xs ys same = ap (λ (ks : List Key). p.key ∷ ks) (own_keys ps xs ys same)
-
-resigned : (coding : Coding) (reg : Reg) (k : Key) (a b : Bool) (pins : List KeyLit) (j : Key)
-    → Among (counted coding (reg_capture reg) (with_own reg (lit a k) pins)) j → Among (counted coding (reg_capture reg) (with_own reg (lit b k) pins)) j
-resigned coding reg k a b pins j x =
-    let other = counted_keys coding (reg_capture reg) (with_own reg (lit a k) pins) (with_own reg (lit b k) pins) x.0 (same (reads_own reg)) x.1 in
-    (other.0, other.1, other.2 ∙ x.2)
-  where
-    same : (o : Bool) → map (λ (l : KeyLit). l.key) (pins ++ cond o (lit a k ∷ []) []) ≡ map (λ (l : KeyLit). l.key) (pins ++ cond o (lit b k ∷ []) [])
-    same true = own_keys pins (lit a k ∷ []) (lit b k ∷ []) refl
-    same false = refl
-
-pub Among-cases : (xs ys : List KeyLit) (j : Key) → Among (xs ++ ys) j → Among xs j ⊎ Among ys j
-Among-cases xs ys j a = elim (In-cases a.0 xs ys a.1) [ inl l ↦ inl (a.0, l, a.2) | inr r ↦ inr (a.0, r, a.2) ]
+    rails_read coding (reg_capture reg) (reg_reads d claim moved c 0 true r reg) (reg_reads d claim moved c 1 false r reg) (late_key d claim c 0)
+    (late_key d claim c 1) (length-reg_reads d claim moved c 1 false r reg ∙ sym (length-reg_reads d claim moved c 0 true r reg))
 
 -- what the late capture reads of what counts, on a rail
-abbrev pub reg_counted : (coding : Coding) → Design → Claim → List (List Bool) → ℕ → ℕ → Reg → Bool → ℕ → List KeyLit
-reg_counted coding d claim moved c r reg positive rail = counted coding (reg_capture reg) (reg_rail d claim moved c r reg positive rail)
+abbrev pub reg_counted : (coding : Coding) → Design → Claim → List (List Bool) → ℕ → ℕ → Reg → ℕ → List KeyLit
+reg_counted coding d claim moved c r reg rail = counted coding (reg_capture reg) (reg_reads d claim moved c rail (own_sign rail) r reg)
 
--- the reads of the late capture on its rails, as its origin lists them and as its definition does
+-- and beside it the late capture itself
 abbrev pub reg_listed : (coding : Coding) → Design → Claim → List (List Bool) → ℕ → ℕ → Reg → ℕ → List KeyLit
-reg_listed coding d claim moved c r reg rail = reg_counted coding d claim moved c r reg true rail ++ lit true (late_key d claim c rail) ∷ []
-
-to_rails : (coding : Coding) (d : Design) (claim : Claim) (moved : List (List Bool)) (c r : ℕ) (reg : Reg) (j : Key)
-    → Among (reg_listed coding d claim moved c r reg 0 ++ reg_listed coding d claim moved c r reg 1) j
-    → Among (rails_reads (reg_counted coding d claim moved c r reg true 0) (reg_counted coding d claim moved c r reg false 1) (late_key d claim c 0)
-    (late_key d claim c 1)) j
-to_rails coding d claim moved c r reg j a =
-    elim (Among-cases (reg_listed coding d claim moved c r reg 0) (reg_listed coding d claim moved c r reg 1) j a) [
-      | inl first ↦ Among-left (reg_listed coding d claim moved c r reg 0) _ j first
-      | inr second ↦ Among-right (reg_listed coding d claim moved c r reg 0)
-          (reg_counted coding d claim moved c r reg false 1 ++ lit true (late_key d claim c 1) ∷ []) j
-          (elim (Among-cases (reg_counted coding d claim moved c r reg true 1) (lit true (late_key d claim c 1) ∷ []) j second) [
-            | inl inside ↦ Among-left (reg_counted coding d claim moved c r reg false 1) (lit true (late_key d claim c 1) ∷ []) j
-                (resigned coding reg (bit_key d c r) true false (reg_pins d claim moved c r reg 1) j inside)
-            | inr last ↦ Among-right (reg_counted coding d claim moved c r reg false 1) (lit true (late_key d claim c 1) ∷ []) j last
-          ])
-    ]
-
-pub from_rails : (coding : Coding) (d : Design) (claim : Claim) (moved : List (List Bool)) (c r : ℕ) (reg : Reg) (j : Key)
-    → Among (rails_reads (reg_counted coding d claim moved c r reg true 0) (reg_counted coding d claim moved c r reg false 1) (late_key d claim c 0)
-    (late_key d claim c 1)) j → Among (reg_listed coding d claim moved c r reg 0 ++ reg_listed coding d claim moved c r reg 1) j
-from_rails coding d claim moved c r reg j a =
-    elim (Among-cases (reg_listed coding d claim moved c r reg 0)
-    (reg_counted coding d claim moved c r reg false 1 ++ lit true (late_key d claim c 1) ∷ []) j a) [
-      | inl first ↦ Among-left (reg_listed coding d claim moved c r reg 0) (reg_listed coding d claim moved c r reg 1) j first
-      | inr second ↦ Among-right (reg_listed coding d claim moved c r reg 0) (reg_listed coding d claim moved c r reg 1) j
-          (elim (Among-cases (reg_counted coding d claim moved c r reg false 1) (lit true (late_key d claim c 1) ∷ []) j second) [
-            | inl inside ↦ Among-left (reg_counted coding d claim moved c r reg true 1) (lit true (late_key d claim c 1) ∷ []) j
-                (resigned coding reg (bit_key d c r) false true (reg_pins d claim moved c r reg 1) j inside)
-            | inr last ↦ Among-right (reg_counted coding d claim moved c r reg true 1) (lit true (late_key d claim c 1) ∷ []) j last
-          ])
-    ]
+reg_listed coding d claim moved c r reg rail = reg_counted coding d claim moved c r reg rail ++ lit true (late_key d claim c rail) ∷ []
 
 -- the definition of the late capture stands in the list
 end_in : (coding : Coding) (d : Design) (claim : Claim) (moved : List (List Bool)) (c r : ℕ) (reg : Reg) (def : Definition) → claim.end ≡ RegEnd r
-    → slice_get d.regs r ≡ Some reg → In def (cond claim.hazard (reg_rails coding d claim moved c r reg ∷ []) (reg_plain coding d claim moved c r reg ∷ []))
+    → slice_get d.regs r ≡ Some reg → In def (cond claim.hazard (rails_reg coding d claim moved c r reg ∷ []) (plain_reg coding d claim moved c r reg ∷ []))
     → In def (claim_definitions coding d claim moved c)
 end_in coding d claim moved c r reg def is at has =
     In-right def (flat_map (layer_definitions coding d claim moved c) (below (length claim.through + 1)))
@@ -279,25 +187,24 @@ reg_used coding q claim offset clean moved c rail r reg j sound asks early on is
     d : Design
     d = q.design
 
-    listed : (def : Definition) → In def (cond claim.hazard (reg_rails coding d claim moved c r reg ∷ []) (reg_plain coding d claim moved c r reg ∷ []))
+    listed : (def : Definition) → In def (cond claim.hazard (rails_reg coding d claim moved c r reg ∷ []) (plain_reg coding d claim moved c r reg ∷ []))
         → In def (definitions coding q moved)
     listed def has = claim_in coding q claim offset clean moved c def asks early (end_in coding d claim moved c r reg def is at has)
 
     by_mode : (h : Bool) → claim.hazard ≡ h → Among (reg_listed coding d claim moved c r reg 0 ++ cond h (reg_listed coding d claim moved c r reg 1) []) j
         → Uses (definitions coding q moved) (late_key d claim c rail) j
     by_mode true hazard a =
-        use_by (definitions coding q moved) (reg_rails coding d claim moved c r reg)
-        (rails_reads (reg_counted coding d claim moved c r reg true 0) (reg_counted coding d claim moved c r reg false 1) (late_key d claim c 0)
+        use_by (definitions coding q moved) (rails_reg coding d claim moved c r reg)
+        (rails_reads (reg_counted coding d claim moved c r reg 0) (reg_counted coding d claim moved c r reg 1) (late_key d claim c 0)
         (late_key d claim c 1)) (late_key d claim c rail) j
-        (listed (reg_rails coding d claim moved c r reg) (subst (λ h. In (reg_rails coding d claim moved c r reg)
-        (cond h (reg_rails coding d claim moved c r reg ∷ []) (reg_plain coding d claim moved c r reg ∷ []))) (sym hazard) (inl refl)))
-        (on_rail claim c (length claim.through + 1) rail (d.nets + length d.regs) hazard on) (reg_says coding d claim moved c r reg)
-        (to_rails coding d claim moved c r reg j a)
+        (listed (rails_reg coding d claim moved c r reg) (subst (λ h. In (rails_reg coding d claim moved c r reg)
+        (cond h (rails_reg coding d claim moved c r reg ∷ []) (plain_reg coding d claim moved c r reg ∷ []))) (sym hazard) (inl refl)))
+        (on_rail claim c (length claim.through + 1) rail (d.nets + length d.regs) hazard on) (reg_says coding d claim moved c r reg) a
     by_mode false plain_mode a =
         subst (λ (n : ℕ). Uses (definitions coding q moved) (late_key d claim c n) j) (sym (plain_rail claim rail plain_mode on))
-        (plain_use coding (definitions coding q moved) (reg_capture reg) (reg_rail d claim moved c r reg true 0) (late_key d claim c 0) j
-        (listed (reg_plain coding d claim moved c r reg) (subst (λ h. In (reg_plain coding d claim moved c r reg)
-        (cond h (reg_rails coding d claim moved c r reg ∷ []) (reg_plain coding d claim moved c r reg ∷ []))) (sym plain_mode) (inl refl))) a)
+        (plain_use coding (definitions coding q moved) (reg_capture reg) (reg_reads d claim moved c 0 true r reg) (late_key d claim c 0) j
+        (listed (plain_reg coding d claim moved c r reg) (subst (λ h. In (plain_reg coding d claim moved c r reg)
+        (cond h (rails_reg coding d claim moved c r reg ∷ []) (plain_reg coding d claim moved c r reg ∷ []))) (sym plain_mode) (inl refl))) a)
 
 -- the further points of a cycle
 extra_in : (coding : Coding) (d : Design) (claim : Claim) (moved : List (List Bool)) (c : ℕ) (def : Definition) → In def (extra_definitions d claim moved c)
@@ -307,48 +214,13 @@ extra_in coding d claim moved c def has =
     (end_definition coding d claim moved c claim.end ++ extra_definitions d claim moved c)
     (In-right def (end_definition coding d claim moved c claim.end) (extra_definitions d claim moved c) has)
 
--- what the definition of a late capture that differs reads
-abbrev pub differ_reads : Design → Claim → List (List Bool) → ℕ → List KeyLit
-differ_reads d claim moved c = late_capture_lit d claim moved c 0 claim.end ∷ cond claim.hazard (late_capture_lit d claim moved c 1 claim.end)
-    (capture_lit d claim.end c) ∷ []
-
-pub differ_says : (d : Design) (claim : Claim) (moved : List (List Bool)) (c : ℕ) → ReadsOf (differ_definition d claim moved c) (differ_reads d claim moved c)
-differ_says d claim moved c = by_mode claim.hazard
-  where
-    by_mode : (h : Bool) → ReadsOf (cond h (both (differ_key d c) (late_capture_lit d claim moved c 0 claim.end)
-        (late_capture_lit d claim moved c 1 claim.end)) (exclusive (differ_key d c) (late_capture_lit d claim moved c 0 claim.end)
-        (capture_lit d claim.end c))) (late_capture_lit d claim moved c 0 claim.end ∷ cond h (late_capture_lit d claim moved c 1 claim.end)
-        (capture_lit d claim.end c) ∷ [])
-    by_mode true = both_read (differ_key d c) (late_capture_lit d claim moved c 0 claim.end) (late_capture_lit d claim moved c 1 claim.end)
-    by_mode false = exclusive_read (differ_key d c) (late_capture_lit d claim moved c 0 claim.end) (capture_lit d claim.end c)
-
-pub differ_out : (d : Design) (claim : Claim) (moved : List (List Bool)) (c : ℕ) → (differ_definition d claim moved c).outs ≡ differ_key d c ∷ []
-differ_out d claim moved c = by_mode claim.hazard
-  where
-    by_mode : (h : Bool) → (cond h (both (differ_key d c) (late_capture_lit d claim moved c 0 claim.end)
-        (late_capture_lit d claim moved c 1 claim.end)) (exclusive (differ_key d c) (late_capture_lit d claim moved c 0 claim.end)
-        (capture_lit d claim.end c))).outs ≡ differ_key d c ∷ []
-    by_mode true = refl
-    by_mode false = refl
-
-abbrev pub stale_definition : Design → Claim → ℕ → ℕ → Definition
-stale_definition d claim c r = exclusive (stale_key d c (r + 1)) (start_lit d claim.start c) (start_lit d claim.start (c - r - 2))
-
-stale_in : (d : Design) (claim : Claim) (moved : List (List Bool)) (c r : ℕ) → r < judged_count claim - 1 → In (stale_definition d claim c r)
+stale_in : (d : Design) (claim : Claim) (moved : List (List Bool)) (c r : ℕ) → r < judged_count claim - 1 → In (stale_definition d claim.start c r)
     (extra_definitions d claim moved c)
-stale_in d claim moved c r lt = inr (inr (inr (In-map (stale_definition d claim c) r (below (judged_count claim - 1))
+stale_in d claim moved c r lt = inr (inr (inr (In-map (stale_definition d claim.start c) r (below (judged_count claim - 1))
     (In-below (judged_count claim - 1) r lt))))
 
 pub earlier : (c r : ℕ) → c - (r + 1) - 1 ≡ c - r - 2
 earlier c r = omega arith
-
--- the definition of a toggle reads the start's bit, and that of the cycle before
-pub toggle_read : (d : Design) (edge : Edge) (start : Start) (c : ℕ) → ReadsOf (toggle_definition d edge start c)
-    (start_lit d start c ∷ start_lit d start (c - 1) ∷ [])
-toggle_read d edge start c = edge_read edge (toggle_key d c) (start_lit d start c) (start_lit d start (c - 1))
-
-pub toggle_outs : (d : Design) (edge : Edge) (start : Start) (c : ℕ) → (toggle_definition d edge start c).outs ≡ toggle_key d c ∷ []
-toggle_outs d edge start c = edge_outs edge (toggle_key d c) (start_lit d start c) (start_lit d start (c - 1))
 
 extra_used : (coding : Coding) (q : Query) (claim : Claim) (offset clean : ℕ) (moved : List (List Bool)) (k j : Key) → q.question ≡ Violates claim offset clean
     → k.layer ≡ 0 → k.rail ≡ 0 → k.cycle < q.cycles → (n : ℕ) → q.design.nets + length q.design.regs + n ≡ k.point
@@ -371,25 +243,24 @@ extra_used coding q claim offset clean moved k j asks layer rail early = by_poin
         → Uses (definitions coding q moved) k j
     by_point zero point a =
         let def : Definition = toggle_definition d claim.edge claim.start c in
-        use_by (definitions coding q moved) def (start_lit d claim.start c ∷ start_lit d claim.start (c - 1) ∷ []) k j (listed def (inl refl))
-        (subst (λ (outs : List Key). In k outs) (sym (toggle_outs d claim.edge claim.start c)) (inl (own 0 point)))
-        (toggle_read d claim.edge claim.start c) a
+        use_by (definitions coding q moved) def (reads_of (toggle_pair d claim c)) k j (listed def (inl refl))
+        (subst (λ (outs : List Key). In k outs) (sym (toggle_outs d claim c)) (inl (own 0 point))) (toggle_says d claim c) a
     by_point (suc zero) point a =
         let def : Definition = exclusive (change_key d c) (capture_lit d claim.end c) (capture_lit d claim.end (c - 1)) in
         use_by (definitions coding q moved) def (capture_lit d claim.end c ∷ capture_lit d claim.end (c - 1) ∷ []) k j (listed def (inr (inl refl)))
         (inl (own 1 point)) (exclusive_read (change_key d c) (capture_lit d claim.end c) (capture_lit d claim.end (c - 1))) a
     by_point (suc (suc zero)) point a =
-        use_by (definitions coding q moved) (differ_definition d claim moved c) (differ_reads d claim moved c) k j
+        use_by (definitions coding q moved) (differ_definition d claim moved c) (reads_of (differ_pair d claim moved c)) k j
         (listed (differ_definition d claim moved c) (inr (inr (inl refl))))
-        (subst (λ (outs : List Key). In k outs) (sym (differ_out d claim moved c)) (inl (own 2 point))) (differ_says d claim moved c) a
+        (subst (λ (outs : List Key). In k outs) (sym (differ_outs d claim moved c)) (inl (own 2 point))) (differ_says d claim moved c) a
     by_point (suc (suc (suc r))) point a =
         cond_both (nat_lt r (judged_count claim - 1)) (Stale (r + 1)) Free (λ o. Among (reads_in_layer coding d claim moved k 0 o) j
         → Uses (definitions coding q moved) k j)
         (λ judged read.
         let lt = ltb-true r (judged_count claim - 1) judged in
         let there : d.nets + length d.regs + (2 + (r + 1)) ≡ k.point = omega (arith, point) in
-        use_by (definitions coding q moved) (stale_definition d claim c r) (start_lit d claim.start c ∷ start_lit d claim.start (c - r - 2) ∷ []) k j
-        (listed (stale_definition d claim c r) (stale_in d claim moved c r lt)) (inl (own (2 + (r + 1)) there))
+        use_by (definitions coding q moved) (stale_definition d claim.start c r) (start_lit d claim.start c ∷ start_lit d claim.start (c - r - 2) ∷ []) k j
+        (listed (stale_definition d claim.start c r) (stale_in d claim moved c r lt)) (inl (own (2 + (r + 1)) there))
         (exclusive_read (stale_key d c (r + 1)) (start_lit d claim.start c) (start_lit d claim.start (c - r - 2)))
         (subst (λ (n : ℕ). Among (start_lit d claim.start c ∷ start_lit d claim.start n ∷ []) j) (earlier c r) read)) (λ other read. absurd read.1) a
 

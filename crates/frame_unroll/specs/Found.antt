@@ -1,23 +1,19 @@
 -- The keys that are found from what is asked, by what each key's definition reads.
-use Rattle.std.specs.Prelude.{◌≡◌, ℕ, ◌+◌, ◌<◌, ◌≤◌, Bool, true, List, [], ◌∷◌, ◌++◌, length, Contains, Option}
-use Rattle.std.specs.Prelude.{None, slice_index_or, if◌then◌else◌}
-use Rattle.net_model.specs.Form.{value}
-use Rattle.net_model.specs.Cycles.{reg_capture}
+use Rattle.std.specs.Prelude.{◌≡◌, ℕ, ◌+◌, ◌^◌, ◌<◌, ◌≤◌, Bool, true, List, [], ◌∷◌, ◌++◌, length, Contains, Option}
+use Rattle.std.specs.Prelude.{Some, None, slice_index_or, if◌then◌else◌}
 use Rattle.net_model.specs.declared.netlist.Design.{Design}
-use Rattle.net_model.specs.declared.netlist.Gate.{Gate}
-use Rattle.net_model.specs.declared.netlist.Reg.{Reg}
 use Rattle.net_model.specs.declared.claims.Claim.{Claim}
-use Rattle.query_model.specs.Keys.{key, lit, Ascend}
-use Rattle.query_model.specs.Defined.{gate_reads, reg_reads, late_key}
+use Rattle.query_model.specs.Keys.{lit, Ascend}
 use Rattle.query_model.specs.Formula.{has_key}
 use Rattle.query_model.specs.declared.keys.Key.{Key}
 use Rattle.query_model.specs.declared.keys.KeyLit.{KeyLit}
-use Rattle.query_model.specs.declared.keys.Coding.{Coding}
-use Rattle.frame_unroll.specs.Counting.{counted}
+use Rattle.frame_unroll.specs.Counting.{marked}
 use Rattle.frame_unroll.specs.Framed.{IsWithin}
 use Rattle.frame_unroll.specs.Origins.{gate_of}
 use Rattle.frame_unroll.specs.declared.origins.Origin.{Origin}
-use Rattle.frame_unroll.specs.declared.origins.Origin.TheVariants.{Gate as OfGate, Reg as OfReg}
+use Rattle.frame_unroll.specs.declared.sites.Rail.{Rail}
+use Rattle.frame_unroll.specs.declared.sites.Site.{Site}
+use Rattle.frame_unroll.specs.declared.origins.Origin.TheVariants.{Gate as OfGate, Reg as OfReg, Stale as OfStale}
 
 -- the gate that drives a net, by a table
 abbrev pub gate_at : List (Option ℕ) → ℕ → Option ℕ
@@ -46,20 +42,24 @@ abbrev pub with_clauses : List Key → List (List KeyLit) → List Key
 with_clauses keys [] = keys
 with_clauses keys (clause ∷ clauses) = with_clauses (with_keys keys clause) clauses
 
--- what a gate's pins that count read on a rail of a layer, and the key of its net there
-abbrev pub gate_rail : Coding → Design → Claim → List (List Bool) → ℕ → ℕ → ℕ → ℕ → Gate → List KeyLit
-gate_rail coding d claim moved c layer rail k g =
-    counted coding (value g.func) (gate_reads d claim moved c layer rail k g) ++ lit true (key c layer rail g.out) ∷ []
+-- of what is read on a rail that whose place has a mark, and the key that is defined
+abbrev pub marked_rail : List Bool → Rail → List KeyLit
+marked_rail places rail = marked places rail.reads ++ lit true rail.out ∷ []
 
--- what a register's places that count read on a rail of the last layer, and the key of the late capture
-abbrev pub reg_rail : Coding → Design → Claim → List (List Bool) → ℕ → ℕ → ℕ → Reg → List KeyLit
-reg_rail coding d claim moved c rail r reg =
-    counted coding (reg_capture reg) (reg_reads d claim moved c rail true r reg) ++ lit true (late_key d claim c rail) ∷ []
+-- the same of a rail, if there is one
+abbrev pub marked_low : List Bool → Option Rail → List KeyLit
+marked_low places None = []
+marked_low places (Some rail) = marked_rail places rail
 
--- the gate or register is one of the design
+-- and of a site
+abbrev pub marked_rails : List Bool → Site → List KeyLit
+marked_rails places site = marked_rail places site.high ++ marked_low places site.low
+
+-- the gate or register is one of the design, and the toggle not so long ago
 abbrev pub IsOriginIn : Design → Origin → Type 0
 IsOriginIn d (OfGate k) = k < length d.gates
 IsOriginIn d (OfReg r) = r < length d.regs
+IsOriginIn d (OfStale r) = r < 2 ^ 31
 IsOriginIn d _ = Unit {0}
 
 -- and a gate defines keys of layers alone that come through the sets

@@ -4,6 +4,8 @@ pub mod Drivers
 pub mod Reading
 pub mod Framed
 pub mod Gathered
+pub mod Sites
+pub mod Pairs
 pub mod Counting
 pub mod Counted
 pub mod Tabled

@@ -1,5 +1,5 @@
--- What defines each key, and which keys its definition reads.
-use Rattle.std.specs.Prelude.{ℕ, zero, suc, ◌+◌, ◌-◌, ◌==◌, ◌&&◌, ◌||◌, Bool, true, not, List, [], ◌∷◌, ◌++◌, map, length, Contains, Option, Some}
+-- Where each key is defined, and which keys are read there.
+use Rattle.std.specs.Prelude.{ℕ, zero, suc, ◌+◌, ◌-◌, ◌==◌, ◌&&◌, ◌||◌, Bool, not, List, [], ◌∷◌, ◌++◌, length, Contains, Option, Some}
 use Rattle.std.specs.Prelude.{None, slice_get, nat_lt, if◌then◌else◌}
 use Rattle.net_model.specs.Form.{value}
 use Rattle.net_model.specs.Cycles.{reg_capture}
@@ -10,14 +10,14 @@ use Rattle.net_model.specs.declared.netlist.Reg.{Reg}
 use Rattle.net_model.specs.declared.claims.Claim.{Claim}
 use Rattle.net_model.specs.declared.claims.End.{End}
 use Rattle.net_model.specs.declared.claims.End.TheVariants.{Reg as RegEnd, Output as OutputEnd}
-use Rattle.query_model.specs.Keys.{key, lit}
-use Rattle.query_model.specs.Reads.{bit_key, read_base}
-use Rattle.query_model.specs.Defined.{Definition, with_own, has_own, gate_reads, reg_reads, late_key, start_lit, capture_lit, late_capture_lit}
+use Rattle.query_model.specs.Defined.{Definition, has_own}
 use Rattle.query_model.specs.Formula.{Mentions}
 use Rattle.query_model.specs.declared.keys.Key.{Key}
 use Rattle.query_model.specs.declared.keys.KeyLit.{KeyLit}
 use Rattle.query_model.specs.declared.keys.Coding.{Coding}
 use Rattle.frame_unroll.specs.Counting.{counted}
+use Rattle.frame_unroll.specs.Sites.{gate_site, bit_site, gate_rail, own_sign, reg_rail, counted_rail}
+use Rattle.frame_unroll.specs.Pairs.{reads_of, toggle_pair, change_pair, differ_pair, stale_pair}
 use Rattle.frame_unroll.specs.declared.origins.Origin.{Origin}
 use Rattle.frame_unroll.specs.declared.origins.Origin.TheVariants.{Free, Gate as OfGate, Reg as OfReg, Toggle, Change, Differ, Stale}
 
@@ -83,12 +83,12 @@ claim_origin d claim moved cycles k = layer_origin d claim moved cycles k k.laye
 -- what the pins of a gate that count read in a cycle, if there is one
 abbrev pub gate_base : Coding → Design → ℕ → Option Gate → List KeyLit
 gate_base coding d c None = []
-gate_base coding d c (Some g) = counted coding (value g.func) (map (read_base d c) g.ins)
+gate_base coding d c (Some g) = counted coding (value g.func) (gate_site d c g).high.reads
 
 -- the same of a register
 abbrev pub reg_base : Coding → Design → ℕ → ℕ → Option Reg → List KeyLit
 reg_base coding d c r None = []
-reg_base coding d c r (Some reg) = counted coding (reg_capture reg) (with_own reg (lit true (bit_key d c r)) (map (read_base d c) reg.ins))
+reg_base coding d c r (Some reg) = counted coding (reg_capture reg) (bit_site d c r reg).high.reads
 
 -- the literals by which a net or a bit is defined
 abbrev pub reads_of_origin : Coding → Design → Key → Origin → List KeyLit
@@ -104,13 +104,13 @@ on_rails claim f = f 0 ++ (if claim.hazard then f 1 else [])
 abbrev pub gate_late : Coding → Design → Claim → List (List Bool) → ℕ → ℕ → ℕ → Option Gate → List KeyLit
 gate_late coding d claim moved c l k None = []
 gate_late coding d claim moved c l k (Some g) =
-    on_rails claim (λ rail. counted coding (value g.func) (gate_reads d claim moved c (suc l) rail k g) ++ lit true (key c (suc l) rail g.out) ∷ [])
+    on_rails claim (λ rail. counted_rail coding (value g.func) (gate_rail d claim moved c (suc l) rail k g))
 
 -- the same of a register, in the last layer
 abbrev pub reg_late : Coding → Design → Claim → List (List Bool) → ℕ → ℕ → Option Reg → List KeyLit
 reg_late coding d claim moved c r None = []
 reg_late coding d claim moved c r (Some reg) =
-    on_rails claim (λ rail. counted coding (reg_capture reg) (reg_reads d claim moved c rail true r reg) ++ lit true (late_key d claim c rail) ∷ [])
+    on_rails claim (λ rail. counted_rail coding (reg_capture reg) (reg_rail d claim moved c rail (own_sign rail) r reg))
 
 -- the literals by which a net in layer suc l, or the late capture, is defined
 abbrev pub late_reads : Coding → Design → Claim → List (List Bool) → Key → ℕ → Origin → List KeyLit
@@ -118,19 +118,12 @@ late_reads coding d claim moved k l (OfGate i) = gate_late coding d claim moved 
 late_reads coding d claim moved k l (OfReg r) = reg_late coding d claim moved k.cycle r (slice_get d.regs r)
 late_reads coding d claim moved k l _ = []
 
--- the literals by which it is defined whether the late capture differs: where hazards count both rails of the late capture,
--- else the late capture and the capture
-abbrev pub differ_reads : Design → Claim → List (List Bool) → ℕ → List KeyLit
-differ_reads d claim moved c =
-    late_capture_lit d claim moved c 0 claim.end
-    ∷ (if claim.hazard then late_capture_lit d claim moved c 1 claim.end else capture_lit d claim.end c) ∷ []
-
 -- the literals by which a key is defined
 abbrev pub reads_in_layer : Coding → Design → Claim → List (List Bool) → Key → ℕ → Origin → List KeyLit
-reads_in_layer coding d claim moved k zero Toggle = start_lit d claim.start k.cycle ∷ start_lit d claim.start (k.cycle - 1) ∷ []
-reads_in_layer coding d claim moved k zero Change = capture_lit d claim.end k.cycle ∷ capture_lit d claim.end (k.cycle - 1) ∷ []
-reads_in_layer coding d claim moved k zero Differ = differ_reads d claim moved k.cycle
-reads_in_layer coding d claim moved k zero (Stale r) = start_lit d claim.start k.cycle ∷ start_lit d claim.start (k.cycle - r - 1) ∷ []
+reads_in_layer coding d claim moved k zero Toggle = reads_of (toggle_pair d claim k.cycle)
+reads_in_layer coding d claim moved k zero Change = reads_of (change_pair d claim k.cycle)
+reads_in_layer coding d claim moved k zero Differ = reads_of (differ_pair d claim moved k.cycle)
+reads_in_layer coding d claim moved k zero (Stale later) = reads_of (stale_pair d claim k.cycle later)
 reads_in_layer coding d claim moved k zero origin = reads_of_origin coding d k origin
 reads_in_layer coding d claim moved k (suc l) origin = late_reads coding d claim moved k l origin
 

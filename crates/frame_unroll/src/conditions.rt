@@ -15,11 +15,11 @@ use std::alloc::{AllocError, Global};
 /// The further point of a cycle that says whether the start toggles there.
 pub const TOGGLE: usize = 0;
 /// The one that says whether what the end captures changes.
-const CHANGE: usize = 1;
+pub const CHANGE: usize = 1;
 /// The one that says whether the late capture differs.
-const DIFFER: usize = 2;
+pub const DIFFER: usize = 2;
 /// So many places after this one: whether the start's bit differs from the one before a toggle so many cycles ago.
-const STALE: usize = 2;
+pub const STALE: usize = 2;
 
 /// The literal of a further point of a cycle.
 pub fn extra_lit(design: &Design, cycle: usize, place: usize, positive: bool) -> KeyLit

@@ -65,7 +65,7 @@ fn capture_counts(alloc: Global, reg: &Reg, coding: Coding) -> Result<Seq<bool>,
 }
 
 /// How many places a register's capture has: its pins, and its own bit where one of its functions mentions it.
-fn capture_places(reg: &Reg) -> usize
+pub fn capture_places(reg: &Reg) -> usize
     requires { length reg.now.ins ≤ 6 }
     ensures { result ≡ capture_places reg.now }
 {

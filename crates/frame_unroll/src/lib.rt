@@ -1,7 +1,8 @@
 //! What a query asks of its keys, what these read, and which keys it needs: which nets a late start moves, the literal
-//! that stands for a net or a pin, which places of a function count, and the keys that are reached from what is asked, numbered.
+//! that stands for a net or a pin, which places of a function count, the sites and pairs by which keys are defined, and the keys
+//! that are reached from what is asked, numbered.
 //!
-//! Read `tables`, `subjects` and `moved_nets` first, and `reached_keys` for the needed keys. What it all means is said in
+//! Read `tables`, `subjects` and `moved_nets` first, then `sites` and `pairs`, and `reached_keys` for the needed keys. What it all means is said in
 //! query_model's `specs/Reads` and `specs/Formula`.
 #![tactic(auto)]
 
@@ -16,9 +17,11 @@ mod gathered;
 mod kept;
 mod moved_nets;
 mod origins;
+mod pairs;
 mod places;
 mod reached_keys;
 mod reads;
+mod sites;
 mod spans;
 mod spreads;
 mod starts;
@@ -27,6 +30,7 @@ mod tables;
 mod violations;
 
 pub use asked::{claim_asked, clause_asked};
+pub use counted_places::capture_places;
 pub use drivers::{Driver, base_lit, net_drivers};
 pub use frames::Frames;
 pub use gate_tables::net_gates;
@@ -36,8 +40,10 @@ pub use gathered::{
 };
 pub use moved_nets::MovedNets;
 pub use origins::has_own;
+pub use pairs::{Pair, change_pair, differ_pair, stale_pair, toggle_pair};
 pub use places::counts;
 pub use reads::{net_lit, pin_lit};
+pub use sites::{Rail, Site, bit_site, gate_site, late_gate_site, late_reg_site};
 pub use spans::{Span, claim_span, clause_span};
 pub use starts::start_nets;
 pub use subjects::Subject;

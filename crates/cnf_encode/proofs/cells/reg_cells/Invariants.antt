@@ -1,7 +1,7 @@
 use Rattle.net_model.specs.Cycles.{reg_capture}
-use Rattle.cnf_encode.specs.CellLists.{reg_places}
+use Rattle.frame_unroll.specs.Counted.{capture_places}
 use Rattle.cnf_encode.proofs.CellTables.{HaveCells}
 use Rattle.cnf_encode.proofs.cells.reg_cells.Given as goal
 
 abbrev pub invariant-loop-r : goal.invariant-loop-r
-invariant-loop-r l = HaveCells reg_capture reg_places l.design.regs l.fn.list l.list l.found l.r
+invariant-loop-r l = HaveCells reg_capture capture_places l.design.regs l.fn.list l.list l.found l.r

@@ -1,48 +1,40 @@
-use Rattle.std.proofs.Common.{◌∙◌, sym}
+use Rattle.std.proofs.Common.{◌+◌, ◌∙◌, ◌∷◌, [], ap, sym}
+use Rattle.query_model.specs.Defined.{Definition}
 use Rattle.cnf_encode.proofs.Listing.{Lists-same, Closed-same}
-use Rattle.cnf_encode.proofs.Layering.{layer_rails_at, layer_plain_at}
+use Rattle.cnf_encode.proofs.Layering.{layer_gate_is}
+use Rattle.cnf_encode.proofs.CellClauses.{gate_known, late_gate_sited}
 use Rattle.cnf_encode.proofs.layers.list_layer_gate.Goals as goal
 
-pub list_rails_gate-requires-clause-closed : goal.list_rails_gate-requires-clause-closed
-list_rails_gate-requires-clause-closed c =
-    let d = c.args.late.now.subject.design.now in
-    let claim = c.args.late.now.subject.claim.now in
-    let moved = c.args.late.now.subject.moved in
-    let cycle = c.args.layer_at.cycle in
-    let l = c.args.layer_at.layer in
-    let g = c.item-gate.result.now in
-    Closed-same (layer_rails_at c.args.late.now.cells.now.list.coding d claim moved cycle l c.args.k g
-    c.item-gate.ensures (sym c.has_own.ensures ∙ c.if-not-has_own.false) c.if-late.true) c.requires.closed
+pub gate-requires : goal.gate-requires
+gate-requires c =
+    gate_known c.args.late.now.subject.design.now c.args.late.now.cells.now c.args.k c.item-gate.result.now c.requires.late.cells c.item-gate.ensures
 
-pub list_plain_gate-requires-clause-closed : goal.list_plain_gate-requires-clause-closed
-list_plain_gate-requires-clause-closed c =
-    let d = c.args.late.now.subject.design.now in
-    let claim = c.args.late.now.subject.claim.now in
-    let moved = c.args.late.now.subject.moved in
-    let cycle = c.args.layer_at.cycle in
-    let l = c.args.layer_at.layer in
+pub list_site-requires-clause-suits : goal.list_site-requires-clause-suits
+list_site-requires-clause-suits c =
+    let late = c.args.late.now in
+    let s = late.subject in
     let g = c.item-gate.result.now in
-    Closed-same (layer_plain_at c.args.late.now.cells.now.list.coding d claim moved cycle l c.args.k g
-    c.item-gate.ensures (sym c.has_own.ensures ∙ c.if-not-has_own.false) c.if-late.false) c.requires.closed
+    (late_gate_sited s.design.now late.cells.now s.claim.now s.moved c.args.layer_at.cycle (c.args.layer_at.layer + 1) c.args.k g c.gate.result.now
+    c.in_ok-site.site c.requires.late.cells c.item-gate.ensures c.gate.ensures (c.in_ok-site.ensures g c.item-gate.ensures)).suits
 
-pub returns-in_ok-list_rails_gate : goal.returns-in_ok-list_rails_gate
-returns-in_ok-list_rails_gate c =
-    let d = c.args.late.now.subject.design.now in
-    let claim = c.args.late.now.subject.claim.now in
-    let moved = c.args.late.now.subject.moved in
-    let cycle = c.args.layer_at.cycle in
-    let l = c.args.layer_at.layer in
+pub list_site-requires-clause-closed : goal.list_site-requires-clause-closed
+list_site-requires-clause-closed c =
+    let late = c.args.late.now in
+    let s = late.subject in
     let g = c.item-gate.result.now in
-    Lists-same (sym (layer_rails_at c.args.late.now.cells.now.list.coding d claim moved cycle l c.args.k g
-    c.item-gate.ensures (sym c.has_own.ensures ∙ c.if-not-has_own.false) c.if-late.true)) c.in_ok-list_rails_gate.ensures
+    let sited = late_gate_sited s.design.now late.cells.now s.claim.now s.moved c.args.layer_at.cycle (c.args.layer_at.layer + 1) c.args.k g c.gate.result.now
+    c.in_ok-site.site c.requires.late.cells c.item-gate.ensures c.gate.ensures (c.in_ok-site.ensures g c.item-gate.ensures) in
+    let is = layer_gate_is late.cells.now.list.coding s.design.now s.claim.now s.moved c.args.layer_at.cycle c.args.layer_at.layer c.args.k g
+    c.item-gate.ensures (sym c.has_own.ensures ∙ c.if-not-has_own.false) in
+    Closed-same (is ∙ ap (λ (def : Definition). def ∷ []) (sym sited.is)) c.requires.closed
 
-pub returns-in_ok-list_plain_gate : goal.returns-in_ok-list_plain_gate
-returns-in_ok-list_plain_gate c =
-    let d = c.args.late.now.subject.design.now in
-    let claim = c.args.late.now.subject.claim.now in
-    let moved = c.args.late.now.subject.moved in
-    let cycle = c.args.layer_at.cycle in
-    let l = c.args.layer_at.layer in
+pub returns : goal.returns
+returns c =
+    let late = c.args.late.now in
+    let s = late.subject in
     let g = c.item-gate.result.now in
-    Lists-same (sym (layer_plain_at c.args.late.now.cells.now.list.coding d claim moved cycle l c.args.k g
-    c.item-gate.ensures (sym c.has_own.ensures ∙ c.if-not-has_own.false) c.if-late.false)) c.in_ok-list_plain_gate.ensures
+    let sited = late_gate_sited s.design.now late.cells.now s.claim.now s.moved c.args.layer_at.cycle (c.args.layer_at.layer + 1) c.args.k g c.gate.result.now
+    c.in_ok-site.site c.requires.late.cells c.item-gate.ensures c.gate.ensures (c.in_ok-site.ensures g c.item-gate.ensures) in
+    let is = layer_gate_is late.cells.now.list.coding s.design.now s.claim.now s.moved c.args.layer_at.cycle c.args.layer_at.layer c.args.k g
+    c.item-gate.ensures (sym c.has_own.ensures ∙ c.if-not-has_own.false) in
+    Lists-same (ap (λ (def : Definition). def ∷ []) sited.is ∙ sym is) c.in_ok-list_site.ensures

@@ -10,7 +10,7 @@ add_cycle_reads-requires-clause-origin c =
     let d = c.args.subject.now.design.now in
     let claim = c.args.subject.now.claim.now in
     subst (IsOriginIn d) (sym c.claim_origin-origin.ensures)
-    (claim_origin_in d claim c.args.subject.now.moved c.args.cycles c.args.key (omega arith))
+    (claim_origin_in d claim c.args.subject.now.moved c.args.cycles c.args.key c.requires.subject.fits (omega arith))
 
 pub add_late_reads-requires-clause-origin : goal.add_late_reads-requires-clause-origin
 add_late_reads-requires-clause-origin c =
