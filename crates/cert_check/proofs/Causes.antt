@@ -1,7 +1,8 @@
 -- What the parts of a check say of the certificate.
-use Rattle.std.proofs.Common.{◌≡◌, ◌≢◌, ℕ, suc, ◌+◌, ◌<◌, ◌≤◌, Option, Some, List, length, refl, sym, ap, subst, inl, inr, arith}
+use Rattle.std.proofs.Common.{◌≡◌, ◌≢◌, ℕ, suc, ◌+◌, ◌<◌, ◌≤◌, Option, Some, List, [], length, refl, sym, ap, subst, inl, inr, arith}
 use Rattle.std.specs.Prelude.{Contains, slice_get}
 use Rattle.std.proofs.lemmas.Bool.{cases_lt}
+use Rattle.std.proofs.lemmas.Option.{slice_get_within}
 use Rattle.net_model.specs.Netlist.{IsSound}
 use Rattle.net_model.specs.Queries.{clause_query}
 use Rattle.net_model.proofs.Existence.{item_at}
@@ -21,7 +22,7 @@ use Rattle.cert_values.specs.declared.faults.CertFault.{CertFault}
 use Rattle.cert_values.specs.declared.faults.CertFault.TheVariants.{Form, Version, UnknownRegister, UnknownPair, TwicePair}
 use Rattle.cert_values.specs.declared.faults.CertFault.TheVariants.{NotTrivial, Invariant, Pair, Memory}
 use Rattle.cert_defs.specs.Listed.{item_numbered, IsWellListed}
-use Rattle.cert_defs.specs.Accepted.{Accepts, AreListed, AreProved}
+use Rattle.cert_defs.specs.Accepted.{Accepts, AreProved, IsAccepted}
 use Rattle.cert_defs.specs.Refused.{HasFaultIn, HasClauseFault, HasPairFault, IsCause}
 use Rattle.cert_defs.proofs.Refusing.{not_accepted}
 use Rattle.cert_check.specs.Checking.{clause_fault, pair_fault}
@@ -140,16 +141,22 @@ pub of_prepared : (P : Coding → Design → Type 0) (made coding : Coding) (pre
 of_prepared P made coding prepared d same_coding same shown = subst (P coding) same (subst (λ (c : Coding). P c prepared) same_coding shown)
 
 -- what is listed, kept and proved is accepted
-pub all_accepted : (made coding : Coding) (prepared d : Design) (claims : List Claim) (cert : Cert) (numbers : List ℕ) → made ≡ coding → prepared ≡ d
-    → IsWellListed d claims cert → AreListed cert.pairs numbers → ProveKept made prepared cert.kept cert.depth cert.proofs
-    → AreProved made prepared claims cert → Accepts coding d claims cert numbers
-all_accepted made coding prepared d claims cert numbers same_coding same listed are kept proved = record {
-  accepted =
-      record {
-        listed = listed;
-        kept =
-            of_prepared (λ (c : Coding) (e : Design). ProveKept c e cert.kept cert.depth cert.proofs) made coding prepared d same_coding same kept;
-        proved = of_prepared (λ (c : Coding) (e : Design). AreProved c e claims cert) made coding prepared d same_coding same proved;
-      };
-  numbers_are = are;
-}
+pub all_accepted : (made coding : Coding) (prepared d : Design) (claims : List Claim) (cert : Cert) → made ≡ coding → prepared ≡ d
+    → IsWellListed d claims cert → ProveKept made prepared cert.kept cert.depth cert.proofs → AreProved made prepared claims cert
+    → IsAccepted coding d claims cert
+all_accepted made coding prepared d claims cert same_coding same listed kept proved =
+    record {
+      listed = listed;
+      kept = of_prepared (λ (c : Coding) (e : Design). ProveKept c e cert.kept cert.depth cert.proofs) made coding prepared d same_coding same kept;
+      proved = of_prepared (λ (c : Coding) (e : Design). AreProved c e claims cert) made coding prepared d same_coding same proved;
+    }
+
+-- so is a certificate that lists well and has neither a kept clause nor a pair
+pub nothing_accepted : (coding : Coding) (d : Design) (claims : List Claim) (cert : Cert) → IsComplete cert → IsWellListed d claims cert
+    → cert.kept ≡ [] → cert.pairs ≡ [] → IsAccepted coding d claims cert
+nothing_accepted coding d claims cert complete listed none_kept none_listed =
+    record {
+      listed = listed;
+      kept = kept_proved coding d cert 0 complete (λ k clause low at. absurd (omega (arith, low))) (omega (arith, ap length none_kept));
+      proved = λ pair claim is. absurd (omega (arith, slice_get_within cert.pairs is.place pair is.at, ap length none_listed));
+    }

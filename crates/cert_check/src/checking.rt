@@ -1,5 +1,5 @@
 //! The check of a certificate.
-ghost use Rattle.std.specs.Prelude.{◌≡◌, ◌≢◌, ℕ, List, All, IsOk, IfOk, IfErr};
+ghost use Rattle.std.specs.Prelude.{◌≡◌, ◌≢◌, ◌↔◌, ℕ, List, [], All, IsOk, IfOk, IfErr, IsTrue};
 ghost use Rattle.net_model.specs.Netlist.{IsSound};
 ghost use Rattle.net_model.specs.Fits.{Fits};
 ghost use Rattle.net_model.specs.declared.claims.Claim.{Claim as TheClaim};
@@ -9,7 +9,7 @@ ghost use Rattle.verdicts.specs.Certified.{ProveKept};
 ghost use Rattle.cert_values.specs.Certs.{IsComplete};
 ghost use Rattle.cert_values.specs.Versions as versions;
 ghost use Rattle.cert_defs.specs.Listed.{IsWellListed};
-ghost use Rattle.cert_defs.specs.Accepted.{Accepts, AreProved, HoldEach};
+ghost use Rattle.cert_defs.specs.Accepted.{Accepts, AreProved, HoldEach, IsAccepted};
 ghost use Rattle.cert_defs.specs.Refused.{IsCause};
 ghost use Rattle.cert_check.specs.Checking.{clause_fault, pair_fault, IsAnswerFor};
 
@@ -45,10 +45,37 @@ pub fn check(
     ensures only { (numbers : List ℕ) → Accepts (versions.coding_of cert.now.version) design.now claims.now cert.now numbers → IsAnswerFor numbers result }
 {
     let numbers = well_listed(alloc, design, claims, cert)?;
+    prove_listed(alloc, design, claims, cert)?;
+    Ok(numbers)
+}
+
+/// Whether each kept clause and each listed claim is proved. Where the certificate has neither, the design is not prepared.
+fn prove_listed(
+    alloc: Global,
+    design: &Design,
+    claims: &[Claim],
+    cert: &Cert,
+) -> Result<(), CertFault>
+    requires sound { IsSound design.now }
+    requires fit { All (Fits design.now) claims.now }
+    requires complete { IsComplete cert.now }
+    requires listed { IsWellListed design.now claims.now cert.now }
+    ensures ok { IsOk result → IsAccepted (versions.coding_of cert.now.version) design.now claims.now cert.now }
+    ensures err { IfErr result (IsCause (versions.coding_of cert.now.version) design.now claims.now cert.now) }
+{
+    if lists_nothing(cert) {
+        return Ok(());
+    }
     let prepared = Prepared::of(alloc, design, coding_of(cert.version))?;
     prove_kept(alloc, &prepared, cert)?;
-    prove_pairs(alloc, &prepared, claims, cert)?;
-    Ok(numbers)
+    prove_pairs(alloc, &prepared, claims, cert)
+}
+
+/// Whether the certificate has neither a kept clause nor a pair.
+fn lists_nothing(cert: &Cert) -> bool
+    ensures { IsTrue result ↔ ((cert.now.kept ≡ []) × (cert.now.pairs ≡ [])) }
+{
+    cert.kept.is_empty() && cert.pairs.is_empty()
 }
 
 /// Whether the derivations of each kept clause refute its queries.

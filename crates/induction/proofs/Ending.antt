@@ -1,6 +1,6 @@
 -- Where each step query is refuted, what is left is the greatest inductive set, and has its derivations.
-use Rattle.std.proofs.Common.{◌≡◌, ℕ, zero, suc, ◌^◌, ◌<◌, ◌≤◌, List, [], ◌∷◌, ◌++◌, length, map, reverse, Some, refl, ap, subst, sym, ◌∙◌, arith, append_assoc}
-use Rattle.std.specs.Prelude.{slice_get, All, Contains}
+use Rattle.std.proofs.Common.{◌≡◌, ℕ, zero, suc, ◌^◌, ◌<◌, ◌≤◌, List, [], ◌∷◌, ◌++◌, length, map, reverse, Some, refl, ap, subst, sym, ◌∙◌, arith, append_assoc, inl, inr}
+use Rattle.std.specs.Prelude.{slice_get, All, Contains, ◌⊎◌}
 use Rattle.std.proofs.lemmas.List.{length-map, length-append, reverse-append}
 use Rattle.std.proofs.lemmas.List.Elements.{All-nil, All-contains, Contains-get_or}
 use Rattle.std.proofs.lemmas.Option.{slice_get_within, get_or_from_slice_get, slice_get-get_or, same_Some}
@@ -126,10 +126,10 @@ done_in_form d depth budget candidates members spent steps deep low few based re
       each = λ k o within. form_at d depth members steps k _ based refuted (slice_get-get_or (proofs_of members steps) k o within);
     }
 
-pub empty_in_form : (set : InvSet) → IsEmptySet set → IsSetInForm set
-empty_in_form set empty =
+pub empty_in_form : (depth : ℕ) (set : InvSet) → depth ≤ 8 → IsEmptySet depth set → IsSetInForm set
+empty_in_form depth set low empty =
     record {
-      low = omega (arith, empty.at_depth);
+      low = omega (arith, low, empty.at_depth);
       none = λ zero_is. empty.kept;
       few = omega (arith, ap length empty.kept);
       clauses = subst (All IsKeptClause) (sym empty.kept) (All-nil IsKeptClause);
@@ -167,21 +167,38 @@ search_done d depth budget candidates members spent steps deep based refuted so 
       entries = so.entries;
     }
 
--- at depth 0 nothing is kept
-pub empty_kept : (d : Design) (depth budget : ℕ) (candidates : List InvClause) (set : InvSet) → depth ≡ 0 → IsEmptySet set
+-- no clause is in an inductive set at depth 0, nor in one of no candidates
+nothing_greatest : (d : Design) (depth : ℕ) (candidates : List InvClause) (spent : List InvSpent) → (depth ≡ 0) ⊎ (candidates ≡ [])
+    → IsGreatest d depth (IsUnspent candidates spent) []
+nothing_greatest d depth candidates spent (inl flat) =
+    subst (λ (k : ℕ). IsGreatest d k (IsUnspent candidates spent) []) (sym flat) (empty_greatest d (IsUnspent candidates spent))
+nothing_greatest d depth candidates spent (inr none) =
+    record {
+      allowed = λ clause has. absurd (omega (arith, has.1));
+      inductive_ =
+          record {
+            deep = λ clause has. absurd (omega (arith, has.1));
+            first = λ clause has. absurd (omega (arith, has.1));
+            next = λ clause has. absurd (omega (arith, has.1));
+          };
+      greatest = λ other allowed inductive clause has.
+          absurd (omega (arith, (subst (λ (cs : List InvClause). Contains cs clause) none (allowed clause has).candidate).1));
+    }
+
+-- at depth 0 and of no candidates nothing is kept
+pub empty_kept : (d : Design) (depth budget : ℕ) (candidates : List InvClause) (set : InvSet) → (depth ≡ 0) ⊎ (candidates ≡ []) → IsEmptySet depth set
     → IsKeptSet d depth budget candidates set
-empty_kept d depth budget candidates set zero_is empty =
-    subst (λ (k : ℕ). IsKeptSet d k budget candidates set) (sym zero_is)
-    (record {
+empty_kept d depth budget candidates set nothing empty =
+    record {
       at_depth = empty.at_depth;
-      greatest = subst (IsGreatest d 0 (IsUnspent candidates set.spent)) (sym empty.kept) (empty_greatest d (IsUnspent candidates set.spent));
+      greatest = subst (IsGreatest d depth (IsUnspent candidates set.spent)) (sym empty.kept) (nothing_greatest d depth candidates set.spent nothing);
       once = subst StandOnce (sym empty.kept) tt;
-      proofs = subst (λ (ks : List InvClause). ProveKept own_coding d ks 0 set.proofs) (sym empty.kept)
-          (subst (ProveKept own_coding d [] 0) (sym empty.proofs)
+      proofs = subst (λ (ks : List InvClause). ProveKept own_coding d ks depth set.proofs) (sym empty.kept)
+          (subst (ProveKept own_coding d [] depth) (sym empty.proofs)
           (record { deep = λ clause has. absurd (omega (arith, has.1)); as_many = refl; each = λ place clause proof at there. cc }));
       met = λ clause has. absurd (omega (arith, (subst (λ (ks : List InvClause). Contains ks clause) empty.kept has).1));
-      entries = subst (All (IsEntry d 0 budget candidates set.kept)) (sym empty.spent) (All-nil (IsEntry d 0 budget candidates set.kept));
-    })
+      entries = subst (All (IsEntry d depth budget candidates set.kept)) (sym empty.spent) (All-nil (IsEntry d depth budget candidates set.kept));
+    }
 
 -- one more proof, from the ends of both lists
 pub record AreProofsTaken (members : List Member) (steps : List Derivation) (proofs whole : List InvProof) : Type 0 where

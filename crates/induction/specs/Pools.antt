@@ -58,9 +58,9 @@ pub data IsTried (d : Design) (depth budget : ℕ) (clause : InvClause) (old new
       → All (IsRun d) new.runs → offset < depth → IsSpentOn own_coding (clause_query d (clause ∷ []) clause Base offset) budget log
       → IsTried d depth budget clause old new
 
--- the set at depth 0
-pub record IsEmptySet (set : InvSet) : Type 0 where
-  pub at_depth : set.depth ≡ 0
+-- the set of a depth in which nothing is kept
+pub record IsEmptySet (depth : ℕ) (set : InvSet) : Type 0 where
+  pub at_depth : set.depth ≡ depth
   pub kept : set.kept ≡ []
   pub proofs : set.proofs ≡ []
   pub spent : set.spent ≡ []

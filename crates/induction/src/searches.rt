@@ -10,7 +10,7 @@ ghost use Rattle.induction.specs.Pools.{IsEmptySet};
 use crate::members::{clauses_of, holding_in, proofs_of, take_out};
 use crate::pools::Pool;
 use crate::steps::{Round, ask_steps};
-use net_model::{InvClause, Phase};
+use net_model::{Design, InvClause, Phase};
 use query_asks::Prepared;
 use sdcv_base::Seq;
 use std::alloc::{AllocError, Global};
@@ -19,11 +19,10 @@ use verdicts::{InvSet, InvSpent};
 /// The greatest inductive subset, at a depth, of candidates that stand once each: what is kept holds in every live cycle of
 /// every run from reset. A candidate whose query spends the budget is left out, with an entry.
 ///
-/// Clauses are left out until the step query of each against all that are left is refuted (van Eijk, 2000). After one is left
-/// out the round begins with those that stood after it, so none is asked twice before all others were.
+/// The design is prepared only where a query is asked: not at depth 0, and not of no candidate.
 pub fn greatest_set(
     alloc: Global,
-    design: &Prepared,
+    design: &Design,
     candidates: &Seq<InvClause>,
     depth: usize,
     budget: u64,
@@ -37,9 +36,34 @@ pub fn greatest_set(
     ensures names { IfOk result (λ set. All (NamesRegs design.now) set.kept) }
     ensures in_form { IfOk result (λ set. All IsKeptClause candidates.now → IsSetInForm set) }
 {
-    if depth == 0 {
-        return Ok(empty_set(alloc));
+    if depth == 0 || candidates.is_empty() {
+        return Ok(empty_set(alloc, depth));
     }
+    let prepared = Prepared::of(alloc, design)?;
+    set_by_rounds(alloc, &prepared, candidates, depth, budget)
+}
+
+/// The set that is left after all rounds.
+///
+/// Clauses are left out until the step query of each against all that are left is refuted (van Eijk, 2000). After one is left
+/// out the round begins with those that stood after it, so none is asked twice before all others were.
+fn set_by_rounds(
+    alloc: Global,
+    design: &Prepared,
+    candidates: &Seq<InvClause>,
+    depth: usize,
+    budget: u64,
+) -> Result<InvSet, AllocError>
+    requires sound { IsSound design.now }
+    requires names { All (NamesRegs design.now) candidates.now }
+    requires once { StandOnce candidates.now }
+    requires deep { 0 < depth }
+    requires few { depth ≤ 8 }
+    requires some { 0 < budget }
+    ensures kept { IfOk result (IsKeptSet design.now depth budget candidates.now) }
+    ensures names { IfOk result (λ set. All (NamesRegs design.now) set.kept) }
+    ensures in_form { IfOk result (λ set. All IsKeptClause candidates.now → IsSetInForm set) }
+{
     let Pool {
         mut members,
         mut spent,
@@ -79,12 +103,12 @@ pub fn greatest_set(
     }
 }
 
-/// At depth 0 nothing is kept.
-fn empty_set(alloc: Global) -> InvSet
-    ensures { IsEmptySet result }
+/// The set of a depth in which nothing is kept.
+fn empty_set(alloc: Global, depth: usize) -> InvSet
+    ensures { IsEmptySet depth result }
 {
     InvSet {
-        depth: 0,
+        depth,
         kept: Seq::new(alloc),
         proofs: Seq::new(alloc),
         spent: Seq::new(alloc),

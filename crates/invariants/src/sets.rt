@@ -13,7 +13,6 @@ use drawn_runs::survivors;
 use induction::greatest_set;
 use inv_candidates::candidates;
 use net_model::{Claim, Design};
-use query_asks::Prepared;
 use sdcv_base::Seq;
 use std::alloc::{AllocError, Global};
 use verdicts::InvSet;
@@ -42,7 +41,6 @@ pub fn invariants(
 {
     let clauses = candidates(alloc, design, claims)?;
     let left = survivors(alloc, design, clauses)?;
-    let prepared = Prepared::of(alloc, design)?;
-    let set = greatest_set(alloc, &prepared, &left, depth, budget)?;
+    let set = greatest_set(alloc, design, &left, depth, budget)?;
     Ok(set)
 }

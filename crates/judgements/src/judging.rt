@@ -35,12 +35,35 @@ pub fn judge<P: Progress>(
 {
     progress.judged(0, claims.len());
     let inv = invariants(alloc, design, claims, inv_depth, limits.budget)?;
-    let prepared = Prepared::of(alloc, design)?;
-    let verdicts = verdicts_on(alloc, &prepared, claims, &inv, limits, progress)?;
+    let verdicts = all_verdicts(alloc, design, claims, &inv, limits, progress)?;
     Ok(Judged { inv, verdicts })
 }
 
-// The verdict on each claim.
+// The verdict on each claim. Where there is none, the design is not prepared.
+fn all_verdicts<P: Progress>(
+    alloc: Global,
+    design: &Design,
+    claims: &Seq<Claim>,
+    inv: &InvSet,
+    limits: &Limits,
+    progress: &mut P,
+) -> Result<Seq<Verdict>, AllocError>
+    requires sound { IsSound design.now }
+    requires fit { All (Fits design.now) claims.now }
+    requires names { All (NamesRegs design.now) inv.now.kept }
+    requires met { AreAlwaysMet design.now inv.now.kept }
+    requires few { limits.now.depth ≤ 64 }
+    requires some { 0 < limits.now.budget }
+    ensures { IfOk result (AreFound design.now claims.now inv.now.kept limits.now) }
+{
+    if claims.is_empty() {
+        return Ok(Seq::new(alloc));
+    }
+    let prepared = Prepared::of(alloc, design)?;
+    verdicts_on(alloc, &prepared, claims, inv, limits, progress)
+}
+
+// The verdict on each claim of a prepared design.
 fn verdicts_on<P: Progress>(
     alloc: Global,
     design: &Prepared,

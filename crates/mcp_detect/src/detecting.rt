@@ -16,6 +16,7 @@ use crate::tries::tried;
 use exception_expand::Selected;
 use invariants::invariants;
 use link_defs::Linked;
+use net_model::Design;
 use pair_prove::Progress;
 use query_asks::Prepared;
 use sdcv_base::Seq;
@@ -41,11 +42,36 @@ pub fn detect<P: Progress>(
     progress.judged(0, selected.claims.len());
     let (depth, budget) = (options.inv_depth, options.budget);
     let inv = invariants(alloc, &linked.design, &selected.claims, depth, budget)?;
-    let prepared = Prepared::of(alloc, &linked.design)?;
-    let tried = all_tried(alloc, &prepared, &selected, &inv, options, progress)?;
+    let tried = pairs_tried(alloc, &linked.design, &selected, &inv, options, progress)?;
     Ok(Detected { inv, tried })
 }
 
+// The pairs, each tried. Where there is none, the design is not prepared.
+fn pairs_tried<P: Progress>(
+    alloc: Global,
+    design: &Design,
+    selected: &Selected,
+    inv: &InvSet,
+    options: &DetectOptions,
+    progress: &mut P,
+) -> Result<Seq<Tried>, AllocError>
+    requires sound { IsSound design.now }
+    requires as_many { length selected.now.claims ≡ length selected.now.pairs }
+    requires fit { All (Fits design.now) selected.now.claims }
+    requires bare { All IsBare selected.now.claims }
+    requires names { All (NamesRegs design.now) inv.now.kept }
+    requires met { AreAlwaysMet design.now inv.now.kept }
+    requires range { AreInRange options.now }
+    ensures { IfOk result (AreTried design.now options.now inv.now.kept selected.now) }
+{
+    if selected.claims.is_empty() {
+        return Ok(Seq::new(alloc));
+    }
+    let prepared = Prepared::of(alloc, design)?;
+    all_tried(alloc, &prepared, selected, inv, options, progress)
+}
+
+// The pairs, each tried in a prepared design.
 fn all_tried<P: Progress>(
     alloc: Global,
     design: &Prepared,

@@ -1,9 +1,7 @@
 use Rattle.std.proofs.Common.{ℕ, sym, subst}
 use Rattle.std.specs.Prelude.{All}
-use Rattle.net_model.specs.declared.netlist.Design.{Design}
 use Rattle.net_model.specs.Fits.{NamesRegs}
 use Rattle.drawn_runs.specs.Drawn.{HoldsDrawn, FailsDrawn}
-use Rattle.verdicts.specs.Kept.{IsKeptSet}
 use Rattle.verdicts.specs.Logs.{own_coding}
 use Rattle.verdicts.specs.Certified.{ProveKept}
 use Rattle.verdict_types.specs.Forms.{IsKeptClause}
@@ -13,9 +11,7 @@ use Rattle.invariants.proofs.sets.invariants.Goals as goal
 pub greatest_set-requires-clause-names : goal.greatest_set-requires-clause-names
 greatest_set-requires-clause-names c =
     let d = c.args.design.now in
-    let left = c.in_ok-left.left in
-    subst (λ (p : Design). All (NamesRegs p) left) (sym c.in_ok-prepared.ensures)
-    (All-sifted (NamesRegs d) (HoldsDrawn d) (FailsDrawn d) c.in_ok-clauses.clauses left c.in_ok-left.ensures c.in_ok-clauses.ensures.names)
+    All-sifted (NamesRegs d) (HoldsDrawn d) (FailsDrawn d) c.in_ok-clauses.clauses c.in_ok-left.left c.in_ok-left.ensures c.in_ok-clauses.ensures.names
 
 pub greatest_set-requires-clause-once : goal.greatest_set-requires-clause-once
 greatest_set-requires-clause-once c =
@@ -28,7 +24,7 @@ returns-clause-kept c =
     let clauses = c.in_ok-clauses.clauses in
     let left = c.in_ok-left.left in
     let set = c.in_ok-set.set in
-    let kept = subst (λ (p : Design). IsKeptSet p c.args.depth c.args.budget left set) c.in_ok-prepared.ensures c.in_ok-set.ensures.kept in
+    let kept = c.in_ok-set.ensures.kept in
     record {
       candidates = clauses;
       of_claims = c.in_ok-clauses.ensures.candidates;
@@ -37,15 +33,12 @@ returns-clause-kept c =
     }
 
 pub returns-clause-met : goal.returns-clause-met
-returns-clause-met c =
-    let kept = subst (λ (p : Design). IsKeptSet p c.args.depth c.args.budget c.in_ok-left.left c.in_ok-set.set) c.in_ok-prepared.ensures
-    c.in_ok-set.ensures.kept in
-    kept.met
+returns-clause-met c = c.in_ok-set.ensures.kept.met
 
 pub returns-clause-proved : goal.returns-clause-proved
 returns-clause-proved c =
     let set = c.in_ok-set.set in
-    let kept = subst (λ (p : Design). IsKeptSet p c.args.depth c.args.budget c.in_ok-left.left set) c.in_ok-prepared.ensures c.in_ok-set.ensures.kept in
+    let kept = c.in_ok-set.ensures.kept in
     subst (λ (n : ℕ). ProveKept own_coding c.args.design.now set.kept n set.proofs) (sym kept.at_depth) kept.proofs
 
 pub returns-clause-in_form : goal.returns-clause-in_form

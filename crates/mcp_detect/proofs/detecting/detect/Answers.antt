@@ -1,10 +1,7 @@
 use Rattle.std.proofs.Common.{◌∙◌, Err, IfErr, ap, arith, sym, subst}
 use Rattle.std.specs.Prelude.{Result}
 use Rattle.std.proofs.lemmas.Result.{err_from_is_err_and}
-use Rattle.net_model.specs.declared.netlist.Design.{Design}
 use Rattle.exception_expand.specs.Pairs.{judging_by}
-use Rattle.verdicts.specs.Inductive.{AreAlwaysMet}
-use Rattle.mcp_detect.specs.Detections.{AreTried}
 use Rattle.mcp_detect.specs.Causes.{IsDetectCause}
 use Rattle.mcp_detect.specs.declared.detections.Detected.{Detected}
 use Rattle.mcp_detect.specs.declared.faults.DetectFault.{DetectFault}
@@ -12,22 +9,16 @@ use Rattle.mcp_detect.proofs.Registers.{all_bare}
 use Rattle.mcp_detect.proofs.Counting.{few_claims}
 use Rattle.mcp_detect.proofs.detecting.detect.Goals as goal
 
-pub all_tried-requires-clause-bare : goal.all_tried-requires-clause-bare
-all_tried-requires-clause-bare g c =
+pub pairs_tried-requires-clause-bare : goal.pairs_tried-requires-clause-bare
+pairs_tried-requires-clause-bare g c =
     all_bare c.args.linked.now (judging_by c.args.options.now.hazard 0) c.in_ok-selected.selected c.in_ok-selected.ensures.ok
-
-pub all_tried-requires-clause-met : goal.all_tried-requires-clause-met
-all_tried-requires-clause-met g c =
-    subst (λ (d : Design). AreAlwaysMet d c.in_ok-inv.inv.kept) (sym c.in_ok-prepared.ensures) c.in_ok-inv.ensures.met
 
 pub returns-clause-ok : goal.returns-clause-ok
 returns-clause-ok g c =
     let l = c.args.linked.now in
     let o = c.args.options.now in
     let s = c.in_ok-selected.selected in
-    let kept = c.in_ok-inv.inv.kept in
-    let tried = c.in_ok-tried.tried in
-    let all : AreTried l.design o kept s tried = subst (λ (d : Design). AreTried d o kept s tried) c.in_ok-prepared.ensures c.in_ok-tried.ensures in
+    let all = c.in_ok-tried.ensures in
     record {
       selected = s;
       pairs = c.in_ok-selected.ensures.ok;

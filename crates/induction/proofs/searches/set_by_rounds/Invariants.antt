@@ -1,7 +1,7 @@
 use Rattle.std.proofs.Common.{length, map}
 use Rattle.induction.specs.Members.{clause_of}
 use Rattle.induction.specs.Pools.{IsSearch, AreBased}
-use Rattle.induction.proofs.searches.greatest_set.Given as goal
+use Rattle.induction.proofs.searches.set_by_rounds.Given as goal
 
 abbrev pub invariant-loop-spent : goal.invariant-loop-spent
 invariant-loop-spent l =
