@@ -1,3 +1,4 @@
+pub mod Counts
 pub mod Stars
 pub mod Groups
 pub mod Findings

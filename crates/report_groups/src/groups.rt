@@ -1,10 +1,11 @@
 //! The groups of the pairs.
-ghost use Rattle.std.specs.Prelude.{◌≡◌, ◌++◌, IfOk, OnOk, map, count_by};
+ghost use Rattle.std.specs.Prelude.{◌≡◌, ◌++◌, ℕ, List, IfOk, OnOk, map};
 ghost use Rattle.texts.specs.Names.{with_name};
 ghost use Rattle.report_groups.specs.Firsts.{group_where_first};
-ghost use Rattle.std.specs.Str.{bytes_eq};
+ghost use Rattle.report_groups.specs.Counts.{AreCountsOf};
 ghost use Rattle.report_groups.specs.Groups as spec;
 
+use crate::counts::Counts;
 use crate::keys::{copy_row, key_of, keys_of, starred_rows};
 use report_rows::PairRow;
 use sdcv_base::{Name, Seq};
@@ -20,35 +21,23 @@ pub struct Group {
     pub pairs: u64,
 }
 
-// How often a key stands there.
-fn count_of(keys: &[Name], key: &Name) -> u64
-    ensures { result ≡ count_by (λ other. bytes_eq other key.now) keys.now }
-{
-    let mut count = 0u64;
-    for other in keys {
-        if other.as_bytes() == key.as_bytes() {
-            count += 1;
-        }
-    }
-    count
-}
-
 // Adds the group of a row, where the row is the first with its key.
 fn add_group(
     alloc: Global,
-    keys: &[Name],
+    counts: &Counts,
     row: &PairRow,
     seen: &mut NameTable,
     groups: &mut Seq<Group>,
 ) -> Result<(), AllocError>
     ensures seen { OnOk result (seen.new ≡ with_name seen.old (spec.key_of row.now)) }
-    ensures groups { OnOk result (groups.new ≡ groups.old ++ group_where_first keys.now seen.old row.now) }
+    ensures groups { OnOk result ((keys : List (List ℕ)) → AreCountsOf keys counts.now
+        → groups.new ≡ groups.old ++ group_where_first keys seen.old row.now) }
 {
     let key = key_of(alloc, row)?;
     if !seen.add(alloc, &key)? {
         return Ok(());
     }
-    let pairs = count_of(keys, &key);
+    let pairs = counts.count(&key);
     let row = copy_row(alloc, row)?;
     groups.push(Group { row, pairs })?;
     Ok(())
@@ -59,10 +48,11 @@ fn groups_among(alloc: Global, rows: &[PairRow], keys: &[Name]) -> Result<Seq<Gr
     requires { keys.now ≡ map spec.key_of rows.now }
     ensures { IfOk result (λ groups. groups ≡ spec.groups_among rows.now) }
 {
+    let counts = Counts::of(alloc, keys)?;
     let mut seen = NameTable::new(alloc);
     let mut groups = Seq::new(alloc);
     for row in rows {
-        add_group(alloc, keys, row, &mut seen, &mut groups)?;
+        add_group(alloc, &counts, row, &mut seen, &mut groups)?;
     }
     Ok(groups)
 }

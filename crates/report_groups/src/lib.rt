@@ -4,6 +4,7 @@
 //! the groups. `groups_text`, `csv_text` and `gate` tell that one list in three ways. What a report is, is up to the crate below.
 #![tactic(auto)]
 
+mod counts;
 mod csv_texts;
 mod findings;
 mod gates;

@@ -8,7 +8,7 @@ use Rattle.report_groups.proofs.groups.groups_among.Goals as goal
 pub loop-row-preserved : goal.loop-row-preserved
 loop-row-preserved c =
     groups_more _ c.loop-row.groups c.add_group.new.groups c.args.keys.now c.loop-row.seen c.add_group.new.seen c.args.rows.now c.loop-row.row-index c.row-item.result
-    c.loop-row.invariant (omega arith) c.row-item.is c.in_ok-add_group.ensures.seen c.in_ok-add_group.ensures.groups
+    c.loop-row.invariant (omega arith) c.row-item.is c.in_ok-add_group.ensures.seen (c.in_ok-add_group.ensures.groups c.args.keys.now c.in_ok-counts.ensures)
 
 pub returns : goal.returns
 returns c =
