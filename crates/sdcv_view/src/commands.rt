@@ -1,7 +1,8 @@
-//! The words of the program, read by `clap`.
+//! The words of the program: a table of its commands, read by `clap`.
 use clap::builder::ValueParser;
 use clap::{Arg, ArgAction, ArgMatches, Command, Error};
 use std::alloc::{AllocError, Global};
+use view_commands::{PairWords, ResetWords};
 
 /// The files of a design, and how it is reset.
 #[derive(Clone, Copy)]
@@ -9,16 +10,14 @@ pub struct DesignWords<'a> {
     pub netlist: &'a str,
     pub cells: &'a str,
     pub constraints: &'a str,
-    pub reset: Option<&'a str>,
-    pub cycles: Option<&'a str>,
+    pub reset: ResetWords<'a>,
 }
 
-/// A pair of a report, by its number from 1, and the files of its design.
+/// A pair of a report, and the files of its design.
 #[derive(Clone, Copy)]
 pub struct RunWords<'a> {
     pub design: DesignWords<'a>,
-    pub report: &'a str,
-    pub pair: u64,
+    pub pair: PairWords<'a>,
 }
 
 /// What the words ask for.
@@ -31,115 +30,209 @@ pub enum Asked<'a> {
     Wave { run: RunWords<'a>, out: &'a str },
 }
 
-fn position<'a>(alloc: Global, id: &'static str, help: &'static str) -> Arg<'a> {
-    Arg::new(alloc, id)
-        .help(help)
-        .required(true)
-        .value_parser(ValueParser::string())
+/// How an argument stands in the words.
+#[derive(Clone, Copy)]
+enum Form {
+    /// In its place, always.
+    Place,
+    /// Alone, after `--`, or not at all.
+    Flag,
+    /// With a value, after `--`, or not at all.
+    Valued,
+    /// With a value, after `--`, always.
+    Needed,
+}
+
+/// What the value of an argument is: any text, or a number in this range.
+#[derive(Clone, Copy)]
+enum Rule {
+    Text,
+    Number(u64, u64),
+}
+
+/// An argument, what help calls its value, and what help says of it.
+#[derive(Clone, Copy)]
+struct ArgRow {
+    id: &'static str,
+    form: Form,
+    value: &'static str,
+    rule: Rule,
+    sentence: &'static str,
+}
+
+/// A command with its arguments, those with a place in their order.
+#[derive(Clone, Copy)]
+struct CommandRow {
+    name: &'static str,
+    sentence: &'static str,
+    args: &'static [ArgRow],
+}
+
+const V: ArgRow = ArgRow {
+    id: "V",
+    form: Form::Place,
+    value: "V",
+    rule: Rule::Text,
+    sentence: "The netlist (Verilog)",
+};
+
+const L: ArgRow = ArgRow {
+    id: "L",
+    form: Form::Place,
+    value: "L",
+    rule: Rule::Text,
+    sentence: "The cells (Liberty), or builtin",
+};
+
+const S: ArgRow = ArgRow {
+    id: "S",
+    form: Form::Place,
+    value: "S",
+    rule: Rule::Text,
+    sentence: "The constraints (SDC)",
+};
+
+const RESET: ArgRow = ArgRow {
+    id: "reset",
+    form: Form::Valued,
+    value: "LIST",
+    rule: Rule::Text,
+    sentence: "Hold input ports in reset: PORT=0 or PORT=1, parted by commas",
+};
+
+const RESET_CYCLES: ArgRow = ArgRow {
+    id: "reset-cycles",
+    form: Form::Valued,
+    value: "N",
+    rule: Rule::Number(0, 64),
+    sentence: "Hold them for N cycles, 0 to 64 (else 1 with --reset, 0 without)",
+};
+
+const REPORT: ArgRow = ArgRow {
+    id: "REPORT",
+    form: Form::Place,
+    value: "REPORT",
+    rule: Rule::Text,
+    sentence: "A report of sdcv verify, by lines or with --json",
+};
+
+const PAIR: ArgRow = ArgRow {
+    id: "PAIR",
+    form: Form::Place,
+    value: "PAIR",
+    rule: Rule::Number(1, u64::MAX),
+    sentence: "The number of a refuted pair",
+};
+
+const CSV: ArgRow = ArgRow {
+    id: "csv",
+    form: Form::Flag,
+    value: "",
+    rule: Rule::Text,
+    sentence: "Print comma-separated values",
+};
+
+const OUT: ArgRow = ArgRow {
+    id: "out",
+    form: Form::Needed,
+    value: "FILE",
+    rule: Rule::Text,
+    sentence: "Save the wave as FILE",
+};
+
+const ROWS: [CommandRow; 5] = [
+    CommandRow {
+        name: "groups",
+        sentence: "Print a report by groups: pairs that differ in the indices of their names alone",
+        args: &[REPORT, CSV],
+    },
+    CommandRow {
+        name: "gate",
+        sentence: "Print what of a report stops a build; the status is 0 where nothing does, else 1",
+        args: &[REPORT],
+    },
+    CommandRow {
+        name: "bits",
+        sentence: "Print which bit of a stimulus is which register or input",
+        args: &[V, L, S, RESET, RESET_CYCLES],
+    },
+    CommandRow {
+        name: "show",
+        sentence: "Print the run of a refuted pair by cycles, and what of it is late",
+        args: &[V, L, S, RESET, RESET_CYCLES, REPORT, PAIR],
+    },
+    CommandRow {
+        name: "wave",
+        sentence: "Save the run of a refuted pair as a value change dump",
+        args: &[V, L, S, RESET, RESET_CYCLES, REPORT, PAIR, OUT],
+    },
+];
+
+fn parser_of<'a>(rule: Rule) -> ValueParser<'a> {
+    match rule {
+        Rule::Text => ValueParser::string(),
+        Rule::Number(least, most) => ValueParser::unsigned(least, most),
+    }
+}
+
+// An argument with a value, which may have to be there.
+fn valued<'a>(alloc: Global, row: ArgRow, needed: bool) -> Arg<'a> {
+    Arg::new(alloc, row.id)
+        .help(row.sentence)
+        .required(needed)
+        .value_parser(parser_of(row.rule))
         .action(ArgAction::Set)
 }
 
-fn option<'a>(alloc: Global, id: &'static str, value: &'static str, help: &'static str) -> Arg<'a> {
-    Arg::new(alloc, id)
-        .long(id)
-        .value_name(value)
-        .help(help)
-        .value_parser(ValueParser::string())
-        .action(ArgAction::Set)
+fn option<'a>(alloc: Global, row: ArgRow, needed: bool) -> Arg<'a> {
+    valued(alloc, row, needed)
+        .long(row.id)
+        .value_name(row.value)
 }
 
-fn report_arg<'a>(alloc: Global) -> Arg<'a> {
-    position(
-        alloc,
-        "REPORT",
-        "A report of sdcv verify, by lines or with --json",
+fn flag<'a>(alloc: Global, row: ArgRow) -> Arg<'a> {
+    Arg::new(alloc, row.id)
+        .long(row.id)
+        .help(row.sentence)
+        .action(ArgAction::SetTrue)
+}
+
+fn arg_of<'a>(alloc: Global, row: ArgRow) -> Arg<'a> {
+    match row.form {
+        Form::Place => valued(alloc, row, true),
+        Form::Flag => flag(alloc, row),
+        Form::Valued => option(alloc, row, false),
+        Form::Needed => option(alloc, row, true),
+    }
+}
+
+fn subcommand<'a>(alloc: Global, row: CommandRow) -> Result<Command<'a>, AllocError> {
+    let mut command = Command::new(alloc, row.name).about(row.sentence);
+    for arg in row.args {
+        command = command.arg(arg_of(alloc, *arg))?;
+    }
+    Ok(command)
+}
+
+// The program with its name and its version, and no command yet.
+fn bare<'a>(alloc: Global) -> Result<Command<'a>, AllocError> {
+    let command = Command::new(alloc, "sdcv_view").bin_name("sdcv_view")?;
+    Ok(
+        command
+            .no_binary_name(true)
+            .version("0.9.0")
+            .about("Show a report of sdcv, the bits of a stimulus, and the run of a refuted pair")
+            .arg_required_else_help(true)
+            .subcommand_required(true),
     )
 }
 
-// The arguments of a design.
-fn with_design<'a>(alloc: Global, command: Command<'a>) -> Result<Command<'a>, AllocError> {
-    let cycles = option(
-        alloc,
-        "reset-cycles",
-        "N",
-        "Hold them for N cycles, 0 to 64 (else 1 with --reset, 0 without)",
-    )
-    .value_parser(ValueParser::unsigned(0, 64));
-    command
-        .arg(position(alloc, "V", "The netlist (Verilog)"))?
-        .arg(position(alloc, "L", "The cells (Liberty), or builtin"))?
-        .arg(position(alloc, "S", "The constraints (SDC)"))?
-        .arg(option(
-            alloc,
-            "reset",
-            "LIST",
-            "Hold input ports in reset: PORT=0 or PORT=1, parted by commas",
-        ))?
-        .arg(cycles)
-}
-
-// The arguments of a pair of a report.
-fn with_run<'a>(alloc: Global, command: Command<'a>) -> Result<Command<'a>, AllocError> {
-    let pair = position(alloc, "PAIR", "The number of a refuted pair").value_parser(
-        ValueParser::unsigned(1, u64::MAX),
-    );
-    with_design(alloc, command)?
-        .arg(report_arg(alloc))?
-        .arg(pair)
-}
-
-fn groups_command<'a>(alloc: Global) -> Result<Command<'a>, AllocError> {
-    let csv = Arg::new(alloc, "csv")
-        .long("csv")
-        .help("Print comma-separated values")
-        .action(ArgAction::SetTrue);
-    Command::new(alloc, "groups")
-        .about("Print a report by groups: pairs that differ in the indices of their names alone")
-        .arg(report_arg(alloc))?
-        .arg(csv)
-}
-
-fn gate_command<'a>(alloc: Global) -> Result<Command<'a>, AllocError> {
-    Command::new(alloc, "gate")
-        .about("Print what of a report stops a build; the status is 0 where nothing does, else 1")
-        .arg(report_arg(alloc))
-}
-
-fn bits_command<'a>(alloc: Global) -> Result<Command<'a>, AllocError> {
-    let command = Command::new(alloc, "bits").about(
-        "Print which bit of a stimulus is which register or input",
-    );
-    with_design(alloc, command)
-}
-
-fn show_command<'a>(alloc: Global) -> Result<Command<'a>, AllocError> {
-    let command = Command::new(alloc, "show").about(
-        "Print the run of a refuted pair by cycles, and what of it is late",
-    );
-    with_run(alloc, command)
-}
-
-fn wave_command<'a>(alloc: Global) -> Result<Command<'a>, AllocError> {
-    let command = Command::new(alloc, "wave").about(
-        "Save the run of a refuted pair as a value change dump",
-    );
-    let out = option(alloc, "out", "FILE", "Save the wave as FILE").required(true);
-    with_run(alloc, command)?.arg(out)
-}
-
-fn whole_command<'a>(alloc: Global) -> Result<Command<'a>, AllocError> {
-    Command::new(alloc, "sdcv_view")
-        .bin_name("sdcv_view")?
-        .no_binary_name(true)
-        .version("0.9.0")
-        .about("Show a report of sdcv, the bits of a stimulus, and the run of a refuted pair")
-        .arg_required_else_help(true)
-        .subcommand_required(true)
-        .subcommand(groups_command(alloc)?)?
-        .subcommand(gate_command(alloc)?)?
-        .subcommand(bits_command(alloc)?)?
-        .subcommand(show_command(alloc)?)?
-        .subcommand(wave_command(alloc)?)
+fn whole<'a>(alloc: Global) -> Result<Command<'a>, AllocError> {
+    let mut command = bare(alloc)?;
+    for row in &ROWS {
+        command = command.subcommand(subcommand(alloc, *row)?)?;
+    }
+    Ok(command)
 }
 
 // A required argument, which is there.
@@ -152,16 +245,20 @@ fn design_of<'a>(matches: &ArgMatches<'a>) -> DesignWords<'a> {
         netlist: given(matches, "V"),
         cells: given(matches, "L"),
         constraints: given(matches, "S"),
-        reset: matches.get_str("reset"),
-        cycles: matches.get_str("reset-cycles"),
+        reset: ResetWords {
+            ports: matches.get_str("reset"),
+            cycles: matches.get_str("reset-cycles"),
+        },
     }
 }
 
 fn run_of<'a>(matches: &ArgMatches<'a>) -> RunWords<'a> {
     RunWords {
         design: design_of(matches),
-        report: given(matches, "REPORT"),
-        pair: matches.get_one::<u64>("PAIR").unwrap_or(0),
+        pair: PairWords {
+            report: given(matches, "REPORT"),
+            pair: matches.get_one::<u64>("PAIR").unwrap_or(0),
+        },
     }
 }
 
@@ -186,7 +283,7 @@ fn asked_of<'a>(name: &str, matches: &ArgMatches<'a>) -> Asked<'a> {
 
 /// What the words ask for, or what `clap` tells of them: help, the version, or what is wrong with them.
 pub fn asked_by<'a>(alloc: Global, words: &'a [String]) -> Result<Asked<'a>, Error> {
-    let matches = whole_command(alloc)?.try_get_matches_from(words)?;
+    let matches = whole(alloc)?.try_get_matches_from(words)?;
     match matches.subcommand() {
         Some((name, inner)) => Ok(asked_of(name, inner)),
         None => Ok(Asked::Gate { report: "" }),

@@ -7,26 +7,19 @@
 //! refused, 5 where the host fails, 6 where memory is wanted, and 9 where a word is not UTF-8.
 #![tactic(auto)]
 
-mod bits;
+mod answers;
 mod commands;
-mod designs;
-mod gate;
-mod groups;
-mod pairs;
-mod reports;
-mod runs;
-mod shows;
-mod stops;
-mod waves;
+mod ends;
+mod reads;
 
-use crate::commands::{Asked, asked_by};
-use crate::stops::Stop;
+use crate::answers::answer;
+use crate::commands::asked_by;
+use crate::ends::Ended;
 use real_host::RealHost;
-use sdcv_base::Host;
-use std::alloc::Global;
 use std::io::ErrorKind;
 use std::process::ExitCode;
 use std::{env, io};
+use view_commands::Stop;
 
 fn main(rt: HostRuntime) -> ExitCode {
     match words(&rt) {
@@ -35,7 +28,7 @@ fn main(rt: HostRuntime) -> ExitCode {
             let _ = eprintln!(rt; "sdcv_view: a word is not UTF-8");
             ExitCode::from(9)
         }
-        Err(_) => ended(&rt, Stop::Memory),
+        Err(_) => ended(&rt, Ended::Stopped(Stop::Memory)),
     }
 }
 
@@ -47,25 +40,13 @@ fn words(rt: &HostRuntime) -> io::Result<Vec<String>> {
 }
 
 // The end of a run that has no answer. Failures of the host were told where they came.
-fn ended(rt: &HostRuntime, stop: Stop) -> ExitCode {
-    match stop {
-        Stop::Line(line) => {
-            let _ = eprintln!(rt; "sdcv_view: {line}");
-            ExitCode::from(3)
+fn ended(rt: &HostRuntime, why: Ended) -> ExitCode {
+    match why {
+        Ended::Stopped(stop) => {
+            let _ = eprintln!(rt; "sdcv_view: {stop}");
+            ExitCode::from(stop.status())
         }
-        Stop::Words(text) => {
-            let _ = eprintln!(rt; "sdcv_view: {text}");
-            ExitCode::from(2)
-        }
-        Stop::Refused(text) => {
-            let _ = eprintln!(rt; "sdcv_view: {text}");
-            ExitCode::from(3)
-        }
-        Stop::Host => ExitCode::from(5),
-        Stop::Memory => {
-            let _ = eprintln!(rt; "sdcv_view: out of memory");
-            ExitCode::from(6)
-        }
+        Ended::Host => ExitCode::from(5),
     }
 }
 
@@ -73,23 +54,13 @@ fn ended(rt: &HostRuntime, stop: Stop) -> ExitCode {
 fn ran(rt: &HostRuntime, words: &[String]) -> ExitCode {
     let mut host = RealHost::new(rt.alloc(), "sdcv_view", rt, rt.stdout(), rt.stderr());
     match asked_by(rt.alloc(), words) {
-        Ok(asked) => match done(rt.alloc(), &mut host, &asked) {
+        Ok(asked) => match answer(rt.alloc(), &mut host, &asked) {
             Ok(status) => ExitCode::from(status),
-            Err(stop) => ended(rt, stop),
+            Err(why) => ended(rt, why),
         },
         Err(error) => {
             let _ = error.print(rt);
             ExitCode::from(error.exit_code() as u8)
         }
-    }
-}
-
-fn done<H: Host>(alloc: Global, host: &mut H, asked: &Asked<'_>) -> Result<u8, Stop> {
-    match *asked {
-        Asked::Groups { report, csv } => groups::groups(alloc, host, report, csv),
-        Asked::Gate { report } => gate::gate(alloc, host, report),
-        Asked::Bits(words) => bits::bits(alloc, host, &words),
-        Asked::Show(words) => shows::print_run(alloc, host, &words),
-        Asked::Wave { run, out } => waves::save_wave(alloc, host, &run, out),
     }
 }

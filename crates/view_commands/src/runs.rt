@@ -1,26 +1,22 @@
 //! The run of a refuted pair, in the design of its texts.
-ghost use Rattle.std.specs.Prelude.{◌≡◌, ◌<◌, length, IfOk, Some, slice_get};
+ghost use Rattle.std.specs.Prelude.{◌≡◌, ◌<◌, ◌≤◌, length, IfOk, Some, slice_get};
 ghost use Rattle.net_model.specs.Netlist.{IsSound};
 ghost use Rattle.net_model.specs.Fits.{Fits};
 ghost use Rattle.run_views.specs.Violations.{IsShowable, IsViolation};
-ghost use Rattle.design_stages.specs.Designs.{CanBeJudged};
-ghost use Rattle.sdcv_view.specs.Runs.{IsPairRun};
+ghost use Rattle.design_stages.specs.Designs.{AreLawful, CanBeJudged};
+ghost use Rattle.view_commands.specs.Runs.{IsPairRun};
 
-use crate::commands::RunWords;
-use crate::designs::{reset_of, texts_of};
 use crate::pairs::{RefutedPair, refuted_pair};
-use crate::reports::bytes_of;
 use crate::stops::Stop;
-use design_stages::{Designed, designed};
+use crate::words::PairWords;
+use design_stages::{Designed, ReadTexts, Reset, designed};
 use exception_expand::{PairLine, Selected};
 use link_defs::Linked;
-use link_tops::one_top;
 use net_model::{Claim, Design, Stimulus};
-use netlist_types::Source;
 use report_rows::PairRow;
 use report_text::claim_text;
 use run_views::{Violation, violation};
-use sdcv_base::{Host, Name, Seq};
+use sdcv_base::Seq;
 use std::alloc::{AllocError, Global};
 use witness_replay::ReplayFault;
 
@@ -28,9 +24,7 @@ use witness_replay::ReplayFault;
 ///
 /// What always holds (`IsPairRun`): the design is sound, the claim fits it, and the run violates the claim.
 #[derive(Drop)]
-pub struct PairRun {
-    /// The name of the top module.
-    pub top: Name,
+pub(crate) struct PairRun {
     pub linked: Linked,
     /// The line of the pair's exception in the constraints, from 1.
     pub line: u64,
@@ -42,7 +36,7 @@ pub struct PairRun {
 }
 
 // A report of other texts, and how that is seen.
-fn other_texts(alloc: Global, words: &RunWords<'_>, why: &str) -> Result<Stop, AllocError> {
+fn other_texts(alloc: Global, words: &PairWords<'_>, why: &str) -> Result<Stop, AllocError> {
     let report = words.report;
     Ok(Stop::Refused(format!(in alloc; "{report} is of other texts: {why}")?))
 }
@@ -68,7 +62,7 @@ fn claimed_of(alloc: Global, claim: &Claim, line: &PairLine) -> Result<String, A
 // The report says of the pair what is claimed of it here.
 fn check_pair(
     alloc: Global,
-    words: &RunWords<'_>,
+    words: &PairWords<'_>,
     row: &PairRow,
     claim: &Claim,
     line: &PairLine,
@@ -83,23 +77,33 @@ fn check_pair(
     Err(other_texts(alloc, words, &why)?)
 }
 
+// Here are fewer pairs than the report has.
+fn fewer_pairs(
+    alloc: Global,
+    words: &PairWords<'_>,
+    row: &PairRow,
+    count: usize,
+) -> Result<Stop, AllocError> {
+    let pair = words.pair;
+    let said = said_of(alloc, row)?;
+    let why = format!(in alloc; "its pair {pair} is {said}, here are {count} pairs")?;
+    other_texts(alloc, words, &why)
+}
+
 // The place of the pair that these words ask for, where the report says of it what is claimed of it here.
 fn place_of(
     alloc: Global,
-    words: &RunWords<'_>,
+    words: &PairWords<'_>,
     row: &PairRow,
     selected: &Selected,
 ) -> Result<usize, Stop>
     requires { length selected.now.claims ≡ length selected.now.pairs }
     ensures { IfOk result (λ place. place < length selected.now.claims) }
 {
-    let pair = words.pair;
     let count = selected.pairs.len();
-    let place = pair.saturating_sub(1);
+    let place = words.pair.saturating_sub(1);
     if place >= count as u64 {
-        let said = said_of(alloc, row)?;
-        let why = format!(in alloc; "its pair {pair} is {said}, here are {count} pairs")?;
-        return Err(other_texts(alloc, words, &why)?);
+        return Err(fewer_pairs(alloc, words, row, count)?);
     }
     let place = place as usize;
     let claim = selected.claims.item(place);
@@ -128,7 +132,7 @@ fn taken(claims: Seq<Claim>, place: usize) -> Claim
 // The run of a stimulus that violates a claim.
 fn violation_of(
     alloc: Global,
-    words: &RunWords<'_>,
+    words: &PairWords<'_>,
     design: &Design,
     claim: &Claim,
     stimulus: &Stimulus,
@@ -155,21 +159,12 @@ fn violation_of(
     Err(other_texts(alloc, words, &why)?)
 }
 
-// The name of the module that no module instantiates. A source that was linked has one, so what is left is want of memory.
-fn top_name(alloc: Global, source: &Source) -> Result<Name, Stop> {
-    match one_top(alloc, source) {
-        Ok(place) => Ok(source.modules.item(place).name.copy(alloc)?),
-        Err(_) => Err(Stop::Memory),
-    }
-}
-
 // The run of a pair in its design.
 fn run_in(
     alloc: Global,
-    words: &RunWords<'_>,
+    words: &PairWords<'_>,
     pair: RefutedPair,
     designed: Designed,
-    top: Name,
 ) -> Result<PairRun, Stop>
     requires { CanBeJudged designed }
     ensures { IfOk result IsPairRun }
@@ -181,7 +176,6 @@ fn run_in(
     let claim = taken(selected.claims, place);
     let violation = violation_of(alloc, words, &linked.design, &claim, &stimulus)?;
     Ok(PairRun {
-        top,
         linked,
         line,
         row,
@@ -192,14 +186,18 @@ fn run_in(
 }
 
 /// The run of the pair that these words ask for. A report that is not of these texts is refused.
-pub fn run_of<H: Host>(alloc: Global, host: &mut H, words: &RunWords<'_>) -> Result<PairRun, Stop>
+pub(crate) fn run_of(
+    alloc: Global,
+    words: &PairWords<'_>,
+    texts: &ReadTexts,
+    reset: Reset,
+    report: &[u8],
+) -> Result<PairRun, Stop>
+    requires lawful { AreLawful texts.now }
+    requires reset { reset.len ≤ 64 }
     ensures { IfOk result IsPairRun }
 {
-    let reset = reset_of(alloc, &words.design)?;
-    let texts = texts_of(alloc, host, &words.design)?;
-    let bytes = bytes_of(alloc, host, words.report)?;
-    let pair = refuted_pair(alloc, words, &bytes, reset.len)?;
-    let designed = designed(alloc, &texts, reset, pair.judging)?;
-    let top = top_name(alloc, &texts.source)?;
-    run_in(alloc, words, pair, designed, top)
+    let pair = refuted_pair(alloc, words, report, reset.len)?;
+    let designed = designed(alloc, texts, reset, pair.judging)?;
+    run_in(alloc, words, pair, designed)
 }

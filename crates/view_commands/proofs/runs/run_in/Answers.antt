@@ -1,5 +1,5 @@
-use Rattle.sdcv_view.proofs.Claims.{fits_at}
-use Rattle.sdcv_view.proofs.runs.run_in.Goals as goal
+use Rattle.view_commands.proofs.Claims.{fits_at}
+use Rattle.view_commands.proofs.runs.run_in.Goals as goal
 
 pub violation_of-requires-clause-fits : goal.violation_of-requires-clause-fits
 violation_of-requires-clause-fits c =

@@ -2,7 +2,7 @@
 use Rattle.net_model.specs.Netlist.{IsSound}
 use Rattle.net_model.specs.Fits.{Fits}
 use Rattle.run_views.specs.Violations.{IsShowable, IsViolation}
-use Rattle.sdcv_view.specs.declared.runs.PairRun.{PairRun}
+use Rattle.view_commands.specs.declared.runs.PairRun.{PairRun}
 
 -- a sound design, a claim that fits it, and a run that violates the claim
 pub record IsPairRun (r : PairRun) : Type 0 where

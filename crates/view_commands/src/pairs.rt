@@ -1,9 +1,9 @@
 //! A refuted pair of a report.
 ghost use Rattle.std.specs.Prelude.{◌≤◌, IfOk};
 
-use crate::commands::RunWords;
 use crate::reports::report_in;
 use crate::stops::Stop;
+use crate::words::PairWords;
 use exception_expand::Judging;
 use net_model::Stimulus;
 use report_rows::{PairRow, Report, Word, stimulus_of};
@@ -13,7 +13,7 @@ use witness_replay::StimFault;
 
 /// A refuted pair of a report with its stimulus, and how the claims of the report are judged.
 #[derive(Drop)]
-pub struct RefutedPair {
+pub(crate) struct RefutedPair {
     pub row: PairRow,
     pub stimulus: Stimulus,
     pub judging: Judging,
@@ -28,25 +28,25 @@ fn verdict_word(word: Word) -> &'static str {
 }
 
 // The row of the pair that these words ask for.
-fn row_of(alloc: Global, words: &RunWords<'_>, rows: Seq<PairRow>) -> Result<PairRow, Stop> {
+fn row_of(alloc: Global, words: &PairWords<'_>, rows: Seq<PairRow>) -> Result<PairRow, Stop> {
     let mut rows = rows.into_vec();
     let count = rows.len();
     match words.pair.checked_sub(1) {
         Some(place) if place < count as u64 => Ok(rows.swap_remove(place as usize)),
         _ => {
-            let RunWords { report, pair, .. } = *words;
+            let PairWords { report, pair } = *words;
             Err(Stop::Refused(format!(in alloc; "{report}: no pair {pair}, it has {count}")?))
         }
     }
 }
 
 // The row, if it is of a refuted pair.
-fn refuted_row(alloc: Global, words: &RunWords<'_>, rows: Seq<PairRow>) -> Result<PairRow, Stop> {
+fn refuted_row(alloc: Global, words: &PairWords<'_>, rows: Seq<PairRow>) -> Result<PairRow, Stop> {
     let row = row_of(alloc, words, rows)?;
     if row.verdict == Word::Refuted {
         return Ok(row);
     }
-    let RunWords { report, pair, .. } = *words;
+    let PairWords { report, pair } = *words;
     let verdict = verdict_word(row.verdict);
     Err(Stop::Refused(format!(in alloc;
         "{report}: pair {pair} is {verdict}, only a refuted pair has a run"
@@ -83,9 +83,9 @@ fn check_reset(alloc: Global, name: &str, report: &Report, len: usize) -> Result
     )?))
 }
 
-fn stimulus_in(alloc: Global, words: &RunWords<'_>, bytes: &[u8]) -> Result<Stimulus, Stop> {
-    let RunWords { report, pair, .. } = *words;
-    match stimulus_of(alloc, bytes, pair) {
+fn stimulus_in(alloc: Global, words: &PairWords<'_>, text: &[u8]) -> Result<Stimulus, Stop> {
+    let PairWords { report, pair } = *words;
+    match stimulus_of(alloc, text, pair) {
         Ok(stimulus) => Ok(stimulus),
         Err(StimFault::NoBlock) => Err(Stop::Refused(format!(in alloc;
             "{report}: pair {pair} has no stimulus"
@@ -98,19 +98,19 @@ fn stimulus_in(alloc: Global, words: &RunWords<'_>, bytes: &[u8]) -> Result<Stim
 }
 
 /// The pair that these words ask for, in a report that was made with so many cycles of reset.
-pub fn refuted_pair(
+pub(crate) fn refuted_pair(
     alloc: Global,
-    words: &RunWords<'_>,
-    bytes: &[u8],
+    words: &PairWords<'_>,
+    text: &[u8],
     reset: usize,
 ) -> Result<RefutedPair, Stop>
     ensures { IfOk result (λ pair. pair.judging.lag ≤ 8) }
 {
-    let report = report_in(alloc, words.report, bytes)?;
+    let report = report_in(alloc, words.report, text)?;
     check_reset(alloc, words.report, &report, reset)?;
     let judging = judging_of(alloc, words.report, &report)?;
     let row = refuted_row(alloc, words, report.pairs)?;
-    let stimulus = stimulus_in(alloc, words, bytes)?;
+    let stimulus = stimulus_in(alloc, words, text)?;
     Ok(RefutedPair {
         row,
         stimulus,

@@ -1,0 +1,58 @@
+//! Why there is nothing to print or to save.
+ghost use Rattle.std.specs.Prelude.{◌≡◌};
+ghost use Rattle.view_commands.specs.declared.stops.Stop.TheVariants.{Memory};
+ghost use Rattle.view_commands.specs.Stops.{status_of};
+
+use design_stages::Refusal;
+use sdcv_base::Name;
+use std::alloc::AllocError;
+use thiserror::Error;
+
+/// Why there is nothing to print or to save. `Display` writes the line that is told.
+#[derive(Debug, Drop, Error)]
+pub enum Stop {
+    /// The value of an option breaks its rule.
+    #[error("{0}")]
+    Words(&'static str),
+    /// A text or a design is refused, in the line of its fault.
+    #[error("{0}")]
+    Line(Name),
+    /// A report is refused, for this reason.
+    #[error("{0}")]
+    Refused(String),
+    #[error("out of memory")]
+    Memory,
+}
+
+impl Stop {
+    /// The status of a program that ends so.
+    pub fn status(&self) -> u8
+        ensures { result ≡ status_of self.now }
+    {
+        match self {
+            Stop::Words(_) => 2,
+            Stop::Line(_) | Stop::Refused(_) => 3,
+            Stop::Memory => 6,
+        }
+    }
+}
+
+impl From<AllocError> for Stop {
+    ghost from_gives = { λ _ e. e ≡ Memory };
+
+    fn from(_: AllocError) -> Stop {
+        Stop::Memory
+    }
+}
+
+impl From<Refusal> for Stop {
+    fn from(refusal: Refusal) -> Stop {
+        match refusal {
+            Refusal::Line(mut line) => {
+                let _newline = line.pop();
+                Stop::Line(Name::from_vec(line))
+            }
+            Refusal::Memory => Stop::Memory,
+        }
+    }
+}
