@@ -1,5 +1,5 @@
 -- What a replay of the printed report is due to say.
-use Rattle.std.proofs.Common.{◌≡◌, ℕ, zero, suc, ◌+◌, ◌<◌, ◌^◌, false, List, [], ◌∷◌, length, Some, Ok}
+use Rattle.std.proofs.Common.{◌≡◌, ℕ, zero, suc, ◌+◌, ◌<◌, ◌^◌, false, List, [], ◌∷◌, length, Option, Some, Ok}
 use Rattle.std.proofs.Common.{refl, ap, sym, ◌∙◌, subst, arith}
 use Rattle.std.specs.Prelude.{slice_get}
 use Rattle.std.proofs.lemmas.Option.{none-some, same_Some, slice_get_within}
@@ -27,16 +27,29 @@ use Rattle.answer_lines.specs.Stimuli.{stimulus_line, replay_line}
 use Rattle.design_stages.specs.Stages.{Staged}
 use Rattle.design_stages.specs.declared.designs.ReadTexts.{ReadTexts}
 use Rattle.design_stages.specs.declared.designs.Designed.{Designed}
+use Rattle.design_stages.specs.Designs.{Designs}
 use Rattle.sdcv_words.specs.declared.commands.Options.{Options}
+use Rattle.sdcv_words.specs.declared.commands.Proving.{Proving}
 use Rattle.sdcv_top.specs.Outcomes.{Outcome}
+use Rattle.sdcv_top.specs.Headline.{IsReported}
 use Rattle.sdcv_top.specs.Jobs.{HasPair, ReadsStimulus, Replays, RunAgain, Replayed, replayed, run_options}
 use Rattle.sdcv_top.specs.Reads.{Text}
 use Rattle.sdcv_top.specs.Texts.{ReportText}
 use Rattle.sdcv_top.specs.Due.{judging_of, reset_of}
-use Rattle.replay_law.specs.Laws.{HasRefuted, ReportReplays, ReplayIsDue}
+use Rattle.replay_law.specs.Laws.{violated_after}
 use Rattle.replay_law.proofs.Finding.{known}
 use Rattle.replay_law.proofs.Going.{goes_on, goes_on_text, leads_on, leads_on_text, text_alone, never_refused}
 use Rattle.replay_law.proofs.Standing.{refused_memory, replays, replays_alone}
+
+-- a design and its pairs are found of these texts with these options; what is due for its verification prints the report by lines, and
+-- its verdict on the pair of this number is that it is refuted at this offset
+pub record HasRefuted (texts : ReadTexts) (o : Options) (d : Designed) (due : Outcome) (number offset : ℕ) : Type 0 where
+  pub found : Designs texts (reset_of o) (judging_of o) (Ok d)
+  pub out : Option (List ℕ)
+  pub proving : Proving
+  pub report : IsReported out false (run_options (judging_of o) o.reset_len proving) d due
+  pub stimulus : Stimulus
+  pub verdict : item_numbered report.judged.verdicts number ≡ Some (Refuted offset stimulus)
 
 -- want of memory has no line
 no_stimulus_line : (fault : StimFault) (line : List ℕ) → fault ≡ stimulus.Memory → ¬ (stimulus_line fault ≡ Some line)
@@ -127,7 +140,8 @@ run_due d number offset text is sound small =
     (replays d.linked.design is.claim offset is.stimulus witness.run sound witness.from_reset witness.stands witness.violated is.least.least) (refl, refl))
 
 -- the only outcome of a replay is that the pair is violated there
-pub due_alone : (texts : ReadTexts) (o : Options) → ReportReplays texts o
+pub due_alone : (texts : ReadTexts) (o : Options) (d : Designed) (due again : Outcome) (number offset : ℕ) → HasRefuted texts o d due number offset
+    → Replayed number d (Text due.printed ∷ []) again → again ≡ violated_after o number offset
 unfolding Replayed
 due_alone texts o d due again number offset refuted replay =
     let is = told texts o d due number offset refuted in
@@ -139,7 +153,8 @@ due_alone texts o d due again number offset refuted replay =
     run_alone d number offset due.printed is again read ∙ ap (λ (len : ℕ). replayed number (Violated (len + 1 + offset))) found.len
 
 -- and it is an outcome
-pub is_due : (texts : ReadTexts) (o : Options) → ReplayIsDue texts o
+pub is_due : (texts : ReadTexts) (o : Options) (d : Designed) (due : Outcome) (number offset : ℕ) → HasRefuted texts o d due number offset
+    → length due.printed < 2 ^ 64 → Replayed number d (Text due.printed ∷ []) (violated_after o number offset)
 unfolding Replayed
 is_due texts o d due number offset refuted small =
     let is = told texts o d due number offset refuted in

@@ -1,42 +1,48 @@
--- What a replay of a refuted pair tells from the report that refutes it.
-use Rattle.std.specs.Prelude.{◌≡◌, ℕ, ◌+◌, ◌<◌, ◌^◌, false, List, [], ◌∷◌, length, Option, Some, Ok}
+-- What follows for those who use what a verification left behind: the reads of both runs begin with the same texts.
+use Rattle.std.specs.Prelude.{◌≡◌, ℕ, ◌+◌, ◌<◌, ◌^◌, Bool, false, List, [], ◌∷◌, ◌++◌, length, Some}
+use Rattle.std.specs.List.{concat}
 use Rattle.net_model.specs.declared.cycles.Stimulus.{Stimulus}
 use Rattle.witness_replay.specs.declared.outcomes.Replay.TheVariants.{Violated}
 use Rattle.verdict_types.specs.declared.outcomes.Verdict.TheVariants.{Refuted}
+use Rattle.cert_defs.specs.Accepted.{justified_numbers}
 use Rattle.cert_defs.specs.Listed.{item_numbered}
-use Rattle.design_stages.specs.declared.designs.ReadTexts.{ReadTexts}
-use Rattle.design_stages.specs.declared.designs.Designed.{Designed}
-use Rattle.design_stages.specs.Designs.{Designs}
+use Rattle.answer_lines.specs.Certs.{accepted_lines}
+use Rattle.judgements.specs.declared.judged.Judged.{Judged}
 use Rattle.sdcv_words.specs.declared.commands.Options.{Options}
 use Rattle.sdcv_words.specs.declared.commands.Proving.{Proving}
-use Rattle.sdcv_top.specs.Outcomes.{Outcome}
-use Rattle.sdcv_top.specs.Headline.{IsReported}
-use Rattle.sdcv_top.specs.Jobs.{run_options, Replayed, replayed}
-use Rattle.sdcv_top.specs.Reads.{Text}
-use Rattle.sdcv_top.specs.Due.{judging_of, reset_of}
+use Rattle.sdcv_words.specs.Commands.{Texts, Verify, Check, Replay as ReplayJob}
+use Rattle.sdcv_top.specs.declared.statuses.Ending.TheVariants as ending
+use Rattle.sdcv_top.specs.Outcomes.{Outcome, prints}
+use Rattle.sdcv_top.specs.Jobs.{replayed}
+use Rattle.sdcv_top.specs.Reads.{Got, Text}
+use Rattle.sdcv_top.specs.Due.{Worked}
 
--- a design and its pairs are found of these texts with these options; what is due for its verification prints the report by lines, and
--- its verdict on the pair of this number is that it is refuted at this offset
-pub record HasRefuted (texts : ReadTexts) (o : Options) (d : Designed) (due : Outcome) (number offset : ℕ) : Type 0 where
-  pub found : Designs texts (reset_of o) (judging_of o) (Ok d)
-  pub out : Option (List ℕ)
-  pub proving : Proving
-  pub report : IsReported out false (run_options (judging_of o) o.reset_len proving) d due
-  pub stimulus : Stimulus
-  pub verdict : item_numbered report.judged.verdicts number ≡ Some (Refuted offset stimulus)
+-- where a verification gives verdicts and saves a certificate, a check whose reads are the same and then the saved bytes accepts
+-- exactly the pairs that are justified
+abbrev pub CheckRepeats : Texts → Options → Proving → Type 0
+CheckRepeats files o p =
+    (out cert bytes : List ℕ) (json : Bool) (reads : List Got) (due again : Outcome) (judged : Judged)
+    → Worked files o (Verify out json p) reads due → due.judged ≡ Some judged → due.saved ≡ (out, bytes) ∷ []
+    → Worked files o (Check cert) (reads ++ Text bytes ∷ []) again
+    → again ≡ prints ending.Done (concat (accepted_lines (justified_numbers judged.verdicts) (length judged.verdicts)))
 
 -- it is printed that the pair is violated, so many cycles after the first one in which it can be
 abbrev pub violated_after : Options → ℕ → ℕ → Outcome
 violated_after o number offset = replayed number (Violated (o.reset_len + 1 + offset))
 
--- this is due for a replay of the refuted pair on that design, whose report is what was printed, where that is shorter than 2^64 bytes
-abbrev pub ReplayIsDue : ReadTexts → Options → Type 0
-ReplayIsDue texts o =
-    (d : Designed) (due : Outcome) (number offset : ℕ) → HasRefuted texts o d due number offset → length due.printed < 2 ^ 64
-    → Replayed number d (Text due.printed ∷ []) (violated_after o number offset)
+-- where a verification prints its report by lines, and its verdict on the pair of a number is that it is refuted at an offset, this is
+-- due for a replay of that number whose reads are the same and then what was printed, if that is shorter than 2^64 bytes
+abbrev pub ReplayIsDue : Texts → Options → Proving → Type 0
+ReplayIsDue files o p =
+    (out report : List ℕ) (reads : List Got) (due : Outcome) (judged : Judged) (number offset : ℕ) (stimulus : Stimulus)
+    → Worked files o (Verify out false p) reads due → due.judged ≡ Some judged
+    → item_numbered judged.verdicts number ≡ Some (Refuted offset stimulus) → length due.printed < 2 ^ 64
+    → Worked files o (ReplayJob report number) (reads ++ Text due.printed ∷ []) (violated_after o number offset)
 
 -- and nothing else is due for it
-abbrev pub ReportReplays : ReadTexts → Options → Type 0
-ReportReplays texts o =
-    (d : Designed) (due again : Outcome) (number offset : ℕ) → HasRefuted texts o d due number offset
-    → Replayed number d (Text due.printed ∷ []) again → again ≡ violated_after o number offset
+abbrev pub ReportReplays : Texts → Options → Proving → Type 0
+ReportReplays files o p =
+    (out report : List ℕ) (reads : List Got) (due again : Outcome) (judged : Judged) (number offset : ℕ) (stimulus : Stimulus)
+    → Worked files o (Verify out false p) reads due → due.judged ≡ Some judged
+    → item_numbered judged.verdicts number ≡ Some (Refuted offset stimulus)
+    → Worked files o (ReplayJob report number) (reads ++ Text due.printed ∷ []) again → again ≡ violated_after o number offset

@@ -1,9 +1,9 @@
-//! What a printed report is worth to those who replay it.
+//! What a saved certificate and a printed report are worth in a later run over the same texts.
 //!
-//! Read `specs/Laws.antt`: what a replay of a refuted pair answers to the report that refutes it. The law stands apart from
-//! the program's call, which does not need it.
+//! Read `specs/Laws.antt`: what a check answers to the certificate that a verification saved, and a replay of a refuted pair to the
+//! report that refutes it. The laws stand apart from the program's call, which does not need them.
 #![tactic(auto)]
 
 mod laws;
 
-pub use laws::report_replays;
+pub use laws::{check_repeats, report_replays};

@@ -1,8 +1,8 @@
-use Rattle.replay_law.proofs.Telling.{is_due, due_alone}
+use Rattle.replay_law.proofs.Repeating.{replay_due, replays_again}
 use Rattle.replay_law.proofs.laws.report_replays.Goals as goal
 
 pub returns-clause-due : goal.returns-clause-due
-returns-clause-due c = is_due c.args.texts.now c.args.options.now
+returns-clause-due c files p = replay_due files c.args.options.now p
 
 pub returns-clause-only : goal.returns-clause-only
-returns-clause-only c = due_alone c.args.texts.now c.args.options.now
+returns-clause-only c files p = replays_again files c.args.options.now p

@@ -1,0 +1,185 @@
+-- The design of a netlist with its names, which is one.
+use Rattle.std.proofs.Common.{◌≡◌, ◌∙◌, ℕ, ◌+◌, Bool, false, not, ◌&&◌, if◌then◌else◌, List, [], ◌∷◌, ◌++◌, map, length}
+use Rattle.std.proofs.Common.{refl, sym, ap, subst}
+use Rattle.std.specs.Prelude.{Contains, Option, Some, None, Result, Ok, Err, slice_index_or, filter, flat_map, zip}
+use Rattle.std.specs.List.{list_any, AllZip}
+use Rattle.std.proofs.lemmas.Bool.Decides.{same_from_decides}
+use Rattle.sdcv_base.specs.declared.settings.Setting.{Setting}
+use Rattle.sdcv_base.specs.Seqs.{is_marked}
+use Rattle.net_model.specs.declared.netlist.Fixed.{Fixed}
+use Rattle.net_model.specs.declared.netlist.Gate.{Gate}
+use Rattle.netlist_types.specs.declared.sources.Source.{Source}
+use Rattle.netlist_types.specs.declared.sources.Module.{Module}
+use Rattle.cell_types.specs.declared.libraries.Cell.{Cell}
+use Rattle.cell_types.specs.declared.libraries.Library.{Library}
+use Rattle.link_defs.specs.declared.circuits.Circuit.{Circuit}
+use Rattle.link_defs.specs.declared.circuits.Part.{Part}
+use Rattle.link_defs.specs.declared.circuits.Part.TheVariants as part
+use Rattle.link_defs.specs.declared.names.Linked.{Linked}
+use Rattle.link_defs.specs.declared.names.NetName.{NetName}
+use Rattle.link_defs.specs.declared.faults.LinkFault.TheVariants.{Memory}
+use Rattle.link_defs.specs.declared.options.LinkOptions.{LinkOptions}
+use Rattle.link_defs.specs.CellNames.{Leaf, AreNetNames, cell_name, cell_names, pins_if_any, clock_role, output_role, input_roles, clock_pins, out_pins, reg_of}
+use Rattle.link_defs.specs.Circuits.{PortBit, IsTree, all_gates, circuit_of, data_bits, part_outs, part_regs}
+use Rattle.link_defs.specs.Designs.{IsDesignOf, IsOrderOf, gate_at, gates_at, is_on_tree, tree_marks}
+use Rattle.link_defs.specs.Faults.{IsCause, IsFaultless}
+use Rattle.link_defs.specs.Flatten.{Flat}
+use Rattle.link_defs.specs.Hierarchy.{tops}
+use Rattle.link_defs.specs.Links.{AreNames, IsLinked, IsSet}
+use Rattle.one_design.specs.Answers.{IsOneAnswer}
+use Rattle.one_design.proofs.Differing.{inputs_differ, faultless_only}
+use Rattle.one_design.proofs.Keying.{IsKeyed, same_items}
+
+-- two rows that mark the nets of a clock tree
+module _ (c : Circuit) (x y : List Bool) (first : IsTree c x) (second : IsTree c y) where
+  -- mark the same nets
+  marks_same : (net : ℕ) → slice_index_or y net false ≡ slice_index_or x net false
+  marks_same net = same_from_decides (slice_index_or y net false) (slice_index_or x net false) (second net) (first net)
+
+  -- so the same parts are of the tree
+  on_tree_same : (p : Part) → is_on_tree y p ≡ is_on_tree x p
+  on_tree_same (part.Comb buffer ins gates) = λ i. buffer && list_any (λ (net : ℕ). marks_same net i) ins
+  on_tree_same (part.Flop clock reg) = refl
+
+  -- and the same gates
+  tree_marks_same : (p : Part) → tree_marks y p ≡ tree_marks x p
+  tree_marks_same (part.Comb buffer ins gates) = λ i. map (λ (_ : Gate). on_tree_same (part.Comb buffer ins gates) i) gates
+  tree_marks_same (part.Flop clock reg) = refl
+
+  -- so the same gates are kept
+  gates_same : (places : List ℕ) → gates_at y c places ≡ gates_at x c places
+  gates_same places =
+      λ i. map (gate_at (all_gates c)) (filter (λ (place : ℕ). not (is_marked (flat_map (λ (p : Part). tree_marks_same p i) c.parts) place)) places)
+
+  -- in one order
+  order_same : (xs ys : List Gate) → IsOrderOf c x xs → IsOrderOf c y ys → ys ≡ xs
+  order_same xs ys one other =
+      let both : (let r : Result (List ℕ) ℕ = Ok other.places in r) ≡ Ok one.places = sym other.found ∙ one.found in
+      let places : other.places ≡ one.places = ap (λ (r : Result (List ℕ) ℕ). elim r [ Ok found ↦ found | Err place ↦ other.places ]) both in
+      other.kept ∙ ap (gates_at y c) places ∙ gates_same one.places ∙ sym one.kept
+
+  -- the pins of a leaf are the same
+  pins_same : (number : ℕ → ℕ) (sources reg : ℕ) (p : Part) (cell : Option Cell)
+      → pins_if_any number sources y reg p cell ≡ pins_if_any number sources x reg p cell
+  pins_same number sources reg p None = refl
+  pins_same number sources reg p (Some c) =
+      let clocks = map clock_role (c.inputs ++ out_pins c.kind) in
+      let outs = map (output_role number) (zip (out_pins c.kind) (part_outs p)) in
+      ap (λ (b : Bool). if b then clocks else (input_roles number sources reg p 0 c.inputs ++ map clock_role (clock_pins c.kind) ++ outs)) (on_tree_same p)
+
+  -- so is its name
+  cell_same : (number : ℕ → ℕ) (sources before : ℕ) (leaf : Leaf) → cell_name number sources y before leaf ≡ cell_name number sources x before leaf
+  cell_same number sources before leaf =
+      let outs = ap (λ (b : Bool). if b then [] else map number (part_outs leaf.part)) (on_tree_same leaf.part) in
+      let pins = pins_same number sources before leaf.part leaf.cell in
+      λ i. record { name = leaf.name; reg = reg_of before leaf.part; outs = outs i; pins = pins i }
+
+  -- and all names of cells
+  cells_same : (number : ℕ → ℕ) (sources before : ℕ) (leaves : List Leaf)
+      → cell_names number sources y before leaves ≡ cell_names number sources x before leaves
+  unfolding cell_names
+  cells_same number sources before [] = refl
+  cells_same number sources before (l ∷ ls) =
+      let here = cell_same number sources before l in
+      let rest = cells_same number sources (before + length (part_regs l.part)) ls in
+      λ i. here i ∷ rest i
+
+-- the names of nets are one list
+nets_same : (flat : Flat) (drivers : List ℕ) (number : ℕ → ℕ) (xs ys : List NetName) → AreNetNames flat drivers number xs
+    → AreNetNames flat drivers number ys → ys ≡ xs
+nets_same flat drivers number xs ys first second =
+    same_items (λ (n : NetName). n.name) ys xs (second.order ∙ sym first.order) first.once
+    (λ n has.
+    let (net, there, driven, is) = second.only n has in
+    let made : NetName = record { name = n.name; net = number net } in
+    let same : made ≡ n = λ i. record { name = n.name; net = is i } in
+    subst (Contains xs) same (first.all n.name net there driven))
+
+-- an input bit that a setting names is one, where names of input bits differ
+set_same : (bits : List PortBit) → IsKeyed (λ (b : PortBit). b.port.name) bits → (s : Setting) (f g : Fixed) → IsSet bits s f → IsSet bits s g → g ≡ f
+set_same bits once s f g first second =
+    let input : g.input ≡ f.input =
+    once g.input f.input second.bit first.bit second.there first.there (second.name ∙ sym first.name) in
+    let value : g.value ≡ f.value = second.value ∙ sym first.value in
+    λ i. record { input = input i; value = value i }
+
+-- so are those that all settings name
+all_set_same : (bits : List PortBit) → IsKeyed (λ (b : PortBit). b.port.name) bits → (settings : List Setting) (fs gs : List Fixed)
+    → AllZip (IsSet bits) settings fs → AllZip (IsSet bits) settings gs → gs ≡ fs
+all_set_same bits once [] [] [] first second = refl
+all_set_same bits once [] [] (g ∷ gs) first second = absurd second
+all_set_same bits once [] (f ∷ fs) gs first second = absurd first
+all_set_same bits once (s ∷ settings) [] gs first second = absurd first
+all_set_same bits once (s ∷ settings) (f ∷ fs) [] first second = absurd second
+all_set_same bits once (s ∷ settings) (f ∷ fs) (g ∷ gs) first second =
+    let here = set_same bits once s f g first.0 second.0 in
+    let rest = all_set_same bits once settings fs gs first.1 second.1 in
+    λ i. here i ∷ rest i
+
+-- what linking gives below this top module, with this clock tree and this order of gates
+record IsLinkedAt (s : Source) (lib : Library) (o : LinkOptions) (top : Module) (tree : List Bool) (order : List Gate) (l : Linked) : Type 0 where
+  design : IsDesignOf (circuit_of s lib top o.clock) tree order l.design
+  fixed : AllZip (IsSet (data_bits o.clock top)) o.fixed l.design.fixed
+  resets : AllZip (IsSet (data_bits o.clock top)) o.resets l.design.resets
+  reset_len : l.design.reset_len ≡ o.reset_len
+  names : AreNames s lib o top tree order l
+
+linked_at : (s : Source) (lib : Library) (o : LinkOptions) (l : Linked) (is : IsLinked s lib o l) → IsLinkedAt s lib o is.top is.tree is.order l
+linked_at s lib o l is =
+    record { design = is.design; fixed = is.fixed; resets = is.resets; reset_len = is.reset_len; names = is.names }
+
+-- of one top module and one order of gates there is one design with its names
+at_same : (s : Source) (lib : Library) (o : LinkOptions) (top : Module) (x y : List Bool) (order : List Gate) (a b : Linked)
+    → IsKeyed (λ (bit : PortBit). bit.port.name) (data_bits o.clock top) → IsLinkedAt s lib o top x order a → IsLinkedAt s lib o top y order b → b ≡ a
+at_same s lib o top x y order a b once first second =
+    let c = circuit_of s lib top o.clock in
+    let bits = data_bits o.clock top in
+    let nets = second.design.nets ∙ sym first.design.nets in
+    let gates = second.design.gates ∙ sym first.design.gates in
+    let regs = second.design.regs ∙ sym first.design.regs in
+    let inputs = second.design.inputs ∙ sym first.design.inputs in
+    let outputs = second.design.outputs ∙ sym first.design.outputs in
+    let fixed = all_set_same bits once o.fixed a.design.fixed b.design.fixed first.fixed second.fixed in
+    let resets = all_set_same bits once o.resets a.design.resets b.design.resets first.resets second.resets in
+    let reset_len = second.reset_len ∙ sym first.reset_len in
+    let named = second.names.cells ∙ cells_same c x y first.design.tree_is second.design.tree_is _ _ 0 _ ∙ sym first.names.cells in
+    let ins = second.names.ins ∙ sym first.names.ins in
+    let outs = second.names.outs ∙ sym first.names.outs in
+    let called = nets_same _ _ _ a.names.nets b.names.nets first.names.nets second.names.nets in
+    let clock = second.names.clock ∙ sym first.names.clock in
+    λ i. record {
+      design = record {
+        nets = nets i;
+        gates = gates i;
+        regs = regs i;
+        inputs = inputs i;
+        outputs = outputs i;
+        fixed = fixed i;
+        resets = resets i;
+        reset_len = reset_len i;
+      };
+      names = record { cells = named i; ins = ins i; outs = outs i; nets = called i; clock = clock i };
+    }
+
+-- a netlist whose input bits have different names has one design with its names
+pub linked_same : (s : Source) (lib : Library) (o : LinkOptions) (a b : Linked)
+    → ((top : Module) → tops s ≡ top ∷ [] → IsKeyed (λ (bit : PortBit). bit.port.name) (data_bits o.clock top)) → IsLinked s lib o a
+    → IsLinked s lib o b → b ≡ a
+linked_same s lib o a b once first second =
+    let both : second.top ∷ [] ≡ first.top ∷ [] = sym second.top_is ∙ first.top_is in
+    let top : second.top ≡ first.top = cc in
+    let moved : IsLinkedAt s lib o first.top second.tree second.order b =
+    subst (λ (m : Module). IsLinkedAt s lib o m second.tree second.order b) top (linked_at s lib o b second) in
+    let order : second.order ≡ first.order =
+    order_same (circuit_of s lib first.top o.clock) first.tree second.tree first.design.tree_is moved.design.tree_is first.order second.order
+    first.design.order_is moved.design.order_is in
+    at_same s lib o first.top first.tree second.tree first.order a b (once first.top first.top_is) (linked_at s lib o a first)
+    (subst (λ (gates : List Gate). IsLinkedAt s lib o first.top second.tree gates b) order moved)
+
+-- a netlist without a fault has one answer
+pub one_linked : (s : Source) (lib : Library) (o : LinkOptions)
+    → IsOneAnswer (λ l. IsLinked s lib o l × IsFaultless s lib o) (IsCause s lib o) Memory
+one_linked s lib o = record {
+  same = λ a b first second. linked_same s lib o a b (inputs_differ s lib o first.1) first.0 second.0;
+  only = λ l e is cause. faultless_only s lib o e is.1 cause;
+}

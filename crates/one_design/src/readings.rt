@@ -1,0 +1,25 @@
+//! What texts stand for is one. The laws are the contracts of calls that do nothing.
+ghost use Rattle.design_stages.specs.Texts.{Netlist, Cells, Constraints};
+ghost use Rattle.one_design.specs.Designs.{FindsOne, OneDesignOf};
+
+use design_stages::Reset;
+use exception_expand::Judging;
+
+/// A text is at most one netlist, one library and one script, and where it is one, it is not refused as such.
+pub fn one_text(text: &[u8])
+    ensures netlist { FindsOne (Netlist text.now) }
+    ensures cells { FindsOne (Cells text.now) }
+    ensures constraints { FindsOne (Constraints text.now) }
+{}
+
+/// Two runs over the same three texts, reset and manner of judging find the same design with the same pairs; where one of them
+/// finds a design, none is refused a text.
+pub fn one_of_texts(
+    netlist: &[u8],
+    cells: &[u8],
+    constraints: &[u8],
+    reset: &Reset,
+    judging: Judging,
+)
+    ensures { OneDesignOf netlist.now cells.now constraints.now reset.now judging }
+{}

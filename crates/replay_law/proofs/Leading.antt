@@ -1,0 +1,131 @@
+-- How the stages of two runs lead on whose reads begin alike, where the first one is not refused.
+use Rattle.std.proofs.Common.{◌≡◌, ℕ, Bool, true, false, List, [], ◌∷◌, ◌++◌, Ok, Err, inl, inr}
+use Rattle.netlist_types.specs.declared.sources.Source.{Source}
+use Rattle.cell_types.specs.declared.libraries.Library.{Library}
+use Rattle.script_types.specs.declared.scripts.Script.{Script}
+use Rattle.fault_lines.specs.declared.sources.Origin.{Origin}
+use Rattle.fault_lines.specs.declared.sources.Origin.TheVariants as origin
+use Rattle.design_stages.specs.declared.designs.ReadTexts.{ReadTexts}
+use Rattle.design_stages.specs.Stages.{Found}
+use Rattle.sdcv_words.specs.Commands.{Texts as TextNames}
+use Rattle.sdcv_top.specs.Outcomes.{Outcome, refused}
+use Rattle.sdcv_top.specs.Reads.{Got, Text, Longer, is_builtin}
+use Rattle.sdcv_top.specs.Stages.{Due, After, AfterText}
+use Rattle.sdcv_top.specs.Texts.{Unless, Netlist, Cells, Constraints, AfterCellsIf, AfterCells, AfterTexts, builtin_library}
+use Rattle.one_design.specs.Designs.{FindsOne}
+use Rattle.one_design.proofs.Finding.{found_same, never_both}
+use Rattle.one_design.proofs.Reading.{netlist_one, cells_one, constraints_one}
+use Rattle.replay_law.proofs.Going.{goes_on, leads_on}
+
+-- what is due is no refusal
+abbrev pub IsNoRefusal : Outcome → Type 0
+IsNoRefusal due = (line : List ℕ) → ¬ (due ≡ refused line)
+
+-- a value that a stage found, after which this is due
+pub record HasFound {A : Type 0} (Finds : Found A → Type 0) (next : A → Due) (reads : List Got) (due : Outcome) : Type 0 where
+  pub value : A
+  pub found : Finds (Ok value)
+  pub goes : next value reads due
+
+-- a stage led on with a value, and some reads are left; any run whose reads begin so is led on with that value, and these are left
+pub record IsLed {A : Type 0} (stage : (A → Due) → Due) (next : A → Due) (reads : List Got) (due : Outcome) : Type 1 where
+  pub value : A
+  pub rest : List Got
+  pub goes : next value rest due
+  pub on : (other : A → Due) (more : List Got) (again : Outcome) → stage other (reads ++ more) again → other value (rest ++ more) again
+  pub back : (other : A → Due) (more : List Got) (again : Outcome) → other value (rest ++ more) again → stage other (reads ++ more) again
+
+-- a stage whose run is not refused found a value
+pub has_found : {A : Type 0} (Finds : Found A → Type 0) (next : A → Due) (reads : List Got) (due : Outcome) → IsNoRefusal due
+    → After Finds next reads due → HasFound Finds next reads due
+unfolding After
+has_found Finds next reads due well (inl (value, found, rest)) = record { value = value; found = found; goes = rest }
+has_found Finds next reads due well (inr (line, found, none, refusal)) = absurd (well line refusal)
+
+-- a stage that finds one value leads on with what it found
+pub goes_same : {A : Type 0} (Finds : Found A → Type 0) (value : A) (other : A → Due) (reads : List Got) (again : Outcome) → FindsOne Finds
+    → Finds (Ok value) → After Finds other reads again → other value reads again
+goes_same {A} Finds value other reads again one found run =
+    goes_on Finds other value reads again (λ (a : A) is. found_same value a (one value (Ok a) found is))
+    (λ (line : List ℕ) is. never_both value line (one value (Err line) found is)) run
+
+after_led : {A : Type 0} (Finds : Found A → Type 0) (next : A → Due) (reads : List Got) (due : Outcome) → FindsOne Finds → IsNoRefusal due
+    → After Finds next reads due → IsLed (After Finds) next reads due
+after_led Finds next reads due one well run =
+    let here = has_found Finds next reads due well run in
+    record {
+      value = here.value;
+      rest = reads;
+      goes = here.goes;
+      on = λ other more again run. goes_same Finds here.value other (reads ++ more) again one here.found run;
+      back = λ other more again run. leads_on Finds other here.value (reads ++ more) again here.found run;
+    }
+
+-- so does one that reads a text
+text_led : {A : Type 0} (Finds : Got → Found A → Type 0) (next : A → Due) (reads : List Got) (due : Outcome) → ((got : Got) → FindsOne (Finds got))
+    → IsNoRefusal due → AfterText Finds next reads due → IsLed (AfterText Finds) next reads due
+unfolding AfterText
+text_led Finds next [] due one well run = absurd run
+text_led Finds next (got ∷ reads) due one well run =
+    let led = after_led (Finds got) next reads due (one got) well run in
+    record {
+      value = led.value;
+      rest = led.rest;
+      goes = led.goes;
+      on = λ other more again run. led.on other more again run;
+      back = λ other more again run. led.back other more again run;
+    }
+
+-- what is read of a text that is not too long is one, where its reader finds one
+unless_one : {A : Type 0} (from : Origin) (Reads : List ℕ → Found A → Type 0) → ((text : List ℕ) → FindsOne (Reads text)) → (got : Got)
+    → FindsOne (Unless from Reads got)
+unless_one from Reads one (Text text) value found is also = one text value found is also
+unless_one from Reads one Longer value found is also = absurd cc
+
+-- the cells lead on so, whether a text of them is read or none
+cells_led : (known : Bool) (next : Library → Due) (reads : List Got) (due : Outcome) → IsNoRefusal due → AfterCellsIf known next reads due
+    → IsLed (AfterCellsIf known) next reads due
+unfolding AfterCellsIf
+cells_led true next reads due well run = record {
+  value = builtin_library;
+  rest = reads;
+  goes = run;
+  on = λ other more again run. run;
+  back = λ other more again run. run;
+}
+cells_led false next reads due well run = text_led Cells next reads due (unless_one origin.Liberty _ cells_one) well run
+
+named_cells_led : (name : List ℕ) (next : Library → Due) (reads : List Got) (due : Outcome) → IsNoRefusal due → AfterCells name next reads due
+    → IsLed (AfterCells name) next reads due
+unfolding AfterCells
+named_cells_led name next reads due well run = cells_led (is_builtin name) next reads due well run
+
+-- what is due after a netlist and its cells, and after the netlist alone
+abbrev AfterTwo : (ReadTexts → Due) → Source → Library → Due
+AfterTwo next source library = AfterText Constraints (λ (script : Script). next (record { source = source; library = library; script = script }))
+
+abbrev AfterOne : List ℕ → (ReadTexts → Due) → Source → Due
+AfterOne cells next source = AfterCells cells (AfterTwo next source)
+
+-- three texts lead on with what is read of them
+pub texts_led : (names : TextNames) (next : ReadTexts → Due) (reads : List Got) (due : Outcome) → IsNoRefusal due → AfterTexts names next reads due
+    → IsLed (AfterTexts names) next reads due
+unfolding AfterTexts
+texts_led names next reads due well run =
+    let first = text_led Netlist (AfterOne names.cells next) reads due (unless_one origin.Verilog _ netlist_one) well run in
+    let second = named_cells_led names.cells (AfterTwo next first.value) first.rest due well first.goes in
+    let third = text_led Constraints (λ (script : Script). next (record { source = first.value; library = second.value; script = script })) second.rest due
+    (unless_one origin.Sdc _ constraints_one) well second.goes in
+    record {
+      value = record { source = first.value; library = second.value; script = third.value };
+      rest = third.rest;
+      goes = third.goes;
+      on = λ other more again run.
+          let cells = first.on (AfterOne names.cells other) more again run in
+          let script = second.on (AfterTwo other first.value) more again cells in
+          third.on (λ (script : Script). other (record { source = first.value; library = second.value; script = script })) more again script;
+      back = λ other more again run.
+          let script = third.back (λ (script : Script). other (record { source = first.value; library = second.value; script = script })) more again run in
+          let cells = second.back (AfterTwo other first.value) more again script in
+          first.back (AfterOne names.cells other) more again cells;
+    }
