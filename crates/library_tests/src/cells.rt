@@ -2,11 +2,12 @@
 use cell_types::builtin;
 use std::alloc::AllocError;
 
-// Places in the table: TIE0 first, SDFFC last of 24.
+// Places in the table: TIE0 first, ICG last of 25.
 const PLACES: &[(&[u8], Option<usize>)] = &[
     (b"TIE0", Some(0)),
     (b"AND2", Some(4)),
     (b"SDFFC", Some(23)),
+    (b"ICG", Some(24)),
     (b"SDFF", None),
     (b"", None),
 ];

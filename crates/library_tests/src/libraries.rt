@@ -1,5 +1,5 @@
 //! Libraries that texts are, against cells written by hand.
-use cell_lib::{CellKind, CombOut, Flop, LibFault, read_lib};
+use cell_lib::{CellKind, CombOut, Flop, GateCell, LibFault, read_lib};
 use lib_words::GroupFault;
 use net_model::{Func, Node};
 use sdcv_base::Name;
@@ -52,6 +52,13 @@ fn show_flop(out: &mut String, flop: &Flop) -> Result<(), Fail> {
     Ok(())
 }
 
+fn show_clock_gate(out: &mut String, gate: &GateCell) -> Result<(), Fail> {
+    let clock = &gate.clock;
+    let name = &gate.out;
+    write!(out, " clock {clock} to {name} where")?;
+    show_names(out, gate.enables.as_slice())
+}
+
 fn show_combs(out: &mut String, outs: &[CombOut]) -> Result<(), Fail> {
     write!(out, " gate")?;
     for pin in outs {
@@ -82,6 +89,7 @@ fn listing(alloc: Global, text: &str) -> Result<String, Fail> {
         match &cell.kind {
             CellKind::Comb(outs) => show_combs(&mut out, outs.as_slice())?,
             CellKind::Flop(flop) => show_flop(&mut out, flop)?,
+            CellKind::Gate(gate) => show_clock_gate(&mut out, gate)?,
             CellKind::Other => write!(out, " other")?,
         }
     }
@@ -204,10 +212,72 @@ fn flops_keep_their_rules(rt: HostRuntime) -> Result<(), Fail> {
     Ok(())
 }
 
+const CLOCK_GATES: &str = r#"library (rules) {
+  cell (bare) { clock_gating_integrated_cell : latch_posedge; pg_pin (VDD) { } latch (IQ, IQN) { enable : "CK'"; data_in : "EN"; }
+    pin (EN) { direction : input; clock_gate_enable_pin : true; } pin (CK) { direction : input; clock_gate_clock_pin : true; }
+    pin (M) { direction : internal; } pin (GCK) { direction : output; clock_gate_out_pin : true; function : "CK *"; } }
+  cell (quoted) { clock_gating_integrated_cell : "latch_posedge"; pin (CK) { direction : "input"; clock_gate_clock_pin : "true"; }
+    pin (EN) { direction : "input"; clock_gate_enable_pin : "true"; }
+    pin (GCK) { direction : "output"; clock_gate_out_pin : "true"; function : "CK *"; three_state : "0"; } }
+  cell (six) { clock_gating_integrated_cell : latch_posedge; pin (A, B, C) { direction : input; clock_gate_enable_pin : true; }
+    pin (K) { direction : input; clock_gate_clock_pin : true; clock_gate_enable_pin : true; }
+    pin (D, E, F) { direction : input; clock_gate_enable_pin : true; } pin (G) { direction : output; clock_gate_out_pin : true; } }
+  cell (test) { clock_gating_integrated_cell : latch_posedge_precontrol; pin (SE) { direction : input; clock_gate_test_pin : true; }
+    pin (K) { direction : input; clock_gate_clock_pin : true; } pin (G) { direction : output; clock_gate_out_pin : true; } }
+  cell (off) { clock_gating_integrated_cell : latch_posedge; pin (SE) { direction : input; clock_gate_test_pin : true; }
+    pin (K) { direction : input; clock_gate_clock_pin : true; } pin (G) { direction : output; clock_gate_out_pin : true; } }
+  cell (fall) { clock_gating_integrated_cell : latch_negedge; pin (E) { direction : input; clock_gate_enable_pin : true; }
+    pin (K) { direction : input; clock_gate_clock_pin : true; } pin (G) { direction : output; clock_gate_out_pin : true; } }
+  cell (clocks) { clock_gating_integrated_cell : latch_posedge; pin (E) { direction : input; clock_gate_enable_pin : true; }
+    pin (K, L) { direction : input; clock_gate_clock_pin : true; } pin (G) { direction : output; clock_gate_out_pin : true; } }
+  cell (twice) { clock_gating_integrated_cell : latch_posedge; pin (E) { direction : input; clock_gate_enable_pin : true; }
+    pin (E) { direction : internal; }
+    pin (K) { direction : input; clock_gate_clock_pin : true; } pin (G) { direction : output; clock_gate_out_pin : true; } }
+  cell (bidi) { clock_gating_integrated_cell : latch_posedge; pin (E) { direction : input; clock_gate_enable_pin : true; }
+    pin (M) { direction : inout; }
+    pin (K) { direction : input; clock_gate_clock_pin : true; } pin (G) { direction : output; clock_gate_out_pin : true; } }
+  cell (outs) { clock_gating_integrated_cell : latch_posedge; pin (E) { direction : input; clock_gate_enable_pin : true; }
+    pin (K) { direction : input; clock_gate_clock_pin : true; } pin (G, H) { direction : output; clock_gate_out_pin : true; } }
+  cell (seen) { clock_gating_integrated_cell : latch_posedge; pin (E) { direction : input; clock_gate_enable_pin : true; }
+    pin (K) { direction : input; clock_gate_clock_pin : true; } pin (G) { direction : output; } }
+  cell (always) { clock_gating_integrated_cell : latch_posedge;
+    pin (K) { direction : input; clock_gate_clock_pin : true; } pin (G) { direction : output; clock_gate_out_pin : true; } }
+  cell (inner) { pin (A) { direction : input; } pin (M) { direction : internal; } }
+}"#;
+
+const CLOCK_GATE_LINES: &str = "
+bare EN; VDD clock CK to GCK where EN
+quoted EN; clock CK to GCK where EN
+six A B C D E F; clock K to G where A B C D E F
+test SE; clock K to G where SE
+off SE K; other
+fall E K; other
+clocks E K L; other
+twice E K; other
+bidi E K; other
+outs E K; other
+seen E K; other
+always K; other
+inner A; other";
+
+// Each cell is one rule of clock gates.
+#[test]
+fn clock_gates_keep_their_rules(rt: HostRuntime) -> Result<(), Fail> {
+    assert_eq!(rt;
+        listing(rt.alloc(), CLOCK_GATES)?.as_str(),
+        CLOCK_GATE_LINES
+    );
+    Ok(())
+}
+
 const REFUSED: &[(&str, &str)] = &[
     (
         "library (l) { cell (X) { pin (Y) { direction : output; function : \"A +\"; } } }",
         "byte 67: no Boolean function",
+    ),
+    (
+        "library (l) { cell (X) { clock_gating_integrated_cell : latch_negedge; pin (Y) { direction : output; function : \"A +\"; } } }",
+        "byte 113: no Boolean function",
     ),
     (
         "library (l) { cell (X) { ff (P, N) { clear : \"A\"; clear : \"\"; clear : \"B\"; } } }",

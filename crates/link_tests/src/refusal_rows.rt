@@ -213,6 +213,12 @@ pub(crate) const CELLS: &[(&str, &str, &str)] = &[
         "the cell LAT is not modelled",
     ),
     (
+        r#"library (l) { cell (CKG) { clock_gating_integrated_cell : "latch_posedge"; pin (E) { direction : input; clock_gate_enable_pin : true; }
+            pin (K) { direction : input; clock_gate_clock_pin : true; } pin (G) { direction : output; clock_gate_out_pin : true; } } }"#,
+        "module top (input a, k, output y); CKG u (.E(a), .K(k), .G(y)); endmodule",
+        "the cell CKG is not modelled",
+    ),
+    (
         r#"library (l) { cell (AND7) { pin (A, B, C, D, E, F, G) { direction : input; }
             pin (Y) { direction : output; function : "A B C D E F G"; } } }"#,
         "module top (input a, output y); AND7 u (.A(a), .B(a), .C(a), .D(a), .E(a), .F(a), .G(a), .Y(y)); endmodule",

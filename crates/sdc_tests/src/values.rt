@@ -1,4 +1,4 @@
-use sdc_values::{Class, Object, Said, SdcFault, Value, Variables, objects_of, said_words};
+use sdc_values::{Class, Loan, Object, Said, SdcFault, Value, Variables, objects_of, said_words};
 use sdc_words::Commands;
 use sdcv_base::{Name, Seq};
 use std::alloc::Global;
@@ -41,7 +41,7 @@ fn variables(alloc: Global) -> Result<Variables, Fail> {
     let mut vars = Variables::new(alloc);
     let cells = Said {
         offset: 0,
-        value: Value::Text(Name::new(alloc, b"a b")?),
+        value: Loan::own(Value::Text(Name::new(alloc, b"a b")?)),
     };
     let objects = objects_of(alloc, &cells)?;
     vars.set(Name::new(alloc, b"c")?, Value::Objects(objects))?;
