@@ -195,6 +195,7 @@ kept_are tree (part.Comb b ins gates ∷ parts) =
     ∙ ap (λ (xs : List Gate). xs ++ unmarked (flat_map part_gates parts) (flat_map (tree_marks tree) parts)) (part_unmarked on gates)
     ∙ ap (λ (xs : List Gate). kept_gates tree (part.Comb b ins gates) ++ xs) (kept_are tree parts)
 kept_are tree (part.Flop clock reg ∷ parts) = kept_are tree parts
+kept_are tree (part.Gate clock enables out ∷ parts) = kept_are tree parts
 
 -- each gate has a mark
 pub tree_marks_len : (tree : List Bool) (parts : List Part) → length (flat_map (tree_marks tree) parts) ≡ length (flat_map part_gates parts)
@@ -209,6 +210,7 @@ tree_marks_len tree (part.Comb b ins gates ∷ parts) =
       tree_marks_len tree parts,
     )
 tree_marks_len tree (part.Flop clock reg ∷ parts) = tree_marks_len tree parts
+tree_marks_len tree (part.Gate clock enables out ∷ parts) = tree_marks_len tree parts
 
 -- in an order of all gates those that are none of the tree's are the equations, in another order
 pub places_permute : (c : Circuit) (tree : List Bool) (places : List ℕ) → ((k : ℕ) → k < length (all_gates c) → count_by (λ m. m == k) places ≡ 1)

@@ -81,6 +81,7 @@ leaves s lib flat = flat_map (leaves_of s lib) flat.items
 abbrev pub loads : (ℕ → ℕ) → ℕ → ℕ → Part → ℕ → List PinRef
 loads number sources reg (part.Comb buffer ins gates) place = map (λ (g : Gate). GateIn (number g.out - sources) place) gates
 loads number sources reg (part.Flop clock r) place = RegIn reg place ∷ []
+loads number sources reg (part.Gate clock enables out) place = []
 
 -- the input pins, from a place on
 abbrev pub input_roles : (ℕ → ℕ) → ℕ → ℕ → Part → ℕ → List (List ℕ) → List PinName
@@ -111,6 +112,7 @@ pins_if_any number sources tree reg p (Some c) = pin_names number sources tree r
 abbrev pub reg_of : ℕ → Part → Option ℕ
 reg_of before (part.Comb buffer ins gates) = None
 reg_of before (part.Flop clock reg) = Some before
+reg_of before (part.Gate clock enables out) = None
 
 -- a leaf by its name, with its register, the nets that it drives, and its pins; one of the clock tree drives none
 abbrev pub cell_name : (ℕ → ℕ) → ℕ → List Bool → ℕ → Leaf → CellName

@@ -76,11 +76,25 @@ circuit_of s lib top clock = record {
 abbrev pub part_gates : Part → List Gate
 part_gates (part.Comb buffer ins gates) = gates
 part_gates (part.Flop clock reg) = []
+part_gates (part.Gate clock enables out) = []
 
 -- its register, if it is one
 abbrev pub part_regs : Part → List Reg
 part_regs (part.Comb buffer ins gates) = []
 part_regs (part.Flop clock reg) = reg ∷ []
+part_regs (part.Gate clock enables out) = []
+
+-- the net that it drives with the clock, if it is a clock gate
+abbrev pub part_gated : Part → List ℕ
+part_gated (part.Comb buffer ins gates) = []
+part_gated (part.Flop clock reg) = []
+part_gated (part.Gate clock enables out) = out ∷ []
+
+-- the net of its clock pin, if it is a register or a clock gate
+abbrev pub clock_of : Part → Option ℕ
+clock_of (part.Comb buffer ins gates) = None
+clock_of (part.Flop clock reg) = Some clock
+clock_of (part.Gate clock enables out) = Some clock
 
 -- the registers in the order of the parts
 abbrev pub regs_of : Circuit → List Reg
@@ -94,21 +108,24 @@ all_gates c = flat_map part_gates c.parts
 abbrev pub part_outs : Part → List ℕ
 part_outs (part.Comb buffer ins gates) = gate_nets gates
 part_outs (part.Flop clock reg) = reg_nets reg
+part_outs (part.Gate clock enables out) = out ∷ []
 
--- the nets that its pins read, the clock pin of a register among them
+-- the nets that its pins read, the clock pin of a register or a clock gate among them
 abbrev pub part_reads : Part → List ℕ
 part_reads (part.Comb buffer ins gates) = ins
 part_reads (part.Flop clock reg) = clock ∷ reg.ins
+part_reads (part.Gate clock enables out) = clock ∷ enables
 
 -- those that it reads as data; a buffer of the clock tree reads the clock as a clock
 abbrev pub part_data : Part → List ℕ
 part_data (part.Comb true ins gates) = []
 part_data (part.Comb false ins gates) = ins
 part_data (part.Flop clock reg) = reg.ins
+part_data (part.Gate clock enables out) = enables
 
--- one entry for each driver of a net: ports, outputs of registers, then gates
+-- one entry for each driver of a net: ports, outputs of registers, then gates, then clock gates
 abbrev pub all_drivers : Circuit → List ℕ
-all_drivers c = c.clocks ++ c.inputs ++ flat_map reg_nets (regs_of c) ++ gate_nets (all_gates c)
+all_drivers c = c.clocks ++ c.inputs ++ flat_map reg_nets (regs_of c) ++ gate_nets (all_gates c) ++ flat_map part_gated c.parts
 
 -- one entry for each reader of a net: output ports, then the pins of parts
 abbrev pub all_reads : Circuit → List ℕ
@@ -118,11 +135,12 @@ all_reads c = c.outputs ++ flat_map part_reads c.parts
 abbrev pub all_data : Circuit → List ℕ
 all_data c = c.outputs ++ flat_map part_data c.parts
 
--- the net is the clock's, or driven from it by buffers and inverters alone; true after an odd number of inversions
+-- the net is the clock's, or driven from it by buffers, inverters and clock gates alone; true after an odd number of inversions
 pub data OnTree (c : Circuit) : ℕ → Bool → Type 0 where
   Root : (net : ℕ) → Contains c.clocks net → OnTree c net false
   Buffered : (from : ℕ) (gates : List Gate) (g : Gate) (odd : Bool)
       → Contains c.parts (part.Comb true (from ∷ []) gates) → Contains gates g → OnTree c from odd → OnTree c g.out (xor odd (inverts g.func))
+  Gated : (clock : ℕ) (enables : List ℕ) (out : ℕ) (odd : Bool) → Contains c.parts (part.Gate clock enables out) → OnTree c clock odd → OnTree c out odd
 
 -- a row that marks the nets of the clock tree
 abbrev pub IsTree : Circuit → List Bool → Type 0

@@ -21,11 +21,13 @@ use Rattle.link_defs.specs.Circuits.{regs_of, all_gates, IsTree}
 abbrev pub is_on_tree : List Bool → Part → Bool
 is_on_tree tree (part.Comb buffer ins gates) = buffer && list_any (λ (net : ℕ). slice_index_or tree net false) ins
 is_on_tree tree (part.Flop clock reg) = false
+is_on_tree tree (part.Gate clock enables out) = false
 
 -- the gates of a part, but none of the clock tree's
 abbrev pub kept_gates : List Bool → Part → List Gate
 kept_gates tree (part.Comb buffer ins gates) = if is_on_tree tree (part.Comb buffer ins gates) then [] else gates
 kept_gates tree (part.Flop clock reg) = []
+kept_gates tree (part.Gate clock enables out) = []
 
 -- each output of a cell or primitive, each constant and each assigned bit gives one equation, and one gate
 abbrev pub equations : List Bool → Circuit → List Gate
@@ -42,6 +44,7 @@ gate_at gates place = slice_index_or gates place no_gate
 abbrev pub tree_marks : List Bool → Part → List Bool
 tree_marks tree (part.Comb buffer ins gates) = map (λ (_ : Gate). is_on_tree tree (part.Comb buffer ins gates)) gates
 tree_marks tree (part.Flop clock reg) = []
+tree_marks tree (part.Gate clock enables out) = []
 
 -- the gates at these places, but none of the clock tree's
 abbrev pub gates_at : List Bool → Circuit → List ℕ → List Gate

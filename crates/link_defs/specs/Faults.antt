@@ -3,7 +3,6 @@ use Rattle.std.specs.Prelude.{◌≡◌, ◌≢◌, ℕ, ◌<◌, ◌==◌, Bool
 use Rattle.std.specs.Prelude.{Contains, Some, None, slice_get, count_by}
 use Rattle.sdcv_base.specs.declared.limits.LimitName.{LimitName}
 use Rattle.sdcv_base.specs.declared.limits.LimitName.TheVariants as what
-use Rattle.net_model.specs.declared.netlist.Reg.{Reg}
 use Rattle.netlist_types.specs.declared.sources.Source.{Source}
 use Rattle.netlist_types.specs.declared.sources.Module.{Module}
 use Rattle.netlist_types.specs.declared.sources.Port.{Port}
@@ -14,7 +13,6 @@ use Rattle.netlist_types.specs.declared.sources.Wire.TheVariants as wire
 use Rattle.netlist_types.specs.declared.sources.Dir.TheVariants as dir
 use Rattle.cell_types.specs.declared.libraries.Library.{Library}
 use Rattle.cell_types.specs.declared.libraries.Cell.{Cell}
-use Rattle.link_defs.specs.declared.circuits.Part.TheVariants as part
 use Rattle.link_defs.specs.declared.circuits.Circuit.{Circuit}
 use Rattle.link_defs.specs.declared.options.LinkOptions.{LinkOptions}
 use Rattle.sdcv_base.specs.declared.settings.Setting.{Setting}
@@ -23,7 +21,7 @@ use Rattle.link_defs.specs.declared.faults.LinkFault.TheVariants as fault
 use Rattle.link_defs.specs.Hierarchy.{cell_of, is_modelled, wires_of, tops, IsRecursive}
 use Rattle.netlist_types.specs.Lawful.{module_of}
 use Rattle.link_defs.specs.Flatten.{Flat, Located, flat_of, full_names}
-use Rattle.link_defs.specs.Circuits.{PortBit, circuit_of, input_bits, output_bits, data_bits, clock_bits, regs_of, all_gates, all_drivers}
+use Rattle.link_defs.specs.Circuits.{PortBit, circuit_of, input_bits, output_bits, data_bits, clock_bits, regs_of, clock_of, all_gates, all_drivers}
 use Rattle.link_defs.specs.Circuits.{all_reads, all_data, OnTree, IsTree, IsOnCycle}
 use Rattle.link_defs.specs.Designs.{equations, drivers_by}
 use Rattle.link_defs.specs.CellNames.{Leaf, leaves, out_pins, clock_pins}
@@ -153,7 +151,7 @@ IsFlatCause s lib o top flat c (fault.Undriven name) = (net : ℕ) × Contains (
 IsFlatCause s lib o top flat c (fault.ManyDrivers name) = HasManyDrivers s lib flat c name
 IsFlatCause s lib o top flat c (fault.Loop name) = (net : ℕ) × Contains (full_names flat) (name, net) × IsOnCycle (all_gates c) net
 IsFlatCause s lib o top flat c (fault.NotTheClock name) =
-    (l : Leaf) × (clock : ℕ) × (reg : Reg) × Contains (leaves s lib flat) l × (l.name ≡ name) × (l.part ≡ part.Flop clock reg) × (OnTree c clock false → ⊥)
+    (l : Leaf) × (clock : ℕ) × Contains (leaves s lib flat) l × (l.name ≡ name) × (clock_of l.part ≡ Some clock) × (OnTree c clock false → ⊥)
 IsFlatCause s lib o top flat c (fault.ClockAsData name) = (net : ℕ) × (odd : Bool) × Contains (full_names flat) (name, net)
     × Contains (all_data c) net × OnTree c net odd
 IsFlatCause s lib o top flat c (fault.NameClash name) = Clashes s lib flat top c name

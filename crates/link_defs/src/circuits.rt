@@ -17,6 +17,13 @@ pub enum Part {
         clock: usize,
         reg: Reg,
     },
+    /// A clock gate: the net of its clock pin, those of its enables, and the net that it drives, which has the clock while
+    /// an enable is 1.
+    Gate {
+        clock: usize,
+        enables: Seq<usize>,
+        out: usize,
+    },
 }
 
 /// The parts of a flat netlist in the order in which they are met, with the nets of its ports. `clocks` has the net of
