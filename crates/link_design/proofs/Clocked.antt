@@ -1,18 +1,19 @@
--- Registers on the clock, and nets of the clock tree that are read as data.
+-- Registers and clock gates on the clock, and nets of the clock tree that are read as data.
 use Rattle.std.proofs.Common.{◌≡◌, ℕ, zero, suc, ◌<◌, ◌≤◌, Bool, true, false, not, ◌&&◌, List, [], ◌∷◌, length, All, Some, None, refl, ap}
-use Rattle.std.proofs.Common.{subst, sym, ◌∙◌, arith, cond, nat_lt}
-use Rattle.std.specs.Prelude.{slice_get}
+use Rattle.std.proofs.Common.{subst, sym, ◌∙◌, arith, cond, nat_lt, inl, inr}
+use Rattle.std.specs.Prelude.{slice_get, flat_map}
 use Rattle.std.specs.List.{position, position_or_len}
 use Rattle.std.proofs.lemmas.Bool.Decides.{nat_tests}
 use Rattle.sdcv_base.specs.Seqs.{is_marked}
-use Rattle.net_model.proofs.Members.{In-from_Contains}
+use Rattle.net_model.proofs.Members.{In, In-from_Contains, Contains-from_In, from_flat}
+use Rattle.graph_order.proofs.Marked.{at_contains}
 use Rattle.link_defs.specs.declared.circuits.Circuit.{Circuit}
 use Rattle.link_defs.specs.declared.circuits.Part.{Part}
 use Rattle.link_defs.specs.declared.circuits.Part.TheVariants as part
-use Rattle.link_defs.specs.Circuits.{all_data, OnTree}
+use Rattle.link_defs.specs.Circuits.{part_gated, clock_of, all_data, OnTree, Gated}
 use Rattle.link_design.specs.Faults.{IsOffTheClock}
 use Rattle.link_design.specs.Made.{IsClocked}
-use Rattle.link_design.specs.Trees.{IsTreeRow, is_off_clock}
+use Rattle.link_design.specs.Trees.{IsTreeRow, is_off, is_off_clock}
 use Rattle.link_design.proofs.Parted.{all_in}
 
 place_here : {X : Type 0} (p : X → Bool) (x : X) (xs : List X) → p x ≡ true → position_or_len p (x ∷ xs) ≡ 0
@@ -77,17 +78,31 @@ on_parts true false e = (refl, refl)
 on_parts true true e = cc
 on_parts false b e = cc
 
--- a part that the rows show off the clock is a register off the clock
+-- a net that the rows show off the clock is not on it
+off_net : (c : Circuit) (tree odd : List Bool) (clock : ℕ) → IsTreeRow c tree odd → is_off tree odd clock ≡ true → OnTree c clock false → ⊥
+off_net c tree odd clock row off on =
+    let (hit, miss) = row.all clock false on in off_clash (is_marked tree clock) (is_marked odd clock) off hit miss
+
+-- a part that the rows show off the clock is a register or a clock gate off the clock
 pub off_cause : (c : Circuit) (tree odd : List Bool) (place : ℕ) (p : Part) → IsTreeRow c tree odd → slice_get c.parts place ≡ Some p
     → is_off_clock tree odd p ≡ true → IsOffTheClock c place
 off_cause c tree odd place (part.Comb buffer ins gates) row at off = cc
-off_cause c tree odd place (part.Flop clock reg) row at off =
-    (clock, reg, at, λ on. let (hit, miss) = row.all clock false on in off_clash (is_marked tree clock) (is_marked odd clock) off hit miss)
+off_cause c tree odd place (part.Flop clock reg) row at off = (part.Flop clock reg, clock, at, refl, off_net c tree odd clock row off)
+off_cause c tree odd place (part.Gate clock enables out) row at off =
+    (part.Gate clock enables out, clock, at, refl, off_net c tree odd clock row off)
 
-on_clock : (c : Circuit) (tree odd : List Bool) (clock : ℕ) → IsTreeRow c tree odd → not (is_marked tree clock && not (is_marked odd clock)) ≡ false
-    → OnTree c clock false
+on_clock : (c : Circuit) (tree odd : List Bool) (clock : ℕ) → IsTreeRow c tree odd → is_off tree odd clock ≡ false → OnTree c clock false
 on_clock c tree odd clock row off = let (hit, miss) = on_parts (is_marked tree clock) (is_marked odd clock) off in
     subst (λ (b : Bool). OnTree c clock b) miss (row.on clock hit)
+
+-- a part that the rows do not show off the clock has its clock pin on it
+part_clocked : (c : Circuit) (tree odd : List Bool) (p : Part) (clock : ℕ) → IsTreeRow c tree odd → is_off_clock tree odd p ≡ false
+    → clock_of p ≡ Some clock → OnTree c clock false
+part_clocked c tree odd (part.Comb buffer ins gates) clock row off has = cc
+part_clocked c tree odd (part.Flop own reg) clock row off has =
+    subst (λ (n : ℕ). OnTree c n false) (let same : own ≡ clock = cc in same) (on_clock c tree odd own row off)
+part_clocked c tree odd (part.Gate own enables out) clock row off has =
+    subst (λ (n : ℕ). OnTree c n false) (let same : own ≡ clock = cc in same) (on_clock c tree odd own row off)
 
 not_marked : (b : Bool) → b ≡ true → b ≡ false → ⊥
 not_marked b hit miss = cc
@@ -96,8 +111,23 @@ pub clocked_is : (c : Circuit) (tree odd : List Bool) → IsTreeRow c tree odd
     → ((place : ℕ) (p : Part) → slice_get c.parts place ≡ Some p → is_off_clock tree odd p ≡ false)
     → All (λ net. is_marked tree net ≡ false) (all_data c) → IsClocked c
 clocked_is c tree odd row clocks none = record {
-  clocks = λ place clock reg at. on_clock c tree odd clock row (clocks place (part.Flop clock reg) at);
+  clocks = λ place clock p at has. part_clocked c tree odd p clock row (clocks place p at) has;
   as_data = λ net inverted has on.
       let free = all_in (λ (n : ℕ). is_marked tree n ≡ false) (all_data c) none net (In-from_Contains (all_data c) net has) in
       not_marked (is_marked tree net) (row.all net inverted on).0 free;
 }
+
+-- the net of one clock gate is on the clock tree
+gated_part_on : (c : Circuit) (p : Part) (n : ℕ) → IsClocked c → In p c.parts → In n (part_gated p) → OnTree c n false
+gated_part_on c (part.Comb buffer ins gates) n clocked stands has = absurd has
+gated_part_on c (part.Flop clock reg) n clocked stands has = absurd has
+gated_part_on c (part.Gate clock enables out) n clocked stands (inl here) =
+    let there = Contains-from_In c.parts (part.Gate clock enables out) stands in
+    let (place, at) = at_contains c.parts (part.Gate clock enables out) there in
+    subst (λ (m : ℕ). OnTree c m false) here
+    (Gated clock enables out false there (clocked.clocks place clock (part.Gate clock enables out) at refl))
+gated_part_on c (part.Gate clock enables out) n clocked stands (inr later) = absurd later
+
+-- and so is each net that a clock gate drives
+pub gated_on : (c : Circuit) → IsClocked c → (n : ℕ) → In n (flat_map part_gated c.parts) → OnTree c n false
+gated_on c clocked n has = let (p, stands, there) = from_flat part_gated n c.parts has in gated_part_on c p n clocked stands there

@@ -67,6 +67,7 @@ parts_on_tree tree nets (part.Comb b ins gates ∷ parts) lawful =
     (part_on_tree tree b ins gates (λ g has. (all_in (IsLawfulGate nets ins) gates own.drives g has).reads))
     ∙ ap (λ (bs : List Bool). tree_marks tree (part.Comb b ins gates) ++ bs) (parts_on_tree tree nets parts (λ p has. lawful p (inr has)))
 parts_on_tree tree nets (part.Flop clock reg ∷ parts) lawful = parts_on_tree tree nets parts (λ p has. lawful p (inr has))
+parts_on_tree tree nets (part.Gate clock enables out ∷ parts) lawful = parts_on_tree tree nets parts (λ p has. lawful p (inr has))
 
 all_marks_len : (parts : List Part) → length (flat_map part_marks parts) ≡ length (flat_map part_gates parts)
 all_marks_len [] = refl
@@ -79,6 +80,7 @@ all_marks_len (part.Comb b ins gates ∷ parts) =
       all_marks_len parts,
     )
 all_marks_len (part.Flop clock reg ∷ parts) = all_marks_len parts
+all_marks_len (part.Gate clock enables out ∷ parts) = all_marks_len parts
 
 -- tests that agree on the places of a list choose the same
 filter_or : (p q : ℕ → Bool) (x : ℕ) (xs : List ℕ) (b : Bool) → p x ≡ b → q x ≡ b → filter p xs ≡ filter q xs → filter p (x ∷ xs) ≡ filter q (x ∷ xs)

@@ -1,7 +1,7 @@
 -- The design of a circuit, from its parts.
 use Rattle.std.proofs.Common.{◌≡◌, ℕ, zero, suc, ◌+◌, ◌<◌, ◌≤◌, ◌==◌, Bool, true, false, List, [], ◌∷◌, ◌++◌, map, length, All}
 use Rattle.std.proofs.Common.{take, ◌&&◌, refl, ap, subst, sym, ◌∙◌, arith, length-append}
-use Rattle.std.specs.Prelude.{Contains, Some, slice_get, count_by, sum_by, filter, flat_map, if◌then◌else◌}
+use Rattle.std.specs.Prelude.{Contains, Option, Some, slice_get, count_by, sum_by, filter, flat_map, if◌then◌else◌}
 use Rattle.std.specs.List.Sorted.{IsPermutation}
 use Rattle.std.proofs.lemmas.List.Sums.{sum_by-append}
 use Rattle.std.proofs.lemmas.List.Sorted.{sum_by-IsPermutation}
@@ -21,6 +21,7 @@ use Rattle.link_defs.specs.declared.circuits.Part.{Part}
 use Rattle.link_defs.specs.declared.circuits.Part.TheVariants as part
 use Rattle.link_defs.specs.Circuits.{regs_of, all_gates, all_drivers, all_reads, IsTree}
 use Rattle.link_defs.specs.Designs.{equations, kept_gates, drivers_by, number_by, moved_reg, gate_at}
+use Rattle.link_gates.specs.Above.{IsAboveRow}
 use Rattle.link_design.specs.declared.designs.Held.{Held}
 use Rattle.link_design.specs.declared.numbers.NetNumbers.{NetNumbers}
 use Rattle.link_design.specs.declared.ordered.OrderedGates.{OrderedGates}
@@ -95,6 +96,7 @@ kept_same : (s t : List Bool) (p : Part) → ((n : ℕ) → is_marked s n ≡ is
 kept_same s t (part.Comb buffer ins gates) same =
     ap (λ (b : Bool). if buffer && b then [] else gates) (any_same (is_marked s) (is_marked t) ins (λ n has. same n))
 kept_same s t (part.Flop clock reg) same = refl
+kept_same s t (part.Gate clock enables out) same = refl
 
 parts_same : (s t : List Bool) (parts : List Part) → ((n : ℕ) → is_marked s n ≡ is_marked t n) → flat_map (kept_gates s) parts ≡ flat_map (kept_gates t) parts
 parts_same s t [] same = refl
@@ -169,8 +171,8 @@ faultless_is c o tree order h d is clocked tree_is perm made sized (fault.Undriv
     cause.1 (all_in (Contains (all_drivers c)) (all_reads c) is.driven net (In-from_Contains (all_reads c) net cause.0))
 faultless_is c o tree order h d is clocked tree_is perm made sized (fault.ManyDrivers net) free cause = absurd (omega (arith, cause, is.once net))
 faultless_is c o tree order h d is clocked tree_is perm made sized (fault.Loop net) free cause = is.acyclic net cause
-faultless_is c o tree order h d is clocked tree_is perm made sized (fault.NotTheClock place) free (clock, reg, at, off) =
-    off (clocked.clocks place clock reg at)
+faultless_is c o tree order h d is clocked tree_is perm made sized (fault.NotTheClock place) free (p, clock, at, has, off) =
+    off (clocked.clocks place clock p at has)
 faultless_is c o tree order h d is clocked tree_is perm made sized (fault.ClockAsData net) free (odd, has, on) = clocked.as_data net odd has on
 faultless_is c o tree order h d is clocked tree_is perm made sized (fault.Limit kind number) free cause =
     sized_is c tree order h d kind number tree_is perm made sized cause
@@ -193,11 +195,11 @@ kept_within c o tree kept nets lawful is same nets_are = all_from_in (λ (k : �
     (gate_reads c lawful (gate_at o.gates k) own, (gate_of_part c lawful (gate_at o.gates k) own).own.out))
 
 -- the design is sound, and it is that of the circuit
-pub made_is : (c : Circuit) (o : OrderedGates) (tree odd : List Bool) (kept : List ℕ) (n : NetNumbers) (h : Held) (d : Design) → IsLawfulCircuit c
-    → IsHeldBy (length c.inputs) h → IsOrdered c o → IsTreeRow c tree odd → IsClocked c
+pub made_is : (c : Circuit) (o : OrderedGates) (tree odd : List Bool) (above : List (Option ℕ)) (kept : List ℕ) (n : NetNumbers) (h : Held) (d : Design)
+    → IsLawfulCircuit c → IsHeldBy (length c.inputs) h → IsOrdered c o → IsTreeRow c tree odd → IsAboveRow c above → IsClocked c
     → kept ≡ filter (is_kept tree o.gates o.marks) o.order → IsNumberedBy c o.gates kept n → IsNetlist c n.drivers (map (gate_at o.gates) kept) h d → IsSized d
-    → IsMade c h (record { design = d; tree = tree; numbers = n.row })
-made_is c o tree odd kept n h d lawful held is row clocked same numbered list sized =
+    → IsMade c h (record { design = d; tree = tree; above = above; numbers = n.row })
+made_is c o tree odd above kept n h d lawful held is row above_is clocked same numbered list sized =
     let order : List Gate = kept_in tree (all_gates c) (all_marks c) o.order in
     let drivers : n.drivers ≡ drivers_by c order = numbered.drivers_are ∙ kept_drivers_are c o tree kept is same in
     let made = netlist_is c n.drivers (drivers_by c order) (map (gate_at o.gates) kept) order h d drivers (kept_spelled c o tree kept is same) list in
@@ -220,6 +222,8 @@ made_is c o tree odd kept n h d lawful held is row clocked same numbered list si
           omega (arith, made.reset_len, held.reset_len);
     } in
     record {
+      once = is.once;
+      driven = is.driven;
       order = order;
       design_is = record {
         tree_is = tree_of_row c tree odd row;
@@ -231,6 +235,8 @@ made_is c o tree odd kept n h d lawful held is row clocked same numbered list si
         outputs = made.outputs;
       };
       sound = design_is_sound c order d ready number below once limits;
+      clocked = clocked;
+      above = above_is;
       fixed = made.fixed;
       resets = made.resets;
       reset_len = made.reset_len;

@@ -1,17 +1,17 @@
 -- Parts that hand the clock on, and the lists of those that read it from each net.
-use Rattle.std.proofs.Common.{arith, ◌≡◌, ◌≢◌, ℕ, zero, suc, ◌+◌, ◌<◌, Bool, true, false, List, [], ◌∷◌, ◌++◌, length, set, refl, sym, ap, ◌∙◌, subst}
+use Rattle.std.proofs.Common.{arith, ◌≡◌, ◌≢◌, ℕ, zero, suc, ◌+◌, ◌<◌, true, false, List, [], ◌∷◌, ◌++◌, length, set, refl, sym, ap, ◌∙◌, subst}
 use Rattle.std.proofs.Common.{inl, inr, get_or-set_same, get_or-set_other, length-set, replicate}
 use Rattle.std.specs.Prelude.{Contains, Option, Some, None, slice_get}
 use Rattle.std.proofs.lemmas.Bool.{cases_lt, cases_eq}
 use Rattle.std.proofs.lemmas.List.{length-replicate}
 use Rattle.std.proofs.lemmas.List.Elements.{Contains-append_left, Contains-append_right, Contains-append_cases}
-use Rattle.net_model.specs.Form.{xor}
 use Rattle.net_model.proofs.Members.{In-from_Contains}
 use Rattle.graph_order.proofs.Marked.{contains_one, contains_at}
 use Rattle.link_defs.specs.declared.circuits.Circuit.{Circuit}
 use Rattle.link_defs.specs.declared.circuits.Part.{Part}
 use Rattle.link_defs.specs.declared.circuits.Part.TheVariants as part
-use Rattle.link_defs.specs.Circuits.{OnTree, Buffered}
+use Rattle.link_design.specs.declared.branches.Branch.{Branch}
+use Rattle.link_design.specs.Branches.{OnBranch, AfterBuffer, AfterGate}
 use Rattle.link_design.specs.Lawful.{IsLawfulCircuit, IsLawfulPart}
 use Rattle.link_design.specs.Readers.{hands_from, HandsTo, readers_at, with_reader, AreReadersTo}
 use Rattle.link_design.proofs.Parted.{all_in}
@@ -21,18 +21,21 @@ use Rattle.link_design.proofs.Treed.{one_item, some_same}
 pub part_lawful : (c : Circuit) (place : ℕ) (p : Part) → IsLawfulCircuit c → slice_get c.parts place ≡ Some p → IsLawfulPart c.nets p
 part_lawful c place p lawful at = all_in (IsLawfulPart c.nets) c.parts lawful.parts p (In-from_Contains c.parts p (contains_at c.parts place p at))
 
--- what is handed on from a net of the tree is on the tree
-pub handed_on : (c : Circuit) (p : Part) (from to : ℕ) (odd inverted : Bool) → IsLawfulPart c.nets p → Contains c.parts p → hands_from p ≡ Some from
-    → HandsTo p to inverted → OnTree c from odd → OnTree c to (xor odd inverted)
-handed_on c (part.Comb true ins gates) from to odd inverted lawful stands reads (g, there, out, bit) on =
+-- what is handed on from a net of a branch is on the branch that it says
+pub handed_on : (c : Circuit) (p : Part) (from to : ℕ) (b new : Branch) → IsLawfulPart c.nets p → Contains c.parts p → hands_from p ≡ Some from
+    → HandsTo p b to new → OnBranch c from b → OnBranch c to new
+handed_on c (part.Comb true ins gates) from to b new lawful stands reads (g, there, out, is) on =
     let (x, one) = one_item ins (lawful.one refl) in
     let same : x ≡ from = some_same (slice_get ins 0) x from (ap (λ (xs : List ℕ). slice_get xs 0) one) reads in
     let here : Contains c.parts (part.Comb true (from ∷ []) gates) =
     subst (λ (xs : List ℕ). Contains c.parts (part.Comb true xs gates)) (one ∙ ap (λ (n : ℕ). n ∷ []) same) stands in
-    subst (λ (n : ℕ). OnTree c n (xor odd inverted)) out
-    (subst (λ (b : Bool). OnTree c g.out (xor odd b)) bit (Buffered from gates g odd here there on))
-handed_on c (part.Comb false ins gates) from to odd inverted lawful stands reads hands on = cc
-handed_on c (part.Flop clock reg) from to odd inverted lawful stands reads hands on = cc
+    subst (λ (n : ℕ). OnBranch c n new) out (subst (OnBranch c g.out) is (AfterBuffer from gates g b here there on))
+handed_on c (part.Comb false ins gates) from to b new lawful stands reads hands on = cc
+handed_on c (part.Flop clock reg) from to b new lawful stands reads hands on = cc
+handed_on c (part.Gate clock enables out) from to b new lawful stands reads (same_out, is) on =
+    let same : clock ≡ from = some_same (hands_from (part.Gate clock enables out)) clock from refl reads in
+    let here : OnBranch c clock b = subst (λ (n : ℕ). OnBranch c n b) (sym same) on in
+    subst (λ (n : ℕ). OnBranch c n new) same_out (subst (OnBranch c out) is (AfterGate clock enables out b stands here))
 
 -- the net from which a part hands the clock on is the circuit's
 pub hands_below : (nets : ℕ) (p : Part) (from : ℕ) → IsLawfulPart nets p → hands_from p ≡ Some from → from < nets
@@ -40,6 +43,8 @@ hands_below nets (part.Comb true ins gates) from lawful reads =
     all_in (λ (n : ℕ). n < nets) ins lawful.reads from (In-from_Contains ins from (contains_at ins 0 from reads))
 hands_below nets (part.Comb false ins gates) from lawful reads = cc
 hands_below nets (part.Flop clock reg) from lawful reads = cc
+hands_below nets (part.Gate clock enables out) from lawful reads =
+    subst (λ (n : ℕ). n < nets) (some_same (hands_from (part.Gate clock enables out)) clock from refl reads) lawful.clock_net
 
 -- an empty list has no place
 nothing_read : (n m : ℕ) (place : ℕ) → Contains (readers_at (replicate n []) m) place → ⊥

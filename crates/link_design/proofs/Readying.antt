@@ -19,7 +19,8 @@ use Rattle.graph_order.proofs.Marked.{at_contains, contains_at, count_append, co
 use Rattle.link_defs.specs.declared.circuits.Circuit.{Circuit}
 use Rattle.link_defs.specs.declared.circuits.Part.{Part}
 use Rattle.link_defs.specs.declared.circuits.Part.TheVariants as part
-use Rattle.link_defs.specs.Circuits.{part_gates, part_regs, part_reads, part_data, regs_of, all_gates, all_drivers, all_reads, all_data, OnTree, Root}
+use Rattle.link_defs.specs.Circuits.{part_gates, part_regs, part_gated, part_reads, part_data, regs_of, all_gates, all_drivers, all_reads, all_data}
+use Rattle.link_defs.specs.Circuits.{OnTree, Root}
 use Rattle.link_defs.specs.Designs.{equations, kept_gates, drivers_by, gate_at, no_gate}
 use Rattle.link_defs.proofs.Permuting.{filter_hit, filter_miss}
 use Rattle.link_design.specs.declared.ordered.OrderedGates.{OrderedGates}
@@ -30,6 +31,7 @@ use Rattle.link_design.specs.Lists.{data_sources, all_marks}
 use Rattle.link_design.specs.Made.{IsOrdered, IsClocked}
 use Rattle.link_design.specs.Netlists.{AreDrivers}
 use Rattle.link_design.specs.Trees.{IsTreeRow, is_tree_gate}
+use Rattle.link_design.proofs.Clocked.{gated_on}
 use Rattle.link_design.proofs.Keeping.{kept_permutes}
 use Rattle.link_design.proofs.Leading.{map_from}
 use Rattle.link_design.proofs.Parted.{IsMarkedGate, marked_gate, gate_of_part, all_in, all_from_in, data_sources_are, data_sources_below, drivers_are}
@@ -139,6 +141,7 @@ bits_fewer f gates false = omega arith
 part_fewer : (f : Gate → ℕ) (tree : List Bool) (p : Part) → sum_by f (kept_gates tree p) ≤ sum_by f (part_gates p)
 part_fewer f tree (part.Comb buffer ins gates) = bits_fewer f gates (buffer && list_any (is_marked tree) ins)
 part_fewer f tree (part.Flop clock reg) = omega arith
+part_fewer f tree (part.Gate clock enables out) = omega arith
 
 -- the equations drive a net no oftener than all gates
 equations_fewer : (f : Gate → ℕ) (tree : List Bool) (parts : List Part) → sum_by f (flat_map (kept_gates tree) parts) ≤ sum_by f (flat_map part_gates parts)
@@ -177,11 +180,12 @@ kept_are_drivers c o tree kept lawful is same = record {
       let fewer = equations_fewer (driving net) tree c.parts in
       let spelled = ap (λ (gs : List Gate). sum_by (driving net) gs) gates_are in
       let mine = count_append (λ m. m == net) (data_sources c) (gate_nets (map (gate_at o.gates) kept)) in
+      let whole = count_append (λ m. m == net) ((c.clocks ++ data_sources c) ++ gate_nets (all_gates c)) (flat_map part_gated c.parts) in
       let all = count_append (λ m. m == net) (c.clocks ++ data_sources c) (gate_nets (all_gates c)) in
       let front = count_append (λ m. m == net) c.clocks (data_sources c) in
-      let most : count_by (λ m. m == net) ((c.clocks ++ data_sources c) ++ gate_nets (all_gates c)) ≤ 1 =
+      let most : count_by (λ m. m == net) ((c.clocks ++ data_sources c) ++ gate_nets (all_gates c) ++ flat_map part_gated c.parts) ≤ 1 =
       subst (λ (ns : List ℕ). count_by (λ m. m == net) ns ≤ 1) (sym (drivers_are c)) (is.once net) in
-      omega (arith, moved, fewer, spelled, mine, all, front, most, count_nets net (map (gate_at o.gates) kept), count_nets net (all_gates c));
+      omega (arith, moved, fewer, spelled, mine, whole, all, front, most, count_nets net (map (gate_at o.gates) kept), count_nets net (all_gates c));
 }
 
 -- the drivers of the design, by the definition
@@ -203,6 +207,7 @@ part_read : (p : Part) (n : ℕ) → In n (part_data p) → In n (part_reads p)
 part_read (part.Comb true ins gates) n has = absurd has
 part_read (part.Comb false ins gates) n has = has
 part_read (part.Flop clock reg) n has = inr has
+part_read (part.Gate clock enables out) n has = inr has
 
 -- what is read as data is read
 data_read : (c : Circuit) (n : ℕ) → In n (all_data c) → In n (all_reads c)
@@ -243,20 +248,24 @@ kept_or c tree odd n j h false lawful row off at out is = record {
 }
 
 -- a net that is read and not on the clock tree is driven by a data input, a register or a gate of the design
-pub driven_off : (c : Circuit) (o : OrderedGates) (tree odd : List Bool) (n : ℕ) → IsLawfulCircuit c → IsOrdered c o → IsTreeRow c tree odd
+pub driven_off : (c : Circuit) (o : OrderedGates) (tree odd : List Bool) (n : ℕ) → IsLawfulCircuit c → IsOrdered c o → IsTreeRow c tree odd → IsClocked c
     → In n (all_reads c) → ((inverted : Bool) → OnTree c n inverted → ⊥)
     → In n (data_sources c) ⊎ IsKeptDriver c tree n
-driven_off c o tree odd n lawful is row read off =
+driven_off c o tree odd n lawful is row clocked read off =
     let driven = In-from_Contains (all_drivers c) n (all_in (Contains (all_drivers c)) (all_reads c) is.driven n read) in
-    elim (In-cases n (c.clocks ++ data_sources c) (gate_nets (all_gates c)) (subst (λ (ns : List ℕ). In n ns) (sym (drivers_are c)) driven)) [
-      | inl source ↦ elim (In-cases n c.clocks (data_sources c) source) [
-        | inl clock ↦ absurd (off false (Root n (Contains-from_In c.clocks n clock)))
-        | inr data_source ↦ inl data_source
+    elim (In-cases n ((c.clocks ++ data_sources c) ++ gate_nets (all_gates c)) (flat_map part_gated c.parts)
+    (subst (λ (ns : List ℕ). In n ns) (sym (drivers_are c)) driven)) [
+      | inl other ↦ elim (In-cases n (c.clocks ++ data_sources c) (gate_nets (all_gates c)) other) [
+        | inl source ↦ elim (In-cases n c.clocks (data_sources c) source) [
+          | inl clock ↦ absurd (off false (Root n (Contains-from_In c.clocks n clock)))
+          | inr data_source ↦ inl data_source
+        ]
+        | inr gate ↦
+            let (h, there, out) = from_map (λ (g : Gate). g.out) n (all_gates c) gate in
+            let (j, at) = at_contains (all_gates c) h (Contains-from_In (all_gates c) h there) in
+            inr (kept_or c tree odd n j h (is_tree_gate tree (is_marked (all_marks c) j) h) lawful row off at out refl)
       ]
-      | inr gate ↦
-          let (h, there, out) = from_map (λ (g : Gate). g.out) n (all_gates c) gate in
-          let (j, at) = at_contains (all_gates c) h (Contains-from_In (all_gates c) h there) in
-          inr (kept_or c tree odd n j h (is_tree_gate tree (is_marked (all_marks c) j) h) lawful row off at out refl)
+      | inr gated ↦ absurd (off false (gated_on c clocked n gated))
     ]
 
 only_item : (x y : ℕ) → In y (x ∷ []) → x ≡ y
@@ -295,7 +304,7 @@ data_driven : (c : Circuit) (o : OrderedGates) (tree odd : List Bool) (n : ℕ) 
     → Contains (drivers_by c (kept_in tree (all_gates c) (all_marks c) o.order)) n
 data_driven c o tree odd n lawful is row clocked has =
     let order : List Gate = kept_in tree (all_gates c) (all_marks c) o.order in
-    Contains-from_In (drivers_by c order) n (elim (driven_off c o tree odd n lawful is row (data_read c n has)
+    Contains-from_In (drivers_by c order) n (elim (driven_off c o tree odd n lawful is row clocked (data_read c n has)
     (λ inverted on. clocked.as_data n inverted (Contains-from_In (all_data c) n has) on)) [
       | inl source ↦ In-left n (c.inputs ++ flat_map reg_nets (regs_of c)) (gate_nets order) (subst (λ (ns : List ℕ). In n ns) (data_sources_are c) source)
       | inr gate ↦
@@ -327,7 +336,7 @@ earlier_is c o tree odd lawful is row clocked k g n at reads =
     let before_is : map (gate_at (all_gates c)) (filter p (take f.i o.order)) ≡ before =
     ap (λ (ks : List ℕ). map (gate_at (all_gates c)) ks) (sym f.before) ∙ sym (take-map (gate_at (all_gates c)) k (filter p o.order)) in
     Contains-from_In (c.inputs ++ flat_map reg_nets (regs_of c) ++ gate_nets before) n
-    (elim (driven_off c o tree odd n lawful is row (gate_read c lawful g n there has)
+    (elim (driven_off c o tree odd n lawful is row clocked (gate_read c lawful g n there has)
     (gate_off c tree odd place g n mark lawful row clocked at_g f.passes marked of has)) [
       | inl source ↦ In-left n (c.inputs ++ flat_map reg_nets (regs_of c)) (gate_nets before) (subst (λ (ns : List ℕ). In n ns) (data_sources_are c) source)
       | inr gate ↦
@@ -349,6 +358,7 @@ reg_lawful nets reg (part.Comb buffer ins gates) lawful has = absurd has
 reg_lawful nets reg (part.Flop clock own) lawful (inl same) =
     (clock, subst (λ (r : Reg). IsLawfulFlop nets clock r) same lawful, λ n reads. subst (λ (r : Reg). In n r.ins) (sym same) reads)
 reg_lawful nets reg (part.Flop clock own) lawful (inr later) = absurd later
+reg_lawful nets reg (part.Gate clock enables out) lawful has = absurd has
 
 -- a circuit whose gates are ordered and whose clock is clean is ready
 pub ready_is : (c : Circuit) (o : OrderedGates) (tree odd : List Bool) (kept : List ℕ) → IsLawfulCircuit c → IsOrdered c o → IsTreeRow c tree odd → IsClocked c

@@ -2,17 +2,16 @@
 use Rattle.std.specs.Prelude.{◌≡◌, ◌≢◌, ℕ, ◌<◌, ◌==◌, Bool, false, List, length, Contains, Some, slice_get, count_by}
 use Rattle.sdcv_base.specs.declared.limits.LimitName.{LimitName}
 use Rattle.sdcv_base.specs.declared.limits.LimitName.TheVariants as what
-use Rattle.net_model.specs.declared.netlist.Reg.{Reg}
 use Rattle.link_defs.specs.declared.circuits.Circuit.{Circuit}
-use Rattle.link_defs.specs.declared.circuits.Part.TheVariants as part
-use Rattle.link_defs.specs.Circuits.{regs_of, all_gates, all_drivers, all_reads, all_data, OnTree, IsTree, IsOnCycle}
+use Rattle.link_defs.specs.declared.circuits.Part.{Part}
+use Rattle.link_defs.specs.Circuits.{regs_of, clock_of, all_gates, all_drivers, all_reads, all_data, OnTree, IsTree, IsOnCycle}
 use Rattle.link_defs.specs.Designs.{equations, drivers_by}
 use Rattle.link_design.specs.declared.faults.CircuitFault.{CircuitFault}
 use Rattle.link_design.specs.declared.faults.CircuitFault.TheVariants as fault
 
--- a register, at a place among the parts, whose clock pin is not on the clock tree after an even number of inversions
+-- a register or a clock gate, at a place among the parts, whose clock pin is not on the clock tree after an even number of inversions
 abbrev pub IsOffTheClock : Circuit → ℕ → Type 0
-IsOffTheClock c place = (clock : ℕ) × (reg : Reg) × (slice_get c.parts place ≡ Some (part.Flop clock reg)) × (OnTree c clock false → ⊥)
+IsOffTheClock c place = (p : Part) × (clock : ℕ) × (slice_get c.parts place ≡ Some p) × (clock_of p ≡ Some clock) × (OnTree c clock false → ⊥)
 
 -- a count above its limit; the number is the limit and 1
 pub data IsAboveLimit (c : Circuit) : LimitName → ℕ → Type 0 where

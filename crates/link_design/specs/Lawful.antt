@@ -1,4 +1,4 @@
--- Circuits that can be linked: nets in range, functions over their pins, at most six pins a part.
+-- Circuits that can be linked: nets in range, and functions over at most six pins.
 use Rattle.std.specs.Prelude.{◌≡◌, ℕ, ◌+◌, ◌<◌, ◌≤◌, Bool, true, List, length, All}
 use Rattle.net_model.specs.Form.{IsOver}
 use Rattle.net_model.specs.Mentions.{IsRegOver}
@@ -30,9 +30,16 @@ pub record IsLawfulFlop (nets clock : ℕ) (reg : Reg) : Type 0 where
   pub few : length reg.ins ≤ 6
   pub over : IsRegOver (length reg.ins + 1) reg
 
+-- a clock gate has its nets among so many; it has no function, and so any number of enables
+pub record IsLawfulClockGate (nets clock : ℕ) (enables : List ℕ) (out : ℕ) : Type 0 where
+  pub clock_net : clock < nets
+  pub reads : AllBelow nets enables
+  pub out_net : out < nets
+
 abbrev pub IsLawfulPart : ℕ → Part → Type 0
 IsLawfulPart nets (part.Comb buffer ins gates) = IsLawfulComb nets buffer ins gates
 IsLawfulPart nets (part.Flop clock reg) = IsLawfulFlop nets clock reg
+IsLawfulPart nets (part.Gate clock enables out) = IsLawfulClockGate nets clock enables out
 
 -- every net of the circuit is one of so many, and each part is lawful
 pub record IsLawfulCircuit (c : Circuit) : Type 0 where

@@ -1,3 +1,4 @@
+pub mod Branches
 pub mod Faults
 pub mod Kept
 pub mod Lawful

@@ -1,21 +1,24 @@
 -- The parts that hand the clock on, by the net that they read it from.
-use Rattle.std.specs.Prelude.{◌≡◌, ℕ, ◌<◌, Bool, true, false, List, [], ◌∷◌, ◌++◌, length, Contains, Option, Some, None, slice_get, slice_index_or, slice_set}
+use Rattle.std.specs.Prelude.{◌≡◌, ℕ, ◌<◌, true, false, List, [], ◌∷◌, ◌++◌, length, Contains, Option, Some, None, slice_get, slice_index_or, slice_set}
 use Rattle.net_model.specs.declared.netlist.Gate.{Gate}
 use Rattle.link_defs.specs.declared.circuits.Circuit.{Circuit}
 use Rattle.link_defs.specs.declared.circuits.Part.{Part}
 use Rattle.link_defs.specs.declared.circuits.Part.TheVariants as part
-use Rattle.link_defs.specs.Parts.{inverts}
+use Rattle.link_design.specs.declared.branches.Branch.{Branch}
+use Rattle.link_design.specs.Branches.{past_buffer, past_gate}
 
--- the net from which a part hands the clock on: what a buffer or an inverter reads
+-- the net from which a part hands the clock on: what a buffer or an inverter reads, or the clock pin of a clock gate
 abbrev pub hands_from : Part → Option ℕ
 hands_from (part.Comb true ins gates) = slice_get ins 0
 hands_from (part.Comb false ins gates) = None
 hands_from (part.Flop clock reg) = None
+hands_from (part.Gate clock enables out) = Some clock
 
--- a net to which it hands the clock on, with one inversion more or none
-abbrev pub HandsTo : Part → ℕ → Bool → Type 0
-HandsTo (part.Comb buffer ins gates) net inverted = (g : Gate) × Contains gates g × (g.out ≡ net) × (inverts g.func ≡ inverted)
-HandsTo (part.Flop clock reg) net inverted = ⊥
+-- a net to which it hands the clock on from a branch, and the branch of this net
+abbrev pub HandsTo : Part → Branch → ℕ → Branch → Type 0
+HandsTo (part.Comb buffer ins gates) b net new = (g : Gate) × Contains gates g × (g.out ≡ net) × (past_buffer b g.func ≡ new)
+HandsTo (part.Flop clock reg) b net new = ⊥
+HandsTo (part.Gate clock enables out) b net new = (out ≡ net) × (past_gate b out ≡ new)
 
 -- the places that stand in the list of a net
 abbrev pub readers_at : List (List ℕ) → ℕ → List ℕ

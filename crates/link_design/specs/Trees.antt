@@ -19,7 +19,12 @@ pub record IsTreeRow (c : Circuit) (tree odd : List Bool) : Type 0 where
 abbrev pub is_tree_gate : List Bool → Bool → Gate → Bool
 is_tree_gate tree buffer g = buffer && list_any (is_marked tree) g.ins
 
--- a register whose clock pin is not on the tree after an even number of inversions
+-- a net that is not on the tree after an even number of inversions
+abbrev pub is_off : List Bool → List Bool → ℕ → Bool
+is_off tree odd net = not (is_marked tree net && not (is_marked odd net))
+
+-- a register or a clock gate whose clock pin is such a net
 abbrev pub is_off_clock : List Bool → List Bool → Part → Bool
 is_off_clock tree odd (part.Comb buffer ins gates) = false
-is_off_clock tree odd (part.Flop clock reg) = not (is_marked tree clock && not (is_marked odd clock))
+is_off_clock tree odd (part.Flop clock reg) = is_off tree odd clock
+is_off_clock tree odd (part.Gate clock enables out) = is_off tree odd clock

@@ -30,17 +30,19 @@ pub struct Held {
     pub reset_len: usize,
 }
 
-/// The design of a circuit, a mark for each net of the clock tree, and for each net of the circuit its number in the
-/// design. A net that is none of the design has the number of the design's nets.
+/// The design of a circuit, a mark for each net of the clock tree, for each of these the clock gate above it, if there is
+/// one, by the net that this drives, and for each net of the circuit its number in the design. A net that is none of the
+/// design has the number of the design's nets.
 #[derive(Drop)]
 pub struct CircuitDesign {
     pub design: Design,
     pub tree: Seq<bool>,
+    pub above: Seq<Option<usize>>,
     pub numbers: Seq<usize>,
 }
 
 /// The sound design of a circuit. Its nets are numbered by their drivers: data inputs, outputs of registers, then gates in
-/// an order in which each reads what is driven before it. The gates of the clock tree are left out.
+/// an order in which each reads what is driven before it. The gates of the clock tree are left out, and so are clock gates.
 pub fn design_of(
     alloc: Global,
     circuit: &Circuit,
@@ -62,6 +64,7 @@ pub fn design_of(
     Ok(CircuitDesign {
         design,
         tree: clock.tree,
+        above: clock.above,
         numbers: numbers.row,
     })
 }

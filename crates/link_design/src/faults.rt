@@ -16,8 +16,9 @@ pub enum CircuitFault {
     ManyDrivers(usize),
     #[error("net {0} is on a cycle of gates")]
     Loop(usize),
-    /// The part at this place is a register whose clock pin is not on the clock tree after an even number of inversions.
-    #[error("part {0} is a register that is not on the clock")]
+    /// The part at this place is a register or a clock gate whose clock pin is not on the clock tree after an even number of
+    /// inversions.
+    #[error("part {0} is not on the clock")]
     NotTheClock(usize),
     /// This net of the clock tree is read as data.
     #[error("the clock's net {0} is read as data")]

@@ -4,6 +4,7 @@
 //! Read `designs.rt` first; `specs/Made.antt` says what its answer is, and `specs/Faults.antt` why a circuit gives no design.
 #![tactic(auto)]
 
+mod branches;
 mod designs;
 mod faults;
 mod kept;

@@ -1,9 +1,9 @@
 //! What a circuit drives and reads, as lists of nets, and its gates in one list.
-ghost use Rattle.std.specs.Prelude.{◌≡◌, ◌++◌, IfOk, OnOk, map};
+ghost use Rattle.std.specs.Prelude.{◌≡◌, ◌++◌, IfOk, OnOk, map, flat_map};
 ghost use Rattle.net_model.specs.Netlist.{reg_nets, gate_nets};
 ghost use Rattle.net_model.specs.declared.netlist.Gate.{Gate as GateRecord};
-ghost use Rattle.link_defs.specs.Circuits.{part_gates, part_reads, part_data, all_gates, all_reads, all_data};
-ghost use Rattle.link_design.specs.Lists.{part_reg_nets, part_marks, data_sources, all_marks};
+ghost use Rattle.link_defs.specs.Circuits.{part_gates, part_gated, part_reads, part_data, all_gates, all_reads, all_data};
+ghost use Rattle.link_design.specs.Lists.{part_reg_nets, part_marks, data_sources, all_sources, all_marks};
 
 use link_defs::{Circuit, Part};
 use net_model::{Gate, Reg};
@@ -37,6 +37,7 @@ fn push_part_reg_nets(nets: &mut Seq<usize>, part: &Part) -> Result<(), AllocErr
     match part {
         Part::Comb { .. } => Ok(()),
         Part::Flop { reg, .. } => push_reg_nets(nets, reg),
+        Part::Gate { .. } => Ok(()),
     }
 }
 
@@ -51,13 +52,38 @@ pub(crate) fn data_sources(alloc: Global, circuit: &Circuit) -> Result<Seq<usize
     Ok(nets)
 }
 
-/// The nets that the clock port, data inputs and registers drive.
+/// Appends the net that a part drives as a clock gate.
+fn push_part_gated(nets: &mut Seq<usize>, part: &Part) -> Result<(), AllocError>
+    ensures { OnOk result (nets.new ≡ nets.old ++ part_gated part.now) }
+{
+    match part {
+        Part::Comb { .. } => Ok(()),
+        Part::Flop { .. } => Ok(()),
+        Part::Gate { out, .. } => {
+            nets.push(*out)?;
+            Ok(())
+        }
+    }
+}
+
+/// Appends the nets that clock gates drive.
+fn push_gated(nets: &mut Seq<usize>, parts: &[Part]) -> Result<(), AllocError>
+    ensures { OnOk result (nets.new ≡ nets.old ++ flat_map part_gated parts.now) }
+{
+    for part in parts {
+        push_part_gated(nets, part)?;
+    }
+    Ok(())
+}
+
+/// The nets that the clock port, data inputs, registers and clock gates drive.
 pub(crate) fn all_sources(alloc: Global, circuit: &Circuit) -> Result<Seq<usize>, AllocError>
-    ensures { IfOk result (λ nets. nets ≡ circuit.now.clocks ++ data_sources circuit.now) }
+    ensures { IfOk result (λ nets. nets ≡ all_sources circuit.now) }
 {
     let mut nets = circuit.clocks.copy(alloc)?;
     let more = data_sources(alloc, circuit)?;
     push_all(&mut nets, more.as_slice())?;
+    push_gated(&mut nets, circuit.parts.as_slice())?;
     Ok(nets)
 }
 
@@ -86,6 +112,10 @@ fn push_reads(nets: &mut Seq<usize>, part: &Part) -> Result<(), AllocError>
             nets.push(*clock)?;
             push_all(nets, reg.ins.as_slice())
         }
+        Part::Gate { clock, enables, .. } => {
+            nets.push(*clock)?;
+            push_all(nets, enables.as_slice())
+        }
     }
 }
 
@@ -112,6 +142,7 @@ fn push_data(nets: &mut Seq<usize>, part: &Part) -> Result<(), AllocError>
             push_all(nets, ins.as_slice())
         }
         Part::Flop { reg, .. } => push_all(nets, reg.ins.as_slice()),
+        Part::Gate { enables, .. } => push_all(nets, enables.as_slice()),
     }
 }
 
@@ -146,6 +177,7 @@ fn push_gates(alloc: Global, list: &mut Seq<Gate>, part: &Part) -> Result<(), Al
     match part {
         Part::Comb { gates, .. } => push_copies(alloc, list, gates.as_slice()),
         Part::Flop { .. } => Ok(()),
+        Part::Gate { .. } => Ok(()),
     }
 }
 
@@ -187,6 +219,7 @@ fn push_part_marks(marks: &mut Seq<bool>, part: &Part) -> Result<(), AllocError>
     match part {
         Part::Comb { buffer, gates, .. } => push_marks(marks, *buffer, gates.as_slice()),
         Part::Flop { .. } => Ok(()),
+        Part::Gate { .. } => Ok(()),
     }
 }
 

@@ -1,5 +1,5 @@
 //! Questions about nets by rows over them.
-ghost use Rattle.std.specs.Prelude.{◌≡◌, true, false, IfSome, IfNone, All, Contains};
+ghost use Rattle.std.specs.Prelude.{◌≡◌, true, false, None, IfSome, IfNone, All, Contains, slice_index_or};
 ghost use Rattle.std.specs.List.{list_any};
 ghost use Rattle.sdcv_base.specs.Seqs.{is_marked};
 ghost use Rattle.link_design.specs.Rows.{is_driven};
@@ -11,6 +11,17 @@ pub(crate) fn is_marked(marks: &Seq<bool>, net: usize) -> bool
     ensures { result ≡ is_marked marks.now net }
 {
     net < marks.len() && marks.at(net)
+}
+
+/// The clock gate above a net, if any, by a row of them.
+pub(crate) fn gate_above(above: &Seq<Option<usize>>, net: usize) -> Option<usize>
+    ensures { result ≡ slice_index_or above.now net None }
+{
+    if net < above.len() {
+        above.at(net)
+    } else {
+        None
+    }
 }
 
 /// Whether one of these nets is marked.

@@ -145,6 +145,7 @@ fn push_reg(
             list.push(numbered_reg(alloc, numbers, reg)?)?;
             Ok(())
         }
+        Part::Gate { .. } => Ok(()),
     }
 }
 

@@ -78,5 +78,6 @@ fn hands_from(part: &Part) -> Option<usize>
             }
         }
         Part::Flop { .. } => None,
+        Part::Gate { clock, .. } => Some(*clock),
     }
 }

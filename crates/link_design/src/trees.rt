@@ -2,10 +2,11 @@
 ghost use Rattle.std.specs.Prelude.{◌≡◌, ◌≤◌, ◌==◌, ℕ, count_by, IfOk, IfErr, OnOk};
 ghost use Rattle.std.specs.List.{position};
 ghost use Rattle.link_defs.specs.Circuits.{all_drivers};
+ghost use Rattle.link_gates.specs.Above.{IsAboveRow};
 ghost use Rattle.link_design.specs.Faults.{IsCause};
 ghost use Rattle.link_design.specs.Lawful.{IsLawfulCircuit};
 ghost use Rattle.link_design.specs.Made.{IsClocked};
-ghost use Rattle.link_design.specs.Trees.{IsTreeRow, is_tree_gate, is_off_clock};
+ghost use Rattle.link_design.specs.Trees.{IsTreeRow, is_tree_gate, is_off, is_off_clock};
 
 use crate::faults::CircuitFault;
 use crate::lists::all_data;
@@ -17,11 +18,13 @@ use net_model::Gate;
 use sdcv_base::Seq;
 use std::alloc::{AllocError, Global};
 
-/// The nets of the clock tree, and those of them after an odd number of inversions.
+/// The nets of the clock tree, those of them after an odd number of inversions, and the clock gate above each of them, if
+/// there is one, by the net that this drives.
 #[derive(Drop)]
 pub(crate) struct ClockTree {
     pub(crate) tree: Seq<bool>,
     pub(crate) odd: Seq<bool>,
+    pub(crate) above: Seq<Option<usize>>,
 }
 
 /// The clock tree of a circuit, found by a walk from the clock's net: through each net once, and each part that hands the
@@ -29,7 +32,8 @@ pub(crate) struct ClockTree {
 pub(crate) fn clock_tree(alloc: Global, circuit: &Circuit) -> Result<ClockTree, AllocError>
     requires lawful { IsLawfulCircuit circuit.now }
     requires once { (net : ℕ) → count_by (λ m. m == net) (all_drivers circuit.now) ≤ 1 }
-    ensures { IfOk result (λ t. IsTreeRow circuit.now t.tree t.odd) }
+    ensures tree { IfOk result (λ t. IsTreeRow circuit.now t.tree t.odd) }
+    ensures above { IfOk result (λ t. IsAboveRow circuit.now t.above) }
 {
     let readers = ClockReaders::of(alloc, circuit)?;
     let mut walk = Walk::at_clocks(alloc, circuit)?;
@@ -41,6 +45,7 @@ pub(crate) fn clock_tree(alloc: Global, circuit: &Circuit) -> Result<ClockTree, 
     Ok(ClockTree {
         tree: walk.tree,
         odd: walk.odd,
+        above: walk.above,
     })
 }
 
@@ -51,7 +56,7 @@ pub(crate) fn is_tree_gate(tree: &Seq<bool>, buffer: bool, gate: &Gate) -> bool
     buffer && has_marked(tree, gate.ins.as_slice())
 }
 
-/// Refuses a register that is not on the clock, and a net of the clock tree that is read as data.
+/// Refuses a register or a clock gate that is not on the clock, and a net of the clock tree that is read as data.
 pub(crate) fn check_clock(
     alloc: Global,
     circuit: &Circuit,
@@ -71,21 +76,27 @@ pub(crate) fn check_clock(
     Ok(())
 }
 
-/// The place of the first register that is not on the clock, if any.
+/// The place of the first register or clock gate that is not on the clock, if any.
 fn first_off_clock(clock: &ClockTree, parts: &[Part]) -> Option<usize>
     ensures { result ≡ position (is_off_clock clock.now.tree clock.now.odd) parts.now }
 {
     parts.iter().position(|part| is_off_clock(clock, part))
 }
 
-/// Whether a part is a register whose clock pin is not on the tree after an even number of inversions.
+/// Whether a part is a register or a clock gate whose clock pin is not on the tree after an even number of inversions.
 fn is_off_clock(clock: &ClockTree, part: &Part) -> bool
     ensures { result ≡ is_off_clock clock.now.tree clock.now.odd part.now }
 {
     match part {
         Part::Comb { .. } => false,
-        Part::Flop { clock: net, .. } => {
-            !(is_marked(&clock.tree, *net) && !is_marked(&clock.odd, *net))
-        }
+        Part::Flop { clock: net, .. } => is_off(clock, *net),
+        Part::Gate { clock: net, .. } => is_off(clock, *net),
     }
+}
+
+/// Whether a net is not on the tree after an even number of inversions.
+fn is_off(clock: &ClockTree, net: usize) -> bool
+    ensures { result ≡ is_off clock.now.tree clock.now.odd net }
+{
+    !(is_marked(&clock.tree, net) && !is_marked(&clock.odd, net))
 }

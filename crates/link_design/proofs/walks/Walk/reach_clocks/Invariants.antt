@@ -8,4 +8,5 @@ invariant-loop-net l = record {
   is : l.self ≡ fold clock_reached l.fn.self (take l.net-index l.clocks);
   tree_len : length l.self.tree ≡ length l.fn.self.tree;
   odd_len : length l.self.odd ≡ length l.fn.self.odd;
+  above_len : length l.self.above ≡ length l.fn.self.above;
 }
