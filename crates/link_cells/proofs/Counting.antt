@@ -41,11 +41,13 @@ is_own : (number : ℕ → ℕ) (sources : ℕ) (tree : List Bool) (before r : �
     × (before ≡ r → length (part_regs p) ≡ 1 → is_reg r (cell_name number sources tree before (record { name = name; cell = cell; part = p })) ≡ true)
 is_own number sources tree before r name cell (part.Comb buffer ins gates) = (λ hit. cc, λ same one. absurd (omega (arith, one)))
 is_own number sources tree before r name cell (part.Flop clock reg) = (λ hit. (eqb-true before r hit, refl), λ same one. eq-eqb before r same)
+is_own number sources tree before r name cell (part.Gate clock enables out) = (λ hit. cc, λ same one. absurd (omega (arith, one)))
 
 -- a part is one register or none
 pub one_or_none : (p : Part) → length (part_regs p) ≤ 1
 one_or_none (part.Comb buffer ins gates) = omega arith
 one_or_none (part.Flop clock reg) = omega arith
+one_or_none (part.Gate clock enables out) = omega arith
 
 count_bit : (b : Bool) → (b ≡ true → ⊥) → ◌≡◌ {A = ℕ} (cond b 1 0) 0
 count_bit true never = absurd (never refl)

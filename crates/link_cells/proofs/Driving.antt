@@ -102,10 +102,12 @@ kept_own tree buffer ins gates g false has = has
 kept_in_part : (tree : List Bool) (p : Part) (g : Gate) → In g (kept_gates tree p) → In g (part_gates p)
 kept_in_part tree (part.Comb buffer ins gates) g has = kept_own tree buffer ins gates g (is_on_tree tree (part.Comb buffer ins gates)) has
 kept_in_part tree (part.Flop clock reg) g has = absurd has
+kept_in_part tree (part.Gate clock enables out) g has = absurd has
 
 part_below : (nets : ℕ) (p : Part) (g : Gate) → IsLawfulPart nets p → In g (part_gates p) → g.out < nets
 part_below nets (part.Comb buffer ins gates) g lawful has = (all_in (IsLawfulGate nets ins) gates lawful.drives g has).out
 part_below nets (part.Flop clock reg) g lawful has = absurd has
+part_below nets (part.Gate clock enables out) g lawful has = absurd has
 
 -- a gate of the design drives a net of the circuit
 order_below : (c : Circuit) (tree : List Bool) (order : List Gate) → IsLawfulCircuit c → IsPermutation (equations tree c) order → AllBelow c.nets (gate_nets order)

@@ -106,7 +106,7 @@ flop_good : (c : Circuit) (tree : List Bool) (order : List Gate) (d : Design) (r
 flop_good c tree order d r clock reg name cell known at shaped = record {
   reg = slice_get_within d.regs r (moved_reg (number_by (drivers_by c order)) reg) (reg_stands c tree order d r reg known.design at);
   outs = reg_below c tree order d r reg known at;
-  pins = flop_pins c tree order d r clock reg cell known at (λ e is. shaped e is);
+  pins = flop_pins c tree order d r clock reg cell known at (λ e is. shaped.pins e is);
 }
 
 part_gates_below : (c : Circuit) (tree : List Bool) (order : List Gate) (d : Design) (buffer : Bool) (ins : List ℕ) (gates : List Gate) → IsKnown c tree order d
@@ -166,7 +166,7 @@ comb_good c tree order d r buffer ins gates name cell true e known stands shaped
 comb_good c tree order d r buffer ins gates name cell false e known stands shaped = record {
   reg = tt;
   outs = rw e (part_gates_below c tree order d buffer ins gates known stands e);
-  pins = comb_pins c tree order d r buffer ins gates cell e known stands (λ x is. shaped x is);
+  pins = comb_pins c tree order d r buffer ins gates cell e known stands (λ x is. shaped.pins x is);
 }
 
 -- a leaf whose part stands in the circuit, and whose register, if it is one, has that number
@@ -178,3 +178,5 @@ leaf_good c tree order d r name cell (part.Comb buffer ins gates) known stands s
     comb_good c tree order d r buffer ins gates name cell (is_on_tree tree (part.Comb buffer ins gates)) refl known stands shaped
 leaf_good c tree order d r name cell (part.Flop clock reg) known stands shaped at =
     flop_good c tree order d r clock reg name cell known (at clock reg refl) shaped
+leaf_good c tree order d r name cell (part.Gate clock enables out) known stands shaped at =
+    let no : out ∷ [] ≡ [] = shaped.ungated in absurd cc

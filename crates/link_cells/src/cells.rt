@@ -108,6 +108,7 @@ fn reg_of(part: &Part, before: usize) -> Option<usize>
     match part {
         Part::Comb { .. } => None,
         Part::Flop { .. } => Some(before),
+        Part::Gate { .. } => None,
     }
 }
 
@@ -119,5 +120,6 @@ fn next_reg(part: &Part, before: usize) -> usize
     match part {
         Part::Comb { .. } => before,
         Part::Flop { .. } => before + 1,
+        Part::Gate { .. } => before,
     }
 }

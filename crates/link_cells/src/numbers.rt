@@ -44,6 +44,7 @@ impl<'a> Numbering<'a> {
         match part {
             Part::Comb { buffer, ins, .. } => *buffer && has_marked(self.tree, ins.as_slice()),
             Part::Flop { .. } => false,
+            Part::Gate { .. } => false,
         }
     }
 }

@@ -87,6 +87,7 @@ pub(crate) fn out_numbers(
     match part {
         Part::Comb { gates, .. } => gate_numbers(alloc, n, gates),
         Part::Flop { reg, .. } => reg_numbers(alloc, n, &reg.outs),
+        Part::Gate { out, .. } => Seq::one(alloc, n.number(*out)),
     }
 }
 

@@ -46,6 +46,7 @@ fn loads(
     match part {
         Part::Comb { gates, .. } => gate_loads(alloc, n, gates, place),
         Part::Flop { .. } => Seq::one(alloc, PinRef::RegIn(reg, place)),
+        Part::Gate { .. } => Ok(Seq::new(alloc)),
     }
 }
 

@@ -1,12 +1,11 @@
--- The name of a net among instances, and the leaf of a register.
-use Rattle.std.proofs.Common.{◌≡◌, ℕ, zero, suc, ◌<◌, Bool, true, false, List, [], ◌∷◌, ◌++◌, length, map, Some, None, refl, ap, subst, sym}
+-- The name of a net among instances, and the leaf of a register or a clock gate.
+use Rattle.std.proofs.Common.{◌≡◌, ℕ, suc, ◌<◌, Bool, true, false, List, [], ◌∷◌, ◌++◌, length, map, Some, None, refl, ap, subst, sym}
 use Rattle.std.proofs.Common.{◌∙◌, arith, inl, inr}
 use Rattle.std.specs.Prelude.{Option, Contains, slice_get, flat_map, ◌==◌, IsSome}
 use Rattle.std.specs.List.{position}
 use Rattle.std.proofs.lemmas.Bool.Decides.{nat_tests}
 use Rattle.std.proofs.lemmas.Option.{slice_get_within, get_or_from_slice_get}
 use Rattle.sdcv_base.specs.declared.limits.LimitName.{LimitName}
-use Rattle.net_model.specs.declared.netlist.Reg.{Reg}
 use Rattle.net_model.proofs.Members.{In, In-flat, In-map, In-from_Contains, Contains-from_In, from_map}
 use Rattle.netlist_types.specs.declared.sources.Source.{Source}
 use Rattle.netlist_types.specs.declared.sources.Module.{Module}
@@ -22,7 +21,7 @@ use Rattle.link_defs.specs.declared.circuits.Circuit.{Circuit}
 use Rattle.link_defs.specs.declared.circuits.Part.{Part}
 use Rattle.link_defs.specs.declared.circuits.Part.TheVariants as part
 use Rattle.link_defs.specs.CellNames.{Leaf, leaves}
-use Rattle.link_defs.specs.Circuits.{OnTree}
+use Rattle.link_defs.specs.Circuits.{OnTree, clock_of}
 use Rattle.link_defs.specs.Faults.{IsAboveLimit, HasManyDrivers}
 use Rattle.link_defs.specs.Faults as link
 use Rattle.link_defs.specs.Flatten.{Scope, Flat, flat_of, scope_names, full_names}
@@ -101,23 +100,25 @@ pub leaf_within : (clock at : ℕ) (parts : List Part) (places : List LeafPlace)
 leaf_within clock at parts places is =
     let (x, here, hit) = position_some (is_leaf_on clock parts) places at is in slice_get_within places at x here
 
--- a leaf that was found is a register on the clock
-clocked_if : (clock : ℕ) (p : Part) → is_clocked clock p ≡ true → (reg : Reg) × (p ≡ part.Flop clock reg)
+-- a leaf that was found is a register or a clock gate on the clock
+clocked_if : (clock : ℕ) (p : Part) → is_clocked clock p ≡ true → clock_of p ≡ Some clock
 clocked_if clock (part.Comb buffer ins gates) hit = cc
-clocked_if clock (part.Flop c reg) hit = (reg, ap (λ (n : ℕ). part.Flop n reg) (hit_same c clock hit))
+clocked_if clock (part.Flop c reg) hit = ap (λ (n : ℕ). Some n) (hit_same c clock hit)
+clocked_if clock (part.Gate c enables out) hit = ap (λ (n : ℕ). Some n) (hit_same c clock hit)
 
-leaf_if : (clock : ℕ) (o : Option Part) → (elim o [ None ↦ false | Some p ↦ is_clocked clock p ]) ≡ true → (reg : Reg) × (o ≡ Some (part.Flop clock reg))
+leaf_if : (clock : ℕ) (o : Option Part) → (elim o [ None ↦ false | Some p ↦ is_clocked clock p ]) ≡ true
+    → (p : Part) × (o ≡ Some p) × (clock_of p ≡ Some clock)
 leaf_if clock None hit = cc
-leaf_if clock (Some p) hit = let (reg, is) = clocked_if clock p hit in (reg, ap (λ (q : Part). Some q) is)
+leaf_if clock (Some p) hit = (p, refl, clocked_if clock p hit)
 
-pub leaf_name_is : (parts : List Part) (places : List LeafPlace) (place clock at : ℕ) (here : Reg) (x : LeafPlace)
-    → slice_get parts place ≡ Some (part.Flop clock here) → Some at ≡ position (is_leaf_on clock parts) places → slice_get places at ≡ Some x
-    → IsNameOn parts places place x.name
-leaf_name_is parts places place clock at here x stands is item_is =
+pub leaf_name_is : (parts : List Part) (places : List LeafPlace) (place clock at : ℕ) (here : Part) (x : LeafPlace)
+    → slice_get parts place ≡ Some here → clock_of here ≡ Some clock → Some at ≡ position (is_leaf_on clock parts) places
+    → slice_get places at ≡ Some x → IsNameOn parts places place x.name
+leaf_name_is parts places place clock at here x stands on is item_is =
     let (y, y_at, hit) = position_some (is_leaf_on clock parts) places at is in
     let same : y ≡ x = (let e = sym y_at ∙ item_is in cc) in
-    let (there, part_is) = leaf_if clock (slice_get parts x.part) (subst (λ (z : LeafPlace). is_leaf_on clock parts z ≡ true) same hit) in
-    (x, clock, here, there, contains_at places at x item_is, refl, stands, part_is)
+    let (there, part_is, there_on) = leaf_if clock (slice_get parts x.part) (subst (λ (z : LeafPlace). is_leaf_on clock parts z ≡ true) same hit) in
+    (x, clock, here, there, contains_at places at x item_is, refl, stands, on, part_is, there_on)
 
 -- leaves and their places, one by one
 place_of_leaf : (lib : Library) (parts : List Part) (places : List LeafPlace) (ls : List Leaf) (l : Leaf) → AreLeavesAt lib parts places ls → In l ls
@@ -144,38 +145,44 @@ leaf_of_place lib parts (z ∷ zs) (y ∷ ys) x all (inl same) = (
 leaf_of_place lib parts (z ∷ zs) (y ∷ ys) x all (inr later) =
     let (l, there, name, is) = leaf_of_place lib parts zs ys x all.1 later in (l, inr there, name, is)
 
-on_here : (clock : ℕ) (parts : List Part) (x : LeafPlace) (reg : Reg) → slice_get parts x.part ≡ Some (part.Flop clock reg)
-    → is_leaf_on clock parts x ≡ true
-on_here clock parts x reg is =
-    let hit : (elim (slice_get parts x.part) [ None ↦ false | Some p ↦ is_clocked clock p ]) ≡ (clock == clock) = rw is refl in hit ∙ same_hit clock
+-- a part whose clock pin is on the net is one that is found
+on_if : (clock : ℕ) (p : Part) → clock_of p ≡ Some clock → is_clocked clock p ≡ true
+on_if clock (part.Comb buffer ins gates) on = cc
+on_if clock (part.Flop c reg) on = let same : c ≡ clock = cc in subst (λ (n : ℕ). (c == n) ≡ true) same (same_hit c)
+on_if clock (part.Gate c enables out) on = let same : c ≡ clock = cc in subst (λ (n : ℕ). (c == n) ≡ true) same (same_hit c)
 
--- a leaf on the clock of a register that a refusal speaks of
-pub leaf_there : (s : Source) (lib : Library) (flat : Flat) (c : Circuit) (places : List LeafPlace) (place clock : ℕ) (reg : Reg)
-    → AreLeavesAt lib c.parts places (leaves s lib flat) → slice_get c.parts place ≡ Some (part.Flop clock reg)
+on_here : (clock : ℕ) (parts : List Part) (x : LeafPlace) (p : Part) → slice_get parts x.part ≡ Some p → clock_of p ≡ Some clock
+    → is_leaf_on clock parts x ≡ true
+on_here clock parts x p is on =
+    let hit : (elim (slice_get parts x.part) [ None ↦ false | Some q ↦ is_clocked clock q ]) ≡ is_clocked clock p = rw is refl in hit ∙ on_if clock p on
+
+-- a leaf on the clock of a register or a clock gate that a refusal speaks of
+pub leaf_there : (s : Source) (lib : Library) (flat : Flat) (c : Circuit) (places : List LeafPlace) (place clock : ℕ) (p : Part)
+    → AreLeavesAt lib c.parts places (leaves s lib flat) → slice_get c.parts place ≡ Some p → clock_of p ≡ Some clock
     → HasName s lib flat c (circuit.NotTheClock place) → HasLeafOn c.parts places place
-leaf_there s lib flat c places place clock reg all stands (l, there, is) =
+leaf_there s lib flat c places place clock p all stands on (l, there, is) =
     let (x, x_there, x_is) = place_of_leaf lib c.parts places (leaves s lib flat) l all (In-from_Contains (leaves s lib flat) l there) in
-    let on = on_here clock c.parts x reg (x_is ∙ sym is ∙ stands) in
-    (clock, reg, stands, (x, Contains-from_In places x x_there, on))
+    let hit = on_here clock c.parts x p (x_is ∙ sym is ∙ stands) on in
+    (p, clock, stands, on, (x, Contains-from_In places x x_there, hit))
 
 -- the leaf's name is a cause
 abbrev pub IsOffByName : Source → Library → Flat → Circuit → List ℕ → Type 0
 IsOffByName s lib flat c name =
-    (l : Leaf) × (clock : ℕ) × (reg : Reg) × Contains (leaves s lib flat) l × (l.name ≡ name) × (l.part ≡ part.Flop clock reg) × (OnTree c clock false → ⊥)
+    (l : Leaf) × (clock : ℕ) × Contains (leaves s lib flat) l × (l.name ≡ name) × (clock_of l.part ≡ Some clock) × (OnTree c clock false → ⊥)
 
 pub off_named : (s : Source) (lib : Library) (flat : Flat) (c : Circuit) (places : List LeafPlace) (place : ℕ) (name : List ℕ)
     → AreLeavesAt lib c.parts places (leaves s lib flat) → IsCause c (circuit.NotTheClock place) → IsNameOn c.parts places place name
     → IsOffByName s lib flat c name
-off_named s lib flat c places place name all (clock, reg, stands, off) (x, on, here, there, x_there, name_is, on_here, on_there) =
+off_named s lib flat c places place name all (p, clock, stands, clocked, off) (x, on, here, there, x_there, name_is, at_here, on_here, at_there, on_there) =
     let (l, l_there, l_name, l_part) = leaf_of_place lib c.parts places (leaves s lib flat) x all (In-from_Contains places x x_there) in
-    let same : clock ≡ on = (let e = sym stands ∙ on_here in cc) in
-    let part_is : l.part ≡ part.Flop on there = (let e = sym l_part ∙ on_there in cc) in (
+    let same_part : p ≡ here = (let e = sym stands ∙ at_here in cc) in
+    let same : clock ≡ on = (let e = sym clocked ∙ ap (λ (q : Part). clock_of q) same_part ∙ on_here in cc) in
+    let part_is : l.part ≡ there = (let e = sym l_part ∙ at_there in cc) in (
       l,
       on,
-      there,
       Contains-from_In (leaves s lib flat) l l_there,
       sym l_name ∙ name_is,
-      part_is,
+      ap (λ (q : Part). clock_of q) part_is ∙ on_there,
       λ tree. off (subst (λ (n : ℕ). OnTree c n false) (sym same) tree),
     )
 
@@ -223,10 +230,11 @@ pub twice_is : (s : Source) (lib : Library) (flat : Flat) (c : Circuit) (f : Cir
     → Contains (full_names flat) (name, n) → HasManyDrivers s lib flat c name
 twice_is s lib flat c f name n cause same has = link.Twice name n has (subst (λ (h : CircuitFault). IsCause c h) same cause)
 
--- the clock of the register at a place
-pub clock_is : (parts : List Part) (place clock : ℕ) (reg : Reg) (p : Part) (found : ℕ) → slice_get parts place ≡ Some (part.Flop clock reg)
-    → slice_get parts place ≡ Some p → ((c : ℕ) (r : Reg) → p ≡ part.Flop c r → found ≡ c) → found ≡ clock
-clock_is parts place clock reg p found at here is = is clock reg (let e = sym here ∙ at in cc)
+-- the clock of the register or clock gate at a place
+pub clock_is : (parts : List Part) (place clock : ℕ) (p q : Part) (found : ℕ) → slice_get parts place ≡ Some p → clock_of p ≡ Some clock
+    → slice_get parts place ≡ Some q → ((c : ℕ) → clock_of q ≡ Some c → found ≡ c) → found ≡ clock
+clock_is parts place clock p q found at on here is =
+    let same : q ≡ p = (let e = sym here ∙ at in cc) in is clock (ap (λ (x : Part). clock_of x) same ∙ on)
 
 -- a leaf on the clock is found
 pub leaf_found : (parts : List Part) (places : List LeafPlace) (clock : ℕ) → (x : LeafPlace) × Contains places x × (is_leaf_on clock parts x ≡ true)

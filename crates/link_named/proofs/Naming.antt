@@ -8,7 +8,6 @@ use Rattle.std.proofs.lemmas.List.Concat.{flat_map-append}
 use Rattle.std.proofs.lemmas.List.Elements.{All-head, All-tail, All-filter, All-map}
 use Rattle.net_model.specs.Netlist.{AllBelow, gate_nets, reg_nets}
 use Rattle.net_model.specs.declared.netlist.Gate.{Gate}
-use Rattle.net_model.specs.declared.netlist.Reg.{Reg}
 use Rattle.net_model.proofs.Members.{In, In-cases, In-left, In-right, In-map, In-flat, from_flat, in_or, In-from_Contains, Contains-from_In}
 use Rattle.net_model.proofs.Order.{count_append, count_cons, counted, count_contains}
 use Rattle.netlist_types.specs.declared.sources.Source.{Source}
@@ -33,12 +32,12 @@ use Rattle.link_defs.specs.declared.circuits.Part.{Part}
 use Rattle.link_defs.specs.declared.circuits.Part.TheVariants as part
 use Rattle.link_defs.specs.CellNames.{Leaf, leaves, leaves_of, last_part, leaf_if_any}
 use Rattle.link_defs.specs.Circuits.{PortBit, circuit_of, bits_of, port_bit, input_bits, output_bits, is_input, is_clock, data_bits, clock_bits, bit_nets}
-use Rattle.link_defs.specs.Circuits.{part_gates, part_regs, part_reads, part_outs, part_data, regs_of, all_gates, all_drivers, all_reads, all_data}
-use Rattle.link_defs.specs.Circuits.{OnTree, LeadsTo, IsOnCycle}
+use Rattle.link_defs.specs.Circuits.{part_gates, part_regs, part_gated, part_reads, part_outs, part_data, clock_of, regs_of, all_gates, all_drivers}
+use Rattle.link_defs.specs.Circuits.{all_reads, all_data, OnTree, LeadsTo, IsOnCycle}
 use Rattle.link_defs.specs.Circuits as net
 use Rattle.link_defs.specs.Hierarchy.{cell_of, wires_of}
 use Rattle.link_defs.specs.Flatten.{Scope, Located, Flat, numbers, top_scope, flat_of}
-use Rattle.link_defs.specs.Parts.{parts_of, inst_parts, ties, pin_ties, bit_ties, cell_ties, cell_part, pin_nets, comb_gates}
+use Rattle.link_defs.specs.Parts.{parts_of, inst_parts, constant, ties, pin_ties, bit_ties, cell_ties, cell_part, pin_nets, comb_gates}
 use Rattle.link_defs.specs.Parts.{is_buffer_cell, is_buffer_prim, prim_gate, wire_nets, wire_net, outs_from, clock_net, flop_reg}
 use Rattle.link_items.specs.Prims.{copy_parts}
 use Rattle.netlist_types.specs.declared.gates.PrimKind.{PrimKind}
@@ -160,9 +159,14 @@ flat_flat s lib (at ∷ items) =
     flat_map-append part_outs (parts_of s lib at) (flat_map (parts_of s lib) items)
     ∙ ap (λ (ns : List ℕ). item_outs s lib at ++ ns) (flat_flat s lib items)
 
--- registers and gates are counted with their parts
+-- the nets that clock gates drive
+abbrev gated_of : List Part → List ℕ
+gated_of ps = flat_map part_gated ps
+
+-- registers, gates and clock gates are counted with their parts
 split_count : (n : ℕ) (ps : List Part)
-    → count_by (λ m. m == n) (flat_map reg_nets (flat_map part_regs ps)) + count_by (λ m. m == n) (gate_nets (gates_of ps)) ≡ count_by (λ m. m == n) (outs_of ps)
+    → count_by (λ m. m == n) (flat_map reg_nets (flat_map part_regs ps)) + count_by (λ m. m == n) (gate_nets (gates_of ps))
+    + count_by (λ m. m == n) (gated_of ps) ≡ count_by (λ m. m == n) (outs_of ps)
 split_count n [] = omega arith
 split_count n (part.Comb buffer ins gates ∷ ps) =
     let p : ℕ → Bool = λ m. m == n in
@@ -171,6 +175,8 @@ split_count n (part.Comb buffer ins gates ∷ ps) =
 split_count n (part.Flop clock reg ∷ ps) =
     let p : ℕ → Bool = λ m. m == n in
     omega (arith, count_append p (reg_nets reg) (flat_map reg_nets (flat_map part_regs ps)), count_append p (reg_nets reg) (outs_of ps), split_count n ps)
+split_count n (part.Gate clock enables out ∷ ps) =
+    let p : ℕ → Bool = λ m. m == n in omega (arith, count_cons p out (gated_of ps), count_cons p out (outs_of ps), split_count n ps)
 
 -- a net that no instance has is driven once
 drivers_once : (s : Source) (lib : Library) (top : Module) (clock : Option (List ℕ)) (n : ℕ) → IsWhole s lib top (flat_of s lib top) → ArePortsBelow top clock
@@ -184,12 +190,14 @@ drivers_once s lib top clock n whole ports unseen =
     let ps = parts_in s lib flat in
     let regs = flat_map reg_nets (flat_map part_regs ps) in
     let gates = gate_nets (gates_of ps) in
+    let gated = gated_of ps in
     let no_clock = zero_of n clocks (λ has. unseen (ports_seen s lib top flat clocks n whole ports.clocks has)) in
     let no_input = zero_of n inputs (λ has. unseen (ports_seen s lib top flat inputs n whole ports.inputs has)) in
     let once = whole.seated.once n unseen in
     let all = ap (λ (ns : List ℕ). count_by p ns) (flat_flat s lib flat.items) in
     omega (
       arith,
+      count_append p (((clocks ++ inputs) ++ regs) ++ gates) gated,
       count_append p ((clocks ++ inputs) ++ regs) gates,
       count_append p (clocks ++ inputs) regs,
       count_append p clocks inputs,
@@ -223,14 +231,17 @@ two_counted (x ∷ xs) g h n m (inr there) (inr here) one other none reads =
 abbrev IsReader : List Gate → ℕ → Type 0
 IsReader gates n = (h : Gate) × (m : ℕ) × In h gates × (h.out ≡ n) × In m h.ins
 
+-- two gates or clock gates are two drivers
 two_many : (s : Source) (lib : Library) (top : Module) (clock : Option (List ℕ)) (n : ℕ)
     → count_by (λ m. m == n) (all_drivers (circuit_of s lib top clock)) ≤ 1
-    → 2 ≤ count_by (λ m. m == n) (gate_nets (gates_of (parts_in s lib (flat_of s lib top)))) → ⊥
+    → 2 ≤ count_by (λ m. m == n) (gate_nets (gates_of (parts_in s lib (flat_of s lib top))))
+    + count_by (λ m. m == n) (gated_of (parts_in s lib (flat_of s lib top))) → ⊥
 unfolding circuit_of
 two_many s lib top clock n most two =
     let ps = parts_in s lib (flat_of s lib top) in
     let before = bit_nets (clock_bits clock top) ++ bit_nets (data_bits clock top) ++ flat_map reg_nets (flat_map part_regs ps) in
-    omega (arith, most, two, count_append (λ m. m == n) before (gate_nets (gates_of ps)))
+    let gates = gate_nets (gates_of ps) in
+    omega (arith, most, two, count_append (λ m. m == n) (before ++ gates) (gated_of ps), count_append (λ m. m == n) before gates)
 
 -- a constant's net that a gate drives which reads is driven twice
 seen_of : (s : Source) (lib : Library) (top : Module) (clock : Option (List ℕ)) (n : ℕ) → IsSettled s lib top (flat_of s lib top) → ArePortsBelow top clock
@@ -243,7 +254,23 @@ seen_of s lib top clock n known ports (inr (g, there, one, none)) (h, m, here, o
       | inr unseen ↦
           let most = drivers_once s lib top clock n known.whole ports unseen in
           let two = two_counted (gates_of (parts_in s lib (flat_of s lib top))) g h n m there here one other none reads in
-          absurd (two_many s lib top clock n most two)
+          absurd (two_many s lib top clock n most (omega (arith, two)))
+    ]
+
+-- so is one that a clock gate drives
+gated_seen : (s : Source) (lib : Library) (top : Module) (clock : Option (List ℕ)) (n : ℕ) → IsSettled s lib top (flat_of s lib top) → ArePortsBelow top clock
+    → IsSeen (flat_of s lib top).scopes n ⊎ IsConst (gates_of (parts_in s lib (flat_of s lib top))) n
+    → In n (gated_of (parts_in s lib (flat_of s lib top))) → IsSeen (flat_of s lib top).scopes n
+gated_seen s lib top clock n known ports (inl seen) gated = seen
+gated_seen s lib top clock n known ports (inr (g, there, one, none)) gated =
+    elim (seen_or (flat_of s lib top).scopes n) [
+      | inl seen ↦ seen
+      | inr unseen ↦
+          let ps = parts_in s lib (flat_of s lib top) in
+          let most = drivers_once s lib top clock n known.whole ports unseen in
+          let left = gate_counted (gates_of ps) g n there one in
+          let right = count_contains n (gated_of ps) (Contains-from_In (gated_of ps) n gated) in
+          absurd (two_many s lib top clock n most (omega (arith, left, right)))
     ]
 
 -- the gates of lawful parts read what the parts read
@@ -259,6 +286,8 @@ gate_reads nets (part.Comb buffer ins gates ∷ ps) g m lawful has reads = elim 
 ]
 gate_reads nets (part.Flop clock reg ∷ ps) g m lawful has reads =
     In-right m (clock ∷ reg.ins) (reads_of ps) (gate_reads nets ps g m (All-tail (IsLawfulPart nets) (part.Flop clock reg) ps lawful) has reads)
+gate_reads nets (part.Gate clock enables out ∷ ps) g m lawful has reads =
+    In-right m (clock ∷ enables) (reads_of ps) (gate_reads nets ps g m (All-tail (IsLawfulPart nets) (part.Gate clock enables out) ps lawful) has reads)
 
 -- the last gate on a way
 way_end : (gates : List Gate) (from to : ℕ) (g : Gate) (m : ℕ) → In g gates → g.out ≡ from → In m g.ins → LeadsTo gates from to → IsReader gates to
@@ -277,72 +306,79 @@ data_reads (part.Flop clock reg ∷ ps) n has = elim (In-cases n reg.ins (flat_m
   | inl here ↦ In-left n (clock ∷ reg.ins) (reads_of ps) (inr here)
   | inr later ↦ In-right n (clock ∷ reg.ins) (reads_of ps) (data_reads ps n later)
 ]
+data_reads (part.Gate clock enables out ∷ ps) n has = elim (In-cases n enables (flat_map part_data ps) has) [
+  | inl here ↦ In-left n (clock ∷ enables) (reads_of ps) (inr here)
+  | inr later ↦ In-right n (clock ∷ enables) (reads_of ps) (data_reads ps n later)
+]
 
 net_of : (scopes : List Scope) (n : ℕ) → IsSeen scopes n → HasNet scopes n
 net_of scopes n (scope, there, has) = (scope, Contains-from_In scopes scope there, Contains-from_In scope.nets n has)
 
--- constants are no registers
-ties_flopless : (own : ℕ) (ws : List Wire) (clock : ℕ) (reg : Reg) → In (part.Flop clock reg) (ties own ws) → ⊥
-ties_flopless own [] clock reg has = has
-ties_flopless own (wire.Const b ∷ ws) clock reg (inl same) = cc
-ties_flopless own (wire.Const b ∷ ws) clock reg (inr rest) = ties_flopless (own + 1) ws clock reg rest
-ties_flopless own (wire.Net n ∷ ws) clock reg has = ties_flopless (own + 1) ws clock reg has
+-- a part whose clock pin is on the net is no constant and no gates
+comb_unclocked : (buffer : Bool) (ins : List ℕ) (gates : List Gate) (q : Part) (pin : ℕ) → clock_of q ≡ Some pin → part.Comb buffer ins gates ≡ q → ⊥
+comb_unclocked buffer ins gates q pin on same =
+    let off : clock_of (part.Comb buffer ins gates) ≡ Some pin = ap (λ (p : Part). clock_of p) same ∙ on in cc
 
-pin_ties_flopless : (conns : List Conn) (own : ℕ) (pins : List (List ℕ)) (clock : ℕ) (reg : Reg) → In (part.Flop clock reg) (pin_ties conns own pins) → ⊥
-pin_ties_flopless conns own [] clock reg has = has
-pin_ties_flopless conns own (pin ∷ pins) clock reg has =
-    elim (In-cases (part.Flop clock reg) (ties own (wires_of conns pin)) (pin_ties conns (own + 1) pins) has) [
-      | inl here ↦ ties_flopless own (wires_of conns pin) clock reg here
-      | inr later ↦ pin_ties_flopless conns (own + 1) pins clock reg later
+const_unclocked : (b : Bool) (own : ℕ) (q : Part) (pin : ℕ) → clock_of q ≡ Some pin → constant b own ≡ q → ⊥
+const_unclocked b own q pin on same = let off : clock_of (constant b own) ≡ Some pin = ap (λ (p : Part). clock_of p) same ∙ on in cc
+
+-- constants are no registers and no clock gates
+ties_unclocked : (own : ℕ) (ws : List Wire) (q : Part) (pin : ℕ) → clock_of q ≡ Some pin → In q (ties own ws) → ⊥
+ties_unclocked own [] q pin on has = has
+ties_unclocked own (wire.Const b ∷ ws) q pin on (inl same) = const_unclocked b own q pin on same
+ties_unclocked own (wire.Const b ∷ ws) q pin on (inr rest) = ties_unclocked (own + 1) ws q pin on rest
+ties_unclocked own (wire.Net n ∷ ws) q pin on has = ties_unclocked (own + 1) ws q pin on has
+
+pin_ties_unclocked : (conns : List Conn) (own : ℕ) (pins : List (List ℕ)) (q : Part) (pin : ℕ) → clock_of q ≡ Some pin → In q (pin_ties conns own pins) → ⊥
+pin_ties_unclocked conns own [] q pin on has = has
+pin_ties_unclocked conns own (name ∷ names) q pin on has =
+    elim (In-cases q (ties own (wires_of conns name)) (pin_ties conns (own + 1) names) has) [
+      | inl here ↦ ties_unclocked own (wires_of conns name) q pin on here
+      | inr later ↦ pin_ties_unclocked conns (own + 1) names q pin on later
     ]
 
-bit_ties_flopless : (first : ℕ) (bits : List ℕ) (ws : List Wire) (clock : ℕ) (reg : Reg) → In (part.Flop clock reg) (bit_ties first bits ws) → ⊥
-bit_ties_flopless first [] ws clock reg has = has
-bit_ties_flopless first (bit ∷ bits) [] clock reg has = has
-bit_ties_flopless first (bit ∷ bits) (wire.Const b ∷ ws) clock reg (inl same) = cc
-bit_ties_flopless first (bit ∷ bits) (wire.Const b ∷ ws) clock reg (inr rest) = bit_ties_flopless first bits ws clock reg rest
-bit_ties_flopless first (bit ∷ bits) (wire.Net m ∷ ws) clock reg has = bit_ties_flopless first bits ws clock reg has
+bit_ties_unclocked : (first : ℕ) (bits : List ℕ) (ws : List Wire) (q : Part) (pin : ℕ) → clock_of q ≡ Some pin → In q (bit_ties first bits ws) → ⊥
+bit_ties_unclocked first [] ws q pin on has = has
+bit_ties_unclocked first (bit ∷ bits) [] q pin on has = has
+bit_ties_unclocked first (bit ∷ bits) (wire.Const b ∷ ws) q pin on (inl same) = const_unclocked b (first + bit) q pin on same
+bit_ties_unclocked first (bit ∷ bits) (wire.Const b ∷ ws) q pin on (inr rest) = bit_ties_unclocked first bits ws q pin on rest
+bit_ties_unclocked first (bit ∷ bits) (wire.Net m ∷ ws) q pin on has = bit_ties_unclocked first bits ws q pin on has
 
 last_is : (xs : List Part) (p : Part) → last_part (xs ++ p ∷ []) ≡ Some p
 last_is [] p = refl
 last_is (x ∷ []) p = refl
 last_is (x ∷ y ∷ xs) p = last_is (y ∷ xs) p
 
--- the only register among parts with constants before it
-last_flop : (xs : List Part) (p : Part) (clock : ℕ) (reg : Reg) → (In (part.Flop clock reg) xs → ⊥) → In (part.Flop clock reg) (xs ++ p ∷ [])
-    → p ≡ part.Flop clock reg
-last_flop xs p clock reg none has = elim (In-cases (part.Flop clock reg) xs (p ∷ []) has) [
+-- a part that is none of those before the last is the last
+last_only : (xs : List Part) (p q : Part) → (In q xs → ⊥) → In q (xs ++ p ∷ []) → p ≡ q
+last_only xs p q none has = elim (In-cases q xs (p ∷ []) has) [
   | inl here ↦ absurd (none here)
   | inr last ↦ elim last [ inl same ↦ same | inr rest ↦ absurd rest ]
 ]
 
--- a leaf that is the register
-abbrev IsLeafOf : List Leaf → ℕ → Reg → Type 0
-IsLeafOf ls clock reg = (l : Leaf) × In l ls × (l.part ≡ part.Flop clock reg)
+-- a leaf that is the part
+abbrev IsLeafOf : List Leaf → Part → Type 0
+IsLeafOf ls q = (l : Leaf) × In l ls × (l.part ≡ q)
 
-comb_no_flop : (buffer : Bool) (ins : List ℕ) (gates : List Gate) (clock : ℕ) (reg : Reg) → part.Comb buffer ins gates ≡ part.Flop clock reg → ⊥
-comb_no_flop buffer ins gates clock reg same = cc
+leaf_some : (full : List ℕ) (c : Cell) (found : Option Part) (p q : Part) → found ≡ Some p → p ≡ q → IsLeafOf (leaf_if_any full (Some c) found) q
+leaf_some full c None p q is same = cc
+leaf_some full c (Some x) p q is same =
+    let l : Leaf = record { name = full; cell = Some c; part = x } in let same2 : x ≡ p = cc in (l, inl refl, same2 ∙ same)
 
-leaf_some : (full : List ℕ) (c : Cell) (found : Option Part) (p : Part) (clock : ℕ) (reg : Reg) → found ≡ Some p → p ≡ part.Flop clock reg
-    → IsLeafOf (leaf_if_any full (Some c) found) clock reg
-leaf_some full c None p clock reg is same = cc
-leaf_some full c (Some q) p clock reg is same =
-    let l : Leaf = record { name = full; cell = Some c; part = q } in let same2 : q ≡ p = cc in (l, inl refl, same2 ∙ same)
-
-cell_leaf : (nets full : List ℕ) (conns : List Conn) (first : ℕ) (c : Cell) (k : CellKind) (clock : ℕ) (reg : Reg) → c.kind ≡ k
-    → In (part.Flop clock reg) (cell_ties conns first c ++ cell_part nets conns first c)
-    → IsLeafOf (leaf_if_any full (Some c) (last_part (cell_ties conns first c ++ cell_part nets conns first c))) clock reg
-cell_leaf nets full conns first c (kind.Comb outs) clock reg is has =
+cell_leaf : (nets full : List ℕ) (conns : List Conn) (first : ℕ) (c : Cell) (k : CellKind) (q : Part) (pin : ℕ) → clock_of q ≡ Some pin → c.kind ≡ k
+    → In q (cell_ties conns first c ++ cell_part nets conns first c)
+    → IsLeafOf (leaf_if_any full (Some c) (last_part (cell_ties conns first c ++ cell_part nets conns first c))) q
+cell_leaf nets full conns first c (kind.Comb outs) q pin on is has =
     let ins = pin_nets nets conns first c.inputs in
     let own : Part = part.Comb (is_buffer_cell c.inputs outs) ins (comb_gates nets conns ins (outs_from first c) outs) in
     let ties_are : cell_ties conns first c ≡ pin_ties conns first c.inputs = rw is refl in
     let part_is : cell_part nets conns first c ≡ own ∷ [] = rw is refl in
     let all : cell_ties conns first c ++ cell_part nets conns first c ≡ pin_ties conns first c.inputs ++ own ∷ [] =
     ap (λ (ps : List Part). ps ++ cell_part nets conns first c) ties_are ∙ ap (λ (ps : List Part). pin_ties conns first c.inputs ++ ps) part_is in
-    let same = last_flop (pin_ties conns first c.inputs) own clock reg (pin_ties_flopless conns first c.inputs clock reg)
-    (subst (λ (ps : List Part). In (part.Flop clock reg) ps) all has) in
-    absurd (comb_no_flop (is_buffer_cell c.inputs outs) ins (comb_gates nets conns ins (outs_from first c) outs) clock reg same)
-cell_leaf nets full conns first c (kind.Flop f) clock reg is has =
+    let same = last_only (pin_ties conns first c.inputs) own q (pin_ties_unclocked conns first c.inputs q pin on)
+    (subst (λ (ps : List Part). In q ps) all has) in
+    absurd (comb_unclocked (is_buffer_cell c.inputs outs) ins (comb_gates nets conns ins (outs_from first c) outs) q pin on same)
+cell_leaf nets full conns first c (kind.Flop f) q pin on is has =
     let pins = pin_ties conns first c.inputs in
     let last = outs_from first c + length f.outs in
     let tied = ties last (wires_of conns f.clock) in
@@ -351,28 +387,25 @@ cell_leaf nets full conns first c (kind.Flop f) clock reg is has =
     let part_is : cell_part nets conns first c ≡ own ∷ [] = rw is refl in
     let all : cell_ties conns first c ++ cell_part nets conns first c ≡ (pins ++ tied) ++ own ∷ [] =
     ap (λ (ps : List Part). ps ++ cell_part nets conns first c) ties_are ∙ ap (λ (ps : List Part). (pins ++ tied) ++ ps) part_is in
-    let none : In (part.Flop clock reg) (pins ++ tied) → ⊥ = λ here. elim (In-cases (part.Flop clock reg) pins tied here) [
-      | inl l ↦ pin_ties_flopless conns first c.inputs clock reg l
-      | inr r ↦ ties_flopless last (wires_of conns f.clock) clock reg r
+    let none : In q (pins ++ tied) → ⊥ = λ here. elim (In-cases q pins tied here) [
+      | inl l ↦ pin_ties_unclocked conns first c.inputs q pin on l
+      | inr r ↦ ties_unclocked last (wires_of conns f.clock) q pin on r
     ] in
-    let same = last_flop (pins ++ tied) own clock reg none (subst (λ (ps : List Part). In (part.Flop clock reg) ps) all has) in
-    leaf_some full c (last_part (cell_ties conns first c ++ cell_part nets conns first c)) own clock reg
-    (ap last_part all ∙ last_is (pins ++ tied) own) same
-cell_leaf nets full conns first c (kind.Gate g) clock reg is has =
-    let none : cell_ties conns first c ++ cell_part nets conns first c ≡ [] = rw is refl in
-    absurd (subst (λ (ps : List Part). In (part.Flop clock reg) ps) none has)
-cell_leaf nets full conns first c kind.Other clock reg is has =
-    let none : cell_ties conns first c ++ cell_part nets conns first c ≡ [] = rw is refl in
-    absurd (subst (λ (ps : List Part). In (part.Flop clock reg) ps) none has)
+    let same = last_only (pins ++ tied) own q none (subst (λ (ps : List Part). In q ps) all has) in
+    leaf_some full c (last_part (cell_ties conns first c ++ cell_part nets conns first c)) own q (ap last_part all ∙ last_is (pins ++ tied) own) same
+cell_leaf nets full conns first c (kind.Gate g) q pin on is has =
+    let none : cell_ties conns first c ++ cell_part nets conns first c ≡ [] = rw is refl in absurd (subst (λ (ps : List Part). In q ps) none has)
+cell_leaf nets full conns first c kind.Other q pin on is has =
+    let none : cell_ties conns first c ++ cell_part nets conns first c ≡ [] = rw is refl in absurd (subst (λ (ps : List Part). In q ps) none has)
 
-ports_flopless : (first : ℕ) (conns : List Conn) (ports : List Port) (clock : ℕ) (reg : Reg)
-    → In (part.Flop clock reg) (flat_map (λ (p : Port). bit_ties first p.bits (wires_of conns p.name)) ports) → ⊥
-ports_flopless first conns [] clock reg has = has
-ports_flopless first conns (p ∷ ports) clock reg has =
-    elim (In-cases (part.Flop clock reg) (bit_ties first p.bits (wires_of conns p.name))
+ports_unclocked : (first : ℕ) (conns : List Conn) (ports : List Port) (q : Part) (pin : ℕ) → clock_of q ≡ Some pin
+    → In q (flat_map (λ (p : Port). bit_ties first p.bits (wires_of conns p.name)) ports) → ⊥
+ports_unclocked first conns [] q pin on has = has
+ports_unclocked first conns (p ∷ ports) q pin on has =
+    elim (In-cases q (bit_ties first p.bits (wires_of conns p.name))
     (flat_map (λ (p : Port). bit_ties first p.bits (wires_of conns p.name)) ports) has) [
-      | inl here ↦ bit_ties_flopless first p.bits (wires_of conns p.name) clock reg here
-      | inr later ↦ ports_flopless first conns ports clock reg later
+      | inl here ↦ bit_ties_unclocked first p.bits (wires_of conns p.name) q pin on here
+      | inr later ↦ ports_unclocked first conns ports q pin on later
     ]
 
 -- the parts of an instance, of what its reference stands for
@@ -388,59 +421,59 @@ inst_leaves_of full ps found owned = elim found [
   | None ↦ elim owned [ None ↦ [] | Some c ↦ leaf_if_any full (Some c) (last_part ps) ]
 ]
 
-inst_leaf : (nets full : List ℕ) (conns : List Conn) (first : ℕ) (found : Option Module) (owned : Option Cell) (clock : ℕ) (reg : Reg)
-    → In (part.Flop clock reg) (inst_parts_of nets conns first found owned)
-    → IsLeafOf (inst_leaves_of full (inst_parts_of nets conns first found owned) found owned) clock reg
-inst_leaf nets full conns first None None clock reg has = absurd has
-inst_leaf nets full conns first None (Some c) clock reg has = cell_leaf nets full conns first c c.kind clock reg refl has
-inst_leaf nets full conns first (Some m) owned clock reg has = absurd (ports_flopless first conns m.ports clock reg has)
+inst_leaf : (nets full : List ℕ) (conns : List Conn) (first : ℕ) (found : Option Module) (owned : Option Cell) (q : Part) (pin : ℕ)
+    → clock_of q ≡ Some pin → In q (inst_parts_of nets conns first found owned)
+    → IsLeafOf (inst_leaves_of full (inst_parts_of nets conns first found owned) found owned) q
+inst_leaf nets full conns first None None q pin on has = absurd has
+inst_leaf nets full conns first None (Some c) q pin on has = cell_leaf nets full conns first c c.kind q pin on refl has
+inst_leaf nets full conns first (Some m) owned q pin on has = absurd (ports_unclocked first conns m.ports q pin on has)
 
 abbrev prim_parts : List ℕ → ℕ → PrimKind → List ℕ → List Wire → List Part
 prim_parts nets first k outs ins =
     let pins = wire_nets nets first ins in
     ties first ins ++ part.Comb (is_buffer_prim k) pins (map (λ (out : ℕ). prim_gate k pins (slice_index nets out)) outs) ∷ []
 
-prim_flopless : (nets : List ℕ) (first : ℕ) (k : PrimKind) (outs : List ℕ) (ins : List Wire) (clock : ℕ) (reg : Reg)
-    → In (part.Flop clock reg) (prim_parts nets first k outs ins) → ⊥
-prim_flopless nets first k outs ins clock reg has =
+prim_unclocked : (nets : List ℕ) (first : ℕ) (k : PrimKind) (outs : List ℕ) (ins : List Wire) (q : Part) (pin : ℕ) → clock_of q ≡ Some pin
+    → In q (prim_parts nets first k outs ins) → ⊥
+prim_unclocked nets first k outs ins q pin on has =
     let pins = wire_nets nets first ins in
     let gates = map (λ (out : ℕ). prim_gate k pins (slice_index nets out)) outs in
-    comb_no_flop (is_buffer_prim k) pins gates clock reg
-    (last_flop (ties first ins) (part.Comb (is_buffer_prim k) pins gates) clock reg (ties_flopless first ins clock reg) has)
+    comb_unclocked (is_buffer_prim k) pins gates q pin on
+    (last_only (ties first ins) (part.Comb (is_buffer_prim k) pins gates) q (ties_unclocked first ins q pin on) has)
 
-copy_flopless : (nets : List ℕ) (first to : ℕ) (from : Wire) (clock : ℕ) (reg : Reg) → In (part.Flop clock reg) (copy_parts nets first to from) → ⊥
-copy_flopless nets first to from clock reg has =
+copy_unclocked : (nets : List ℕ) (first to : ℕ) (from : Wire) (q : Part) (pin : ℕ) → clock_of q ≡ Some pin → In q (copy_parts nets first to from) → ⊥
+copy_unclocked nets first to from q pin on has =
     let pins = wire_net nets first from ∷ [] in
     let gates = prim_gate prim.Buf pins (slice_index nets to) ∷ [] in
-    comb_no_flop true pins gates clock reg
-    (last_flop (ties first (from ∷ [])) (part.Comb true pins gates) clock reg (ties_flopless first (from ∷ []) clock reg) has)
+    comb_unclocked true pins gates q pin on
+    (last_only (ties first (from ∷ [])) (part.Comb true pins gates) q (ties_unclocked first (from ∷ []) q pin on) has)
 
--- the leaf of a register
-leaf_at : (s : Source) (lib : Library) (at : Located) (x : Item) (clock : ℕ) (reg : Reg) → at.item ≡ x → In (part.Flop clock reg) (parts_of s lib at)
-    → IsLeafOf (leaves_of s lib at) clock reg
+-- the leaf of a register or a clock gate
+leaf_at : (s : Source) (lib : Library) (at : Located) (x : Item) (q : Part) (pin : ℕ) → clock_of q ≡ Some pin → at.item ≡ x → In q (parts_of s lib at)
+    → IsLeafOf (leaves_of s lib at) q
 unfolding leaves_of inst_parts
-leaf_at s lib at (item.Inst cell name conns) clock reg is has =
+leaf_at s lib at (item.Inst cell name conns) q pin on is has =
     let ps : parts_of s lib at ≡ inst_parts_of at.scope.nets conns at.first (module_of s cell) (cell_of lib cell) = rw is refl in
     let ls : leaves_of s lib at ≡ inst_leaves_of (at.scope.prefix ++ name) (parts_of s lib at) (module_of s cell) (cell_of lib cell) = rw is refl in
-    subst (λ (xs : List Leaf). IsLeafOf xs clock reg)
+    subst (λ (xs : List Leaf). IsLeafOf xs q)
     (sym (ls ∙ ap (λ (qs : List Part). inst_leaves_of (at.scope.prefix ++ name) qs (module_of s cell) (cell_of lib cell)) ps))
-    (inst_leaf at.scope.nets (at.scope.prefix ++ name) conns at.first (module_of s cell) (cell_of lib cell) clock reg
-    (subst (λ (qs : List Part). In (part.Flop clock reg) qs) ps has))
-leaf_at s lib at (item.Prim k name outs ins) clock reg is has =
+    (inst_leaf at.scope.nets (at.scope.prefix ++ name) conns at.first (module_of s cell) (cell_of lib cell) q pin on
+    (subst (λ (qs : List Part). In q qs) ps has))
+leaf_at s lib at (item.Prim k name outs ins) q pin on is has =
     let ps : parts_of s lib at ≡ prim_parts at.scope.nets at.first k outs ins = rw is refl in
-    absurd (prim_flopless at.scope.nets at.first k outs ins clock reg (subst (λ (qs : List Part). In (part.Flop clock reg) qs) ps has))
-leaf_at s lib at (item.Copy to from) clock reg is has =
+    absurd (prim_unclocked at.scope.nets at.first k outs ins q pin on (subst (λ (qs : List Part). In q qs) ps has))
+leaf_at s lib at (item.Copy to from) q pin on is has =
     let ps : parts_of s lib at ≡ copy_parts at.scope.nets at.first to from = rw is refl in
-    absurd (copy_flopless at.scope.nets at.first to from clock reg (subst (λ (qs : List Part). In (part.Flop clock reg) qs) ps has))
+    absurd (copy_unclocked at.scope.nets at.first to from q pin on (subst (λ (qs : List Part). In q qs) ps has))
 
--- the register at a place among the parts has a leaf
-reg_named : (s : Source) (lib : Library) (flat : Flat) (place clock : ℕ) (reg : Reg)
-    → slice_get (parts_in s lib flat) place ≡ Some (part.Flop clock reg)
+-- the register or clock gate at a place among the parts has a leaf
+part_named : (s : Source) (lib : Library) (flat : Flat) (place : ℕ) (q : Part) (pin : ℕ) → clock_of q ≡ Some pin
+    → slice_get (parts_in s lib flat) place ≡ Some q
     → (l : Leaf) × Contains (leaves s lib flat) l × (slice_get (parts_in s lib flat) place ≡ Some l.part)
-reg_named s lib flat place clock reg at =
-    let there = In-from_Contains (parts_in s lib flat) (part.Flop clock reg) (contains_at (parts_in s lib flat) place (part.Flop clock reg) at) in
-    let (a, a_there, has) = from_flat (parts_of s lib) (part.Flop clock reg) flat.items there in
-    let (l, l_there, is) = leaf_at s lib a a.item clock reg refl has in (
+part_named s lib flat place q pin on at =
+    let there = In-from_Contains (parts_in s lib flat) q (contains_at (parts_in s lib flat) place q at) in
+    let (a, a_there, has) = from_flat (parts_of s lib) q flat.items there in
+    let (l, l_there, is) = leaf_at s lib a a.item q pin on refl has in (
       l,
       Contains-from_In (leaves s lib flat) l (In-flat (leaves_of s lib) l a flat.items a_there l_there),
       at ∙ ap (λ (p : Part). Some p) (sym is),
@@ -479,11 +512,16 @@ unfolding circuit_of
 const_driven s lib top clock n (g, there, out, none) =
     let gates = gates_of (all_parts s lib top) in
     let before = bit_nets (clock_bits clock top) ++ bit_nets (data_bits clock top) ++ flat_map reg_nets (flat_map part_regs (all_parts s lib top)) in
-    Contains-from_In (before ++ gate_nets gates) n
-    (In-right n before (gate_nets gates) (subst (λ (m : ℕ). In m (gate_nets gates)) out (In-map (λ (g : Gate). g.out) g gates there)))
+    let gated = gated_of (all_parts s lib top) in
+    let drives = subst (λ (m : ℕ). In m (gate_nets gates)) out (In-map (λ (g : Gate). g.out) g gates there) in
+    Contains-from_In (before ++ gate_nets gates ++ gated) n (In-left n (before ++ gate_nets gates) gated (In-right n before (gate_nets gates) drives))
+
+-- a gate that reads drives the net, or a clock gate does
+abbrev IsHandedOn : List Part → ℕ → Type 0
+IsHandedOn ps n = IsReader (gates_of ps) n ⊎ In n (gated_of ps)
 
 tree_seen : (s : Source) (lib : Library) (top : Module) (clock : Option (List ℕ)) (n : ℕ) (odd : Bool) → IsRefusedBelow s lib top clock
-    → OnTree (circuit_of s lib top clock) n odd → IsSeen (flat_of s lib top).scopes n ⊎ IsReader (gates_of (all_parts s lib top)) n
+    → OnTree (circuit_of s lib top clock) n odd → IsSeen (flat_of s lib top).scopes n ⊎ IsHandedOn (all_parts s lib top) n
 unfolding circuit_of
 tree_seen s lib top clock n odd r (net.Root m there) =
     inl (ports_seen s lib top (flat_of s lib top) (bit_nets (clock_bits clock top)) m r.known.whole r.ports.clocks
@@ -495,13 +533,18 @@ tree_seen s lib top clock n odd r (net.Buffered from gates g even has g_there tr
     let is = all_in (IsLawfulPart (flat_of s lib top).count) ps p r.lawful.parts p_in in
     let gate = all_in (IsLawfulGate (flat_of s lib top).count (from ∷ [])) gates g is.drives (In-from_Contains gates g g_there) in
     let reads : In from g.ins = subst (λ (ns : List ℕ). In from ns) (sym gate.reads) (inl refl) in
-    inr (g, from, In-flat part_gates g p ps p_in (In-from_Contains gates g g_there), refl, reads)
+    inr (inl (g, from, In-flat part_gates g p ps p_in (In-from_Contains gates g g_there), refl, reads))
+tree_seen s lib top clock n odd r (net.Gated from enables out even has tree) =
+    let ps = all_parts s lib top in
+    let p : Part = part.Gate from enables out in
+    inr (inr (In-flat part_gated out p ps (In-from_Contains ps p has) (inl refl)))
 
 either_seen : (s : Source) (lib : Library) (top : Module) (clock : Option (List ℕ)) (n : ℕ) → IsRefusedBelow s lib top clock
     → IsSeen (flat_of s lib top).scopes n ⊎ IsConst (gates_of (all_parts s lib top)) n
-    → IsSeen (flat_of s lib top).scopes n ⊎ IsReader (gates_of (all_parts s lib top)) n → IsSeen (flat_of s lib top).scopes n
+    → IsSeen (flat_of s lib top).scopes n ⊎ IsHandedOn (all_parts s lib top) n → IsSeen (flat_of s lib top).scopes n
 either_seen s lib top clock n r read (inl seen) = seen
-either_seen s lib top clock n r read (inr reader) = seen_of s lib top clock n r.known r.ports read reader
+either_seen s lib top clock n r read (inr (inl reader)) = seen_of s lib top clock n r.known r.ports read reader
+either_seen s lib top clock n r read (inr (inr gated)) = gated_seen s lib top clock n r.known r.ports read gated
 
 loop_seen : (s : Source) (lib : Library) (top : Module) (clock : Option (List ℕ)) (n : ℕ) → IsRefusedBelow s lib top clock
     → IsOnCycle (all_gates (circuit_of s lib top clock)) n → IsSeen (flat_of s lib top).scopes n
@@ -527,11 +570,11 @@ undriven_seen : (s : Source) (lib : Library) (top : Module) (clock : Option (Lis
 undriven_seen s lib top clock n (inl seen) undriven = seen
 undriven_seen s lib top clock n (inr const) undriven = absurd (undriven (const_driven s lib top clock n const))
 
-flop_named : (s : Source) (lib : Library) (top : Module) (clock : Option (List ℕ)) (place net : ℕ) (reg : Reg)
-    → slice_get (circuit_of s lib top clock).parts place ≡ Some (part.Flop net reg)
+clocked_named : (s : Source) (lib : Library) (top : Module) (clock : Option (List ℕ)) (place : ℕ) (q : Part) (pin : ℕ) → clock_of q ≡ Some pin
+    → slice_get (circuit_of s lib top clock).parts place ≡ Some q
     → (l : Leaf) × Contains (leaves s lib (flat_of s lib top)) l × (slice_get (circuit_of s lib top clock).parts place ≡ Some l.part)
 unfolding circuit_of
-flop_named s lib top clock place net reg at = reg_named s lib (flat_of s lib top) place net reg at
+clocked_named s lib top clock place q pin on at = part_named s lib (flat_of s lib top) place q pin on at
 
 named_by : (s : Source) (lib : Library) (top : Module) (clock : Option (List ℕ)) (f : CircuitFault) → IsRefusedBelow s lib top clock
     → IsCause (circuit_of s lib top clock) f → HasName s lib (flat_of s lib top) (circuit_of s lib top clock) f
@@ -541,7 +584,7 @@ named_by s lib top clock (fault.Undriven n) r cause =
     (undriven_seen s lib top clock n (read_seen s lib top clock n r (In-from_Contains (all_reads c) n cause.0)) cause.1)
 named_by s lib top clock (fault.ManyDrivers n) r cause = net_of (flat_of s lib top).scopes n (twice_seen s lib top clock n r cause)
 named_by s lib top clock (fault.Loop n) r cause = net_of (flat_of s lib top).scopes n (loop_seen s lib top clock n r cause)
-named_by s lib top clock (fault.NotTheClock place) r cause = let (pin, reg, at, off) = cause in flop_named s lib top clock place pin reg at
+named_by s lib top clock (fault.NotTheClock place) r cause = let (q, pin, at, on, off) = cause in clocked_named s lib top clock place q pin on at
 named_by s lib top clock (fault.ClockAsData n) r cause =
     let (odd, reads, tree) = cause in
     let c = circuit_of s lib top clock in

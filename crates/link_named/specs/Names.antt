@@ -1,14 +1,13 @@
 -- What a refusal of a circuit speaks of, by its full name.
 use Rattle.std.specs.Prelude.{◌≡◌, ℕ, ◌==◌, Bool, true, false, List, map, Contains, Option, Some, None, slice_get, is_some}
 use Rattle.std.specs.List.{position}
-use Rattle.net_model.specs.declared.netlist.Reg.{Reg}
 use Rattle.netlist_types.specs.declared.sources.Source.{Source}
 use Rattle.netlist_types.specs.declared.sources.Module.{Module}
 use Rattle.cell_types.specs.declared.libraries.Library.{Library}
 use Rattle.link_defs.specs.declared.circuits.Circuit.{Circuit}
 use Rattle.link_defs.specs.declared.circuits.Part.{Part}
 use Rattle.link_defs.specs.declared.circuits.Part.TheVariants as part
-use Rattle.link_defs.specs.Circuits.{circuit_of}
+use Rattle.link_defs.specs.Circuits.{circuit_of, clock_of}
 use Rattle.link_defs.specs.CellNames.{Leaf, leaves}
 use Rattle.link_defs.specs.Flatten.{Scope, Flat, flat_of}
 use Rattle.link_items.specs.declared.made.Instance.{Instance}
@@ -23,7 +22,7 @@ use Rattle.link_design.specs.declared.faults.CircuitFault.TheVariants as fault
 abbrev pub HasNet : List Scope → ℕ → Type 0
 HasNet scopes net = (scope : Scope) × Contains scopes scope × Contains scope.nets net
 
--- what the refusal speaks of has a full name: its net, or the register at its place
+-- what the refusal speaks of has a full name: its net, or the register or clock gate at its place
 abbrev pub HasName : Source → Library → Flat → Circuit → CircuitFault → Type 0
 HasName s lib flat c (fault.Undriven net) = HasNet flat.scopes net
 HasName s lib flat c (fault.ManyDrivers net) = HasNet flat.scopes net
@@ -48,21 +47,22 @@ is_there net nets = is_some (position (λ n. n == net) nets)
 abbrev pub has_net : ℕ → Instance → Bool
 has_net net g = is_there net g.nets
 
--- the part is a register on that clock
+-- the part is a register or a clock gate on that clock
 abbrev pub is_clocked : ℕ → Part → Bool
 is_clocked net (part.Comb buffer ins gates) = false
 is_clocked net (part.Flop clock reg) = clock == net
+is_clocked net (part.Gate clock enables out) = clock == net
 
 -- so is the part of the leaf
 abbrev pub is_leaf_on : ℕ → List Part → LeafPlace → Bool
 is_leaf_on net parts x = elim (slice_get parts x.part) [ None ↦ false | Some p ↦ is_clocked net p ]
 
--- there is a register at the place, and a leaf that is on the same clock
+-- there is a register or a clock gate at the place, and a leaf that is on the same clock
 abbrev pub HasLeafOn : List Part → List LeafPlace → ℕ → Type 0
-HasLeafOn parts places place = (clock : ℕ) × (reg : Reg) × (slice_get parts place ≡ Some (part.Flop clock reg))
+HasLeafOn parts places place = (p : Part) × (clock : ℕ) × (slice_get parts place ≡ Some p) × (clock_of p ≡ Some clock)
     × ((x : LeafPlace) × Contains places x × (is_leaf_on clock parts x ≡ true))
 
 -- the name of such a leaf
 abbrev pub IsNameOn : List Part → List LeafPlace → ℕ → List ℕ → Type 0
-IsNameOn parts places place name = (x : LeafPlace) × (clock : ℕ) × (here there : Reg) × Contains places x × (x.name ≡ name)
-    × (slice_get parts place ≡ Some (part.Flop clock here)) × (slice_get parts x.part ≡ Some (part.Flop clock there))
+IsNameOn parts places place name = (x : LeafPlace) × (clock : ℕ) × (here there : Part) × Contains places x × (x.name ≡ name)
+    × (slice_get parts place ≡ Some here) × (clock_of here ≡ Some clock) × (slice_get parts x.part ≡ Some there) × (clock_of there ≡ Some clock)

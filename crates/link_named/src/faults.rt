@@ -1,8 +1,7 @@
 //! The refusals of a circuit by name.
-ghost use Rattle.std.specs.Prelude.{◌≡◌, ◌<◌, ℕ, Contains, length, map, flat_map, IfOk};
-ghost use Rattle.net_model.specs.declared.netlist.Reg.{Reg as RegRecord};
+ghost use Rattle.std.specs.Prelude.{◌≡◌, ◌<◌, ℕ, Contains, Some, length, map, flat_map, IfOk};
 ghost use Rattle.link_design.specs.Faults.{IsCause};
-ghost use Rattle.link_defs.specs.declared.circuits.Part.TheVariants as kinds;
+ghost use Rattle.link_defs.specs.Circuits.{clock_of as clock_pin};
 ghost use Rattle.link_defs.specs.Faults.{IsFlatCause};
 ghost use Rattle.link_defs.specs.Flatten.{flat_of, scope_names};
 ghost use Rattle.link_items.specs.Items.{module_at, scope_of};
@@ -36,17 +35,18 @@ fn net_name(
     Ok(name)
 }
 
-/// The net of a register's clock pin.
+/// The net of the clock pin of a register or a clock gate.
 fn clock_of(part: &Part) -> usize
-    ensures { (clock : ℕ) (reg : RegRecord) → part.now ≡ kinds.Flop clock reg → result ≡ clock }
+    ensures { (clock : ℕ) → clock_pin part.now ≡ Some clock → result ≡ clock }
 {
     match part {
         Part::Comb { .. } => 0,
         Part::Flop { clock, .. } => *clock,
+        Part::Gate { clock, .. } => *clock,
     }
 }
 
-/// The name of the first register on that clock.
+/// The name of the first register or clock gate on that clock.
 fn reg_name(
     alloc: Global,
     parts: &Seq<Part>,
@@ -63,7 +63,7 @@ fn reg_name(
 }
 
 /// The refusal of the circuit below the module at a place, with the full name of what it speaks of: a net by its first name,
-/// a register that is not on the clock by the first one on the same net.
+/// a register or a clock gate that is not on the clock by the first one on the same net.
 pub fn named_fault(
     alloc: Global,
     netlist: &Netlist,

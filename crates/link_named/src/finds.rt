@@ -1,4 +1,4 @@
-//! The instance of a net, and the leaf of a register.
+//! The instance of a net, and the leaf of a register or a clock gate.
 ghost use Rattle.std.specs.Prelude.{◌≡◌, ◌==◌, ◌<◌, All, length, IfSome};
 ghost use Rattle.std.specs.List.{position};
 ghost use Rattle.link_items.specs.declared.made.LeafPlace.{LeafPlace as LeafRecord};
@@ -29,13 +29,14 @@ pub(crate) fn instance_with(scopes: &[Instance], net: usize) -> Option<usize>
     scopes.iter().position(|instance| has_net(instance, net))
 }
 
-/// Whether a part is a register on this clock.
+/// Whether a part is a register or a clock gate on this clock.
 fn is_clocked(part: &Part, net: usize) -> bool
     ensures { result ≡ clocked net part.now }
 {
     match part {
         Part::Comb { .. } => false,
         Part::Flop { clock, .. } => *clock == net,
+        Part::Gate { clock, .. } => *clock == net,
     }
 }
 
@@ -49,7 +50,7 @@ fn is_leaf_on(parts: &Seq<Part>, leaf: &LeafPlace, net: usize) -> bool
     }
 }
 
-/// The first leaf that is a register on this clock, if any.
+/// The first leaf that is a register or a clock gate on this clock, if any.
 pub(crate) fn leaf_on(parts: &Seq<Part>, leaves: &[LeafPlace], net: usize) -> Option<usize>
     ensures { result ≡ position (on net parts.now) leaves.now }
 {

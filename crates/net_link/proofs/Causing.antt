@@ -256,9 +256,8 @@ flat_free s lib o top flat c (fault.OpenInput n) free some cause = open_input s 
 flat_free s lib o top flat c (fault.Undriven n) free some (net, has, read, undriven) = free.circuit (circuit.Undriven net) (λ e. cc) (read, undriven)
 flat_free s lib o top flat c (fault.ManyDrivers n) free some cause = many_drivers s lib o top flat c n free cause
 flat_free s lib o top flat c (fault.Loop n) free some (net, has, cycle) = free.circuit (circuit.Loop net) (λ e. cc) cycle
-flat_free s lib o top flat c (fault.NotTheClock n) free some (l, clock, reg, has, named, is, off) =
-    let (place, at) = free.places l has in
-    free.circuit (circuit.NotTheClock place) (λ e. cc) (clock, reg, at ∙ ap (λ (p : Part). Some p) is, off)
+flat_free s lib o top flat c (fault.NotTheClock n) free some (l, clock, has, named, on, off) =
+    let (place, at) = free.places l has in free.circuit (circuit.NotTheClock place) (λ e. cc) (l.part, clock, at, on, off)
 flat_free s lib o top flat c (fault.ClockAsData n) free some (net, odd, has, read, on) = free.circuit (circuit.ClockAsData net) (λ e. cc) (odd, read, on)
 flat_free s lib o top flat c (fault.Recursive n) free some cause = free.unrecursive n cause
 flat_free s lib o top flat c (fault.NameClash n) free some cause = name_clash s lib o top flat c n free cause

@@ -16,15 +16,16 @@ use Rattle.net_model.proofs.Members.{In, In-cases, In-left, In-right, In-map, In
 use Rattle.link_design.specs.declared.designs.CircuitDesign.{CircuitDesign}
 use Rattle.link_design.specs.declared.designs.Held.{Held}
 use Rattle.link_design.specs.Lawful.{IsLawfulCircuit, IsLawfulComb}
-use Rattle.link_design.specs.Made.{IsMade}
+use Rattle.link_design.specs.Made.{IsClocked, IsMade}
 use Rattle.link_design.specs.Rows.{IsDriverRow}
+use Rattle.link_design.proofs.Clocked.{gated_on}
 use Rattle.link_design.proofs.DriverPlaces.{number_cases, number_within, number_at}
 use Rattle.link_design.proofs.Parted.{gate_of_part, drivers_are, drivers_below, all_in}
 use Rattle.link_defs.proofs.Permuting.{order_permutes}
 use Rattle.link_defs.specs.declared.circuits.Circuit.{Circuit}
 use Rattle.link_defs.specs.declared.circuits.Part.{Part}
 use Rattle.link_defs.specs.declared.circuits.Part.TheVariants as part
-use Rattle.link_defs.specs.Circuits.{part_gates, regs_of, all_gates, all_drivers, OnTree, Root, Buffered, IsTree}
+use Rattle.link_defs.specs.Circuits.{part_gates, part_gated, regs_of, all_gates, all_drivers, OnTree, Root, Buffered, Gated, IsTree}
 use Rattle.link_defs.specs.Designs.{is_on_tree, kept_gates, equations, drivers_by, number_by}
 use Rattle.link_defs.specs.Parts.{inverts}
 use Rattle.link_names.specs.Scopes.{IsNumberedBy}
@@ -131,6 +132,7 @@ kept_if marks buffer ins gates g false e has =
 kept_of : (marks : List Bool) (p : Part) (g : Gate) → In g (kept_gates marks p) → In g (part_gates p)
 kept_of marks (part.Comb buffer ins gates) g has = kept_if marks buffer ins gates g (is_on_tree marks (part.Comb buffer ins gates)) refl has
 kept_of marks (part.Flop clock reg) g has = absurd has
+kept_of marks (part.Gate clock enables out) g has = absurd has
 
 equation_gate : (c : Circuit) (marks : List Bool) (g : Gate) → In g (equations marks c) → In g (all_gates c)
 equation_gate c marks g has =
@@ -154,42 +156,64 @@ gate_driven c marks order g perm (inl stays) =
     inl (gate_in c order g (In-from_Contains order g there))
 gate_driven c marks order g perm (inr hit) = inr hit
 
-driven_of : (c : Circuit) (marks : List Bool) (order : List Gate) (n : ℕ) → IsLawfulCircuit c → IsTree c marks → IsPermutation (equations marks c) order
-    → In n (all_drivers c) → IsDrivenBy c marks order n
-driven_of c marks order n lawful is perm has =
+-- the nets that the clock port, data inputs and registers drive
+abbrev sources_of : Circuit → List ℕ
+sources_of c = c.clocks ++ c.inputs ++ flat_map reg_nets (regs_of c)
+
+-- the design drives them, or they are on the clock tree
+source_cases : (c : Circuit) (marks : List Bool) (order : List Gate) (n : ℕ) → IsTree c marks → In n (sources_of c) → IsDrivenBy c marks order n
+source_cases c marks order n is has =
     let regs = flat_map reg_nets (regs_of c) in
-    elim (In-cases n (c.clocks ++ c.inputs ++ regs) (gate_nets (all_gates c)) has) [
-      | inl source ↦ elim (In-cases n (c.clocks ++ c.inputs) regs source) [
-        | inl port ↦ elim (In-cases n c.clocks c.inputs port) [
-          | inl clock ↦ inr ((is n).1 (false, Root n (Contains-from_In c.clocks n clock)))
-          | inr input ↦ inl (sources_in c order n (In-left n c.inputs regs input))
-        ]
-        | inr reg ↦ inl (sources_in c order n (In-right n c.inputs regs reg))
+    elim (In-cases n (c.clocks ++ c.inputs) regs has) [
+      | inl port ↦ elim (In-cases n c.clocks c.inputs port) [
+        | inl clock ↦ inr ((is n).1 (false, Root n (Contains-from_In c.clocks n clock)))
+        | inr input ↦ inl (sources_in c order n (In-left n c.inputs regs input))
       ]
-      | inr gate ↦
-          let (g, there, out) = from_map (λ (g : Gate). g.out) n (all_gates c) gate in
-          subst (λ (m : ℕ). IsDrivenBy c marks order m) out (gate_driven c marks order g perm (gate_kept c marks g lawful is there))
+      | inr reg ↦ inl (sources_in c order n (In-right n c.inputs regs reg))
+    ]
+
+-- so does it all that is driven in the circuit, a clock gate's output being on the tree
+driven_of : (c : Circuit) (marks : List Bool) (order : List Gate) (n : ℕ) → IsLawfulCircuit c → IsClocked c → IsTree c marks
+    → IsPermutation (equations marks c) order → In n (all_drivers c) → IsDrivenBy c marks order n
+driven_of c marks order n lawful clocked is perm has =
+    let gated = flat_map part_gated c.parts in
+    elim (In-cases n (sources_of c ++ gate_nets (all_gates c)) gated has) [
+      | inl design ↦ elim (In-cases n (sources_of c) (gate_nets (all_gates c)) design) [
+        | inl source ↦ source_cases c marks order n is source
+        | inr gate ↦
+            let (g, there, out) = from_map (λ (g : Gate). g.out) n (all_gates c) gate in
+            subst (λ (m : ℕ). IsDrivenBy c marks order m) out (gate_driven c marks order g perm (gate_kept c marks g lawful is there))
+      ]
+      | inr clock ↦ inr ((is n).1 (false, gated_on c clocked n clock))
     ]
 
 -- all that they drive is driven in the circuit
+source_all : (c : Circuit) (n : ℕ) → In n (sources_of c) → In n (all_drivers c)
+source_all c n has =
+    In-left n (sources_of c ++ gate_nets (all_gates c)) (flat_map part_gated c.parts) (In-left n (sources_of c) (gate_nets (all_gates c)) has)
+
 gate_all : (c : Circuit) (g : Gate) → In g (all_gates c) → In g.out (all_drivers c)
 gate_all c g has =
-    In-right g.out (c.clocks ++ c.inputs ++ flat_map reg_nets (regs_of c)) (gate_nets (all_gates c)) (In-map (λ (g : Gate). g.out) g (all_gates c) has)
+    In-left g.out (sources_of c ++ gate_nets (all_gates c)) (flat_map part_gated c.parts)
+    (In-right g.out (sources_of c) (gate_nets (all_gates c)) (In-map (λ (g : Gate). g.out) g (all_gates c) has))
 
 tree_driven : (c : Circuit) (n : ℕ) (odd : Bool) → OnTree c n odd → In n (all_drivers c)
 tree_driven c n odd (Root m there) =
-    let regs = flat_map reg_nets (regs_of c) in
-    In-left m (c.clocks ++ c.inputs ++ regs) (gate_nets (all_gates c)) (In-left m (c.clocks ++ c.inputs) regs (In-left m c.clocks c.inputs (In-from_Contains c.clocks m there)))
+    source_all c m (In-left m (c.clocks ++ c.inputs) (flat_map reg_nets (regs_of c)) (In-left m c.clocks c.inputs (In-from_Contains c.clocks m there)))
 tree_driven c n odd (Buffered from gates g even stands there on) =
     let p : Part = part.Comb true (from ∷ []) gates in
     gate_all c g (In-flat part_gates g p c.parts (In-from_Contains c.parts p stands) (In-from_Contains gates g there))
+tree_driven c n odd (Gated clock enables out even stands on) =
+    let p : Part = part.Gate clock enables out in
+    In-right out (sources_of c ++ gate_nets (all_gates c)) (flat_map part_gated c.parts)
+    (In-flat part_gated out p c.parts (In-from_Contains c.parts p stands) (inl refl))
 
 pub drivers_driven : (c : Circuit) (marks : List Bool) (order : List Gate) (n : ℕ) → IsPermutation (equations marks c) order → In n (drivers_by c order)
     → In n (all_drivers c)
 drivers_driven c marks order n perm has =
     let regs = flat_map reg_nets (regs_of c) in
     elim (In-cases n (c.inputs ++ regs) (gate_nets order) has) [
-      | inl source ↦ In-left n (c.clocks ++ c.inputs ++ regs) (gate_nets (all_gates c)) (elim (In-cases n c.inputs regs source) [
+      | inl source ↦ source_all c n (elim (In-cases n c.inputs regs source) [
         | inl input ↦ In-left n (c.clocks ++ c.inputs) regs (In-right n c.clocks c.inputs input)
         | inr reg ↦ In-right n (c.clocks ++ c.inputs) regs reg
       ])
@@ -208,7 +232,7 @@ driven_below c n lawful has =
 -- the nets that something drives are those with a number, and those of the clock tree
 pub driven_hit : (c : Circuit) (h : Held) (made : CircuitDesign) (n : ℕ) → IsLawfulCircuit c → IsMade c h made → In n (all_drivers c) → is_driven made n ≡ true
 driven_hit c h made n lawful m has = elim
-    (driven_of c made.tree m.order n lawful m.design_is.tree_is (order_permutes c made.tree m.order m.design_is.order_is) has) [
+    (driven_of c made.tree m.order n lawful m.clocked m.design_is.tree_is (order_permutes c made.tree m.order m.design_is.order_is) has) [
       | inl there ↦
           or_left (has_number made n) (is_marked made.tree n)
           (number_hit made (drivers_by c m.order) c.nets n m.numbers m.design_is.nets (driven_below c n lawful has)

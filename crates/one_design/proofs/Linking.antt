@@ -40,11 +40,13 @@ module _ (c : Circuit) (x y : List Bool) (first : IsTree c x) (second : IsTree c
   on_tree_same : (p : Part) → is_on_tree y p ≡ is_on_tree x p
   on_tree_same (part.Comb buffer ins gates) = λ i. buffer && list_any (λ (net : ℕ). marks_same net i) ins
   on_tree_same (part.Flop clock reg) = refl
+  on_tree_same (part.Gate clock enables out) = refl
 
   -- and the same gates
   tree_marks_same : (p : Part) → tree_marks y p ≡ tree_marks x p
   tree_marks_same (part.Comb buffer ins gates) = λ i. map (λ (_ : Gate). on_tree_same (part.Comb buffer ins gates) i) gates
   tree_marks_same (part.Flop clock reg) = refl
+  tree_marks_same (part.Gate clock enables out) = refl
 
   -- so the same gates are kept
   gates_same : (places : List ℕ) → gates_at y c places ≡ gates_at x c places

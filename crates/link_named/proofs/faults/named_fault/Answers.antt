@@ -43,8 +43,8 @@ reg_name-requires c =
     let lib = c.args.netlist.now.library.now in
     let flat = flat_of s lib (module_at s c.args.top) in
     let cause = subst (λ (f : CircuitFault). IsCause c.args.c.now.circuit f) c.in-NotTheClock.is c.requires.cause in
-    let (clock, reg, at, off) = cause in
-    leaf_there s lib flat c.args.c.now.circuit c.args.c.now.leaves c.in-NotTheClock.place clock reg c.requires.circuit.leaves at
+    let (p, clock, at, on, off) = cause in
+    leaf_there s lib flat c.args.c.now.circuit c.args.c.now.leaves c.in-NotTheClock.place clock p c.requires.circuit.leaves at on
     (named_below s lib c.args.top c.args.options.now.clock c.args.c.now c.args.fault (circuit.NotTheClock c.in-NotTheClock.place) c.args.netlist.now.lawful_source
     c.args.netlist.now.lawful_library c.requires.top c.requires.circuit c.requires.fine c.requires.cause c.in-NotTheClock.is)
 
