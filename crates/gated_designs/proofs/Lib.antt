@@ -1,0 +1,5 @@
+pub mod ClockParts
+pub mod Loops
+pub mod Places
+pub mod Numbered
+pub mod Gated
