@@ -30,4 +30,4 @@ mod tables;
 pub use formulas::{formula, inv_formula};
 pub use prepared_designs::Prepared;
 pub use problems::Problem;
-pub use runs::read_back;
+pub use runs::{read_back, read_stimulus};

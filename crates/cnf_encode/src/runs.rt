@@ -1,6 +1,10 @@
 //! Runs and stretches that answer a query, read back from models of its clauses.
-ghost use Rattle.std.specs.Prelude.{◌≡◌, length, IfOk, ◌⊎◌};
+ghost use Rattle.std.specs.Prelude.{◌≡◌, length, List, IfOk, ◌⊎◌};
+ghost use Rattle.net_model.specs.Cycles.{IsLinked};
 ghost use Rattle.net_model.specs.Netlist.{IsSound};
+ghost use Rattle.net_model.specs.Stimuli.{StandsFor};
+ghost use Rattle.net_model.specs.declared.cycles.Cycle.{Cycle as CycleRecord};
+ghost use Rattle.net_sim.specs.Runs.{IsLinkable};
 ghost use Rattle.proof_log.specs.Formulas.{IsModel, value_in};
 ghost use Rattle.net_model.specs.Queries.{Query, IsAnswer};
 ghost use Rattle.query_model.specs.declared.keys.Coding.{Coding};
@@ -38,6 +42,25 @@ fn stimulus_of(
         inputs.push(ins)?;
     }
     Ok(Stimulus { state, inputs })
+}
+
+/// The stimulus of the answer that a model of a query's clauses stands for: its first register bits and its input bits. Its
+/// cycles are those of linked cycles that the stimulus stands for; none is simulated here, so it takes no time of the gates.
+pub fn read_stimulus(
+    alloc: Global,
+    design: &Design,
+    problem: &Problem,
+    model: &Model,
+) -> Result<Stimulus, AllocError>
+    requires sound { IsSound design.now }
+    requires made { IsMadeFor design.now problem.now }
+    requires model { IsModel problem.now.formula model.now }
+    ensures linkable { IfOk result (IsLinkable design.now) }
+    ensures answers { IfOk result (λ s. (run : List CycleRecord) → IsLinked design.now run → StandsFor s run → (coding : Coding) (q : Query)
+        → IsClaimQuery design.now q ⊎ IsClauseQuery design.now q → IsProblemFor coding q problem.now → IsAnswer q run) }
+{
+    let stimulus = stimulus_of(alloc, design, problem, model)?;
+    Ok(stimulus)
 }
 
 /// The cycles of the answer that a model of a query's clauses stands for.

@@ -1,13 +1,12 @@
 //! Queries of growing depth, until one decides.
-ghost use Rattle.std.specs.Prelude.{◌≤◌, ◌<◌, All, IfOk, length};
+ghost use Rattle.std.specs.Prelude.{◌≤◌, All, IfOk};
 ghost use Rattle.net_model.specs.Netlist.{IsSound};
 ghost use Rattle.net_model.specs.Fits.{Fits};
-ghost use Rattle.net_model.specs.Stimuli.{StandsFor};
 ghost use Rattle.net_model.specs.Fits.{NamesRegs};
 ghost use Rattle.verdicts.specs.Verdicts.{IsJudged, IsRight};
 ghost use Rattle.verdict_types.specs.Forms.{IsVerdictInForm};
 
-use net_model::{Claim, Cycle, InvClause, Phase, Stimulus};
+use net_model::{Claim, InvClause, Phase};
 use query_asks::{Asked, Prepared, Probe, ask_claim};
 use sdcv_base::Seq;
 use std::alloc::{AllocError, Global};
@@ -41,8 +40,7 @@ pub(crate) fn decide(
         };
         let derivation = match ask_claim(alloc, design, claim, kept, probe)? {
             Asked::Answered(found) => {
-                let run = found.run(alloc, design)?;
-                let stimulus = stimulus_of(alloc, &run)?;
+                let stimulus = found.stimulus(alloc, design)?;
                 let offset = depth;
                 return Ok(Verdict::Refuted { offset, stimulus });
             }
@@ -69,18 +67,4 @@ pub(crate) fn decide(
         base.push(derivation)?;
         depth += 1;
     }
-}
-
-/// The stimulus of a run: the register bits of its first cycle, and the input bits of each.
-fn stimulus_of(alloc: Global, run: &Seq<Cycle>) -> Result<Stimulus, AllocError>
-    requires { 0 < length run.now }
-    ensures { IfOk result (λ s. StandsFor s run.now) }
-{
-    let mut inputs = Seq::new(alloc);
-    for t in 0..run.len() {
-        let ins = run.item(t).ins.copy(alloc)?;
-        inputs.push(ins)?;
-    }
-    let state = run.item(0).bits.copy(alloc)?;
-    Ok(Stimulus { state, inputs })
 }

@@ -2,8 +2,10 @@
 use Rattle.std.specs.Prelude.{ℕ, List, ◌⊎◌}
 use Rattle.net_model.specs.Netlist.{IsSound}
 use Rattle.net_model.specs.Queries.{Query, IsAnswer}
+use Rattle.net_model.specs.Stimuli.{StandsFor}
 use Rattle.net_model.specs.declared.netlist.Design.{Design}
 use Rattle.net_model.specs.declared.cycles.Cycle.{Cycle}
+use Rattle.net_model.specs.declared.cycles.Stimulus.{Stimulus}
 use Rattle.cnf_encode.specs.Problems.{IsClaimQuery, IsClauseQuery, IsProblemFor, IsMadeFor}
 use Rattle.cnf_encode.specs.declared.problems.Problem.{Problem}
 use Rattle.proof_log.specs.Formulas.{IsModel}
@@ -23,6 +25,10 @@ pub record IsRefutedBy (q : Query) (derivation : Derivation) : Type 0 where
 -- some run or stretch answers the query
 abbrev pub HasAnswer : Query → Type 0
 HasAnswer q = (run : List Cycle) × IsAnswer q run
+
+-- one that the stimulus stands for answers it
+abbrev pub HasAnswerOf : Query → Stimulus → Type 0
+HasAnswerOf q stimulus = (run : List Cycle) × IsAnswer q run × StandsFor stimulus run
 
 -- a model of the formula of a query of the design
 pub record IsFoundIn (d : Design) (found : Found) : Type 0 where

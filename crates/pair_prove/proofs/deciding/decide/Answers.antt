@@ -34,12 +34,6 @@ returns-in-Refuted-2-clause-in_form c =
     justified_in_form c.args.design.now c.args.claim.now c.args.kept.now c.args.limits.depth c.loop-base.depth c.loop-base.base c.in-Refuted-2.step
     c.requires.few c.loop-base.invariant found.in_form
 
-pub stimulus_of-requires : goal.stimulus_of-requires
-stimulus_of-requires c =
-    let base : Query = claim_query c.args.design.now c.args.claim.now Base c.loop-base.depth c.args.kept.now in
-    let found = answered base c.args.limits.budget c.in_ok-found.field-0 c.in-Answered.found c.in-Answered.is c.in_ok-found.ensures in
-    (c.in_ok-run-in-Answered.ensures base refl found).cycles.linked.some
-
 pub returns-in-Answered-clause-right : goal.returns-in-Answered-clause-right
 returns-in-Answered-clause-right c =
     let d = c.args.design.now in
@@ -47,10 +41,10 @@ returns-in-Answered-clause-right c =
     let kept = c.args.kept.now in
     let depth = c.loop-base.depth in
     let base : Query = claim_query d claim Base depth kept in
-    let found = answered base c.args.limits.budget c.in_ok-found.field-0 c.in-Answered.found c.in-Answered.is c.in_ok-found.ensures in (
+    let found = answered base c.args.limits.budget c.in_ok-found.field-0 c.in-Answered.found c.in-Answered.is c.in_ok-found.ensures in
+    let answer = c.in_ok-stimulus-in-Answered.ensures base refl found in (
       c.loop-base.invariant.reached,
-      witness_of d claim kept depth c.in_ok-run-in-Answered.run' c.in_ok-stimulus-in-Answered.stimulus
-          (c.in_ok-run-in-Answered.ensures base refl found) c.in_ok-stimulus-in-Answered.ensures,
+      witness_of d claim kept depth answer.0 c.in_ok-stimulus-in-Answered.stimulus answer.1 answer.2,
     )
 
 pub returns-then-depth-limits-clause-right : goal.returns-then-depth-limits-clause-right
