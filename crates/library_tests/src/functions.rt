@@ -2,7 +2,6 @@
 use lib_func::{Expr, Term, is_function, read_function};
 use sdcv_base::Name;
 use std::alloc::{AllocError, Global};
-use std::test::Fail;
 
 // The bit of a name in a row, whose highest bit is A's.
 fn name_bit(name: &Name, row: usize) -> bool {
@@ -49,11 +48,19 @@ const FUNCTIONS: &[(&str, u16)] = &[
     ("1A", 0b0000_0000_1111_1111),
 ];
 
+// The bits of the function that a text is, if it is one.
+fn bits_of(alloc: Global, text: &str) -> Result<Option<u16>, AllocError> {
+    Ok(match read_function(alloc, text.as_bytes())? {
+        Some(expr) => Some(bits(&expr)),
+        None => None,
+    })
+}
+
 #[test]
-fn functions_have_the_values_of_their_grammar(rt: HostRuntime) -> Result<(), Fail> {
+fn functions_have_the_values_of_their_grammar(rt: HostRuntime) -> Result<(), AllocError> {
     for (text, want) in FUNCTIONS {
-        let expr = read_function(rt.alloc(), text.as_bytes())?.ok_or("a function")?;
-        assert_eq!(rt; bits(&expr), *want, "{text}");
+        let found = bits_of(rt.alloc(), text)?;
+        assert_eq!(rt; found, Some(*want), "{text}");
         assert!(rt; is_function(text.as_bytes()), "{text}");
     }
     Ok(())
@@ -62,12 +69,25 @@ fn functions_have_the_values_of_their_grammar(rt: HostRuntime) -> Result<(), Fai
 // None of these lines goes by the grammar.
 const NO_FUNCTIONS: &str = "\nA +\n(A\nA)\n()\nA ^\n!\n'\n2\nA\"B\nA + * B\nA\\B\nA-B\n((A)\nA;";
 
+// Whether a text goes by the grammar, and whether its function is read.
+fn kinds(alloc: Global, text: &str) -> Result<(bool, bool), AllocError> {
+    let is_read = read_function(alloc, text.as_bytes())?.is_some();
+    Ok((is_function(text.as_bytes()), is_read))
+}
+
 #[test]
 fn other_texts_are_no_function(rt: HostRuntime) -> Result<(), AllocError> {
     for text in NO_FUNCTIONS.split('\n') {
-        let found = read_function(rt.alloc(), text.as_bytes())?;
-        assert!(rt; found.is_none(), "{text}");
-        assert!(rt; !is_function(text.as_bytes()), "{text}");
+        let (goes, is_read) = kinds(rt.alloc(), text)?;
+        assert!(rt; !goes, "{text}");
+        assert!(rt; !is_read, "{text}");
+    }
+    Ok(())
+}
+
+fn push_times(text: &mut String, part: &str, count: usize) -> Result<(), AllocError> {
+    for _ in 0..count {
+        text.push_str(part)?;
     }
     Ok(())
 }
@@ -81,43 +101,64 @@ fn repeated(
     count: usize,
 ) -> Result<String, AllocError> {
     let mut text = String::new(alloc);
-    for _ in 0..count {
-        text.push_str(front)?;
-    }
+    push_times(&mut text, front, count)?;
     text.push_str(middle)?;
-    for _ in 0..count {
-        text.push_str(back)?;
-    }
+    push_times(&mut text, back, count)?;
     Ok(text)
 }
 
-// What stands in front, in the middle and behind; how often at most; and how often beside that.
-const DEPTHS: &[(&str, &str, &str, usize, usize)] = &[
-    ("!", "A", "", 255, 20_000),
-    ("", "A", "'", 255, 300),
-    ("(", "A", ")", 256, 7_000),
-    ("A+", "A", "", 255, 20_000),
-    ("A*", "A", "", 255, 20_000),
-    ("A ", "A", "", 255, 300),
-    ("A^", "A", "", 255, 300),
-    ("!(", "A", ")", 255, 300),
-    ("A+(", "A", ")", 255, 300),
-    ("(", "A", ")'", 255, 300),
+fn repeated_kinds(
+    alloc: Global,
+    front: &str,
+    middle: &str,
+    back: &str,
+    count: usize,
+) -> Result<(bool, bool), AllocError> {
+    let text = repeated(alloc, front, middle, back, count)?;
+    kinds(alloc, text.as_str())
+}
+
+// What stands in front, in the middle and behind; how often; and whether it is read.
+const DEPTHS: &[(&str, &str, &str, usize, bool)] = &[
+    ("!", "A", "", 255, true),
+    ("!", "A", "", 256, false),
+    ("!", "A", "", 20_000, false),
+    ("", "A", "'", 255, true),
+    ("", "A", "'", 256, false),
+    ("", "A", "'", 300, false),
+    ("(", "A", ")", 256, true),
+    ("(", "A", ")", 257, false),
+    ("(", "A", ")", 7_000, false),
+    ("A+", "A", "", 255, true),
+    ("A+", "A", "", 256, false),
+    ("A+", "A", "", 20_000, false),
+    ("A*", "A", "", 255, true),
+    ("A*", "A", "", 256, false),
+    ("A*", "A", "", 20_000, false),
+    ("A ", "A", "", 255, true),
+    ("A ", "A", "", 256, false),
+    ("A ", "A", "", 300, false),
+    ("A^", "A", "", 255, true),
+    ("A^", "A", "", 256, false),
+    ("A^", "A", "", 300, false),
+    ("!(", "A", ")", 255, true),
+    ("!(", "A", ")", 256, false),
+    ("!(", "A", ")", 300, false),
+    ("A+(", "A", ")", 255, true),
+    ("A+(", "A", ")", 256, false),
+    ("A+(", "A", ")", 300, false),
+    ("(", "A", ")'", 255, true),
+    ("(", "A", ")'", 256, false),
+    ("(", "A", ")'", 300, false),
 ];
 
 // A name is 1 high, and each of these adds 1; or 256 parentheses stand one inside the other.
 #[test]
 fn functions_are_256_high(rt: HostRuntime) -> Result<(), AllocError> {
-    for (front, middle, back, most, beyond) in DEPTHS {
-        for (count, want) in [(*most, true), (*most + 1, false), (*beyond, false)] {
-            let text = repeated(rt.alloc(), front, middle, back, count)?;
-            let found = read_function(rt.alloc(), text.as_bytes())?;
-            assert_eq!(rt; found.is_some(), want, "{count} {front}{middle}{back}");
-            assert!(rt;
-                is_function(text.as_bytes()),
-                "{count} {front}{middle}{back}"
-            );
-        }
+    for (front, middle, back, count, want) in DEPTHS {
+        let (goes, is_read) = repeated_kinds(rt.alloc(), front, middle, back, *count)?;
+        assert!(rt; goes, "{count} {front}{middle}{back}");
+        assert!(rt; is_read == *want, "{count} {front}{middle}{back}");
     }
     Ok(())
 }
@@ -136,10 +177,9 @@ const DEEP_NO_FUNCTIONS: &[(&str, &str, &str)] = &[
 #[test]
 fn deep_texts_that_break_the_grammar_are_no_function(rt: HostRuntime) -> Result<(), AllocError> {
     for (front, middle, back) in DEEP_NO_FUNCTIONS {
-        let text = repeated(rt.alloc(), front, middle, back, 300)?;
-        let found = read_function(rt.alloc(), text.as_bytes())?;
-        assert!(rt; found.is_none(), "{front}{middle}{back}");
-        assert!(rt; !is_function(text.as_bytes()), "{front}{middle}{back}");
+        let (goes, is_read) = repeated_kinds(rt.alloc(), front, middle, back, 300)?;
+        assert!(rt; !goes, "{front}{middle}{back}");
+        assert!(rt; !is_read, "{front}{middle}{back}");
     }
     Ok(())
 }

@@ -1,52 +1,72 @@
 //! The cells, parts and attributes of Liberty texts, against those read by hand.
-use lib_words::{Attribute, GroupFault, Part, read_cells};
-use sdcv_base::Seq;
-use std::alloc::Global;
-use std::test::Fail;
+use crate::expects::same;
+use lib_words::{Attribute, CellGroup, GroupFault, Part, read_cells};
+use sdcv_base::{Name, Seq};
+use std::alloc::{AllocError, Global};
+
+fn show_offset(out: &mut String, offset: usize, with_offsets: bool) -> Result<(), AllocError> {
+    if with_offsets {
+        write!(out, " {offset}")
+    } else {
+        Ok(())
+    }
+}
+
+fn show_attribute(
+    out: &mut String,
+    attribute: &Attribute,
+    with_offsets: bool,
+) -> Result<(), AllocError> {
+    let kind = attribute.kind;
+    let text = &attribute.value.text;
+    write!(out, " {kind:?}")?;
+    show_offset(out, attribute.value.offset, with_offsets)?;
+    let quote = if attribute.value.is_quoted { "\"" } else { "" };
+    write!(out, " {quote}{text}{quote};")
+}
 
 fn show_attributes(
     out: &mut String,
     attributes: &Seq<Attribute>,
     with_offsets: bool,
-) -> Result<(), Fail> {
+) -> Result<(), AllocError> {
     for attribute in attributes.as_slice() {
-        let kind = attribute.kind;
-        let text = &attribute.value.text;
-        write!(out, " {kind:?}")?;
-        if with_offsets {
-            let offset = attribute.value.offset;
-            write!(out, " {offset}")?;
-        }
-        if attribute.value.is_quoted {
-            write!(out, " \"{text}\";")?;
-        } else {
-            write!(out, " {text};")?;
-        }
+        show_attribute(out, attribute, with_offsets)?;
     }
     Ok(())
 }
 
-fn show_part(out: &mut String, part: &Part, with_offsets: bool) -> Result<(), Fail> {
-    let kind = part.kind;
-    write!(out, "\n{kind:?}")?;
-    for name in part.names.as_slice() {
+fn show_names(out: &mut String, names: &Seq<Name>) -> Result<(), AllocError> {
+    for name in names.as_slice() {
         write!(out, " {name}")?;
     }
-    write!(out, ";")?;
+    Ok(())
+}
+
+fn show_part(out: &mut String, part: &Part, with_offsets: bool) -> Result<(), AllocError> {
+    let kind = part.kind;
+    write!(out, "\n{kind:?}")?;
+    show_names(out, &part.names)?;
+    out.push_str(";")?;
     show_attributes(out, &part.attributes, with_offsets)
 }
 
+fn show_cell(out: &mut String, cell: &CellGroup, with_offsets: bool) -> Result<(), AllocError> {
+    let name = &cell.name;
+    write!(out, "\ncell {name};")?;
+    show_attributes(out, &cell.attributes, with_offsets)?;
+    for part in cell.parts.as_slice() {
+        show_part(out, part, with_offsets)?;
+    }
+    Ok(())
+}
+
 // A line for each cell and one for each of its parts, with names, attributes and the offsets of their values.
-fn listing(alloc: Global, text: &[u8], with_offsets: bool) -> Result<String, Fail> {
-    let mut out = String::new(alloc);
+fn listing(alloc: Global, text: &[u8], with_offsets: bool) -> Result<String, GroupFault> {
     let cells = read_cells(alloc, text)?;
+    let mut out = String::new(alloc);
     for cell in cells.as_slice() {
-        let name = &cell.name;
-        write!(out, "\ncell {name};")?;
-        show_attributes(&mut out, &cell.attributes, with_offsets)?;
-        for part in cell.parts.as_slice() {
-            show_part(&mut out, part, with_offsets)?;
-        }
+        show_cell(&mut out, cell, with_offsets)?;
     }
     Ok(out)
 }
@@ -132,9 +152,9 @@ Bus W;
 Bundle V; Direction inout;"#;
 
 #[test]
-fn a_vendors_library_has_its_cells(rt: HostRuntime) -> Result<(), Fail> {
+fn a_vendors_library_has_its_cells(rt: HostRuntime) -> Result<(), GroupFault> {
     let found = listing(rt.alloc(), VENDOR.as_bytes(), false)?;
-    assert_eq!(rt; found.as_str(), VENDOR_CELLS);
+    same(&rt, "the vendor's", found.as_str(), VENDOR_CELLS);
     Ok(())
 }
 
@@ -188,10 +208,10 @@ const OFFSETS: &[(&str, &str)] = &[
 ];
 
 #[test]
-fn values_have_their_offsets(rt: HostRuntime) -> Result<(), Fail> {
+fn values_have_their_offsets(rt: HostRuntime) -> Result<(), GroupFault> {
     for (text, want) in OFFSETS {
         let found = listing(rt.alloc(), text.as_bytes(), true)?;
-        assert_eq!(rt; found.as_str(), *want, "{text}");
+        same(&rt, text, found.as_str(), want);
     }
     Ok(())
 }
@@ -224,7 +244,7 @@ const REFUSED: &[(&str, usize)] = &[
 ];
 
 // So many groups, one inside the other, from the library on.
-fn nested(alloc: Global, groups: usize) -> Result<String, Fail> {
+fn nested(alloc: Global, groups: usize) -> Result<String, AllocError> {
     let mut text = String::new(alloc);
     text.push_str("library(l){")?;
     for _ in 1..groups {
@@ -236,27 +256,45 @@ fn nested(alloc: Global, groups: usize) -> Result<String, Fail> {
     Ok(text)
 }
 
+// What reading a text comes to: how many cells it has, or the fault with its place.
+fn told(alloc: Global, text: &str) -> Result<usize, GroupFault> {
+    let cells = read_cells(alloc, text.as_bytes())?;
+    Ok(cells.as_slice().len())
+}
+
+// The place at which so many groups are too deep.
+fn deep_place(alloc: Global, groups: usize) -> Result<Option<usize>, AllocError> {
+    let text = nested(alloc, groups)?;
+    Ok(match told(alloc, text.as_str()) {
+        Err(GroupFault::Deep(place)) => Some(place),
+        _ => None,
+    })
+}
+
+const TOO_MANY: &[usize] = &[257, 300, 20_000];
+
 // The 257th `{` stands after the first group's 11 bytes, 255 groups of 4 bytes and the 3 bytes before it.
 #[test]
-fn groups_nest_256_deep(rt: HostRuntime) -> Result<(), Fail> {
-    let cells = read_cells(rt.alloc(), nested(rt.alloc(), 256)?.as_bytes())?;
-    assert!(rt; cells.as_slice().is_empty());
-    for groups in [257, 300, 20_000] {
-        match read_cells(rt.alloc(), nested(rt.alloc(), groups)?.as_bytes()) {
-            Err(GroupFault::Deep(place)) => assert_eq!(rt; place, 1034, "{groups}"),
-            _ => assert!(rt; false, "{groups} groups are too deep"),
-        }
+fn groups_nest_256_deep(rt: HostRuntime) -> Result<(), GroupFault> {
+    let text = nested(rt.alloc(), 256)?;
+    assert_eq!(rt; told(rt.alloc(), text.as_str())?, 0);
+    for groups in TOO_MANY {
+        assert_eq!(rt; deep_place(rt.alloc(), *groups)?, Some(1034), "{groups}");
     }
     Ok(())
 }
 
-#[test]
-fn a_broken_text_is_refused_at_its_place(rt: HostRuntime) -> Result<(), Fail> {
-    for (text, want) in REFUSED {
-        match read_cells(rt.alloc(), text.as_bytes()) {
-            Err(GroupFault::Syntax(place)) => assert_eq!(rt; place, *want, "{text}"),
-            _ => assert!(rt; false, "{text} is no library"),
-        }
+// The place at which a text stops being a library.
+fn syntax_place(alloc: Global, text: &str) -> Option<usize> {
+    match told(alloc, text) {
+        Err(GroupFault::Syntax(place)) => Some(place),
+        _ => None,
     }
-    Ok(())
+}
+
+#[test]
+fn a_broken_text_is_refused_at_its_place(rt: HostRuntime) {
+    for (text, want) in REFUSED {
+        assert_eq!(rt; syntax_place(rt.alloc(), text), Some(*want), "{text}");
+    }
 }

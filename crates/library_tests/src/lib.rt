@@ -7,6 +7,8 @@
 #[cfg(test)]
 mod cells;
 #[cfg(test)]
+mod expects;
+#[cfg(test)]
 mod functions;
 #[cfg(test)]
 mod groups;

@@ -1,99 +1,130 @@
 //! Libraries that texts are, against cells written by hand.
-use cell_lib::{CellKind, CombOut, Flop, GateCell, LibFault, read_lib};
+use crate::expects::same;
+use cell_lib::{Cell, CellKind, CombOut, Flop, FlopOut, GateCell, LibFault, Library, read_lib};
 use lib_words::GroupFault;
 use net_model::{Func, Node};
 use sdcv_base::Name;
-use std::alloc::Global;
-use std::test::Fail;
+use std::alloc::{AllocError, Global};
+use std::process::Abort;
 
 // A function with its places as numbers.
-fn show_func(out: &mut String, func: &Func) -> Result<(), Fail> {
+fn show_func(out: &mut String, func: &Func) -> Result<(), AllocError> {
     let (f, sign, g) = match &func.node {
-        Node::Zero => return Ok(write!(out, "zero")?),
-        Node::One => return Ok(write!(out, "one")?),
-        Node::Pin(place) => return Ok(write!(out, "{place}")?),
+        Node::Zero => return out.push_str("zero"),
+        Node::One => return out.push_str("one"),
+        Node::Pin(place) => return write!(out, "{place}"),
         Node::Not(f) => {
-            write!(out, "!")?;
+            out.push_str("!")?;
             return show_func(out, f);
         }
         Node::And(f, g) => (f, "*", g),
         Node::Or(f, g) => (f, "+", g),
         Node::Xor(f, g) => (f, "^", g),
     };
-    write!(out, "(")?;
+    out.push_str("(")?;
     show_func(out, f)?;
-    write!(out, "{sign}")?;
+    out.push_str(sign)?;
     show_func(out, g)?;
-    Ok(write!(out, ")")?)
+    out.push_str(")")
 }
 
-fn show_given(out: &mut String, name: &str, func: &Option<Func>) -> Result<(), Fail> {
-    if let Some(func) = func {
-        write!(out, " {name} ")?;
-        show_func(out, func)?;
+fn show_given(out: &mut String, name: &str, func: &Option<Func>) -> Result<(), AllocError> {
+    match func {
+        Some(func) => {
+            write!(out, " {name} ")?;
+            show_func(out, func)
+        }
+        None => Ok(()),
     }
-    Ok(())
 }
 
-fn show_flop(out: &mut String, flop: &Flop) -> Result<(), Fail> {
+fn show_state(out: &mut String, pin: &FlopOut) -> Result<(), AllocError> {
+    let name = &pin.name;
+    let sign = if pin.inverted { "!" } else { "" };
+    write!(out, " {name}={sign}state")
+}
+
+fn show_flop(out: &mut String, flop: &Flop) -> Result<(), AllocError> {
     let clock = &flop.clock;
     write!(out, " clock {clock} next ")?;
     show_func(out, &flop.next)?;
     show_given(out, "clear", &flop.clear)?;
     show_given(out, "preset", &flop.preset)?;
-    if flop.both {
-        write!(out, " both")?;
-    }
+    out.push_str(if flop.both { " both" } else { "" })?;
     for pin in flop.outs.as_slice() {
-        let name = &pin.name;
-        let sign = if pin.inverted { "!" } else { "" };
-        write!(out, " {name}={sign}state")?;
+        show_state(out, pin)?;
     }
     Ok(())
 }
 
-fn show_clock_gate(out: &mut String, gate: &GateCell) -> Result<(), Fail> {
+fn show_clock_gate(out: &mut String, gate: &GateCell) -> Result<(), AllocError> {
     let clock = &gate.clock;
     let name = &gate.out;
     write!(out, " clock {clock} to {name} where")?;
     show_names(out, gate.enables.as_slice())
 }
 
-fn show_combs(out: &mut String, outs: &[CombOut]) -> Result<(), Fail> {
-    write!(out, " gate")?;
+fn show_comb(out: &mut String, pin: &CombOut) -> Result<(), AllocError> {
+    let name = &pin.name;
+    write!(out, " {name}=")?;
+    show_func(out, &pin.func)
+}
+
+fn show_combs(out: &mut String, outs: &[CombOut]) -> Result<(), AllocError> {
+    out.push_str(" gate")?;
     for pin in outs {
-        let name = &pin.name;
-        write!(out, " {name}=")?;
-        show_func(out, &pin.func)?;
+        show_comb(out, pin)?;
     }
     Ok(())
 }
 
-fn show_names(out: &mut String, names: &[Name]) -> Result<(), Fail> {
+fn show_names(out: &mut String, names: &[Name]) -> Result<(), AllocError> {
     for name in names {
         write!(out, " {name}")?;
     }
     Ok(())
 }
 
+fn show_kind(out: &mut String, kind: &CellKind) -> Result<(), AllocError> {
+    match kind {
+        CellKind::Comb(outs) => show_combs(out, outs.as_slice()),
+        CellKind::Flop(flop) => show_flop(out, flop),
+        CellKind::Gate(gate) => show_clock_gate(out, gate),
+        CellKind::Other => out.push_str(" other"),
+    }
+}
+
+fn show_cell(out: &mut String, cell: &Cell) -> Result<(), AllocError> {
+    let name = &cell.name;
+    write!(out, "\n{name}")?;
+    show_names(out, cell.inputs.as_slice())?;
+    out.push_str(";")?;
+    show_names(out, cell.power.as_slice())?;
+    show_kind(out, &cell.kind)
+}
+
 // A line for each cell: its name, its inputs, its power pins, and what it is.
-fn listing(alloc: Global, text: &str) -> Result<String, Fail> {
-    let mut out = String::new(alloc);
-    let library = read_lib(alloc, text.as_bytes())?;
+fn show_library(out: &mut String, library: &Library) -> Result<(), AllocError> {
     for cell in library.cells.as_slice() {
-        let name = &cell.name;
-        write!(out, "\n{name}")?;
-        show_names(&mut out, cell.inputs.as_slice())?;
-        write!(out, ";")?;
-        show_names(&mut out, cell.power.as_slice())?;
-        match &cell.kind {
-            CellKind::Comb(outs) => show_combs(&mut out, outs.as_slice())?,
-            CellKind::Flop(flop) => show_flop(&mut out, flop)?,
-            CellKind::Gate(gate) => show_clock_gate(&mut out, gate)?,
-            CellKind::Other => write!(out, " other")?,
-        }
+        show_cell(out, cell)?;
+    }
+    Ok(())
+}
+
+// The cells of a text that is a library, and else the fault.
+fn told(alloc: Global, text: &str) -> Result<String, AllocError> {
+    let mut out = String::new(alloc);
+    match read_lib(alloc, text.as_bytes()) {
+        Ok(library) => show_library(&mut out, &library)?,
+        Err(fault) => write!(out, "{fault}")?,
     }
     Ok(out)
+}
+
+fn is_told(rt: &impl Abort, alloc: Global, text: &str, want: &str) -> Result<(), AllocError> {
+    let found = told(alloc, text)?;
+    same(rt, text, found.as_str(), want);
+    Ok(())
 }
 
 const SIX_CELLS: &str = r#"library (demo45) {
@@ -123,9 +154,8 @@ SDFFRX1 D SI SE RN; clock CK next ((2*1)+(!2*0)) clear !3 Q=state QN=!state";
 
 // Inverter, exclusive or, nor, and, multiplexer, and a scan flop with an active-low clear.
 #[test]
-fn cells_of_a_library_are_read(rt: HostRuntime) -> Result<(), Fail> {
-    assert_eq!(rt; listing(rt.alloc(), SIX_CELLS)?.as_str(), SIX_LINES);
-    Ok(())
+fn cells_of_a_library_are_read(rt: HostRuntime) -> Result<(), AllocError> {
+    is_told(&rt, rt.alloc(), SIX_CELLS, SIX_LINES)
 }
 
 const GATES: &str = r#"library (rules) {
@@ -161,9 +191,8 @@ lat; other";
 
 // Each cell is one rule of gates and of cells that are not modelled.
 #[test]
-fn gates_keep_their_rules(rt: HostRuntime) -> Result<(), Fail> {
-    assert_eq!(rt; listing(rt.alloc(), GATES)?.as_str(), GATE_LINES);
-    Ok(())
+fn gates_keep_their_rules(rt: HostRuntime) -> Result<(), AllocError> {
+    is_told(&rt, rt.alloc(), GATES, GATE_LINES)
 }
 
 const FLOPS: &str = r#"library (rules) {
@@ -207,9 +236,8 @@ note D R; clock C next 0 clear 1 preset zero";
 
 // Each cell is one rule of flops.
 #[test]
-fn flops_keep_their_rules(rt: HostRuntime) -> Result<(), Fail> {
-    assert_eq!(rt; listing(rt.alloc(), FLOPS)?.as_str(), FLOP_LINES);
-    Ok(())
+fn flops_keep_their_rules(rt: HostRuntime) -> Result<(), AllocError> {
+    is_told(&rt, rt.alloc(), FLOPS, FLOP_LINES)
 }
 
 const CLOCK_GATES: &str = r#"library (rules) {
@@ -262,12 +290,8 @@ inner A; other";
 
 // Each cell is one rule of clock gates.
 #[test]
-fn clock_gates_keep_their_rules(rt: HostRuntime) -> Result<(), Fail> {
-    assert_eq!(rt;
-        listing(rt.alloc(), CLOCK_GATES)?.as_str(),
-        CLOCK_GATE_LINES
-    );
-    Ok(())
+fn clock_gates_keep_their_rules(rt: HostRuntime) -> Result<(), AllocError> {
+    is_told(&rt, rt.alloc(), CLOCK_GATES, CLOCK_GATE_LINES)
 }
 
 const REFUSED: &[(&str, &str)] = &[
@@ -295,15 +319,9 @@ const REFUSED: &[(&str, &str)] = &[
 
 // Offsets counted by hand; the empty text between quotes is no function, though a later value counts.
 #[test]
-fn texts_are_refused_with_their_cause(rt: HostRuntime) -> Result<(), Fail> {
+fn texts_are_refused_with_their_cause(rt: HostRuntime) -> Result<(), AllocError> {
     for (text, want) in REFUSED {
-        match read_lib(rt.alloc(), text.as_bytes()) {
-            Ok(_) => assert!(rt; false, "{text}"),
-            Err(fault) => {
-                let told = format!(in rt.alloc(); "{fault}")?;
-                assert_eq!(rt; told.as_str(), *want);
-            }
-        }
+        is_told(&rt, rt.alloc(), text, want)?;
     }
     Ok(())
 }
@@ -395,66 +413,71 @@ const HEIGHTS: &[(&str, (&str, usize, &str), &str, &str, &str)] = &[
     ("} a() {", ("a(){} ", 300, ""), "", "", "\nX; other"),
 ];
 
-// What a library is told of whose only cell has this text in a pin.
-fn told(
+fn push_times(text: &mut String, part: &str, count: usize) -> Result<(), AllocError> {
+    for _ in 0..count {
+        text.push_str(part)?;
+    }
+    Ok(())
+}
+
+// What stands in a pin: in front, a part with what closes it, so often, in the middle and behind.
+fn in_a_pin(
     alloc: Global,
     front: &str,
-    part: (&str, usize, &str),
+    part: &(&str, usize, &str),
     middle: &str,
     back: &str,
-) -> Result<String, Fail> {
-    let (open, count, close) = part;
+) -> Result<String, AllocError> {
+    let (open, count, close) = *part;
     let mut text = String::new(alloc);
-    text.push_str("library (l) { cell (X) { pin (Y) { direction : output; ")?;
     text.push_str(front)?;
-    for _ in 0..count {
-        text.push_str(open)?;
-    }
+    push_times(&mut text, open, count)?;
     text.push_str(middle)?;
-    for _ in 0..count {
-        text.push_str(close)?;
-    }
+    push_times(&mut text, close, count)?;
     text.push_str(back)?;
-    text.push_str(" } } }")?;
-    match read_lib(alloc, text.as_bytes()) {
-        Ok(_) => listing(alloc, text.as_str()),
-        Err(fault) => Ok(format!(in alloc; "{fault}")?),
-    }
+    Ok(text)
+}
+
+// What is told of a library whose only cell has this text in a pin.
+fn is_told_of_pin(rt: &impl Abort, alloc: Global, pin: &str, want: &str) -> Result<(), AllocError> {
+    let text = format!(in alloc;
+        "library (l) {{ cell (X) {{ pin (Y) {{ direction : output; {pin} }} }} }}"
+    )?;
+    is_told(rt, alloc, text.as_str(), want)
 }
 
 // A name is 1 high. Offsets counted by hand: 55 bytes stand before what is in front; the 257th group's brace stands after
 // these, 7 bytes, 253 groups of 5, and 4 bytes of its own: library, cell and the first `a` are three.
 #[test]
-fn what_nests_too_deep_is_refused_at_its_place(rt: HostRuntime) -> Result<(), Fail> {
+fn what_nests_too_deep_is_refused_at_its_place(rt: HostRuntime) -> Result<(), AllocError> {
     for (front, part, middle, back, want) in HEIGHTS {
-        let found = told(rt.alloc(), front, *part, middle, back)?;
-        let (open, count, close) = *part;
-        assert_eq!(rt;
-            found.as_str(),
-            *want,
-            "{front}{count} {open}{middle}{close}"
-        );
+        let pin = in_a_pin(rt.alloc(), front, part, middle, back)?;
+        is_told_of_pin(&rt, rt.alloc(), pin.as_str(), want)?;
     }
     Ok(())
 }
 
+fn push_inverter(text: &mut String, number: usize) -> Result<(), AllocError> {
+    write!(
+        text,
+        "  cell (INV{number}) {{ /* one of many */ pin (A) {{ direction : input; }}\n"
+    )?;
+    text.push_str("    pin (Y) { direction : output; function : \"A'\"; } }\n")
+}
+
 // A library of so many cells, each an inverter of two pins.
-fn inverters(alloc: Global, count: usize) -> Result<String, Fail> {
+fn inverters(alloc: Global, count: usize) -> Result<String, AllocError> {
     let mut text = String::new(alloc);
     text.push_str("library (big) {\n")?;
     for number in 0..count {
-        write!(
-            text,
-            "  cell (INV{number}) {{ /* one of many */ pin (A) {{ direction : input; }}\n"
-        )?;
-        text.push_str("    pin (Y) { direction : output; function : \"A'\"; } }\n")?;
+        push_inverter(&mut text, number)?;
     }
     text.push_str("}\n")?;
     Ok(text)
 }
 
 #[test]
-fn a_library_of_250_kilobytes_is_read(rt: HostRuntime) -> Result<(), Fail> {
+fn a_library_of_250_kilobytes_is_read(rt: HostRuntime) -> Result<(), LibFault> {
     let text = inverters(rt.alloc(), 2_200)?;
     assert!(rt; text.len() > 250_000);
     let library = read_lib(rt.alloc(), text.as_bytes())?;
@@ -464,24 +487,26 @@ fn a_library_of_250_kilobytes_is_read(rt: HostRuntime) -> Result<(), Fail> {
 }
 
 // What developers see of the faults that are not in the table of refused texts.
+const SHOWN: &[(GroupFault, &str)] = &[
+    (
+        GroupFault::Syntax(7),
+        "byte 7: no Liberty group goes on like this",
+    ),
+    (
+        GroupFault::Deep(7),
+        "byte 7: a group inside too many others",
+    ),
+    (GroupFault::Memory, "out of memory"),
+];
+
 #[test]
-fn faults_are_shown(rt: HostRuntime) -> Result<(), Fail> {
+fn faults_are_shown(rt: HostRuntime) -> Result<(), AllocError> {
     let memory = LibFault::Memory;
     let shown = format!(in rt.alloc(); "{memory}")?;
-    assert_eq!(rt; shown.as_str(), "out of memory");
-    for (fault, want) in [
-        (
-            GroupFault::Syntax(7),
-            "byte 7: no Liberty group goes on like this",
-        ),
-        (
-            GroupFault::Deep(7),
-            "byte 7: a group inside too many others",
-        ),
-        (GroupFault::Memory, "out of memory"),
-    ] {
+    same(&rt, "memory", shown.as_str(), "out of memory");
+    for (fault, want) in SHOWN {
         let shown = format!(in rt.alloc(); "{fault}")?;
-        assert_eq!(rt; shown.as_str(), want);
+        same(&rt, want, shown.as_str(), want);
     }
     Ok(())
 }

@@ -5,6 +5,8 @@
 #![tactic(auto)]
 
 #[cfg(test)]
+mod expects;
+#[cfg(test)]
 mod multicycles;
 #[cfg(test)]
 mod patterns;

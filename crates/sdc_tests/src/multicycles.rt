@@ -1,10 +1,10 @@
-use crate::scripts::read_text;
+use crate::scripts::is_read;
 use multicycle_text::{lines_read_back, push_line, writable};
-use std::test::Fail;
+use std::alloc::{AllocError, Global};
 
 // By the rules of words, lists and patterns: what may not stand there means something in braces, parts a list, matches more
 // than itself or begins an option.
-const NAMES: [(&str, bool); 18] = [
+const NAMES: &[(&str, bool)] = &[
     ("r1", true),
     ("_", true),
     ("u1/cnt_reg[0]", true),
@@ -28,7 +28,7 @@ const NAMES: [(&str, bool); 18] = [
 #[test]
 fn a_name_is_written_where_it_means_itself(rt: HostRuntime) {
     for (name, want) in NAMES {
-        assert_eq!(rt; writable(name.as_bytes()), want, "{name}");
+        assert!(rt; writable(name.as_bytes()) == *want, "{name}");
     }
 }
 
@@ -40,15 +40,18 @@ const COMMANDS: &str = "1 Multi 2 from cells:r1 to cells:r1
 2 Multi 16 from cells:$x to cells:u1/a_reg[0]
 ";
 
-// The law says it of all lines; this is that the reader finds memory.
-#[test]
-fn two_pairs_are_written_and_read(rt: HostRuntime) -> Result<(), Fail> {
-    let alloc = rt.alloc();
+fn two_lines(alloc: Global) -> Result<Vec<u8>, AllocError> {
     let mut text = Vec::new(alloc);
     push_line(alloc, &mut text, 2, b"r1", b"r1")?;
     push_line(alloc, &mut text, 16, b"$x", b"u1/a_reg[0]")?;
-    lines_read_back();
+    Ok(text)
+}
+
+// The law says it of all lines; this is that the reader finds memory.
+#[test]
+fn two_pairs_are_written_and_read(rt: HostRuntime) -> Result<(), AllocError> {
+    let text = two_lines(rt.alloc())?;
     assert_eq!(rt; text.as_slice(), LINES.as_bytes());
-    assert_eq!(rt; read_text(alloc, LINES)?.as_str(), COMMANDS);
-    Ok(())
+    lines_read_back();
+    is_read(&rt, rt.alloc(), LINES, COMMANDS)
 }

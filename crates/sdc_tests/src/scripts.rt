@@ -1,7 +1,8 @@
+use crate::expects::same;
 use sdc_text::{Class, Exception, Object, Script, SdcFault, What, read_sdc};
 use sdcv_base::{Edge, Kind, Name, Seq};
-use std::alloc::Global;
-use std::test::Fail;
+use std::alloc::{AllocError, Global};
+use std::process::Abort;
 
 fn class_text(class: Class) -> &'static str {
     match class {
@@ -14,32 +15,25 @@ fn class_text(class: Class) -> &'static str {
     }
 }
 
-fn push_object(alloc: Global, out: &mut String, object: &Object) -> Result<(), Fail> {
-    let text = match object {
+fn push_object(out: &mut String, object: &Object) -> Result<(), AllocError> {
+    match object {
         Object::Named(query) => {
             let hier = if query.hier { "hier " } else { "" };
             let class = class_text(query.class);
             let pattern = &query.pattern;
-            format!(in alloc; " {hier}{class}:{pattern}")?
+            write!(out, " {hier}{class}:{pattern}")
         }
-        Object::AllInputs => String::from_str(alloc, " AllInputs")?,
-        Object::AllOutputs => String::from_str(alloc, " AllOutputs")?,
-        Object::AllRegisters => String::from_str(alloc, " AllRegisters")?,
-        Object::AllClocks => String::from_str(alloc, " AllClocks")?,
-    };
-    out.push_str(text.as_str())?;
-    Ok(())
+        Object::AllInputs => out.push_str(" AllInputs"),
+        Object::AllOutputs => out.push_str(" AllOutputs"),
+        Object::AllRegisters => out.push_str(" AllRegisters"),
+        Object::AllClocks => out.push_str(" AllClocks"),
+    }
 }
 
-fn push_objects(
-    alloc: Global,
-    out: &mut String,
-    option: &str,
-    objects: &Seq<Object>,
-) -> Result<(), Fail> {
+fn push_objects(out: &mut String, option: &str, objects: &Seq<Object>) -> Result<(), AllocError> {
     out.push_str(option)?;
     for object in objects.as_slice() {
-        push_object(alloc, out, object)?;
+        push_object(out, object)?;
     }
     Ok(())
 }
@@ -52,89 +46,106 @@ fn from_word(edge: Edge) -> &'static str {
     }
 }
 
-fn push_exception(alloc: Global, out: &mut String, exception: &Exception) -> Result<(), Fail> {
-    let kind = match exception.kind {
-        Kind::False => String::from_str(alloc, "False")?,
-        Kind::Multi(k) => format!(in alloc; "Multi {k}")?,
-    };
-    out.push_str(kind.as_str())?;
-    if let Some(from) = &exception.from {
-        push_objects(alloc, out, from_word(exception.edge), from)?;
+fn push_kind(out: &mut String, kind: Kind) -> Result<(), AllocError> {
+    match kind {
+        Kind::False => out.push_str("False"),
+        Kind::Multi(k) => write!(out, "Multi {k}"),
     }
+}
+
+fn push_given(
+    out: &mut String,
+    option: &str,
+    objects: &Option<Seq<Object>>,
+) -> Result<(), AllocError> {
+    match objects {
+        Some(objects) => push_objects(out, option, objects),
+        None => Ok(()),
+    }
+}
+
+fn push_exception(out: &mut String, exception: &Exception) -> Result<(), AllocError> {
+    push_kind(out, exception.kind)?;
+    push_given(out, from_word(exception.edge), &exception.from)?;
     for through in exception.through.as_slice() {
-        push_objects(alloc, out, " through", through)?;
+        push_objects(out, " through", through)?;
     }
-    if let Some(to) = &exception.to {
-        push_objects(alloc, out, " to", to)?;
-    }
-    Ok(())
+    push_given(out, " to", &exception.to)
 }
 
 fn push_clock(
-    alloc: Global,
     out: &mut String,
     name: &Option<Name>,
     source: &Seq<Object>,
-) -> Result<(), Fail> {
-    let text = match name {
-        Some(name) => format!(in alloc; "Clock {name}")?,
-        None => String::from_str(alloc, "Clock without a name")?,
-    };
-    push_objects(alloc, out, text.as_str(), source)
+) -> Result<(), AllocError> {
+    match name {
+        Some(name) => write!(out, "Clock {name}")?,
+        None => out.push_str("Clock without a name")?,
+    }
+    push_objects(out, "", source)
 }
 
-fn push_what(alloc: Global, out: &mut String, what: &What) -> Result<(), Fail> {
+fn push_what(out: &mut String, what: &What) -> Result<(), AllocError> {
     match what {
-        What::Clock { name, source } => push_clock(alloc, out, name, source),
+        What::Clock { name, source } => push_clock(out, name, source),
         What::Case { value, objects } => {
-            push_objects(
-                alloc,
-                out,
-                if *value { "Case 1" } else { "Case 0" },
-                objects,
-            )
+            push_objects(out, if *value { "Case 1" } else { "Case 0" }, objects)
         }
-        What::Claiming(exception) => push_exception(alloc, out, exception),
-        What::Hold => Ok(out.push_str("Hold")?),
-        What::Aside(name) => {
-            let text = format!(in alloc; "Aside {name}")?;
-            Ok(out.push_str(text.as_str())?)
-        }
-        What::Passed => Ok(out.push_str("Passed")?),
+        What::Claiming(exception) => push_exception(out, exception),
+        What::Hold => out.push_str("Hold"),
+        What::Aside(name) => write!(out, "Aside {name}"),
+        What::Passed => out.push_str("Passed"),
     }
 }
 
 // Each command in a line: its line in the text, and what it is. Objects are a class, a colon and a pattern.
-fn script_text(alloc: Global, script: &Script) -> Result<String, Fail> {
-    let mut out = String::new(alloc);
+fn push_script(out: &mut String, script: &Script) -> Result<(), AllocError> {
     for command in script.commands.as_slice() {
-        let line = format!(in alloc; "{} ", command.line)?;
-        out.push_str(line.as_str())?;
-        push_what(alloc, &mut out, &command.what)?;
+        let line = command.line;
+        write!(out, "{line} ")?;
+        push_what(out, &command.what)?;
         out.push_str("\n")?;
+    }
+    Ok(())
+}
+
+fn push_fault(out: &mut String, fault: &SdcFault) -> Result<(), AllocError> {
+    match fault {
+        SdcFault::Syntax(_) => out.push_str("Syntax"),
+        SdcFault::UnknownCommand(line, word) => write!(out, "UnknownCommand {line} {word}"),
+        SdcFault::UnknownVariable(line, name) => write!(out, "UnknownVariable {line} {name}"),
+        SdcFault::BadOption(line, word) => write!(out, "BadOption {line} {word}"),
+        SdcFault::BadNumber(line, word) => write!(out, "BadNumber {line} {word}"),
+        SdcFault::Memory => out.push_str("Memory"),
+        SdcFault::Deep(place) => write!(out, "Deep {place}"),
+    }
+}
+
+fn read_text(alloc: Global, text: &str) -> Result<String, AllocError> {
+    let mut out = String::new(alloc);
+    match read_sdc(alloc, text.as_bytes()) {
+        Ok(script) => push_script(&mut out, &script)?,
+        Err(fault) => push_fault(&mut out, &fault)?,
     }
     Ok(out)
 }
 
-fn fault_text(alloc: Global, fault: &SdcFault) -> Result<String, Fail> {
-    Ok(match fault {
-        SdcFault::Syntax(_) => String::from_str(alloc, "Syntax")?,
-        SdcFault::UnknownCommand(line, word) => format!(in alloc; "UnknownCommand {line} {word}")?,
-        SdcFault::UnknownVariable(line, name) => format!(in alloc;
-            "UnknownVariable {line} {name}"
-        )?,
-        SdcFault::BadOption(line, word) => format!(in alloc; "BadOption {line} {word}")?,
-        SdcFault::BadNumber(line, word) => format!(in alloc; "BadNumber {line} {word}")?,
-        SdcFault::Memory => String::from_str(alloc, "Memory")?,
-        SdcFault::Deep(place) => format!(in alloc; "Deep {place}")?,
-    })
+pub(crate) fn is_read(
+    rt: &impl Abort,
+    alloc: Global,
+    text: &str,
+    want: &str,
+) -> Result<(), AllocError> {
+    let got = read_text(alloc, text)?;
+    same(rt, text, got.as_str(), want);
+    Ok(())
 }
 
-pub(crate) fn read_text(alloc: Global, text: &str) -> Result<String, Fail> {
-    match read_sdc(alloc, text.as_bytes()) {
-        Ok(script) => script_text(alloc, &script),
-        Err(fault) => fault_text(alloc, &fault),
+fn are_read(rt: &impl Abort, alloc: Global, rows: &[(&str, &str)]) -> Result<(), AllocError> {
+    for (text, want) in rows {
+        is_read(rt, alloc, text, want)?;
     }
+    Ok(())
 }
 
 // Two scripts as tools write them, and what their commands are.
@@ -189,12 +200,8 @@ set_multicycle_path -setup 3 -through u_mul/* -end
 ];
 
 #[test]
-fn scripts_of_tools_are_read(rt: HostRuntime) -> Result<(), Fail> {
-    for (text, want) in TOOLS {
-        let got = read_text(rt.alloc(), text)?;
-        assert_eq!(rt; got.as_str(), *want);
-    }
-    Ok(())
+fn scripts_of_tools_are_read(rt: HostRuntime) -> Result<(), AllocError> {
+    are_read(&rt, rt.alloc(), TOOLS)
 }
 
 // Texts and what they are, worked by hand from the rules of words, lists and commands.
@@ -277,12 +284,8 @@ const READ: &[(&str, &str)] = &[
 ];
 
 #[test]
-fn commands_are_read(rt: HostRuntime) -> Result<(), Fail> {
-    for (text, want) in READ {
-        let got = read_text(rt.alloc(), text)?;
-        assert_eq!(rt; got.as_str(), *want, "{text}");
-    }
-    Ok(())
+fn commands_are_read(rt: HostRuntime) -> Result<(), AllocError> {
+    are_read(&rt, rt.alloc(), READ)
 }
 
 // Texts that are no script, and the fault of each, worked by hand too.
@@ -339,22 +342,18 @@ const REFUSED: &[(&str, &str)] = &[
 ];
 
 #[test]
-fn other_texts_are_refused(rt: HostRuntime) -> Result<(), Fail> {
-    for (text, want) in REFUSED {
-        let got = read_text(rt.alloc(), text)?;
-        assert_eq!(rt; got.as_str(), *want, "{text}");
-    }
-    Ok(())
+fn other_texts_are_refused(rt: HostRuntime) -> Result<(), AllocError> {
+    are_read(&rt, rt.alloc(), REFUSED)
 }
 
-fn push_times(text: &mut String, part: &str, times: usize) -> Result<(), Fail> {
+fn push_times(text: &mut String, part: &str, times: usize) -> Result<(), AllocError> {
     for _ in 0..times {
         text.push_str(part)?;
     }
     Ok(())
 }
 
-fn repeated(alloc: Global, parts: &[(&str, usize)]) -> Result<String, Fail> {
+fn repeated(alloc: Global, parts: &[(&str, usize)]) -> Result<String, AllocError> {
     let mut text = String::new(alloc);
     for (part, times) in parts {
         push_times(&mut text, part, *times)?;
@@ -437,11 +436,10 @@ const NESTED: &[(&[(&str, usize)], &str)] = &[
 ];
 
 #[test]
-fn braces_and_brackets_nest_up_to_256(rt: HostRuntime) -> Result<(), Fail> {
+fn braces_and_brackets_nest_up_to_256(rt: HostRuntime) -> Result<(), AllocError> {
     for (parts, want) in NESTED {
         let text = repeated(rt.alloc(), parts)?;
-        let got = read_text(rt.alloc(), text.as_str())?;
-        assert_eq!(rt; got.as_str(), *want, "{text}");
+        is_read(&rt, rt.alloc(), text.as_str(), want)?;
     }
     Ok(())
 }

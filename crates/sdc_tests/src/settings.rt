@@ -1,9 +1,9 @@
+use crate::expects::same;
 use link_defs::PortName;
 use sdc_settings::{Settings, settings};
 use sdc_text::{Class, Command, Object, Query, Script, What};
 use sdcv_base::{Name, Seq, Setting};
 use std::alloc::{AllocError, Global};
-use std::test;
 
 // A command of a script, by the patterns of its objects. `CellCase` has a pattern of cells, `AllCase` has `all_inputs`.
 #[derive(Clone, Copy)]
@@ -15,11 +15,11 @@ enum Line {
 }
 
 // Inputs `clk`, the bits of a bus `d`, and the reset `rst`.
-const INPUTS: [(&str, &str); 4] = [("clk", ""), ("d[1]", "d"), ("d[0]", "d"), ("rst", "")];
+const INPUTS: &[(&str, &str)] = &[("clk", ""), ("d[1]", "d"), ("d[0]", "d"), ("rst", "")];
 
 // SDC 2.1, create_clock and set_case_analysis, worked by hand: the clock, and the fixed inputs with their values, or the
 // fault. Lines count from 1.
-const CASES: [(&[Line], &str); 14] = [
+const CASES: &[(&[Line], &str)] = &[
     (&[], "none"),
     (&[Line::Clock(&["clk"])], "clk"),
     (&[Line::Clock(&[]), Line::Clock(&["c*"])], "clk"),
@@ -64,15 +64,19 @@ const CASES: [(&[Line], &str); 14] = [
     ),
 ];
 
+fn object(alloc: Global, class: Class, pattern: &str) -> Result<Object, AllocError> {
+    let pattern = Name::new(alloc, pattern.as_bytes())?;
+    Ok(Object::Named(Query {
+        class,
+        hier: false,
+        pattern,
+    }))
+}
+
 fn objects(alloc: Global, class: Class, patterns: &[&str]) -> Result<Seq<Object>, AllocError> {
     let mut objects = Seq::new(alloc);
     for pattern in patterns {
-        let pattern = Name::new(alloc, pattern.as_bytes())?;
-        objects.push(Object::Named(Query {
-            class,
-            hier: false,
-            pattern,
-        }))?;
+        objects.push(object(alloc, class, pattern)?)?;
     }
     Ok(objects)
 }
@@ -109,28 +113,37 @@ fn script(alloc: Global, lines: &[Line]) -> Result<Script, AllocError> {
     Ok(Script { commands })
 }
 
+fn bus_name(alloc: Global, bus: &str) -> Result<Option<Name>, AllocError> {
+    Ok(match bus {
+        "" => None,
+        _ => Some(Name::new(alloc, bus.as_bytes())?),
+    })
+}
+
+fn input(alloc: Global, name: &str, bus: &str) -> Result<PortName, AllocError> {
+    let name = Name::new(alloc, name.as_bytes())?;
+    let bus = bus_name(alloc, bus)?;
+    Ok(PortName { name, bus })
+}
+
 fn inputs(alloc: Global) -> Result<Seq<PortName>, AllocError> {
     let mut inputs = Seq::new(alloc);
     for (name, bus) in INPUTS {
-        inputs.push(PortName {
-            name: Name::new(alloc, name.as_bytes())?,
-            bus: if bus.is_empty() {
-                None
-            } else {
-                Some(Name::new(alloc, bus.as_bytes())?)
-            },
-        })?;
+        inputs.push(input(alloc, name, bus)?)?;
     }
     Ok(inputs)
 }
 
 fn shown(alloc: Global, settings: &Settings) -> Result<String, AllocError> {
-    let mut text = match &settings.clock {
-        Some(name) => format!(in alloc; "{name}")?,
-        None => format!(in alloc; "none")?,
-    };
+    let mut text = String::new(alloc);
+    match &settings.clock {
+        Some(name) => write!(text, "{name}")?,
+        None => text.push_str("none")?,
+    }
     for setting in settings.fixed.as_slice() {
-        text = format!(in alloc; "{text} {}={}", setting.name, setting.value)?;
+        let name = &setting.name;
+        let value = setting.value;
+        write!(text, " {name}={value}")?;
     }
     Ok(text)
 }
@@ -140,17 +153,26 @@ fn resets(alloc: Global) -> Result<Seq<Setting>, AllocError> {
     Seq::one(alloc, Setting { name, value: true })
 }
 
+fn told(
+    alloc: Global,
+    lines: &[Line],
+    inputs: &Seq<PortName>,
+    resets: &Seq<Setting>,
+) -> Result<String, AllocError> {
+    let script = script(alloc, lines)?;
+    match settings(alloc, &script, inputs, resets) {
+        Ok(settings) => shown(alloc, &settings),
+        Err(fault) => format!(in alloc; "{fault}"),
+    }
+}
+
 #[test]
-fn a_script_sets_what_it_says(rt: HostRuntime) -> Result<(), test::Fail> {
-    let alloc = rt.alloc();
-    let inputs = inputs(alloc)?;
-    let resets = resets(alloc)?;
+fn a_script_sets_what_it_says(rt: HostRuntime) -> Result<(), AllocError> {
+    let inputs = inputs(rt.alloc())?;
+    let resets = resets(rt.alloc())?;
     for (lines, want) in CASES {
-        let text = match settings(alloc, &script(alloc, lines)?, &inputs, &resets) {
-            Ok(settings) => shown(alloc, &settings)?,
-            Err(fault) => format!(in alloc; "{fault}")?,
-        };
-        assert_eq!(rt; text.as_str(), want);
+        let text = told(rt.alloc(), lines, &inputs, &resets)?;
+        same(&rt, want, text.as_str(), want);
     }
     Ok(())
 }

@@ -1,8 +1,8 @@
+use crate::expects::same;
 use sdc_values::{Class, Loan, Object, Said, SdcFault, Value, Variables, objects_of, said_words};
-use sdc_words::Commands;
+use sdc_words::{Commands, RawCommand};
 use sdcv_base::{Name, Seq};
-use std::alloc::Global;
-use std::test::Fail;
+use std::alloc::{AllocError, Global};
 
 fn class_name(class: Class) -> &'static str {
     match class {
@@ -15,66 +15,85 @@ fn class_name(class: Class) -> &'static str {
     }
 }
 
-fn show_object(out: &mut String, object: &Object) -> Result<(), Fail> {
+fn show_object(out: &mut String, object: &Object) -> Result<(), AllocError> {
     match object {
         Object::Named(query) => {
             let class = class_name(query.class);
             let hier = if query.hier { "+" } else { ":" };
             let pattern = &query.pattern;
-            write!(out, "|{class}{hier}{pattern}")?;
+            write!(out, "|{class}{hier}{pattern}")
         }
-        Object::AllInputs => write!(out, "|inputs")?,
-        Object::AllOutputs => write!(out, "|outputs")?,
-        Object::AllRegisters => write!(out, "|registers")?,
-        Object::AllClocks => write!(out, "|clocks")?,
+        Object::AllInputs => out.push_str("|inputs"),
+        Object::AllOutputs => out.push_str("|outputs"),
+        Object::AllRegisters => out.push_str("|registers"),
+        Object::AllClocks => out.push_str("|clocks"),
+    }
+}
+
+fn text_value(alloc: Global, text: &str) -> Result<Value, AllocError> {
+    Ok(Value::Text(Name::new(alloc, text.as_bytes())?))
+}
+
+fn objects_value(alloc: Global, text: &str) -> Result<Value, SdcFault> {
+    let said = Said {
+        offset: 0,
+        value: Loan::own(text_value(alloc, text)?),
+    };
+    Ok(Value::Objects(objects_of(alloc, &said)?))
+}
+
+fn set(alloc: Global, vars: &mut Variables, name: &str, value: Value) -> Result<(), AllocError> {
+    vars.set(Name::new(alloc, name.as_bytes())?, value)
+}
+
+// Where `c` is these objects, and `t` the text `x y`.
+fn variables(alloc: Global, objects: Value) -> Result<Variables, AllocError> {
+    let mut vars = Variables::new(alloc);
+    set(alloc, &mut vars, "c", objects)?;
+    set(alloc, &mut vars, "t", text_value(alloc, "x y")?)?;
+    Ok(vars)
+}
+
+fn push_objects(alloc: Global, found: &mut Seq<Object>, word: &Said<'_>) -> Result<(), SdcFault> {
+    for object in objects_of(alloc, word)?.as_slice() {
+        found.push(object.copy(alloc)?)?;
     }
     Ok(())
 }
 
-fn show_fault(out: &mut String, fault: SdcFault) -> Result<(), Fail> {
-    write!(out, "{fault}")?;
-    Ok(())
-}
-
-// Where `c` is the cells a and b, and `t` the text `x y`.
-fn variables(alloc: Global) -> Result<Variables, Fail> {
-    let mut vars = Variables::new(alloc);
-    let cells = Said {
-        offset: 0,
-        value: Loan::own(Value::Text(Name::new(alloc, b"a b")?)),
-    };
-    let objects = objects_of(alloc, &cells)?;
-    vars.set(Name::new(alloc, b"c")?, Value::Objects(objects))?;
-    vars.set(
-        Name::new(alloc, b"t")?,
-        Value::Text(Name::new(alloc, b"x y")?),
-    )?;
-    Ok(vars)
-}
-
-fn said_objects(alloc: Global, vars: &Variables, text: &[u8]) -> Result<Seq<Object>, SdcFault> {
+fn command_objects(
+    alloc: Global,
+    vars: &Variables,
+    command: &RawCommand,
+) -> Result<Seq<Object>, SdcFault> {
+    let said = said_words(alloc, vars, command.line, command.words.as_slice())?;
     let mut found = Seq::new(alloc);
-    if let Some(command) = Commands::new(text).next_command(alloc)? {
-        let said = said_words(alloc, vars, command.line, command.words.as_slice())?;
-        for word in said.as_slice() {
-            for object in objects_of(alloc, word)?.as_slice() {
-                found.push(object.copy(alloc)?)?;
-            }
-        }
+    for word in said.as_slice() {
+        push_objects(alloc, &mut found, word)?;
     }
     Ok(found)
 }
 
+fn said_objects(alloc: Global, vars: &Variables, text: &[u8]) -> Result<Seq<Object>, SdcFault> {
+    match Commands::new(text).next_command(alloc)? {
+        Some(command) => command_objects(alloc, vars, &command),
+        None => Ok(Seq::new(alloc)),
+    }
+}
+
+fn show_objects(out: &mut String, objects: &Seq<Object>) -> Result<(), AllocError> {
+    for object in objects.as_slice() {
+        show_object(out, object)?;
+    }
+    Ok(())
+}
+
 // The objects of all words of a text: a class, a colon, or a plus where it matches below, and a pattern. Else the fault.
-fn listing(alloc: Global, vars: &Variables, text: &str) -> Result<String, Fail> {
+fn listing(alloc: Global, vars: &Variables, text: &str) -> Result<String, AllocError> {
     let mut out = String::new(alloc);
     match said_objects(alloc, vars, text.as_bytes()) {
-        Ok(objects) => {
-            for object in objects.as_slice() {
-                show_object(&mut out, object)?;
-            }
-        }
-        Err(fault) => show_fault(&mut out, fault)?,
+        Ok(objects) => show_objects(&mut out, &objects)?,
+        Err(fault) => write!(out, "{fault}")?,
     }
     Ok(out)
 }
@@ -132,12 +151,13 @@ const SAID: &[(&str, &str)] = &[
     ("[$c]", "byte 1: no SDC command goes on like this"),
 ];
 
+// The objects of `c` are a and b.
 #[test]
-fn words_say_objects(rt: HostRuntime) -> Result<(), Fail> {
-    let vars = variables(rt.alloc())?;
+fn words_say_objects(rt: HostRuntime) -> Result<(), SdcFault> {
+    let vars = variables(rt.alloc(), objects_value(rt.alloc(), "a b")?)?;
     for (text, want) in SAID {
         let got = listing(rt.alloc(), &vars, text)?;
-        assert_eq!(rt; got.as_str(), *want, "{text}");
+        same(&rt, text, got.as_str(), want);
     }
     Ok(())
 }

@@ -1,7 +1,7 @@
+use crate::expects::same;
 use sdc_words::{Commands, Piece, RawCommand, Word, WordFault, cleaned, original};
 use sdcv_base::Seq;
-use std::alloc::Global;
-use std::test::Fail;
+use std::alloc::{AllocError, Global};
 
 fn read_all(alloc: Global, text: &[u8]) -> Result<Seq<RawCommand>, WordFault> {
     let mut found = Seq::new(alloc);
@@ -15,47 +15,62 @@ fn read_all(alloc: Global, text: &[u8]) -> Result<Seq<RawCommand>, WordFault> {
     Ok(found)
 }
 
-fn show_pieces(out: &mut String, pieces: &Seq<Piece>) -> Result<(), Fail> {
+fn show_piece(out: &mut String, piece: &Piece) -> Result<(), AllocError> {
+    match piece {
+        Piece::Bytes(bytes) => write!(out, "{bytes}"),
+        Piece::Variable(name) => write!(out, "<{name}>"),
+    }
+}
+
+fn show_pieces(out: &mut String, pieces: &Seq<Piece>) -> Result<(), AllocError> {
     for piece in pieces.as_slice() {
-        match piece {
-            Piece::Bytes(bytes) => write!(out, "{bytes}")?,
-            Piece::Variable(name) => write!(out, "<{name}>")?,
-        }
+        show_piece(out, piece)?;
     }
     Ok(())
 }
 
-fn show_word(out: &mut String, word: &Word, with_offsets: bool) -> Result<(), Fail> {
-    write!(out, "|")?;
+fn show_offset(out: &mut String, offset: usize, with_offsets: bool) -> Result<(), AllocError> {
+    if with_offsets {
+        write!(out, "|{offset}:")
+    } else {
+        out.push_str("|")
+    }
+}
+
+fn show_word(out: &mut String, word: &Word, with_offsets: bool) -> Result<(), AllocError> {
     match word {
         Word::Text { offset, pieces } => {
-            if with_offsets {
-                write!(out, "{offset}:")?;
-            }
-            show_pieces(out, pieces)?;
+            show_offset(out, *offset, with_offsets)?;
+            show_pieces(out, pieces)
         }
         Word::Opens(offset) => {
-            if with_offsets {
-                write!(out, "{offset}:")?;
-            }
-            write!(out, "[")?;
+            show_offset(out, *offset, with_offsets)?;
+            out.push_str("[")
         }
-        Word::Closes => write!(out, "]")?,
+        Word::Closes => out.push_str("|]"),
+    }
+}
+
+fn show_command(
+    out: &mut String,
+    command: &RawCommand,
+    with_offsets: bool,
+) -> Result<(), AllocError> {
+    let line = command.line;
+    write!(out, "\n{line}")?;
+    for word in command.words.as_slice() {
+        show_word(out, word, with_offsets)?;
     }
     Ok(())
 }
 
 // A line for each command: its line, and its words after a `|` each. A variable is shown as `<name>`, a newline as `?`.
-fn listing(alloc: Global, text: &[u8], with_offsets: bool) -> Result<String, Fail> {
-    let mut out = String::new(alloc);
+fn listing(alloc: Global, text: &[u8], with_offsets: bool) -> Result<String, WordFault> {
     let clean = cleaned(alloc, text)?;
     let commands = read_all(alloc, &clean)?;
+    let mut out = String::new(alloc);
     for command in commands.as_slice() {
-        let line = command.line;
-        write!(out, "\n{line}")?;
-        for word in command.words.as_slice() {
-            show_word(&mut out, word, with_offsets)?;
-        }
+        show_command(&mut out, command, with_offsets)?;
     }
     Ok(out)
 }
@@ -116,13 +131,18 @@ const WORDS: &[(&str, &str)] = &[
 ];
 
 #[test]
-fn commands_have_their_words(rt: HostRuntime) -> Result<(), Fail> {
+fn commands_have_their_words(rt: HostRuntime) -> Result<(), WordFault> {
     for (text, want) in WORDS {
         let found = listing(rt.alloc(), text.as_bytes(), false)?;
-        assert_eq!(rt; found.as_str(), *want, "{text}");
+        same(&rt, text, found.as_str(), want);
     }
+    Ok(())
+}
+
+#[test]
+fn words_have_their_offsets(rt: HostRuntime) -> Result<(), WordFault> {
     let found = listing(rt.alloc(), b" x [a $b] {c}", true)?;
-    assert_eq!(rt; found.as_str(), "\n1|1:x|3:[|4:a|6:<b>|]|10:c");
+    same(&rt, "", found.as_str(), "\n1|1:x|3:[|4:a|6:<b>|]|10:c");
     Ok(())
 }
 
@@ -148,36 +168,42 @@ const REFUSED: &[(&str, usize)] = &[
     ("set_units x\r\nset_false_path -to {a}b\r\n", 35),
 ];
 
+// The place at which a text stops being commands, if it does.
+fn refused_at(alloc: Global, text: &[u8]) -> Result<Option<usize>, AllocError> {
+    let clean = cleaned(alloc, text)?;
+    Ok(match read_all(alloc, &clean) {
+        Err(WordFault::Syntax(place)) => Some(original(text, place)),
+        _ => None,
+    })
+}
+
 #[test]
-fn a_broken_text_is_refused_at_its_place(rt: HostRuntime) -> Result<(), Fail> {
+fn a_broken_text_is_refused_at_its_place(rt: HostRuntime) -> Result<(), AllocError> {
     for (text, want) in REFUSED {
-        let clean = cleaned(rt.alloc(), text.as_bytes())?;
-        match read_all(rt.alloc(), &clean) {
-            Err(WordFault::Syntax(place)) => {
-                assert_eq!(rt; original(text.as_bytes(), place), *want, "{text}");
-            }
-            _ => assert!(rt; false, "{text} is refused"),
-        }
+        let found = refused_at(rt.alloc(), text.as_bytes())?;
+        assert_eq!(rt; found, Some(*want), "{text}");
     }
     Ok(())
 }
 
 // What developers see of each fault.
+const SHOWN: &[(WordFault, &str)] = &[
+    (
+        WordFault::Syntax(7),
+        "byte 7: no SDC command goes on like this",
+    ),
+    (WordFault::Memory, "out of memory"),
+    (
+        WordFault::Deep(8),
+        "byte 8: too many braces and brackets are open",
+    ),
+];
+
 #[test]
-fn faults_are_shown(rt: HostRuntime) -> Result<(), Fail> {
-    for (fault, want) in [
-        (
-            WordFault::Syntax(7),
-            "byte 7: no SDC command goes on like this",
-        ),
-        (WordFault::Memory, "out of memory"),
-        (
-            WordFault::Deep(8),
-            "byte 8: too many braces and brackets are open",
-        ),
-    ] {
+fn faults_are_shown(rt: HostRuntime) -> Result<(), AllocError> {
+    for (fault, want) in SHOWN {
         let shown = format!(in rt.alloc(); "{fault}")?;
-        assert_eq!(rt; shown.as_str(), want);
+        same(&rt, want, shown.as_str(), want);
     }
     Ok(())
 }
