@@ -24,22 +24,29 @@ use Rattle.link_defs.specs.Hierarchy.{cell_of}
 use Rattle.netlist_types.specs.Lawful.{module_of}
 use Rattle.link_defs.specs.Flatten.{Flat, Located, full_names}
 use Rattle.link_defs.specs.Parts.{parts_of}
-use Rattle.link_defs.specs.Circuits.{part_regs, part_outs}
+use Rattle.link_defs.specs.Circuits.{part_regs, part_outs, part_drives}
 use Rattle.link_defs.specs.Designs.{is_on_tree}
 
 -- the output pins of a cell that is modelled
 abbrev pub out_pins : CellKind → List (List ℕ)
 out_pins (kind.Comb outs) = map (λ (o : CombOut). o.name) outs
 out_pins (kind.Flop f) = map (λ (o : FlopOut). o.name) f.outs
-out_pins (kind.Gate g) = []
+out_pins (kind.Gate g) = g.out ∷ []
 out_pins kind.Other = []
 
--- the clock pin of a flop
+-- the clock pin of a flop or a clock gate
 abbrev pub clock_pins : CellKind → List (List ℕ)
 clock_pins (kind.Comb outs) = []
 clock_pins (kind.Flop f) = f.clock ∷ []
-clock_pins (kind.Gate g) = []
+clock_pins (kind.Gate g) = g.clock ∷ []
 clock_pins kind.Other = []
+
+-- the pins that stand on the clock tree: of a clock gate its output too
+abbrev pub tree_pins : CellKind → List (List ℕ)
+tree_pins (kind.Comb outs) = []
+tree_pins (kind.Flop f) = f.clock ∷ []
+tree_pins (kind.Gate g) = g.clock ∷ g.out ∷ []
+tree_pins kind.Other = []
 
 -- a leaf of the flat netlist: its full name, its cell (a primitive has none), and its part
 pub record Leaf : Type 0 where
@@ -77,11 +84,12 @@ leaves_of s lib at = elim at.item [
 abbrev pub leaves : Source → Library → Flat → List Leaf
 leaves s lib flat = flat_map (leaves_of s lib) flat.items
 
--- the pins that read with the input pin at a place of a part: that place of each of its gates, or of its register
+-- the pins that read with the input pin at a place of a part: that place of each of its gates, of its register, or of the gate that a clock
+-- gate becomes, which drives the net of the clock gate's number
 abbrev pub loads : (ℕ → ℕ) → ℕ → ℕ → Part → ℕ → List PinRef
 loads number sources reg (part.Comb buffer ins gates) place = map (λ (g : Gate). GateIn (number g.out - sources) place) gates
 loads number sources reg (part.Flop clock r) place = RegIn reg place ∷ []
-loads number sources reg (part.Gate clock enables out) place = []
+loads number sources reg (part.Gate clock enables out) place = GateIn (number out - sources) place ∷ []
 
 -- the input pins, from a place on
 abbrev pub input_roles : (ℕ → ℕ) → ℕ → ℕ → Part → ℕ → List (List ℕ) → List PinName
@@ -97,11 +105,12 @@ clock_role pin = record { name = pin; role = role.Clock }
 abbrev pub output_role : (ℕ → ℕ) → List ℕ × ℕ → PinName
 output_role number out = record { name = out.0; role = role.Drive (number out.1) }
 
--- the pins of a cell: those of the clock tree are clock pins
+-- the pins of a cell: all of a cell of the clock tree are clock pins
 abbrev pub pin_names : (ℕ → ℕ) → ℕ → List Bool → ℕ → Part → Cell → List PinName
 pin_names number sources tree reg p c =
     if is_on_tree tree p then map clock_role (c.inputs ++ out_pins c.kind)
-    else (input_roles number sources reg p 0 c.inputs ++ map clock_role (clock_pins c.kind) ++ map (output_role number) (zip (out_pins c.kind) (part_outs p)))
+    else (input_roles number sources reg p 0 c.inputs ++ map clock_role (tree_pins c.kind)
+    ++ map (output_role number) (zip (out_pins c.kind) (part_drives p)))
 
 -- the pins of a leaf: a primitive has none
 abbrev pub pins_if_any : (ℕ → ℕ) → ℕ → List Bool → ℕ → Part → Option Cell → List PinName

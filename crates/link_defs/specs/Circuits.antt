@@ -110,6 +110,12 @@ part_outs (part.Comb buffer ins gates) = gate_nets gates
 part_outs (part.Flop clock reg) = reg_nets reg
 part_outs (part.Gate clock enables out) = out ∷ []
 
+-- those that it drives with data: a clock gate drives the clock alone
+abbrev pub part_drives : Part → List ℕ
+part_drives (part.Comb buffer ins gates) = gate_nets gates
+part_drives (part.Flop clock reg) = reg_nets reg
+part_drives (part.Gate clock enables out) = []
+
 -- the nets that its pins read, the clock pin of a register or a clock gate among them
 abbrev pub part_reads : Part → List ℕ
 part_reads (part.Comb buffer ins gates) = ins

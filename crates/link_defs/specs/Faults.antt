@@ -1,5 +1,5 @@
 -- Why a source gives no design: what each refusal says.
-use Rattle.std.specs.Prelude.{◌≡◌, ◌≢◌, ℕ, ◌<◌, ◌==◌, Bool, true, false, List, [], ◌∷◌, ◌++◌, length, map}
+use Rattle.std.specs.Prelude.{◌≡◌, ◌≢◌, ℕ, ◌+◌, ◌<◌, ◌==◌, Bool, true, false, List, [], ◌∷◌, ◌++◌, length, map}
 use Rattle.std.specs.Prelude.{Contains, Some, None, slice_get, count_by}
 use Rattle.sdcv_base.specs.declared.limits.LimitName.{LimitName}
 use Rattle.sdcv_base.specs.declared.limits.LimitName.TheVariants as what
@@ -13,6 +13,8 @@ use Rattle.netlist_types.specs.declared.sources.Wire.TheVariants as wire
 use Rattle.netlist_types.specs.declared.sources.Dir.TheVariants as dir
 use Rattle.cell_types.specs.declared.libraries.Library.{Library}
 use Rattle.cell_types.specs.declared.libraries.Cell.{Cell}
+use Rattle.cell_types.specs.declared.libraries.CellKind.{CellKind}
+use Rattle.cell_types.specs.declared.libraries.CellKind.TheVariants as kind
 use Rattle.link_defs.specs.declared.circuits.Circuit.{Circuit}
 use Rattle.link_defs.specs.declared.options.LinkOptions.{LinkOptions}
 use Rattle.sdcv_base.specs.declared.settings.Setting.{Setting}
@@ -24,6 +26,9 @@ use Rattle.link_defs.specs.Flatten.{Flat, Located, flat_of, full_names}
 use Rattle.link_defs.specs.Circuits.{PortBit, circuit_of, input_bits, output_bits, data_bits, clock_bits, regs_of, clock_of, all_gates, all_drivers}
 use Rattle.link_defs.specs.Circuits.{all_reads, all_data, OnTree, IsTree, IsOnCycle}
 use Rattle.link_defs.specs.Designs.{equations, drivers_by}
+use Rattle.link_defs.specs.Above.{Under}
+use Rattle.link_defs.specs.GateOrders.{clock_parts}
+use Rattle.link_defs.specs.GatedDesigns.{Flop, flops_of}
 use Rattle.link_defs.specs.CellNames.{Leaf, leaves, out_pins, clock_pins}
 
 -- an instance of the flat netlist: its reference, its full name and its connections
@@ -113,19 +118,30 @@ IsWidePrim (item.Inst cell name conns) = ⊥
 IsWidePrim (item.Prim k name outs ins) = 6 < length ins
 IsWidePrim (item.Copy to from) = ⊥
 
--- a cell or primitive with more input pins than six is used
-pub data HasManyPins (s : Source) (lib : Library) (flat : Flat) : Type 0 where
-  Of_cell : (cell : Cell) (full : List ℕ) (conns : List Conn) → IsOfModelled s lib flat cell full conns → 6 < length cell.inputs → HasManyPins s lib flat
-  Of_prim : (at : Located) → Contains flat.items at → IsWidePrim at.item → HasManyPins s lib flat
+-- the most input pins of a cell: the gate that a clock gate becomes may read the one above it too
+abbrev pub most_pins : CellKind → ℕ
+most_pins (kind.Comb outs) = 6
+most_pins (kind.Flop f) = 6
+most_pins (kind.Gate g) = 5
+most_pins kind.Other = 6
+
+-- a cell or primitive with more input pins than it may have is used, or a flop with six of them behind a clock gate, where it reads an
+-- enable too; the number is the most and 1
+pub data HasManyPins (s : Source) (lib : Library) (flat : Flat) (c : Circuit) : ℕ → Type 0 where
+  Of_cell : (cell : Cell) (full : List ℕ) (conns : List Conn) → IsOfModelled s lib flat cell full conns → most_pins cell.kind < length cell.inputs
+      → HasManyPins s lib flat c (most_pins cell.kind + 1)
+  Of_prim : (at : Located) → Contains flat.items at → IsWidePrim at.item → HasManyPins s lib flat c 7
+  Of_gated : (x : Flop) (gate : ℕ) → Contains (flops_of c) x → Under c x.clock (Some gate) → 5 < length x.reg.ins → HasManyPins s lib flat c 6
 
 -- a count above its limit; the number is the limit and 1
 pub data IsAboveLimit (s : Source) (lib : Library) (flat : Flat) (c : Circuit) : LimitName → ℕ → Type 0 where
-  Nets : (tree : List Bool) → IsTree c tree → 200000 < length (drivers_by c (equations tree c)) → IsAboveLimit s lib flat c what.Nets 200001
+  Nets : (tree : List Bool) → IsTree c tree → 200000 < length (drivers_by c (equations tree c)) + length (clock_parts c)
+      → IsAboveLimit s lib flat c what.Nets 200001
   Regs : 20000 < length (regs_of c) → IsAboveLimit s lib flat c what.Registers 20001
   Inputs : 2000 < length c.inputs → IsAboveLimit s lib flat c what.Inputs 2001
   Outputs : 20000 < length c.outputs → IsAboveLimit s lib flat c what.Outputs 20001
   Instances : 1000000 < count_by is_counted flat.items → IsAboveLimit s lib flat c what.Instances 1000001
-  Pins : HasManyPins s lib flat → IsAboveLimit s lib flat c what.Pins 7
+  Pins : (number : ℕ) → HasManyPins s lib flat c number → IsAboveLimit s lib flat c what.Pins number
   Hierarchy : (at : Located) → Contains flat.items at → is_counted at ≡ true → 256 < at.scope.depth → IsAboveLimit s lib flat c what.Hierarchy 257
 
 -- the names of the inputs that are given a value

@@ -67,9 +67,9 @@ abbrev pub inner_scope : Scope → List ℕ → Module → List Conn → ℕ →
 inner_scope scope name m conns first =
     record { prefix = with_slash scope.prefix name; body = m; nets = inner_nets scope.nets m conns first; depth = scope.depth + 1 }
 
--- the pins of a cell that is modelled that are no inputs: outputs, and the clock of a flop
+-- the pins of a cell that is modelled that are no inputs: outputs, and the clock of a flop or a clock gate
 abbrev pub other_pins : Cell → ℕ
-other_pins c = elim c.kind [ kind.Comb outs ↦ length outs | kind.Flop f ↦ length f.outs + 1 | kind.Gate g ↦ 0 | kind.Other ↦ 0 ]
+other_pins c = elim c.kind [ kind.Comb outs ↦ length outs | kind.Flop f ↦ length f.outs + 1 | kind.Gate g ↦ 2 | kind.Other ↦ 0 ]
 
 -- how many flat nets an instance brings: one for each net of its module, or for each pin of its cell
 unfoldable pub inst_nets : Source → Library → List ℕ → ℕ

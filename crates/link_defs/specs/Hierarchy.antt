@@ -19,11 +19,11 @@ use Rattle.netlist_types.specs.Lawful.{module_of}
 unfoldable pub cell_of : Library → List ℕ → Option Cell
 cell_of lib name = find (λ (c : Cell). bytes_eq c.name name) lib.cells
 
--- a cell of this kind can be linked: no clock gate can as yet, and is refused as one that is not modelled
+-- a cell of this kind can be linked
 abbrev pub is_modelled : CellKind → Bool
 is_modelled (kind.Comb outs) = true
 is_modelled (kind.Flop f) = true
-is_modelled (kind.Gate g) = false
+is_modelled (kind.Gate g) = true
 is_modelled kind.Other = false
 
 -- the references of an item: an instance has one

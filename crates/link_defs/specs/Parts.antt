@@ -21,6 +21,7 @@ use Rattle.cell_types.specs.declared.libraries.CellKind.TheVariants as kind
 use Rattle.cell_types.specs.declared.libraries.CombOut.{CombOut}
 use Rattle.cell_types.specs.declared.libraries.Flop.{Flop}
 use Rattle.cell_types.specs.declared.libraries.FlopOut.{FlopOut}
+use Rattle.cell_types.specs.declared.libraries.GateCell.{GateCell}
 use Rattle.link_defs.specs.declared.circuits.Part.{Part}
 use Rattle.link_defs.specs.declared.circuits.Part.TheVariants as part
 use Rattle.link_defs.specs.Hierarchy.{cell_of, wires_of}
@@ -119,7 +120,7 @@ reg_outs nets conns own [] = []
 reg_outs nets conns own (o ∷ os) =
     (record { net = pin_net nets own (wires_of conns o.name); inverted = o.inverted }) ∷ reg_outs nets conns (own + 1) os
 
--- the first of the flat nets for the outputs of a cell; the clock pin of a flop comes after them
+-- the first of the flat nets for the outputs of a cell; the clock pin of a flop or a clock gate comes after them
 abbrev pub outs_from : ℕ → Cell → ℕ
 outs_from first c = first + length c.inputs
 
@@ -138,6 +139,10 @@ flop_reg nets conns first c f = record {
 abbrev pub clock_net : List ℕ → List Conn → ℕ → Cell → Flop → ℕ
 clock_net nets conns first c f = pin_net nets (outs_from first c + length f.outs) (wires_of conns f.clock)
 
+-- that of a clock gate's
+abbrev pub gate_clock : List ℕ → List Conn → ℕ → Cell → GateCell → ℕ
+gate_clock nets conns first c g = pin_net nets (outs_from first c + 1) (wires_of conns g.clock)
+
 -- an instance of a cell
 abbrev pub cell_part : List ℕ → List Conn → ℕ → Cell → List Part
 cell_part nets conns first c = elim c.kind [
@@ -145,16 +150,17 @@ cell_part nets conns first c = elim c.kind [
       let ins = pin_nets nets conns first c.inputs in
       part.Comb (is_buffer_cell c.inputs outs) ins (comb_gates nets conns ins (outs_from first c) outs) ∷ []
   | kind.Flop f ↦ part.Flop (clock_net nets conns first c f) (flop_reg nets conns first c f) ∷ []
-  | kind.Gate g ↦ []
+  | kind.Gate g ↦
+      part.Gate (gate_clock nets conns first c g) (pin_nets nets conns first c.inputs) (pin_net nets (outs_from first c) (wires_of conns g.out)) ∷ []
   | kind.Other ↦ []
 ]
 
--- the constants that its input pins are connected to, and the clock pin of a flop
+-- the constants that its input pins are connected to, and the clock pin of a flop or a clock gate
 abbrev pub cell_ties : List Conn → ℕ → Cell → List Part
 cell_ties conns first c = elim c.kind [
   | kind.Comb outs ↦ pin_ties conns first c.inputs
   | kind.Flop f ↦ pin_ties conns first c.inputs ++ ties (outs_from first c + length f.outs) (wires_of conns f.clock)
-  | kind.Gate g ↦ []
+  | kind.Gate g ↦ pin_ties conns first c.inputs ++ ties (outs_from first c + 1) (wires_of conns g.clock)
   | kind.Other ↦ []
 ]
 

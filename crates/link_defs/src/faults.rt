@@ -31,8 +31,8 @@ pub enum LinkFault {
     /// This net is on a cycle of gates.
     #[error("the net {0} is on a cycle of gates")]
     Loop(Name),
-    /// The clock pin of this register is not on the clock tree after an even number of inversions.
-    #[error("the register {0} is not on the clock")]
+    /// The clock pin of this register or clock gate is not on the clock tree after an even number of inversions.
+    #[error("{0} is not on the clock")]
     NotTheClock(Name),
     /// This net of the clock tree is read as data.
     #[error("the clock's net {0} is read as data")]

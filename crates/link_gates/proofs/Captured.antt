@@ -22,9 +22,9 @@ use Rattle.link_defs.specs.declared.circuits.Part.{Part}
 use Rattle.link_defs.specs.declared.circuits.Part.TheVariants as part
 use Rattle.link_defs.specs.Circuits.{part_regs, regs_of}
 use Rattle.link_defs.specs.Designs.{moved_reg, number_by, drivers_by, shows, captured}
-use Rattle.link_gates.specs.Above.{Under}
-use Rattle.link_gates.specs.GateOrders.{ClockPart, place_in}
-use Rattle.link_gates.specs.GatedDesigns.{Flop, part_flop, flops_of, kept, IsGatedOf}
+use Rattle.link_defs.specs.Above.{Under}
+use Rattle.link_defs.specs.GateOrders.{ClockPart, place_in}
+use Rattle.link_defs.specs.GatedDesigns.{Flop, part_flop, flops_of, kept, IsGatedOf}
 use Rattle.link_gates.proofs.GatePlaces.{map_at}
 use Rattle.link_gates.proofs.Fronts.{front, front_whole, front_bits, front_length, reg_in, reg_ins_below}
 

@@ -6,7 +6,7 @@ use Rattle.std.proofs.lemmas.List.{take_all}
 use Rattle.std.proofs.lemmas.List.Folds.{list_any_more}
 use Rattle.net_model.specs.Form.{OrForm, value}
 use Rattle.link_defs.specs.Parts.{folded}
-use Rattle.link_gates.specs.GatedDesigns.{any_of}
+use Rattle.link_defs.specs.GatedDesigns.{any_of}
 
 -- the first places, or-ed, are 1 where one of them is
 value-folded_or : (v pins : ℕ → Bool) (xs : List ℕ) (n : ℕ) → n < length xs → ((i : ℕ) → i < length xs → pins i ≡ v (slice_index xs i))

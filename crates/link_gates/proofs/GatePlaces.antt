@@ -16,7 +16,7 @@ use Rattle.link_defs.specs.declared.circuits.Part.{Part}
 use Rattle.link_defs.specs.declared.circuits.Part.TheVariants as part
 use Rattle.link_defs.specs.Circuits.{part_gated}
 use Rattle.link_defs.specs.Designs.{number_by}
-use Rattle.link_gates.specs.GateOrders.{ClockPart, part_gate, clock_parts, gate_outs, no_clock_part, IsGateOrderOf}
+use Rattle.link_defs.specs.GateOrders.{ClockPart, part_gate, clock_parts, gate_outs, no_clock_part, IsGateOrderOf}
 use Rattle.link_gates.proofs.Owners.{IsDrivenOnce, gated_once}
 
 -- what stands at a place of a list stands there in the mapped list
@@ -40,7 +40,7 @@ number_is xs n k at alone =
     (λ lt. eq-eqb n (get_or xs k 0) (sym (get_or_from_slice_get xs k n 0 at)))
 
 -- the nets that the clock gates of the parts drive
-gate_outs_are : (parts : List Part) → gate_outs (flat_map part_gate parts) ≡ flat_map part_gated parts
+pub gate_outs_are : (parts : List Part) → gate_outs (flat_map part_gate parts) ≡ flat_map part_gated parts
 gate_outs_are [] = refl
 gate_outs_are (part.Comb buffer ins gates ∷ parts) = gate_outs_are parts
 gate_outs_are (part.Flop clock reg ∷ parts) = gate_outs_are parts
@@ -60,23 +60,23 @@ part_of_gate c k x at =
     Contains-from_In c.parts (part.Gate x.clock x.enables x.out) (subst (λ (q : Part). In q c.parts) (gate_of p x own) stands)
 
 -- and a part that is one has a place among the clock gates
-gate_of_part : (c : Circuit) (x : ClockPart) → Contains c.parts (part.Gate x.clock x.enables x.out) → (k : ℕ) × (slice_get (clock_parts c) k ≡ Some x)
+pub gate_of_part : (c : Circuit) (x : ClockPart) → Contains c.parts (part.Gate x.clock x.enables x.out) → (k : ℕ) × (slice_get (clock_parts c) k ≡ Some x)
 gate_of_part c x stands =
     let p : Part = part.Gate x.clock x.enables x.out in
     at_contains (clock_parts c) x (Contains-from_In (clock_parts c) x (In-flat part_gate x p c.parts (In-from_Contains c.parts p stands) (inl refl)))
 
 -- the clock gate at a place of the order stands among the clock gates of the parts, at the place that the order has there
-record IsFrom (c : Circuit) (places : List ℕ) (k : ℕ) (x : ClockPart) : Type 0 where
-  place : ℕ
-  ordered : slice_get places k ≡ Some place
-  at : slice_get (clock_parts c) place ≡ Some x
+pub record IsFrom (c : Circuit) (places : List ℕ) (k : ℕ) (x : ClockPart) : Type 0 where
+  pub place : ℕ
+  pub ordered : slice_get places k ≡ Some place
+  pub at : slice_get (clock_parts c) place ≡ Some x
 
 -- the order of a circuit's clock gates has each of their places once
 order_is : (c : Circuit) (gates : List ClockPart) (is : IsGateOrderOf c gates) → IsRightOrder is.needs is.places
 order_is c gates is = order_right is.needs is.places is.found
 
 -- each place of the order has such a clock gate
-gate_from : (c : Circuit) (gates : List ClockPart) (is : IsGateOrderOf c gates) (k : ℕ) (x : ClockPart) → slice_get gates k ≡ Some x → IsFrom c is.places k x
+pub gate_from : (c : Circuit) (gates : List ClockPart) (is : IsGateOrderOf c gates) (k : ℕ) (x : ClockPart) → slice_get gates k ≡ Some x → IsFrom c is.places k x
 gate_from c gates is k x at =
     let right = order_is c gates is in
     let (place, ordered, same) = map_from (λ (p : ℕ). slice_index_or (clock_parts c) p no_clock_part) is.places k x

@@ -16,9 +16,9 @@ use Rattle.icg_rewrite.proofs.Settled.{extended, settled_with}
 use Rattle.link_defs.proofs.Solving.{solutions_are, number_within}
 use Rattle.link_defs.specs.declared.circuits.Circuit.{Circuit}
 use Rattle.link_defs.specs.Designs.{number_by, drivers_by, equations, shows, IsSolution}
-use Rattle.link_gates.specs.Above.{Under, Passes}
-use Rattle.link_gates.specs.GateOrders.{ClockPart, place_in}
-use Rattle.link_gates.specs.GatedDesigns.{Flop, flops_of, IsGatedOf, AreGatedSolutions}
+use Rattle.link_defs.specs.Above.{Under, Passes}
+use Rattle.link_defs.specs.GateOrders.{ClockPart, place_in}
+use Rattle.link_defs.specs.GatedDesigns.{Flop, flops_of, IsGatedOf, AreGatedSolutions}
 use Rattle.link_gates.proofs.Owners.{IsDrivenOnce}
 use Rattle.link_gates.proofs.GatePlaces.{false_if}
 use Rattle.link_gates.proofs.Passing.{passes_tells}

@@ -1,7 +1,7 @@
 -- A circuit has one order of its clock gates, and one design with them over one design without.
 use Rattle.std.proofs.Common.{◌≡◌, ℕ, ◌<◌, Bool, false, List, map, length, get_or, refl, ap, subst, sym, ◌∙◌, arith, inl, inr}
 use Rattle.std.specs.Prelude.{Contains, Option, Some, Result, Ok, Err, slice_get, slice_index_or}
-use Rattle.std.proofs.lemmas.List.{length-map, same_lists}
+use Rattle.std.proofs.lemmas.List.{same_lists}
 use Rattle.std.proofs.lemmas.Option.{same_Some, slice_get-get_or}
 use Rattle.net_model.specs.declared.netlist.Gate.{Gate}
 use Rattle.net_model.proofs.Members.{In, In-from_Contains, Contains-from_In, from_flat}
@@ -12,14 +12,12 @@ use Rattle.icg_rewrite.proofs.Lists.{item_at}
 use Rattle.link_defs.specs.declared.circuits.Circuit.{Circuit}
 use Rattle.link_defs.specs.declared.circuits.Part.{Part}
 use Rattle.link_defs.specs.declared.circuits.Part.TheVariants as part
-use Rattle.link_defs.specs.Circuits.{clock_of, OnTree, regs_of}
-use Rattle.link_defs.specs.Designs.{moved_reg, number_by, drivers_by}
-use Rattle.link_gates.specs.Above.{Under}
-use Rattle.link_gates.specs.GateOrders.{ClockPart, clock_parts, no_clock_part, AreGateNeeds, IsGateOrderOf}
-use Rattle.link_gates.specs.GatedDesigns.{Flop, part_flop, flops_of, IsGatedOf}
+use Rattle.link_defs.specs.Circuits.{clock_of, OnTree}
+use Rattle.link_defs.specs.Above.{Under}
+use Rattle.link_defs.specs.GateOrders.{ClockPart, clock_parts, no_clock_part, AreGateNeeds, IsGateOrderOf}
+use Rattle.link_defs.specs.GatedDesigns.{Flop, part_flop, flops_of, IsGatedOf}
 use Rattle.link_gates.proofs.Standing.{tree_is_under}
 use Rattle.link_gates.proofs.GatePlaces.{part_of_gate, part_at}
-use Rattle.link_gates.proofs.Captured.{flop_regs_are}
 
 -- the clock pin of each register and each clock gate is on the clock
 abbrev pub AreClocked : Circuit → Type 0
@@ -65,16 +63,6 @@ order_same c clocked one other first second =
     let places : first.places ≡ second.places = ap (λ (r : Result (List ℕ) ℕ). elim r [ Ok found ↦ found | Err place ↦ first.places ]) both in
     first.is ∙ ap (map (λ (place : ℕ). slice_index_or (clock_parts c) place no_clock_part)) places ∙ sym second.is
 
--- the design has a register for each flop
-flop_count : (c : Circuit) (tree : List Bool) (order : List Gate) (gates : List ClockPart) (g : Gated) → IsGatedOf c tree order gates g
-    → length g.design.regs ≡ length (flops_of c)
-flop_count c tree order gates g is =
-    let number : ℕ → ℕ = number_by (drivers_by c order) in
-    ap length is.design.regs
-    ∙ length-map (regs_of c) (moved_reg number)
-    ∙ ap length (sym (flop_regs_are c.parts))
-    ∙ length-map (flops_of c) (λ (x : Flop). x.reg)
-
 -- designs with one order of clock gates have the same clock gates
 gates_same : (c : Circuit) (x y : List Bool) (order : List Gate) (gates : List ClockPart) → AreClocked c → (one other : Gated)
     → IsGatedOf c x order gates one → IsGatedOf c y order gates other → one.gates ≡ other.gates
@@ -86,21 +74,18 @@ gates_same c x y order gates clocked one other first second =
 
 -- and their registers stand behind the same
 behind_same : (c : Circuit) (x y : List Bool) (order : List Gate) (gates : List ClockPart) → AreClocked c → (one other : Gated)
-    → IsGatedOf c x order gates one → IsGatedOf c y order gates other → length one.of ≡ length one.design.regs
-    → length other.of ≡ length other.design.regs → one.of ≡ other.of
-behind_same c x y order gates clocked one other first second long other_long =
-    let flops = flop_count c x order gates one first in
-    same_at_places one.of other.of (long ∙ flops ∙ sym (other_long ∙ flop_count c y order gates other second)) (λ r low.
-    let (flop, at) = item_at (flops_of c) r (omega (arith, low, long, flops)) in
+    → IsGatedOf c x order gates one → IsGatedOf c y order gates other → one.of ≡ other.of
+behind_same c x y order gates clocked one other first second =
+    same_at_places one.of other.of (first.each ∙ sym second.each) (λ r low.
+    let (flop, at) = item_at (flops_of c) r (omega (arith, low, first.each)) in
     let (up, on) = flop_under c clocked r flop at in first.behind r flop up at on ∙ sym (second.behind r flop up at on))
 
 -- so over one design there is one with clock gates
 pub gated_same : (c : Circuit) (x y : List Bool) (order : List Gate) (gates others : List ClockPart) → AreClocked c → (one other : Gated)
-    → IsGatedOf c x order gates one → IsGatedOf c y order others other → one.design ≡ other.design → length one.of ≡ length one.design.regs
-    → length other.of ≡ length other.design.regs → one ≡ other
-gated_same c x y order gates others clocked one other first second design long other_long =
+    → IsGatedOf c x order gates one → IsGatedOf c y order others other → one.design ≡ other.design → one ≡ other
+gated_same c x y order gates others clocked one other first second design =
     let ordered = order_same c clocked gates others first.ordered second.ordered in
     let moved : IsGatedOf c y order gates other = subst (λ (xs : List ClockPart). IsGatedOf c y order xs other) (sym ordered) second in
     let parts = gates_same c x y order gates clocked one other first moved in
-    let behind = behind_same c x y order gates clocked one other first moved long other_long in
+    let behind = behind_same c x y order gates clocked one other first moved in
     λ i. record { design = design i; gates = parts i; of = behind i }

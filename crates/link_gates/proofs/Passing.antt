@@ -11,9 +11,9 @@ use Rattle.icg_rewrite.specs.declared.clock_gates.Gated.{Gated}
 use Rattle.link_defs.specs.declared.circuits.Circuit.{Circuit}
 use Rattle.link_defs.specs.declared.circuits.Part.TheVariants as part
 use Rattle.link_defs.specs.Designs.{number_by, drivers_by}
-use Rattle.link_gates.specs.Above.{Under, Passes, Ungated, Open}
-use Rattle.link_gates.specs.GateOrders.{ClockPart, place_in, IsGateOrderOf}
-use Rattle.link_gates.specs.GatedDesigns.{IsGatedOf, gate_by}
+use Rattle.link_defs.specs.Above.{Under, Passes, Ungated, Open}
+use Rattle.link_defs.specs.GateOrders.{ClockPart, place_in, IsGateOrderOf}
+use Rattle.link_defs.specs.GatedDesigns.{IsGatedOf, gate_by}
 use Rattle.link_gates.proofs.Owners.{IsDrivenOnce, one_clock_gate}
 use Rattle.link_gates.proofs.Standing.{above_is_one, gate_above}
 use Rattle.link_gates.proofs.GatePlaces.{part_at, at_part, place_is}

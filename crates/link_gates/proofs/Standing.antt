@@ -6,7 +6,7 @@ use Rattle.link_defs.specs.declared.circuits.Circuit.{Circuit}
 use Rattle.link_defs.specs.declared.circuits.Part.TheVariants as part
 use Rattle.link_defs.specs.Circuits.{part_gated, all_gates}
 use Rattle.link_defs.specs.Circuits as net
-use Rattle.link_gates.specs.Above.{Under, Root, Buffered, Behind}
+use Rattle.link_defs.specs.Above.{Under, Root, Buffered, Behind}
 use Rattle.link_gates.proofs.Owners.{IsDrivenOnce, gate_drives, clock_gate_drives, clock_apart, clock_gated_apart, gate_gated_apart, one_reader}
 
 -- lists of one net that are the same have the same net

@@ -6,8 +6,8 @@ use Rattle.sdcv_base.specs.Steps.{after_all}
 use Rattle.graph_order.specs.Orders.{order_of, visited}
 use Rattle.link_defs.specs.declared.circuits.Circuit.{Circuit}
 use Rattle.link_defs.specs.declared.circuits.Part.TheVariants as part
-use Rattle.link_gates.specs.Above.{Under, Root, Behind}
-use Rattle.link_gates.specs.GateOrders.{ClockPart, IsGateOrderOf, AreGateNeeds, clock_parts, place_in, if_any}
+use Rattle.link_defs.specs.Above.{Under, Root, Behind}
+use Rattle.link_defs.specs.GateOrders.{ClockPart, IsGateOrderOf, AreGateNeeds, clock_parts, place_in, if_any}
 use Rattle.link_gates.proofs.Owners.{IsDrivenOnce}
 use Rattle.link_gates.proofs.Standing.{above_is_one}
 

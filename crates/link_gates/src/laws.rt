@@ -1,13 +1,13 @@
 //! Laws of clock gates. They are the contracts of calls that do nothing, for callers that cite them.
-ghost use Rattle.std.specs.Prelude.{◌≡◌, ℕ, ◌≤◌, ◌==◌, Bool, false, List, length, Contains, Some, count_by};
+ghost use Rattle.std.specs.Prelude.{◌≡◌, ℕ, ◌≤◌, ◌==◌, Bool, false, List, Contains, Some, count_by};
 ghost use Rattle.net_model.specs.declared.netlist.Gate.{Gate as GateRecord};
 ghost use Rattle.icg_rewrite.specs.declared.clock_gates.Gated.{Gated as GatedRecord};
 ghost use Rattle.icg_rewrite.specs.Gated.{AreGated};
 ghost use Rattle.icg_rewrite.specs.Rewritten.{rewritten};
 ghost use Rattle.link_defs.specs.declared.circuits.Part.{Part};
 ghost use Rattle.link_defs.specs.Circuits.{all_drivers, clock_of, OnTree};
-ghost use Rattle.link_gates.specs.GateOrders.{ClockPart, IsGateOrderOf};
-ghost use Rattle.link_gates.specs.GatedDesigns.{IsGatedOf, AreGatedSolutions};
+ghost use Rattle.link_defs.specs.GateOrders.{ClockPart, IsGateOrderOf};
+ghost use Rattle.link_defs.specs.GatedDesigns.{IsGatedOf, AreGatedSolutions};
 
 use icg_rewrite::Gated;
 use link_defs::Circuit;
@@ -28,5 +28,5 @@ pub fn gated_is_one(circuit: &Circuit)
     ensures order { (one other : List ClockPart) → IsGateOrderOf circuit.now one → IsGateOrderOf circuit.now other → one ≡ other }
     ensures design { (tree other_tree : List Bool) (order : List GateRecord) (gates other_gates : List ClockPart) (one other : GatedRecord)
         → IsGatedOf circuit.now tree order gates one → IsGatedOf circuit.now other_tree order other_gates other → one.design ≡ other.design
-        → length one.of ≡ length one.design.regs → length other.of ≡ length other.design.regs → one ≡ other }
+        → one ≡ other }
 {}

@@ -1,6 +1,6 @@
-//! What a flat netlist with clock gates means: which clock gate stands above each net of the clock tree, the order of the
-//! clock gates, the design with its clock gates, and what its registers capture. Read `specs/Above.antt` first, then
-//! `GateOrders` and `GatedDesigns`.
+//! Laws of flat netlists with clock gates. What these mean `link_defs` says: `specs/Above.antt` which clock gate stands above
+//! each net of the clock tree, `GateOrders` the order of the clock gates, `GatedDesigns` the design with its clock gates, and
+//! what its registers capture.
 //!
 //! `gated_solutions_are` is the law that links the two meanings of a gated edge: that of the flat netlist, where the clock
 //! comes through to a register or not, and that of the rewritten design, in which its clock gate is an enable.

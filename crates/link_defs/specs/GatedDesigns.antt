@@ -1,5 +1,5 @@
 -- The design of a flat netlist with its clock gates, and what a gated register captures.
-use Rattle.std.specs.Prelude.{◌≡◌, ℕ, zero, suc, Bool, List, [], ◌∷◌, length, map, flat_map, Contains, Option, Some, slice_get}
+use Rattle.std.specs.Prelude.{◌≡◌, ℕ, zero, suc, Bool, List, [], ◌∷◌, ◌++◌, length, map, flat_map, Contains, Option, Some, slice_get}
 use Rattle.net_model.specs.Form.{Form, ZeroForm, PinForm, OrForm}
 use Rattle.net_model.specs.Cycles.{IsSettled, bit_at, reg_capture_in}
 use Rattle.net_model.specs.declared.netlist.Design.{Design}
@@ -13,8 +13,8 @@ use Rattle.link_defs.specs.declared.circuits.Part.TheVariants as part
 use Rattle.link_defs.specs.declared.circuits.Circuit.{Circuit}
 use Rattle.link_defs.specs.Parts.{folded}
 use Rattle.link_defs.specs.Designs.{IsDesignOf, IsSolution, drivers_by, number_by, equations, shows, captured}
-use Rattle.link_gates.specs.Above.{Under, Passes}
-use Rattle.link_gates.specs.GateOrders.{ClockPart, IsGateOrderOf, place_in}
+use Rattle.link_defs.specs.Above.{Under, Passes}
+use Rattle.link_defs.specs.GateOrders.{ClockPart, IsGateOrderOf, place_in, gate_outs}
 
 -- a register of the flat netlist, with the net of its clock pin
 pub record Flop : Type 0 where
@@ -45,10 +45,15 @@ pub record IsGatedOf (c : Circuit) (tree : List Bool) (order : List Gate) (gates
   pub design : IsDesignOf c tree order g.design
   pub ordered : IsGateOrderOf c gates
   pub long : length g.gates ≡ length gates
+  pub each : length g.of ≡ length (flops_of c)
   pub gates_are : (k : ℕ) (x : ClockPart) (up : Option ℕ) → slice_get gates k ≡ Some x → Under c x.clock up
       → slice_get g.gates k ≡ Some (gate_by (number_by (drivers_by c order)) gates x up)
   pub behind : (r : ℕ) (x : Flop) (up : Option ℕ) → slice_get (flops_of c) r ≡ Some x → Under c x.clock up
       → slice_get g.of r ≡ Some (place_in gates up)
+
+-- the nets of the rewritten design by their drivers: after those of the design the enable of each clock gate, by the net that this drives
+abbrev pub enabled_drivers : Circuit → List Gate → List ClockPart → List ℕ
+enabled_drivers c order gates = drivers_by c order ++ gate_outs gates
 
 -- the register with its own bit in the place of its next state: clear and preset act as before
 abbrev pub kept : Reg → Reg

@@ -5,7 +5,7 @@ use Rattle.link_defs.specs.declared.circuits.Part.{Part}
 use Rattle.link_defs.specs.declared.circuits.Part.TheVariants as part
 use Rattle.link_defs.specs.declared.circuits.Circuit.{Circuit}
 use Rattle.link_defs.specs.Designs.{number_by}
-use Rattle.link_gates.specs.Above.{Under}
+use Rattle.link_defs.specs.Above.{Under}
 
 -- a clock gate: the nets of its clock pin and of its enables, and the net that it drives
 pub record ClockPart : Type 0 where

@@ -1,3 +1,0 @@
-pub mod Above
-pub mod GateOrders
-pub mod GatedDesigns
