@@ -1,16 +1,16 @@
 -- The clock gates of a circuit among its parts.
-use Rattle.std.proofs.Common.{◌≡◌, ℕ, zero, suc, ◌<◌, ◌≤◌, ◌==◌, List, [], ◌∷◌, refl, ap, subst, sym, ◌∙◌, inl}
+use Rattle.std.proofs.Common.{◌≡◌, ℕ, zero, suc, ◌<◌, ◌≤◌, ◌==◌, List, [], ◌∷◌, length, refl, ap, subst, sym, ◌∙◌}
 use Rattle.std.specs.Prelude.{Contains, Some, count_by, flat_map, slice_get, slice_index_or, map}
 use Rattle.net_model.specs.Netlist.{AllBelow}
-use Rattle.net_model.proofs.Members.{In-from_Contains, Contains-from_In, In-flat}
+use Rattle.net_model.proofs.Members.{In-from_Contains}
 use Rattle.graph_order.proofs.Marked.{at_contains}
 use Rattle.link_defs.specs.declared.circuits.Circuit.{Circuit}
 use Rattle.link_defs.specs.declared.circuits.Part.{Part}
 use Rattle.link_defs.specs.declared.circuits.Part.TheVariants as part
-use Rattle.link_defs.specs.Circuits.{part_gated}
 use Rattle.link_defs.specs.Designs.{number_by}
-use Rattle.link_gates.specs.Above.{Under}
-use Rattle.link_gates.specs.GateOrders.{ClockPart, part_gate, clock_parts, gate_outs, no_clock_part}
+use Rattle.link_defs.specs.Above.{Under}
+use Rattle.link_defs.specs.GateOrders.{ClockPart, part_gate, clock_parts, gate_outs, no_clock_part}
+use Rattle.link_gates.proofs.GatePlaces.{gate_of_part, gate_outs_are}
 use Rattle.link_gates.proofs.Owners.{IsDrivenOnce, gated_once}
 use Rattle.link_gates.proofs.OneGated.{AreClocked}
 use Rattle.link_gates.proofs.Standing.{gate_above}
@@ -48,26 +48,13 @@ parts_at gates (place ∷ places) =
     ap (λ (x : ClockPart). x ∷ parts_of (map (nets_at gates) places)) (part_at_place gates place)
     ∙ ap (λ (xs : List ClockPart). slice_index_or (parts_of gates) place no_clock_part ∷ xs) (parts_at gates places)
 
--- the nets that clock gates of the parts drive
-outs_are : (parts : List Part) → gate_outs (flat_map part_gate parts) ≡ flat_map part_gated parts
-outs_are [] = refl
-outs_are (part.Comb buffer ins gates ∷ parts) = outs_are parts
-outs_are (part.Flop clock reg ∷ parts) = outs_are parts
-outs_are (part.Gate clock enables out ∷ parts) = ap (λ (ns : List ℕ). out ∷ ns) (outs_are parts)
-
--- each of them is driven by one clock gate
+-- each net is driven by one clock gate at most
 pub outs_once : (c : Circuit) → IsDrivenOnce c → (net : ℕ) → count_by (λ m. m == net) (gate_outs (clock_parts c)) ≤ 1
-outs_once c once net = subst (λ (ns : List ℕ). count_by (λ m. m == net) ns ≤ 1) (sym (outs_are c.parts)) (gated_once c once net)
+outs_once c once net = subst (λ (ns : List ℕ). count_by (λ m. m == net) ns ≤ 1) (sym (gate_outs_are c.parts)) (gated_once c once net)
 
--- and is a net of the circuit
+-- those that clock gates drive are nets of the circuit
 pub outs_below : (c : Circuit) → IsLawfulCircuit c → AllBelow c.nets (gate_outs (clock_parts c))
-outs_below c lawful = subst (λ (ns : List ℕ). AllBelow c.nets ns) (sym (outs_are c.parts)) (gated_below c lawful)
-
--- a part that is a clock gate has a place among them
-gate_of_part : (c : Circuit) (x : ClockPart) → Contains c.parts (part.Gate x.clock x.enables x.out) → (k : ℕ) × (slice_get (clock_parts c) k ≡ Some x)
-gate_of_part c x stands =
-    let p : Part = part.Gate x.clock x.enables x.out in
-    at_contains (clock_parts c) x (Contains-from_In (clock_parts c) x (In-flat part_gate x p c.parts (In-from_Contains c.parts p stands) (inl refl)))
+outs_below c lawful = subst (λ (ns : List ℕ). AllBelow c.nets ns) (sym (gate_outs_are c.parts)) (gated_below c lawful)
 
 -- the clock gate that drives a net has the net's number as its place among the parts
 pub record IsGateTo (c : Circuit) (out : ℕ) : Type 0 where
@@ -102,6 +89,12 @@ pub enables_within : (c : Circuit) → IsLawfulCircuit c → (clock : ℕ) (enab
     → AllBelow c.nets enables
 enables_within c lawful clock enables out stands =
     let p : Part = part.Gate clock enables out in (all_in (IsLawfulPart c.nets) c.parts lawful.parts p (In-from_Contains c.parts p stands)).reads
+
+-- and they are five at most
+pub enables_few : (c : Circuit) → IsLawfulCircuit c → (clock : ℕ) (enables : List ℕ) (out : ℕ) → Contains c.parts (part.Gate clock enables out)
+    → length enables ≤ 5
+enables_few c lawful clock enables out stands =
+    let p : Part = part.Gate clock enables out in (all_in (IsLawfulPart c.nets) c.parts lawful.parts p (In-from_Contains c.parts p stands)).few
 
 -- the clock pin of each part that has one is on the clock
 pub are_clocked : (c : Circuit) → IsClocked c → AreClocked c

@@ -7,7 +7,7 @@ use Rattle.net_model.specs.Form.{Form, OrForm, IsOver}
 use Rattle.net_model.specs.declared.netlist.Gate.{Gate}
 use Rattle.net_model.specs.declared.netlist.Reg.{Reg}
 use Rattle.net_model.proofs.Members.{In, In-from_Contains, Contains-from_In, from_map}
-use Rattle.graph_order.proofs.Marked.{contains_at, at_contains}
+use Rattle.graph_order.proofs.Marked.{at_contains}
 use Rattle.icg_rewrite.specs.Gated.{AreGated, IsGateOf, IsBelowIfAny}
 use Rattle.icg_rewrite.specs.declared.clock_gates.ClockGate.{ClockGate}
 use Rattle.icg_rewrite.specs.declared.clock_gates.Gated.{Gated}
@@ -16,11 +16,11 @@ use Rattle.link_defs.specs.declared.circuits.Circuit.{Circuit}
 use Rattle.link_defs.specs.declared.circuits.Part.{Part}
 use Rattle.link_defs.specs.declared.circuits.Part.TheVariants as part
 use Rattle.link_defs.specs.Circuits.{part_regs, regs_of}
-use Rattle.link_defs.specs.Designs.{number_by, drivers_by, moved_reg, gates_at, IsOrderOf, IsDesignOf}
+use Rattle.link_defs.specs.Designs.{number_by, drivers_by, moved_reg}
 use Rattle.link_defs.specs.Parts.{folded}
-use Rattle.link_gates.specs.Above.{Under}
-use Rattle.link_gates.specs.GateOrders.{ClockPart, clock_parts, place_in, IsGateOrderOf}
-use Rattle.link_gates.specs.GatedDesigns.{Flop, part_flop, flops_of, any_of, gate_by, IsGatedOf}
+use Rattle.link_defs.specs.Above.{Under}
+use Rattle.link_defs.specs.GateOrders.{ClockPart, place_in, IsGateOrderOf}
+use Rattle.link_defs.specs.GatedDesigns.{Flop, part_flop, flops_of, any_of, gate_by, IsGatedOf}
 use Rattle.link_gates.proofs.GatePlaces.{part_at}
 use Rattle.link_gates.proofs.OneGated.{gate_under, flop_under}
 use Rattle.link_design.specs.declared.designs.CircuitDesign.{CircuitDesign}
@@ -30,12 +30,15 @@ use Rattle.link_design.specs.Made.{IsMade}
 use Rattle.link_design.specs.Rows.{IsDriverRow}
 use Rattle.link_design.proofs.Leading.{map_at, map_from}
 use Rattle.link_design.proofs.Parted.{all_in, all_from_in}
+use Rattle.gated_designs.specs.declared.designs.GatedDesign.{GatedDesign}
 use Rattle.gated_designs.specs.declared.nets.GateNets.{GateNets}
+use Rattle.gated_designs.specs.Made.{IsGatedDesign}
 use Rattle.gated_designs.specs.Nets.{part_of, parts_of, outs_of}
-use Rattle.gated_designs.specs.Rows.{number_in, place_above, clock_gate, part_behind}
-use Rattle.gated_designs.proofs.ClockParts.{enables_within, are_clocked}
-use Rattle.gated_designs.proofs.Places.{place_above_is, parent_below, place_below, part_place}
+use Rattle.gated_designs.specs.Rows.{number_in, place_above, clock_gate, part_behind, AreEnabled}
+use Rattle.gated_designs.proofs.ClockParts.{enables_within, enables_few, are_clocked}
+use Rattle.gated_designs.proofs.Places.{place_above_is, parent_below, place_below}
 use Rattle.gated_designs.proofs.Numbered.{enable_driven}
+use Rattle.gated_designs.proofs.EnabledRows.{enabled_row}
 
 -- what is known on the way: the circuit's design, its clock gates in their order, and the row of their places
 pub record IsOnWay (c : Circuit) (made : CircuitDesign) (nets : List GateNets) (row : List ℕ) : Type 0 where
@@ -68,12 +71,6 @@ map_same : (f g : ℕ → ℕ) (xs : List ℕ) → ((n : ℕ) → In n xs → f 
 map_same f g [] same = refl
 map_same f g (x ∷ xs) same = ap (λ (n : ℕ). n ∷ map f xs) (same x (inl refl)) ∙ ap (λ (ns : List ℕ). g x ∷ ns) (map_same f g xs (λ n has. same n (inr has)))
 
--- a circuit and its clock tree have one order of gates
-order_one : (c : Circuit) (tree : List Bool) (a b : List Gate) → IsOrderOf c tree a → IsOrderOf c tree b → a ≡ b
-order_one c tree a b is_a is_b =
-    let same : is_a.places ≡ is_b.places = (let both = sym is_a.found ∙ is_b.found in cc) in
-    is_a.kept ∙ (ap (λ (places : List ℕ). gates_at tree c places) same ∙ sym is_b.kept)
-
 -- the part that a clock gate of the order is
 stands_at : (c : Circuit) (made : CircuitDesign) (nets : List GateNets) (row : List ℕ) → IsOnWay c made nets row → (k : ℕ) (y : GateNets)
     → slice_get nets k ≡ Some y → Contains c.parts (part.Gate y.clock y.enables y.out)
@@ -103,17 +100,15 @@ enable_below c made nets row way k y at n has =
     )
 
 -- a clock gate's numbers are in range
-gate_in : (c : Circuit) (made : CircuitDesign) (nets : List GateNets) (row : List ℕ) → IsOnWay c made nets row
-    → All (λ (x : ClockPart). length x.enables ≤ 5) (clock_parts c) → (k : ℕ) (y : GateNets) → slice_get nets k ≡ Some y
-    → IsGateOf made.design k (clock_gate made.numbers made.above row y)
-gate_in c made nets row way few k y at =
+gate_in : (c : Circuit) (made : CircuitDesign) (nets : List GateNets) (row : List ℕ) → IsOnWay c made nets row → (k : ℕ) (y : GateNets)
+    → slice_get nets k ≡ Some y → IsGateOf made.design k (clock_gate made.numbers made.above row y)
+gate_in c made nets row way k y at =
     let m = way.is in
     let gates : List ClockPart = parts_of nets in
     let here = map_at part_of nets k y at in
-    let (up, on) = gate_under c (are_clocked c m.clocked) (part_of y) (stands_at c made nets row way k y at) in
-    let (place, ordered, there) = part_place c gates way.ordered k (part_of y) here in
-    let five : length y.enables ≤ 5 = all_in (λ (x : ClockPart). length x.enables ≤ 5) (clock_parts c) few (part_of y)
-    (In-from_Contains (clock_parts c) (part_of y) (contains_at (clock_parts c) place (part_of y) there)) in
+    let stands = stands_at c made nets row way k y at in
+    let (up, on) = gate_under c (are_clocked c m.clocked) (part_of y) stands in
+    let five = enables_few c way.lawful y.clock y.enables y.out stands in
     let many : length (map (number_in made.numbers) y.enables) ≡ length y.enables = length-map y.enables (number_in made.numbers) in
     let parent = place_above_is c made.above row gates way.lawful m.above way.row_is y.clock up on in
     record {
@@ -156,9 +151,8 @@ behind_below c made nets row way o has =
     (subst (IsBelowIfAny (length gates)) {x = place_in gates up} (sym place ∙ is) (place_below c gates m.once way.ordered x.clock up on))
 
 -- the design with its clock gates is in range
-pub are_gated : (c : Circuit) (made : CircuitDesign) (nets : List GateNets) (row : List ℕ) → IsOnWay c made nets row
-    → All (λ (x : ClockPart). length x.enables ≤ 5) (clock_parts c) → AreGated (gated_by c made nets row)
-are_gated c made nets row way few =
+are_gated : (c : Circuit) (made : CircuitDesign) (nets : List GateNets) (row : List ℕ) → IsOnWay c made nets row → AreGated (gated_by c made nets row)
+are_gated c made nets row way =
     let m = way.is in
     let move : Reg → Reg = moved_reg (number_by (drivers_by c m.order)) in
     let count : length (map (clock_gate made.numbers made.above row) nets) ≡ length nets = length-map nets (clock_gate made.numbers made.above row) in
@@ -166,7 +160,7 @@ are_gated c made nets row way few =
       sound = m.sound;
       gates = λ k x at.
           let (y, there, is) = map_from (clock_gate made.numbers made.above row) nets k x at in
-          subst (IsGateOf made.design k) is (gate_in c made nets row way few k y there);
+          subst (IsGateOf made.design k) is (gate_in c made nets row way k y there);
       each = behind_many made.above row c.parts ∙ (sym (length-map (regs_of c) move) ∙ sym (ap (λ (rs : List Reg). length rs) m.design_is.regs));
       behind = all_from_in (IsBelowIfAny (length (map (clock_gate made.numbers made.above row) nets))) (flat_map (part_behind made.above row) c.parts)
           (λ o has. subst (λ (n : ℕ). IsBelowIfAny n o) (sym count) (behind_below c made nets row way o has));
@@ -195,6 +189,8 @@ gated_in c made nets row way = record {
   design = way.is.design_is;
   ordered = way.ordered;
   long = length-map nets (clock_gate made.numbers made.above row) ∙ sym (length-map nets part_of);
+  each = ap (λ (xs : List (Option ℕ)). length xs) (behind_are made.above row c.parts)
+      ∙ length-map (flops_of c) (λ (x : Flop). place_above made.above row x.clock);
   gates_are = λ k x up at on.
       let (y, there, is) = map_from part_of nets k x at in
       let under : Under c y.clock up = subst (λ (z : ClockPart). Under c z.clock up) (sym is) on in
@@ -208,30 +204,35 @@ gated_in c made nets row way = record {
       (place_above_is c made.above row (parts_of nets) way.lawful way.is.above way.row_is x.clock up on));
 }
 
--- by any order of the design's gates, as there is one alone
-pub gated_is : (c : Circuit) (made : CircuitDesign) (nets : List GateNets) (row : List ℕ) → IsOnWay c made nets row → (order : List Gate)
-    → IsDesignOf c made.tree order made.design → IsGatedOf c made.tree order (parts_of nets) (gated_by c made nets row)
-gated_is c made nets row way order is =
-    subst (λ (gs : List Gate). IsGatedOf c made.tree gs (parts_of nets) (gated_by c made nets row))
-    (order_one c made.tree way.is.order order way.is.design_is.order_is is.order_is) (gated_in c made nets row way)
-
 -- lists that are equal give the same design
 made_by : (c : Circuit) (made : CircuitDesign) (nets : List GateNets) (row : List ℕ) (gates : List ClockGate) (of : List (Option ℕ))
     → gates ≡ map (clock_gate made.numbers made.above row) nets → of ≡ flat_map (part_behind made.above row) c.parts
     → gated_by c made nets row ≡ record { design = made.design; gates = gates; of = of }
 made_by c made nets row gates of gates_are of_is = rw (gates_are, of_is) refl
 
--- so what is made of the lists is in range
-pub are_gated_by : (c : Circuit) (made : CircuitDesign) (nets : List GateNets) (row : List ℕ) (gates : List ClockGate) (of : List (Option ℕ))
-    → gates ≡ map (clock_gate made.numbers made.above row) nets → of ≡ flat_map (part_behind made.above row) c.parts → IsOnWay c made nets row
-    → All (λ (x : ClockPart). length x.enables ≤ 5) (clock_parts c) → AreGated (record { design = made.design; gates = gates; of = of })
-are_gated_by c made nets row gates of gates_are of_is way few =
-    subst AreGated (made_by c made nets row gates of gates_are of_is) (are_gated c made nets row way few)
+-- the design with clock gates, its clock tree, and the numbers of nets in the rewritten design
+abbrev pub with_numbers : CircuitDesign → List ClockGate → List (Option ℕ) → List ℕ → GatedDesign
+with_numbers made gates of numbers = record {
+  gated = record { design = made.design; gates = gates; of = of };
+  tree = made.tree;
+  numbers = numbers;
+}
 
--- and is the circuit's design with its clock gates
-pub gated_is_by : (c : Circuit) (made : CircuitDesign) (nets : List GateNets) (row : List ℕ) (gates : List ClockGate) (of : List (Option ℕ))
-    → gates ≡ map (clock_gate made.numbers made.above row) nets → of ≡ flat_map (part_behind made.above row) c.parts → IsOnWay c made nets row
-    → (order : List Gate) → IsDesignOf c made.tree order made.design
-    → IsGatedOf c made.tree order (parts_of nets) (record { design = made.design; gates = gates; of = of })
-gated_is_by c made nets row gates of gates_are of_is way order is =
-    subst (IsGatedOf c made.tree order (parts_of nets)) (made_by c made nets row gates of gates_are of_is) (gated_is c made nets row way order is)
+-- what is made of the lists is the circuit's design with its clock gates, by the order of the design's gates
+pub made_is : (c : Circuit) (made : CircuitDesign) (nets : List GateNets) (row : List ℕ) (gates : List ClockGate) (of : List (Option ℕ))
+    (numbers : List ℕ) → gates ≡ map (clock_gate made.numbers made.above row) nets → of ≡ flat_map (part_behind made.above row) c.parts
+    → (way : IsOnWay c made nets row) → AreEnabled made.design.nets made.numbers row (length made.numbers) numbers
+    → IsGatedDesign c way.is.order (with_numbers made gates of numbers)
+made_is c made nets row gates of numbers gates_are of_is way are =
+    let same = made_by c made nets row gates of gates_are of_is in
+    let drivers : List ℕ = drivers_by c way.is.order in
+    record {
+      once = way.is.once;
+      clocked = way.is.clocked;
+      gates = parts_of nets;
+      gated_is = subst (IsGatedOf c made.tree way.is.order (parts_of nets)) same (gated_in c made nets row way);
+      lawful = subst AreGated same (are_gated c made nets row way);
+      numbers =
+          enabled_row drivers (outs_of nets) made.numbers row numbers c.nets way.is.numbers way.row_is
+          (subst (λ (n : ℕ). AreEnabled n made.numbers row (length made.numbers) numbers) way.is.design_is.nets are);
+    }

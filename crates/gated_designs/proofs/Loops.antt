@@ -9,8 +9,8 @@ use Rattle.icg_rewrite.proofs.Lists.{item_at}
 use Rattle.link_defs.specs.declared.circuits.Circuit.{Circuit}
 use Rattle.link_defs.specs.declared.circuits.Part.TheVariants as part
 use Rattle.link_defs.specs.Designs.{number_by}
-use Rattle.link_gates.specs.Above.{Under, Root, Buffered, Behind}
-use Rattle.link_gates.specs.GateOrders.{ClockPart, clock_parts, gate_outs, place_in, if_any, AreGateNeeds}
+use Rattle.link_defs.specs.Above.{Under, Root, Buffered, Behind}
+use Rattle.link_defs.specs.GateOrders.{ClockPart, clock_parts, gate_outs, place_in, if_any, AreGateNeeds}
 use Rattle.link_gates.proofs.GatePlaces.{part_of_gate}
 use Rattle.link_gates.proofs.OneGated.{gate_under}
 use Rattle.link_gates.proofs.Owners.{IsDrivenOnce, one_clock_gate}

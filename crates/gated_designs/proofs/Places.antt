@@ -10,13 +10,12 @@ use Rattle.graph_order.specs.Orders.{order_of}
 use Rattle.graph_order.proofs.Marked.{at_contains}
 use Rattle.graph_order.proofs.Told.{order_right}
 use Rattle.icg_rewrite.specs.Gated.{IsBelowIfAny}
-use Rattle.icg_rewrite.proofs.Lists.{item_at}
 use Rattle.link_defs.specs.declared.circuits.Circuit.{Circuit}
 use Rattle.link_defs.specs.Designs.{number_by}
-use Rattle.link_gates.specs.Above.{Under, IsAboveRow}
-use Rattle.link_gates.specs.GateOrders.{ClockPart, clock_parts, gate_outs, place_in, if_any, no_clock_part, AreGateNeeds, IsGateOrderOf}
+use Rattle.link_defs.specs.Above.{Under, IsAboveRow}
+use Rattle.link_defs.specs.GateOrders.{ClockPart, clock_parts, gate_outs, place_in, if_any, no_clock_part, AreGateNeeds, IsGateOrderOf}
 use Rattle.link_gates.proofs.Owners.{IsDrivenOnce}
-use Rattle.link_gates.proofs.GatePlaces.{part_at, at_part, place_is}
+use Rattle.link_gates.proofs.GatePlaces.{gate_from, part_at, at_part, place_is}
 use Rattle.link_gates.proofs.Standing.{gate_above}
 use Rattle.link_design.specs.Lawful.{IsLawfulCircuit}
 use Rattle.link_design.specs.Rows.{IsDriverRow}
@@ -110,17 +109,6 @@ taken_at (suc k) [] i x at = cc
 taken_at (suc k) (y ∷ xs) zero x at = (omega arith, at)
 taken_at (suc k) (y ∷ xs) (suc i) x at = let (less, there) = taken_at k xs i x at in (omega (arith, less), there)
 
--- a clock gate of the order, at its place among the parts
-pub part_place : (c : Circuit) (gates : List ClockPart) (is : IsGateOrderOf c gates) (k : ℕ) (x : ClockPart) → slice_get gates k ≡ Some x → (place : ℕ)
-    × (slice_get is.places k ≡ Some place) × (slice_get (clock_parts c) place ≡ Some x)
-part_place c gates is k x at =
-    let right = order_right is.needs is.places is.found in
-    let (place, ordered, same) = map_from (λ (p : ℕ). slice_index_or (clock_parts c) p no_clock_part) is.places k x
-    (subst (λ (xs : List ClockPart). slice_get xs k ≡ Some x) is.is at) in
-    let (y, there) = item_at (clock_parts c) place (omega (arith, right.in_range k place ordered, is.needed.long)) in
-    let own : y ≡ x = sym (get_or_from_slice_get (clock_parts c) place y no_clock_part there) ∙ same in
-    (place, ordered, there ∙ ap (λ (z : ClockPart). Some z) own)
-
 -- the clock gate at a place of the order, by its place among the parts
 order_place : (c : Circuit) (gates : List ClockPart) (is : IsGateOrderOf c gates) (j place : ℕ) (x : ClockPart) → slice_get is.places j ≡ Some place
     → slice_get (clock_parts c) place ≡ Some x → slice_get gates j ≡ Some x
@@ -135,13 +123,14 @@ pub parent_below : (c : Circuit) (gates : List ClockPart) → IsDrivenOnce c →
 parent_below c gates once is k x None at on = tt
 parent_below c gates once is k x (Some out) at on =
     let right = order_right is.needs is.places is.found in
-    let (place, ordered, there) = part_place c gates is k x at in
+    let from = gate_from c gates is k x at in
     let to = gate_to c once x.clock out on in
-    let wants : needs_of is.needs place ≡ number_by (gate_outs (clock_parts c)) out ∷ [] =
-    get_or_from_slice_get is.needs place (number_by (gate_outs (clock_parts c)) out ∷ []) [] (is.needed.each place x (Some out) there on) in
-    let asked : Contains (needs_of is.needs place) to.place = subst (λ (ns : List ℕ). Contains ns to.place) (sym wants) (0, omega arith, to.number) in
+    let wants : needs_of is.needs from.place ≡ number_by (gate_outs (clock_parts c)) out ∷ [] =
+    get_or_from_slice_get is.needs from.place (number_by (gate_outs (clock_parts c)) out ∷ []) []
+    (is.needed.each from.place x (Some out) from.at on) in
+    let asked : Contains (needs_of is.needs from.place) to.place = subst (λ (ns : List ℕ). Contains ns to.place) (sym wants) (0, omega arith, to.number) in
     let within = slice_get_within (clock_parts c) to.place to.gate to.at in
-    let before = right.earlier k place to.place ordered asked (omega (arith, within, is.needed.long)) in
+    let before = right.earlier k from.place to.place from.ordered asked (omega (arith, within, is.needed.long)) in
     let (j, first) = at_contains (take k is.places) to.place before in
     let (less, at_j) = taken_at k is.places j to.place first in
     let here = place_is c gates once is j to.gate (order_place c gates is j to.place to.gate at_j to.at) in

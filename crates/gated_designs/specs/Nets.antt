@@ -3,7 +3,7 @@ use Rattle.std.specs.Prelude.{ℕ, List, [], ◌∷◌, map, flat_map, slice_ind
 use Rattle.link_defs.specs.declared.circuits.Part.{Part}
 use Rattle.link_defs.specs.declared.circuits.Part.TheVariants as part
 use Rattle.link_defs.specs.declared.circuits.Circuit.{Circuit}
-use Rattle.link_gates.specs.GateOrders.{ClockPart, gate_outs}
+use Rattle.link_defs.specs.GateOrders.{ClockPart, gate_outs}
 use Rattle.gated_designs.specs.declared.nets.GateNets.{GateNets}
 
 -- the nets of the clock gate that a part is, if it is one

@@ -1,13 +1,13 @@
 -- What stands above a net, by rows over the nets of a circuit.
-use Rattle.std.specs.Prelude.{ℕ, ◌≤◌, ◌==◌, List, [], ◌∷◌, length, map, Option, None, option_map, slice_index_or, count_by}
+use Rattle.std.specs.Prelude.{◌≡◌, ℕ, ◌+◌, ◌<◌, ◌≤◌, ◌==◌, nat_lt, if◌then◌else◌, List, [], ◌∷◌, length, map, Option, Some, None, option_map, slice_get, slice_index_or, count_by}
 use Rattle.icg_rewrite.specs.declared.clock_gates.ClockGate.{ClockGate}
 use Rattle.link_defs.specs.declared.circuits.Part.{Part}
 use Rattle.link_defs.specs.declared.circuits.Part.TheVariants as part
 use Rattle.link_defs.specs.declared.circuits.Circuit.{Circuit}
 use Rattle.link_defs.specs.Circuits.{all_drivers}
-use Rattle.link_gates.specs.Above.{IsAboveRow}
-use Rattle.link_gates.specs.GateOrders.{if_any}
-use Rattle.link_gates.specs.GatedDesigns.{any_of}
+use Rattle.link_defs.specs.Above.{IsAboveRow}
+use Rattle.link_defs.specs.GateOrders.{if_any}
+use Rattle.link_defs.specs.GatedDesigns.{any_of}
 use Rattle.link_design.specs.Lawful.{IsLawfulCircuit}
 use Rattle.link_design.specs.Made.{IsClocked}
 use Rattle.gated_designs.specs.declared.nets.GateNets.{GateNets}
@@ -44,3 +44,12 @@ abbrev pub part_behind : List (Option ℕ) → List ℕ → Part → List (Optio
 part_behind above row (part.Comb buffer ins gates) = []
 part_behind above row (part.Flop clock reg) = place_above above row clock ∷ []
 part_behind above row (part.Gate clock enables out) = []
+
+-- the number of a net in the rewritten design: its own among the design's nets, and else that of the place of its clock gate after these
+abbrev pub enabled_number : ℕ → ℕ → ℕ → ℕ
+enabled_number nets number place = if nat_lt number nets then number else nets + place
+
+-- the first so many nets have their numbers in the rewritten design
+pub record AreEnabled (nets : ℕ) (numbers row : List ℕ) (count : ℕ) (list : List ℕ) : Type 0 where
+  pub len : length list ≡ count
+  pub at : (net : ℕ) → net < count → slice_get list net ≡ Some (enabled_number nets (number_in numbers net) (number_in row net))

@@ -1,41 +1,75 @@
 //! The design of a circuit with its clock gates.
-ghost use Rattle.std.specs.Prelude.{◌≡◌, ◌≤◌, ◌++◌, ℕ, List, IfOk, OnOk, All, length, flat_map};
-ghost use Rattle.net_model.specs.declared.netlist.Gate.{Gate};
+ghost use Rattle.std.specs.Prelude.{◌≡◌, ◌++◌, IfOk, IfErr, OnOk, flat_map};
+ghost use Rattle.net_model.specs.Netlist.{IsSound};
+ghost use Rattle.icg_rewrite.specs.Faults.{HasRoom, IsRewriteCause};
 ghost use Rattle.icg_rewrite.specs.Gated.{AreGated};
-ghost use Rattle.link_defs.specs.Designs.{IsDesignOf};
-ghost use Rattle.link_gates.specs.GateOrders.{ClockPart, clock_parts};
-ghost use Rattle.link_gates.specs.GatedDesigns.{IsGatedOf};
+ghost use Rattle.icg_rewrite.specs.Rewritten.{rewritten};
 ghost use Rattle.link_design.specs.Lawful.{IsLawfulCircuit};
 ghost use Rattle.link_design.specs.Made.{IsMade};
 ghost use Rattle.link_design.specs.declared.designs.Held.{Held};
+ghost use Rattle.gated_designs.specs.Made.{IsGatedDesign};
 ghost use Rattle.gated_designs.specs.Rows.{part_behind};
 
 use crate::enables::clock_gates;
 use crate::orders::ordered_nets;
-use crate::rows::{gate_row, place_above};
-use icg_rewrite::Gated;
+use crate::rows::{enabled_numbers, gate_row, place_above};
+use icg_rewrite::{Gated, RewriteFault, rewrite};
 use link_defs::{Circuit, Part};
 use link_design::CircuitDesign;
+use net_model::Design;
 use sdcv_base::Seq;
 use std::alloc::{AllocError, Global};
 
+/// The design of a circuit with its clock gates, a mark for each net of the clock tree, and for each net of the circuit its
+/// number in the rewritten design: the output of a clock gate has that of its enable. A net of neither has the number of all
+/// nets of the rewritten design.
+#[derive(Drop)]
+pub struct GatedDesign {
+    pub gated: Gated,
+    pub tree: Seq<bool>,
+    pub numbers: Seq<usize>,
+}
+
 /// The design of a circuit with its clock gates, in the order in which each comes after the one above it, and which of them
 /// each register stands behind.
-pub fn gated_of(alloc: Global, circuit: &Circuit, made: CircuitDesign) -> Result<Gated, AllocError>
+pub fn gated_of(
+    alloc: Global,
+    circuit: &Circuit,
+    made: CircuitDesign,
+) -> Result<GatedDesign, AllocError>
     requires lawful { IsLawfulCircuit circuit.now }
     requires made { (held : Held) × IsMade circuit.now held made }
-    requires few { All (λ (x : ClockPart). length x.enables ≤ 5) (clock_parts circuit.now) }
-    ensures gated { IfOk result (λ gated. (order : List Gate) → IsDesignOf circuit.now made.tree order made.design
-        → (gates : List ClockPart) × IsGatedOf circuit.now made.tree order gates gated) }
-    ensures sound { IfOk result AreGated }
-    ensures design { IfOk result (λ gated. gated.design ≡ made.design) }
+    ensures gated { IfOk result (λ g. (held : Held) (m : IsMade circuit.now held made) → IsGatedDesign circuit.now m.order g) }
+    ensures design { IfOk result (λ g. g.gated.design ≡ made.design) }
+    ensures tree { IfOk result (λ g. g.tree ≡ made.tree) }
 {
     let nets = ordered_nets(alloc, circuit, &made.above)?;
     let row = gate_row(alloc, &nets, circuit.nets)?;
     let gates = clock_gates(alloc, &made.numbers, &made.above, &row, &nets)?;
     let of = gates_behind(alloc, circuit, &made.above, &row)?;
-    let CircuitDesign { design, .. } = made;
-    Ok(Gated { design, gates, of })
+    let numbers = enabled_numbers(alloc, &made.numbers, made.design.nets, &row)?;
+    let CircuitDesign { design, tree, .. } = made;
+    let gated = Gated { design, gates, of };
+    Ok(GatedDesign {
+        gated,
+        tree,
+        numbers,
+    })
+}
+
+/// The rewritten design. One without clock gates is its own, and is not copied.
+pub fn with_enables(alloc: Global, gated: Gated) -> Result<Design, RewriteFault>
+    requires { AreGated gated }
+    ensures ok { IfOk result (λ design. design ≡ rewritten gated) }
+    ensures sound { IfOk result IsSound }
+    ensures err { IfErr result (IsRewriteCause gated) }
+    ensures none { OnOk result (HasRoom gated) }
+{
+    if gated.gates.is_empty() {
+        let Gated { design, .. } = gated;
+        return Ok(design);
+    }
+    rewrite(alloc, &gated)
 }
 
 /// Appends the place of the clock gate behind which the register stands that a part is, if it is one.

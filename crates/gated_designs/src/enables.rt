@@ -2,7 +2,7 @@
 ghost use Rattle.std.specs.Prelude.{◌≡◌, ◌-◌, ◌<◌, IfOk, map, zero};
 ghost use Rattle.net_model.specs.Form.{OrForm};
 ghost use Rattle.link_defs.specs.Parts.{folded};
-ghost use Rattle.link_gates.specs.GatedDesigns.{any_of};
+ghost use Rattle.link_defs.specs.GatedDesigns.{any_of};
 ghost use Rattle.gated_designs.specs.Rows.{number_in, clock_gate};
 
 use crate::nets::GateNets;

@@ -4,7 +4,7 @@ ghost use Rattle.net_model.specs.Netlist.{AllBelow};
 ghost use Rattle.graph_order.specs.Needs.{IsOnCycle};
 ghost use Rattle.graph_order.specs.Orders.{order_of};
 ghost use Rattle.link_design.specs.Lawful.{IsLawfulCircuit};
-ghost use Rattle.link_gates.specs.GateOrders.{IsGateOrderOf, if_any};
+ghost use Rattle.link_defs.specs.GateOrders.{IsGateOrderOf, if_any};
 ghost use Rattle.gated_designs.specs.Nets.{parts_of};
 ghost use Rattle.gated_designs.specs.Rows.{IsClockTree, needs_by};
 

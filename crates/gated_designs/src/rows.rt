@@ -1,9 +1,9 @@
 //! Rows over the nets of a circuit, and what stands above a net by them.
-ghost use Rattle.std.specs.Prelude.{◌≡◌, ◌≤◌, ◌==◌, ℕ, IfOk, None, count_by, slice_index_or};
+ghost use Rattle.std.specs.Prelude.{◌≡◌, ◌≤◌, ◌==◌, ℕ, IfOk, None, length, count_by, slice_index_or};
 ghost use Rattle.net_model.specs.Netlist.{AllBelow};
 ghost use Rattle.link_design.specs.Rows.{IsDriverRow};
 ghost use Rattle.gated_designs.specs.Nets.{outs_of};
-ghost use Rattle.gated_designs.specs.Rows.{place_above};
+ghost use Rattle.gated_designs.specs.Rows.{AreEnabled, enabled_number, place_above};
 
 use crate::nets::{GateNets, outs_of};
 use link_design::{CircuitFault, driver_row};
@@ -57,4 +57,39 @@ pub(crate) fn place_above(above: &Seq<Option<usize>>, row: &Seq<usize>, net: usi
         None => None,
         Some(out) => Some(number_in(row, out)),
     }
+}
+
+/// The number of a net in the rewritten design, by its number among so many nets of the design and by the place of the clock
+/// gate that drives it: these come after the design's nets.
+fn enabled_number(nets: usize, number: usize, place: usize) -> Result<usize, AllocError>
+    ensures { IfOk result (λ enabled. enabled ≡ enabled_number nets number place) }
+{
+    if number < nets {
+        return Ok(number);
+    }
+    match nets.checked_add(place) {
+        Some(enabled) => Ok(enabled),
+        // A number does not count so many, and no memory holds them.
+        None => Err(AllocError),
+    }
+}
+
+/// For each net of a circuit its number in the rewritten design, by its number among so many nets of the design and by the
+/// row of the places of clock gates. A net of neither has the number of all nets of the rewritten design.
+pub(crate) fn enabled_numbers(
+    alloc: Global,
+    numbers: &Seq<usize>,
+    nets: usize,
+    row: &Seq<usize>,
+) -> Result<Seq<usize>, AllocError>
+    ensures { IfOk result (AreEnabled nets numbers.now row.now (length numbers.now)) }
+{
+    let mut list = Seq::new(alloc);
+    for net in 0..numbers.len() {
+        let number = number_in(numbers, net);
+        let place = number_in(row, net);
+        let enabled = enabled_number(nets, number, place)?;
+        list.push(enabled)?;
+    }
+    Ok(list)
 }

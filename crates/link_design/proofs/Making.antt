@@ -21,7 +21,7 @@ use Rattle.link_defs.specs.declared.circuits.Part.{Part}
 use Rattle.link_defs.specs.declared.circuits.Part.TheVariants as part
 use Rattle.link_defs.specs.Circuits.{regs_of, all_gates, all_drivers, all_reads, IsTree}
 use Rattle.link_defs.specs.Designs.{equations, kept_gates, drivers_by, number_by, moved_reg, gate_at}
-use Rattle.link_gates.specs.Above.{IsAboveRow}
+use Rattle.link_defs.specs.Above.{IsAboveRow}
 use Rattle.link_design.specs.declared.designs.Held.{Held}
 use Rattle.link_design.specs.declared.numbers.NetNumbers.{NetNumbers}
 use Rattle.link_design.specs.declared.ordered.OrderedGates.{OrderedGates}
@@ -104,7 +104,7 @@ parts_same s t (p ∷ parts) same =
     ap (λ (gs : List Gate). gs ++ flat_map (kept_gates s) parts) (kept_same s t p same) ∙ ap (λ (gs : List Gate). kept_gates t p ++ gs)
     (parts_same s t parts same)
 
-equations_same : (c : Circuit) (s t : List Bool) → IsTree c s → IsTree c t → equations s c ≡ equations t c
+pub equations_same : (c : Circuit) (s t : List Bool) → IsTree c s → IsTree c t → equations s c ≡ equations t c
 equations_same c s t is_s is_t =
     parts_same s t c.parts (λ n. iff_bits (is_marked s n) (is_marked t n) (λ hit. (is_t n).1 ((is_s n).0 hit)) (λ hit. (is_s n).1 ((is_t n).0 hit)))
 

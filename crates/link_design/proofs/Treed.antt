@@ -16,7 +16,7 @@ use Rattle.link_defs.specs.declared.circuits.Circuit.{Circuit}
 use Rattle.link_defs.specs.declared.circuits.Part.TheVariants as part
 use Rattle.link_defs.specs.Circuits.{part_gated, all_gates, all_drivers, OnTree, Root, Buffered, Gated}
 use Rattle.link_defs.specs.Parts.{inverts}
-use Rattle.link_gates.specs.Above.{Under, Root as UnderRoot, Buffered as UnderBuffered, Behind}
+use Rattle.link_defs.specs.Above.{Under, Root as UnderRoot, Buffered as UnderBuffered, Behind}
 use Rattle.link_design.specs.declared.branches.Branch.{Branch}
 use Rattle.link_design.specs.Branches.{root_branch, past_buffer, past_gate, OnBranch, Rooted, AfterBuffer, AfterGate}
 use Rattle.link_design.specs.Lawful.{IsLawfulCircuit, IsLawfulPart, IsLawfulGate}

@@ -17,7 +17,7 @@ use Rattle.link_defs.specs.declared.circuits.Circuit.{Circuit}
 use Rattle.link_defs.specs.declared.circuits.Part.{Part}
 use Rattle.link_defs.specs.declared.circuits.Part.TheVariants as part
 use Rattle.link_defs.specs.Circuits.{part_gates, all_drivers}
-use Rattle.link_gates.specs.Above.{IsAboveRow}
+use Rattle.link_defs.specs.Above.{IsAboveRow}
 use Rattle.link_design.specs.declared.branches.Branch.{Branch}
 use Rattle.link_design.specs.Branches.{root_branch, past_buffer, past_gate, OnBranch, Rooted, AfterBuffer, AfterGate}
 use Rattle.link_design.specs.Lawful.{IsLawfulCircuit, IsLawfulPart, IsLawfulGate}

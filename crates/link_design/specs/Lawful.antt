@@ -30,10 +30,11 @@ pub record IsLawfulFlop (nets clock : ℕ) (reg : Reg) : Type 0 where
   pub few : length reg.ins ≤ 6
   pub over : IsRegOver (length reg.ins + 1) reg
 
--- a clock gate has its nets among so many; it has no function, and so any number of enables
+-- a clock gate has its nets among so many, and at most five enables
 pub record IsLawfulClockGate (nets clock : ℕ) (enables : List ℕ) (out : ℕ) : Type 0 where
   pub clock_net : clock < nets
   pub reads : AllBelow nets enables
+  pub few : length enables ≤ 5
   pub out_net : out < nets
 
 abbrev pub IsLawfulPart : ℕ → Part → Type 0

@@ -7,7 +7,7 @@ use Rattle.link_defs.specs.declared.circuits.Circuit.{Circuit}
 use Rattle.link_defs.specs.declared.circuits.Part.{Part}
 use Rattle.link_defs.specs.Circuits.{clock_of, all_gates, all_drivers, all_reads, all_data, OnTree, IsOnCycle}
 use Rattle.link_defs.specs.Designs.{IsDesignOf, drivers_by, gate_needs}
-use Rattle.link_gates.specs.Above.{IsAboveRow}
+use Rattle.link_defs.specs.Above.{IsAboveRow}
 use Rattle.link_design.specs.declared.designs.CircuitDesign.{CircuitDesign}
 use Rattle.link_design.specs.declared.designs.Held.{Held}
 use Rattle.link_design.specs.declared.ordered.OrderedGates.{OrderedGates}

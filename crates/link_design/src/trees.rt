@@ -2,7 +2,7 @@
 ghost use Rattle.std.specs.Prelude.{◌≡◌, ◌≤◌, ◌==◌, ℕ, count_by, IfOk, IfErr, OnOk};
 ghost use Rattle.std.specs.List.{position};
 ghost use Rattle.link_defs.specs.Circuits.{all_drivers};
-ghost use Rattle.link_gates.specs.Above.{IsAboveRow};
+ghost use Rattle.link_defs.specs.Above.{IsAboveRow};
 ghost use Rattle.link_design.specs.Faults.{IsCause};
 ghost use Rattle.link_design.specs.Lawful.{IsLawfulCircuit};
 ghost use Rattle.link_design.specs.Made.{IsClocked};

@@ -2,7 +2,7 @@ use Rattle.std.proofs.Common.{◌≡◌, ℕ, List, map, subst, sym, ◌∙◌, 
 use Rattle.std.proofs.lemmas.Result.{IfOk-weaker}
 use Rattle.graph_order.specs.Needs.{IsOnCycle}
 use Rattle.graph_order.specs.Orders.{order_of}
-use Rattle.link_gates.specs.GateOrders.{IsGateOrderOf}
+use Rattle.link_defs.specs.GateOrders.{IsGateOrderOf}
 use Rattle.gated_designs.specs.declared.nets.GateNets.{GateNets}
 use Rattle.gated_designs.specs.Nets.{nets_at, parts_of}
 use Rattle.gated_designs.specs.Rows.{needs_by}
