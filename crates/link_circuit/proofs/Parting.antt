@@ -26,6 +26,7 @@ use Rattle.cell_types.specs.declared.libraries.CellKind.{CellKind}
 use Rattle.cell_types.specs.declared.libraries.CellKind.TheVariants as kind
 use Rattle.cell_types.specs.declared.libraries.CombOut.{CombOut}
 use Rattle.cell_types.specs.declared.libraries.Flop.{Flop}
+use Rattle.cell_types.specs.declared.libraries.GateCell.{GateCell}
 use Rattle.cell_types.specs.Libraries.{IsLawful as IsLawfulLibrary, IsLawfulKind, IsLawfulCell, IsLawfulFlop}
 use Rattle.link_defs.specs.declared.circuits.Part.{Part}
 use Rattle.link_defs.specs.declared.circuits.Part.TheVariants as part
@@ -33,8 +34,9 @@ use Rattle.link_defs.specs.declared.faults.LinkFault.{LinkFault}
 use Rattle.link_defs.specs.declared.faults.LinkFault.TheVariants as fault
 use Rattle.link_defs.specs.Hierarchy.{cell_of, is_modelled, wires_of}
 use Rattle.link_defs.specs.Flatten.{Scope, other_pins, own_nets, inst_nets}
-use Rattle.link_defs.specs.Parts.{ties, wire_nets, wire_net, bit_ties, pin_ties, pin_nets, comb_gates, cell_ties, cell_part, inst_parts, item_parts}
-use Rattle.link_defs.specs.Parts.{is_buffer_cell, is_buffer_form, is_buffer_prim, prim_gate, outs_from, clock_net, flop_reg}
+use Rattle.link_defs.specs.Faults.{most_pins}
+use Rattle.link_defs.specs.Parts.{ties, wire_nets, wire_net, bit_ties, pin_ties, pin_net, pin_nets, comb_gates, cell_ties, cell_part, inst_parts, item_parts}
+use Rattle.link_defs.specs.Parts.{is_buffer_cell, is_buffer_form, is_buffer_prim, prim_gate, outs_from, clock_net, flop_reg, gate_clock}
 use Rattle.std.proofs.lemmas.List.Folds.{find_at}
 use Rattle.link_items.specs.Faults.{IsInstFault, IsCellFault, IsFaultless}
 use Rattle.link_items.proofs.Listing.{all_at}
@@ -108,18 +110,44 @@ flop_lawful total nets conns first c f is are widths few room over =
     subst (λ (ps : List Part). All (IsLawfulPart total) (ps ++ cell_part nets conns first c)) (sym ties_are)
     (subst (λ (ps : List Part). All (IsLawfulPart total) (before ++ ps)) (sym part_is) whole)
 
--- a cell that is not refused has at most six inputs
-few_inputs : (c : Cell) (full : List ℕ) (conns : List Conn) → is_modelled c.kind ≡ true
-    → ((e : LinkFault) → e ≢ fault.Memory → IsCellFault c full conns e → ⊥) → length c.inputs ≤ 6
-few_inputs c full conns modelled free = elim (cases_lt 6 (length c.inputs)) [
-  | inl wide ↦ absurd (free (fault.Limit what.Pins 7) (λ e. cc) (modelled, (wide, refl)))
-  | inr few ↦ few
-]
+gate_lawful : (total : ℕ) (nets : List ℕ) (conns : List Conn) (first : ℕ) (c : Cell) (g : GateCell) → c.kind ≡ kind.Gate g
+    → AreConns total nets conns → HasWidths None conns → length c.inputs ≤ 5 → first + (length c.inputs + 2) ≤ total
+    → All (IsLawfulPart total) (cell_ties conns first c ++ cell_part nets conns first c)
+gate_lawful total nets conns first c g is are widths few room =
+    let enables = pin_nets nets conns first c.inputs in
+    let len : length enables ≡ length c.inputs = length_pin_nets nets conns c.inputs first in
+    let own : Part = part.Gate (gate_clock nets conns first c g) enables (pin_net nets (outs_from first c) (wires_of conns g.out)) in
+    let before = pin_ties conns first c.inputs ++ ties (outs_from first c + 1) (wires_of conns g.clock) in
+    let ties_are : cell_ties conns first c ≡ before = rw is refl in
+    let part_is : cell_part nets conns first c ≡ own ∷ [] = rw is refl in
+    let whole : All (IsLawfulPart total) (before ++ own ∷ []) =
+    All-append (IsLawfulPart total) before (own ∷ [])
+    (All-append (IsLawfulPart total) (pin_ties conns first c.inputs) (ties (outs_from first c + 1) (wires_of conns g.clock))
+    (pin_ties_lawful total conns c.inputs first widths (omega (arith, room)))
+    (ties_lawful total (wires_of conns g.clock) (outs_from first c + 1) (omega (arith, room, narrow conns g.clock widths))))
+    (All-cons (IsLawfulPart total) own [] (record {
+      clock_net = pin_below total nets conns (outs_from first c + 1) g.clock are.below (omega (arith, room)) are.wires;
+      reads = pin_nets_below total nets conns c.inputs first are.below are.wires (omega (arith, room));
+      few = omega (arith, len, few);
+      out_net = pin_below total nets conns (outs_from first c) g.out are.below (omega (arith, room)) are.wires;
+    }) (all_none (IsLawfulPart total))) in
+    subst (λ (ps : List Part). All (IsLawfulPart total) (ps ++ cell_part nets conns first c)) (sym ties_are)
+    (subst (λ (ps : List Part). All (IsLawfulPart total) (before ++ ps)) (sym part_is) whole)
+
+-- a cell that is not refused has at most as many inputs as one of its kind may have
+few_inputs : (c : Cell) (k : CellKind) (full : List ℕ) (conns : List Conn) → c.kind ≡ k → is_modelled c.kind ≡ true
+    → ((e : LinkFault) → e ≢ fault.Memory → IsCellFault c full conns e → ⊥) → length c.inputs ≤ most_pins k
+few_inputs c k full conns is modelled free =
+    let few : length c.inputs ≤ most_pins c.kind = elim (cases_lt (most_pins c.kind) (length c.inputs)) [
+      | inl wide ↦ absurd (free (fault.Limit what.Pins (most_pins c.kind + 1)) (λ e. cc) (modelled, (wide, refl)))
+      | inr few ↦ few
+    ] in
+    subst (λ (k : CellKind). length c.inputs ≤ most_pins k) is few
 
 pins_of : CellKind → ℕ
 pins_of (kind.Comb outs) = length outs
 pins_of (kind.Flop f) = length f.outs + 1
-pins_of (kind.Gate g) = 0
+pins_of (kind.Gate g) = 2
 pins_of kind.Other = 0
 
 other_is : (c : Cell) (k : CellKind) → c.kind ≡ k → other_pins c ≡ pins_of k
@@ -136,14 +164,14 @@ cell_lawful : (total : ℕ) (nets : List ℕ) (full : List ℕ) (conns : List Co
     → All (IsLawfulPart total) (cell_ties conns first c ++ cell_part nets conns first c)
 unfolding pins_of
 cell_lawful total nets full conns first c (kind.Comb outs) is free are widths room over =
-    comb_lawful total nets conns first c outs is are widths (few_inputs c full conns (rw is refl) free)
+    comb_lawful total nets conns first c outs is are widths (few_inputs c (kind.Comb outs) full conns is (rw is refl) free)
     (omega (arith, room, other_is c (kind.Comb outs) is)) over
 cell_lawful total nets full conns first c (kind.Flop f) is free are widths room over =
-    flop_lawful total nets conns first c f is are widths (few_inputs c full conns (rw is refl) free)
+    flop_lawful total nets conns first c f is are widths (few_inputs c (kind.Flop f) full conns is (rw is refl) free)
     (omega (arith, room, other_is c (kind.Flop f) is)) over
 cell_lawful total nets full conns first c (kind.Gate g) is free are widths room over =
-    let none : cell_ties conns first c ++ cell_part nets conns first c ≡ [] = rw is refl in
-    subst (λ (ps : List Part). All (IsLawfulPart total) ps) (sym none) (all_none (IsLawfulPart total))
+    gate_lawful total nets conns first c g is are widths (few_inputs c (kind.Gate g) full conns is (rw is refl) free)
+    (omega (arith, room, other_is c (kind.Gate g) is))
 cell_lawful total nets full conns first c kind.Other is free are widths room over =
     let none : cell_ties conns first c ++ cell_part nets conns first c ≡ [] = rw is refl in
     subst (λ (ps : List Part). All (IsLawfulPart total) ps) (sym none) (all_none (IsLawfulPart total))

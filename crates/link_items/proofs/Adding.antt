@@ -28,7 +28,7 @@ use Rattle.link_items.specs.declared.netlists.Referent.TheVariants as to
 use Rattle.link_items.specs.declared.made.Instance.{Instance}
 use Rattle.link_items.specs.declared.made.Made.{Made}
 use Rattle.link_items.specs.declared.prims.Terminals.{Terminals}
-use Rattle.link_items.specs.Cells.{comb_part, flop_part}
+use Rattle.link_items.specs.Cells.{comb_part, flop_part, gate_part}
 use Rattle.link_items.specs.Faults.{IsModuleFault, IsCellFault, IsUnknownFault, IsInstFault, IsItemFault, IsFaultless}
 use Rattle.link_items.specs.Fine.{IsFineModule, IsFineCell}
 use Rattle.link_items.specs.Items.{module_at, scope_of, AreLeavesAt, IsAdded, IsInner}
@@ -124,7 +124,7 @@ leaves_cell s lib scope cell name conns first c none is =
 abbrev kind_part : List ℕ → List Conn → ℕ → Cell → CellKind → List Part
 kind_part nets conns first c (kind.Comb outs) = comb_part nets conns first c outs ∷ []
 kind_part nets conns first c (kind.Flop f) = flop_part nets conns first c f ∷ []
-kind_part nets conns first c (kind.Gate g) = []
+kind_part nets conns first c (kind.Gate g) = gate_part nets conns first c g ∷ []
 kind_part nets conns first c kind.Other = []
 
 kind_part_is : (nets : List ℕ) (conns : List Conn) (first : ℕ) (c : Cell) (k : CellKind) → c.kind ≡ k → cell_part nets conns first c ≡ kind_part nets conns
@@ -138,7 +138,7 @@ one_part : (nets : List ℕ) (conns : List Conn) (first : ℕ) (c : Cell) (k : C
     → (p : Part) × (cell_part nets conns first c ≡ p ∷ [])
 one_part nets conns first c (kind.Comb outs) is modelled = (comb_part nets conns first c outs, kind_part_is nets conns first c (kind.Comb outs) is)
 one_part nets conns first c (kind.Flop f) is modelled = (flop_part nets conns first c f, kind_part_is nets conns first c (kind.Flop f) is)
-one_part nets conns first c (kind.Gate g) is modelled = let no : false ≡ true = rw is at modelled in absurd cc
+one_part nets conns first c (kind.Gate g) is modelled = (gate_part nets conns first c g, kind_part_is nets conns first c (kind.Gate g) is)
 one_part nets conns first c kind.Other is modelled = let no : false ≡ true = rw is at modelled in absurd cc
 
 -- an instance of a module

@@ -1,5 +1,5 @@
 -- Refusals of an item: their causes in a flat netlist, and that an item without them has none.
-use Rattle.std.proofs.Common.{◌≡◌, ◌≢◌, ℕ, ◌≤◌, true, false, List, ◌++◌, length, All, Some, None, refl, sym, subst, arith}
+use Rattle.std.proofs.Common.{◌≡◌, ◌≢◌, ℕ, ◌+◌, ◌≤◌, true, false, List, ◌++◌, length, All, Some, None, refl, sym, subst, arith}
 use Rattle.std.specs.Prelude.{Option, Contains, slice_get}
 use Rattle.std.proofs.lemmas.List.Elements.{All-contains, All-append}
 use Rattle.sdcv_base.specs.declared.limits.LimitName.{LimitName}
@@ -24,7 +24,7 @@ use Rattle.link_defs.specs.declared.faults.LinkFault.TheVariants as fault
 use Rattle.link_defs.specs.Hierarchy.{cell_of, is_modelled}
 use Rattle.link_defs.specs.Flatten.{Flat, Scope}
 use Rattle.link_defs.specs.CellNames.{out_pins, clock_pins}
-use Rattle.link_defs.specs.Faults.{in_pins, all_pins, IsFlatCause, IsInstance, IsOfModule, IsOfCell, IsOfModelled}
+use Rattle.link_defs.specs.Faults.{in_pins, all_pins, most_pins, IsFlatCause, IsInstance, IsOfModule, IsOfCell, IsOfModelled}
 use Rattle.link_defs.specs.Faults.{IsUnknownPin, IsOpenInput, HasManyDrivers, HasManyPins, IsAboveLimit}
 use Rattle.link_items.specs.Faults.{IsModuleFault, IsPinFault, IsCellFault, IsUnknownFault, IsInstFault, IsPrimFault, IsCopyFault, IsItemFault}
 use Rattle.link_items.specs.Faults.{IsWide, IsCauseWithin}
@@ -71,17 +71,17 @@ module_fine m full conns fine (fault.Limit kind number) other bad = bad
 module_fine m full conns fine (fault.BadSetting name) other bad = bad
 module_fine m full conns fine fault.Memory other bad = other refl
 
-wide_not : (inputs : ℕ) (kind : LimitName) (number : ℕ) → inputs ≤ 6 → IsWide inputs kind number → ⊥
-wide_not inputs what.Nets number few wide = wide
-wide_not inputs what.Registers number few wide = wide
-wide_not inputs what.Inputs number few wide = wide
-wide_not inputs what.Outputs number few wide = wide
-wide_not inputs what.Instances number few wide = wide
-wide_not inputs what.Pins number few wide = omega (arith, wide.0)
-wide_not inputs what.Through number few wide = wide
-wide_not inputs what.Pairs number few wide = wide
-wide_not inputs what.Judged number few wide = wide
-wide_not inputs what.Hierarchy number few wide = wide
+wide_not : (most inputs : ℕ) (kind : LimitName) (number : ℕ) → inputs ≤ most → IsWide most inputs kind number → ⊥
+wide_not most inputs what.Nets number few wide = wide
+wide_not most inputs what.Registers number few wide = wide
+wide_not most inputs what.Inputs number few wide = wide
+wide_not most inputs what.Outputs number few wide = wide
+wide_not most inputs what.Instances number few wide = wide
+wide_not most inputs what.Pins number few wide = omega (arith, wide.0)
+wide_not most inputs what.Through number few wide = wide
+wide_not most inputs what.Pairs number few wide = wide
+wide_not most inputs what.Judged number few wide = wide
+wide_not most inputs what.Hierarchy number few wide = wide
 
 -- a pin that must be connected is, in a fine instance
 connected_in : (conns : List Conn) (cell : Cell) (pin : List ℕ) → IsFineCell conns cell → Contains (in_pins cell) pin → is_open conns pin ≡ false
@@ -108,7 +108,7 @@ pins_fine cell full conns fine (fault.ClockAsData name) other bad = bad
 pins_fine cell full conns fine (fault.Recursive name) other bad = bad
 pins_fine cell full conns fine (fault.NameClash name) other bad = bad
 pins_fine cell full conns fine (fault.NoTop number) other bad = bad
-pins_fine cell full conns fine (fault.Limit kind number) other bad = wide_not (length cell.inputs) kind number fine.few bad
+pins_fine cell full conns fine (fault.Limit kind number) other bad = wide_not (most_pins cell.kind) (length cell.inputs) kind number fine.few bad
 pins_fine cell full conns fine (fault.BadSetting name) other bad = bad
 pins_fine cell full conns fine fault.Memory other bad = other refl
 
@@ -165,7 +165,7 @@ prim_fine inputs few (fault.ClockAsData name) other bad = bad
 prim_fine inputs few (fault.Recursive name) other bad = bad
 prim_fine inputs few (fault.NameClash name) other bad = bad
 prim_fine inputs few (fault.NoTop number) other bad = bad
-prim_fine inputs few (fault.Limit kind number) other bad = wide_not inputs kind number few bad
+prim_fine inputs few (fault.Limit kind number) other bad = wide_not 6 inputs kind number few bad
 prim_fine inputs few (fault.BadSetting name) other bad = bad
 prim_fine inputs few fault.Memory other bad = other refl
 
@@ -212,26 +212,29 @@ module _ (s : Source) (lib : Library) (o : LinkOptions) (top : Module) (flat : F
   module_cause m full conns of (fault.BadSetting name) bad = absurd bad
   module_cause m full conns of fault.Memory bad = tt
 
-  wide_cause : HasManyPins s lib flat → (inputs : ℕ) (kind : LimitName) (number : ℕ) → IsWide inputs kind number → IsAboveLimit s lib flat circuit kind number
-  wide_cause has inputs what.Nets number wide = absurd wide
-  wide_cause has inputs what.Registers number wide = absurd wide
-  wide_cause has inputs what.Inputs number wide = absurd wide
-  wide_cause has inputs what.Outputs number wide = absurd wide
-  wide_cause has inputs what.Instances number wide = absurd wide
-  wide_cause has inputs what.Pins number wide = subst (λ (n : ℕ). IsAboveLimit s lib flat circuit what.Pins n) (sym wide.1) (IsAboveLimit.Pins has)
-  wide_cause has inputs what.Through number wide = absurd wide
-  wide_cause has inputs what.Pairs number wide = absurd wide
-  wide_cause has inputs what.Judged number wide = absurd wide
-  wide_cause has inputs what.Hierarchy number wide = absurd wide
+  wide_cause : (most : ℕ) → HasManyPins s lib flat circuit (most + 1) → (inputs : ℕ) (kind : LimitName) (number : ℕ) → IsWide most inputs kind number
+      → IsAboveLimit s lib flat circuit kind number
+  wide_cause most has inputs what.Nets number wide = absurd wide
+  wide_cause most has inputs what.Registers number wide = absurd wide
+  wide_cause most has inputs what.Inputs number wide = absurd wide
+  wide_cause most has inputs what.Outputs number wide = absurd wide
+  wide_cause most has inputs what.Instances number wide = absurd wide
+  wide_cause most has inputs what.Pins number wide =
+      subst (λ (n : ℕ). IsAboveLimit s lib flat circuit what.Pins n) (sym wide.1) (IsAboveLimit.Pins (most + 1) has)
+  wide_cause most has inputs what.Through number wide = absurd wide
+  wide_cause most has inputs what.Pairs number wide = absurd wide
+  wide_cause most has inputs what.Judged number wide = absurd wide
+  wide_cause most has inputs what.Hierarchy number wide = absurd wide
 
   many_pins : (cell : Cell) (full : List ℕ) (conns : List Conn) → IsOfModelled s lib flat cell full conns → (kind : LimitName) (number : ℕ)
-      → IsWide (length cell.inputs) kind number → IsAboveLimit s lib flat circuit kind number
+      → IsWide (most_pins cell.kind) (length cell.inputs) kind number → IsAboveLimit s lib flat circuit kind number
   many_pins cell full conns of what.Nets number wide = absurd wide
   many_pins cell full conns of what.Registers number wide = absurd wide
   many_pins cell full conns of what.Inputs number wide = absurd wide
   many_pins cell full conns of what.Outputs number wide = absurd wide
   many_pins cell full conns of what.Instances number wide = absurd wide
-  many_pins cell full conns of what.Pins number wide = wide_cause (HasManyPins.Of_cell cell full conns of wide.0) (length cell.inputs) what.Pins number wide
+  many_pins cell full conns of what.Pins number wide =
+      wide_cause (most_pins cell.kind) (HasManyPins.Of_cell cell full conns of wide.0) (length cell.inputs) what.Pins number wide
   many_pins cell full conns of what.Through number wide = absurd wide
   many_pins cell full conns of what.Pairs number wide = absurd wide
   many_pins cell full conns of what.Judged number wide = absurd wide
@@ -306,14 +309,14 @@ module _ (s : Source) (lib : Library) (o : LinkOptions) (top : Module) (flat : F
 
   prim_limit : (scope : Scope) (k : PrimKind) (own : Option (List ℕ)) (outs : List ℕ) (ins : List Wire) (first : ℕ)
       → Contains flat.items (record { scope = scope; item = item.Prim k own outs ins; first = first }) → (kind : LimitName) (number : ℕ)
-      → IsWide (length ins) kind number → IsAboveLimit s lib flat circuit kind number
+      → IsWide 6 (length ins) kind number → IsAboveLimit s lib flat circuit kind number
   prim_limit scope k own outs ins first has what.Nets number wide = absurd wide
   prim_limit scope k own outs ins first has what.Registers number wide = absurd wide
   prim_limit scope k own outs ins first has what.Inputs number wide = absurd wide
   prim_limit scope k own outs ins first has what.Outputs number wide = absurd wide
   prim_limit scope k own outs ins first has what.Instances number wide = absurd wide
   prim_limit scope k own outs ins first has what.Pins number wide =
-      wide_cause (HasManyPins.Of_prim (record { scope = scope; item = item.Prim k own outs ins; first = first }) has wide.0) (length ins) what.Pins number
+      wide_cause 6 (HasManyPins.Of_prim (record { scope = scope; item = item.Prim k own outs ins; first = first }) has wide.0) (length ins) what.Pins number
       wide
   prim_limit scope k own outs ins first has what.Through number wide = absurd wide
   prim_limit scope k own outs ins first has what.Pairs number wide = absurd wide

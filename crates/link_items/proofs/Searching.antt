@@ -13,9 +13,6 @@ use Rattle.netlist_types.specs.declared.sources.Conn.{Conn}
 use Rattle.netlist_types.specs.declared.sources.Wire.{Wire}
 use Rattle.netlist_types.specs.declared.sources.Wire.TheVariants as wire
 use Rattle.cell_types.specs.declared.libraries.Cell.{Cell}
-use Rattle.cell_types.specs.declared.libraries.CellKind.{CellKind}
-use Rattle.cell_types.specs.declared.libraries.CellKind.TheVariants as kind
-use Rattle.cell_types.specs.declared.libraries.Flop.{Flop}
 use Rattle.link_defs.specs.Hierarchy.{wires_of}
 use Rattle.link_defs.specs.CellNames.{clock_pins}
 use Rattle.link_defs.specs.Faults.{in_pins}
@@ -135,8 +132,7 @@ pub in_tied : (conns : List Conn) (pin : List ℕ) (bit : Bool) → Contains (wi
 in_tied conns pin bit has =
     let (k, at) = place_of_item (wires_of conns pin) (wire.Const bit) has in const_at (wires_of conns pin) k bit at
 
--- the clock pin of a flop must be connected
-pub clock_in : (cell : Cell) (f : Flop) → cell.kind ≡ kind.Flop f → Contains (in_pins cell) f.clock
-clock_in cell f is =
-    Contains-append_right cell.inputs (clock_pins cell.kind) f.clock
-    (subst (λ (k : CellKind). Contains (clock_pins k) f.clock) (sym is) (contains_first f.clock []))
+-- a clock pin must be connected
+pub clock_in : (cell : Cell) (pin : List ℕ) → clock_pins cell.kind ≡ pin ∷ [] → Contains (in_pins cell) pin
+clock_in cell pin is =
+    Contains-append_right cell.inputs (clock_pins cell.kind) pin (subst (λ (pins : List (List ℕ)). Contains pins pin) (sym is) (contains_first pin []))

@@ -1,5 +1,5 @@
 -- Why an item of a module is refused.
-use Rattle.std.specs.Prelude.{◌≡◌, ◌≢◌, ℕ, ◌<◌, Bool, true, false, List, [], ◌++◌, length, Contains, Option, Some, None, slice_get}
+use Rattle.std.specs.Prelude.{◌≡◌, ◌≢◌, ℕ, ◌+◌, ◌<◌, Bool, true, false, List, [], ◌++◌, length, Contains, Option, Some, None, slice_get}
 use Rattle.sdcv_base.specs.declared.limits.LimitName.{LimitName}
 use Rattle.sdcv_base.specs.declared.limits.LimitName.TheVariants as what
 use Rattle.netlist_types.specs.declared.sources.Source.{Source}
@@ -20,7 +20,7 @@ use Rattle.link_defs.specs.declared.faults.LinkFault.TheVariants as fault
 use Rattle.link_defs.specs.Hierarchy.{cell_of, is_modelled, wires_of}
 use Rattle.link_defs.specs.Flatten.{Flat, Scope}
 use Rattle.link_defs.specs.CellNames.{out_pins}
-use Rattle.link_defs.specs.Faults.{in_pins, all_pins, pin_of, IsFlatCause}
+use Rattle.link_defs.specs.Faults.{in_pins, all_pins, pin_of, most_pins, IsFlatCause}
 use Rattle.link_items.specs.Pins.{port_names}
 
 -- a connection to none of these pins, by the full name that its pin would have
@@ -54,17 +54,17 @@ abbrev pub IsTiedPin : List (List ℕ) → List ℕ → List Conn → List ℕ �
 IsTiedPin pins full conns name = (pin : List ℕ) × (bit : Bool) × Contains pins pin × Contains (wires_of conns pin) (wire.Const bit)
     × (name ≡ pin_of full pin)
 
--- more than six input pins
-abbrev pub IsWide : ℕ → LimitName → ℕ → Type 0
-IsWide inputs what.Pins number = (6 < inputs) × (number ≡ 7)
-IsWide inputs kind number = ⊥
+-- more input pins than the most that there may be; the number is the most and 1
+abbrev pub IsWide : ℕ → ℕ → LimitName → ℕ → Type 0
+IsWide most inputs what.Pins number = (most < inputs) × (number ≡ most + 1)
+IsWide most inputs kind number = ⊥
 
 -- why an instance of a cell that is modelled is refused
 abbrev pub IsPinFault : Cell → List ℕ → List Conn → LinkFault → Type 0
 IsPinFault cell full conns (fault.UnknownPin name) = IsStray (all_pins cell) full conns name
 IsPinFault cell full conns (fault.OpenInput name) = IsOpenPin (in_pins cell) full conns name
 IsPinFault cell full conns (fault.ManyDrivers name) = IsTiedPin (out_pins cell.kind) full conns name
-IsPinFault cell full conns (fault.Limit kind number) = IsWide (length cell.inputs) kind number
+IsPinFault cell full conns (fault.Limit kind number) = IsWide (most_pins cell.kind) (length cell.inputs) kind number
 IsPinFault cell full conns fault.Memory = Unit {0}
 IsPinFault cell full conns e = ⊥
 
@@ -88,7 +88,7 @@ IsInstFault None None cell full conns e = IsUnknownFault cell e
 
 -- why a primitive of so many inputs is refused
 abbrev pub IsPrimFault : ℕ → LinkFault → Type 0
-IsPrimFault inputs (fault.Limit kind number) = IsWide inputs kind number
+IsPrimFault inputs (fault.Limit kind number) = IsWide 6 inputs kind number
 IsPrimFault inputs fault.Memory = Unit {0}
 IsPrimFault inputs e = ⊥
 

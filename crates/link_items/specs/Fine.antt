@@ -7,12 +7,12 @@ use Rattle.netlist_types.specs.declared.sources.Dir.{Dir}
 use Rattle.netlist_types.specs.declared.sources.Dir.TheVariants as dir
 use Rattle.cell_types.specs.declared.libraries.Cell.{Cell}
 use Rattle.link_defs.specs.CellNames.{out_pins, clock_pins}
-use Rattle.link_defs.specs.Faults.{all_pins}
+use Rattle.link_defs.specs.Faults.{all_pins, most_pins}
 use Rattle.link_items.specs.Pins.{is_open, is_tied, is_unknown, port_names}
 
--- every pin is one of the cell, input and clock pins are connected, and no output pin to a constant
+-- no more inputs than such a cell may have, every pin is one of the cell, input and clock pins are connected, and no output pin to a constant
 pub record IsFineCell (conns : List Conn) (cell : Cell) : Type 0 where
-  pub few : length cell.inputs ≤ 6
+  pub few : length cell.inputs ≤ most_pins cell.kind
   pub known : All (λ (c : Conn). is_unknown (all_pins cell) c ≡ false) conns
   pub inputs : All (λ (pin : List ℕ). is_open conns pin ≡ false) cell.inputs
   pub clock : All (λ (pin : List ℕ). is_open conns pin ≡ false) (clock_pins cell.kind)

@@ -29,7 +29,7 @@ inst_item i = item.Inst i.cell.now i.name.now i.conns.now
 abbrev pub kind_pins : CellKind → ℕ
 kind_pins (kind.Comb outs) = length outs
 kind_pins (kind.Flop f) = length f.outs + 1
-kind_pins (kind.Gate g) = 0
+kind_pins (kind.Gate g) = 2
 kind_pins kind.Other = 0
 
 -- an instance of a module brings a net for each of its module's, and the constants that its ports are connected to

@@ -1,10 +1,10 @@
 //! Refusals of an instance of a cell that is modelled.
-ghost use Rattle.std.specs.Prelude.{◌≡◌, All, Contains, true, false, map, IfErr, OnOk, IfSome, IfNone};
+ghost use Rattle.std.specs.Prelude.{◌≡◌, [], ◌∷◌, All, Contains, true, false, map, IfErr, OnOk, IfSome, IfNone};
 ghost use Rattle.texts.specs.Names.{is_among};
 ghost use Rattle.cell_types.specs.declared.libraries.CombOut.{CombOut as CombRecord};
 ghost use Rattle.cell_types.specs.declared.libraries.FlopOut.{FlopOut as FlopRecord};
 ghost use Rattle.link_defs.specs.CellNames as spec;
-ghost use Rattle.link_defs.specs.Faults.{all_pins};
+ghost use Rattle.link_defs.specs.Faults.{all_pins, most_pins as most};
 ghost use Rattle.link_items.specs.Faults.{IsPinFault};
 ghost use Rattle.link_items.specs.Fine.{IsFineCell};
 ghost use Rattle.link_items.specs.Pins.{is_open, is_tied, is_unknown};
@@ -25,14 +25,14 @@ fn is_listed(pins: &[Name], pin: &Name) -> bool
     pins.iter().any(|one| *pin == *one)
 }
 
-/// Whether it is the clock pin of a flop.
+/// Whether it is the clock pin of a flop or a clock gate.
 fn is_clock_pin(kind: &CellKind, pin: &Name) -> bool
     ensures { result ≡ is_among pin.now (spec.clock_pins kind.now) }
 {
     match kind {
         CellKind::Comb(_) => false,
         CellKind::Flop(flop) => *pin == flop.clock,
-        CellKind::Gate(_) => false,
+        CellKind::Gate(gate) => *pin == gate.clock,
         CellKind::Other => false,
     }
 }
@@ -58,7 +58,7 @@ fn is_out_pin(kind: &CellKind, pin: &Name) -> bool
     match kind {
         CellKind::Comb(outs) => is_comb_out(outs.as_slice(), pin),
         CellKind::Flop(flop) => is_flop_out(flop.outs.as_slice(), pin),
-        CellKind::Gate(_) => false,
+        CellKind::Gate(gate) => *pin == gate.out,
         CellKind::Other => false,
     }
 }
@@ -117,22 +117,33 @@ fn check_inputs(alloc: Global, full: &Name, conns: &[Conn], cell: &Cell) -> Resu
     }
 }
 
-/// Refuses a flop whose clock pin nothing is connected to.
+/// The clock pin of a flop or a clock gate.
+fn clock_pin(kind: &CellKind) -> Option<&Name>
+    ensures some { IfSome result (λ pin. spec.clock_pins kind.now ≡ pin.now ∷ []) }
+    ensures none { IfNone result (spec.clock_pins kind.now ≡ []) }
+{
+    match kind {
+        CellKind::Flop(flop) => Some(&flop.clock),
+        CellKind::Gate(gate) => Some(&gate.clock),
+        CellKind::Comb(_) => None,
+        CellKind::Other => None,
+    }
+}
+
+/// Refuses a flop or a clock gate whose clock pin nothing is connected to.
 fn check_clock_pin(alloc: Global, full: &Name, conns: &[Conn], cell: &Cell) -> Result<(), LinkFault>
     ensures ok { OnOk result (All (λ pin. is_open conns.now pin ≡ false) (spec.clock_pins cell.now.kind)) }
     ensures err { IfErr result (IsPinFault cell.now full.now conns.now) }
 {
-    match &cell.kind {
-        CellKind::Flop(flop) => {
-            if is_open(conns, &flop.clock) {
-                let name = pin_name(alloc, full, &flop.clock)?;
+    match clock_pin(&cell.kind) {
+        Some(pin) => {
+            if is_open(conns, pin) {
+                let name = pin_name(alloc, full, pin)?;
                 return Err(LinkFault::OpenInput(name));
             }
             Ok(())
         }
-        CellKind::Comb(_) => Ok(()),
-        CellKind::Gate(_) => Ok(()),
-        CellKind::Other => Ok(()),
+        None => Ok(()),
     }
 }
 
@@ -166,7 +177,12 @@ fn tied_out<'a>(conns: &[Conn], kind: &'a CellKind) -> Option<&'a Name>
             Some(out) => Some(&out.name),
             None => None,
         },
-        CellKind::Gate(_) => None,
+        CellKind::Gate(gate) => {
+            if is_tied(conns, &gate.out) {
+                return Some(&gate.out);
+            }
+            None
+        }
         CellKind::Other => None,
     }
 }
@@ -185,6 +201,18 @@ fn check_outputs(alloc: Global, full: &Name, conns: &[Conn], cell: &Cell) -> Res
     }
 }
 
+/// The most input pins of a cell of this kind.
+fn most_pins(kind: &CellKind) -> usize
+    ensures { result ≡ most kind.now }
+{
+    match kind {
+        CellKind::Comb(_) => MOST_PINS,
+        CellKind::Flop(_) => MOST_PINS,
+        CellKind::Gate(_) => MOST_PINS - 1,
+        CellKind::Other => MOST_PINS,
+    }
+}
+
 /// Refuses an instance of a modelled cell for its pins.
 pub(crate) fn check_cell(
     alloc: Global,
@@ -195,8 +223,9 @@ pub(crate) fn check_cell(
     ensures ok { OnOk result (IsFineCell conns.now cell.now) }
     ensures err { IfErr result (IsPinFault cell.now full.now conns.now) }
 {
-    if cell.inputs.len() > MOST_PINS {
-        return Err(LinkFault::Limit(LimitName::Pins, 7));
+    let most = most_pins(&cell.kind);
+    if cell.inputs.len() > most {
+        return Err(LinkFault::Limit(LimitName::Pins, most as u64 + 1));
     }
     check_known(alloc, full, conns, cell)?;
     check_inputs(alloc, full, conns, cell)?;

@@ -1,4 +1,4 @@
-//! Instances of cells: gates, registers, and the constants that their pins are connected to.
+//! Instances of cells: gates, registers, clock gates, and the constants that their pins are connected to.
 ghost use Rattle.std.specs.Prelude.{◌≡◌, ◌≤◌, ◌<◌, ◌+◌, ◌^◌, ◌++◌, All, length, IfOk, OnOk, None};
 ghost use Rattle.std.specs.List.{list_all};
 ghost use Rattle.net_model.specs.Form.{IsOver};
@@ -8,11 +8,11 @@ ghost use Rattle.cell_types.specs.declared.libraries.CombOut.{CombOut as OutReco
 ghost use Rattle.cell_types.specs.Libraries.{IsLawfulCell};
 ghost use Rattle.link_defs.specs.Flatten.{other_pins};
 ghost use Rattle.link_defs.specs.Parts as spec;
-ghost use Rattle.link_items.specs.Cells.{comb_part, flop_part, flop_ties};
+ghost use Rattle.link_items.specs.Cells.{comb_part, flop_part, flop_ties, gate_part, gate_ties};
 
 use crate::nets::{pin_net, pin_nets};
 use crate::ties::{push_pin_tie, push_pin_ties};
-use cell_types::{Cell, CellKind, CombOut, Flop, FlopOut};
+use cell_types::{Cell, CellKind, CombOut, Flop, FlopOut, GateCell};
 use link_defs::Part;
 use net_model::{Args, Func, Gate, Reg, RegOut, Value};
 use netlist_types::Conn;
@@ -181,6 +181,30 @@ fn flop_part(
     Ok(Part::Flop { clock, reg })
 }
 
+/// The part of a clock gate, whose own nets are those from a first one on.
+fn gate_part(
+    alloc: Global,
+    nets: &Seq<usize>,
+    conns: &[Conn],
+    first: usize,
+    cell: &Cell,
+    gate: &GateCell,
+) -> Result<Part, AllocError>
+    requires below { All (λ (c : ConnRecord). AreWiresBelow (length nets.now) c.wires) conns.now }
+    requires room { first + length cell.now.inputs + 1 < 2 ^ 64 }
+    ensures { IfOk result (λ p. p ≡ gate_part nets.now conns.now first cell.now gate.now) }
+{
+    let own = first + cell.inputs.len();
+    let out = pin_net(nets, conns, own, &gate.out);
+    let clock = pin_net(nets, conns, own + 1, &gate.clock);
+    let enables = pin_nets(alloc, nets, conns, first, &cell.inputs)?;
+    Ok(Part::Gate {
+        clock,
+        enables,
+        out,
+    })
+}
+
 /// Appends an instance of a modelled cell, its constants first.
 pub(crate) fn push_cell(
     alloc: Global,
@@ -207,7 +231,11 @@ pub(crate) fn push_cell(
             parts.push(flop_part(alloc, nets, conns, first, cell, flop)?)?;
             Ok(())
         }
-        CellKind::Gate(_) => Ok(()),
+        CellKind::Gate(gate) => {
+            push_gate_ties(alloc, parts, conns, first, cell, gate)?;
+            parts.push(gate_part(alloc, nets, conns, first, cell, gate)?)?;
+            Ok(())
+        }
         CellKind::Other => Ok(()),
     }
 }
@@ -228,4 +256,22 @@ fn push_flop_ties(
     push_pin_ties(alloc, parts, conns, first, &cell.inputs)?;
     let own = first + cell.inputs.len() + flop.outs.len();
     push_pin_tie(alloc, parts, conns, own, &flop.clock)
+}
+
+/// Appends the constants that the enables and the clock pin of a clock gate are connected to.
+fn push_gate_ties(
+    alloc: Global,
+    parts: &mut Seq<Part>,
+    conns: &[Conn],
+    first: usize,
+    cell: &Cell,
+    gate: &GateCell,
+) -> Result<(), AllocError>
+    requires narrow { HasWidths None conns.now }
+    requires room { first + length cell.now.inputs + 2 < 2 ^ 64 }
+    ensures { OnOk result (parts.new ≡ parts.old ++ gate_ties conns.now first cell.now gate.now) }
+{
+    push_pin_ties(alloc, parts, conns, first, &cell.inputs)?;
+    let own = first + cell.inputs.len() + 1;
+    push_pin_tie(alloc, parts, conns, own, &gate.clock)
 }

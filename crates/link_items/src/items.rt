@@ -54,7 +54,7 @@ fn other_pins(kind: &CellKind) -> Result<usize, LinkFault>
     match kind {
         CellKind::Comb(outs) => Ok(outs.len()),
         CellKind::Flop(flop) => sum(flop.outs.len(), 1),
-        CellKind::Gate(_) => Ok(0),
+        CellKind::Gate(_) => Ok(2),
         CellKind::Other => Ok(0),
     }
 }
@@ -75,7 +75,7 @@ fn is_modelled(kind: &CellKind) -> bool
     match kind {
         CellKind::Comb(_) => true,
         CellKind::Flop(_) => true,
-        CellKind::Gate(_) => false,
+        CellKind::Gate(_) => true,
         CellKind::Other => false,
     }
 }

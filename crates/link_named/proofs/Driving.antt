@@ -30,13 +30,14 @@ use Rattle.cell_types.specs.declared.libraries.CellKind.TheVariants as kind
 use Rattle.cell_types.specs.declared.libraries.CombOut.{CombOut}
 use Rattle.cell_types.specs.declared.libraries.Flop.{Flop}
 use Rattle.cell_types.specs.declared.libraries.FlopOut.{FlopOut}
+use Rattle.cell_types.specs.declared.libraries.GateCell.{GateCell}
 use Rattle.link_defs.specs.declared.circuits.Part.{Part}
 use Rattle.link_defs.specs.declared.circuits.Part.TheVariants as part
 use Rattle.link_defs.specs.Circuits.{part_outs}
 use Rattle.link_defs.specs.Hierarchy.{cell_of, wires_of}
 use Rattle.link_defs.specs.Flatten.{Scope, other_pins, own_nets, inst_nets}
 use Rattle.link_defs.specs.Parts.{ties, wire_nets, wire_net, bit_ties, pin_ties, pin_net, pin_nets, comb_gates, reg_outs, cell_ties, cell_part}
-use Rattle.link_defs.specs.Parts.{inst_parts, item_parts, is_buffer_cell, is_buffer_prim, prim_gate, outs_from, clock_net, flop_reg}
+use Rattle.link_defs.specs.Parts.{inst_parts, item_parts, is_buffer_cell, is_buffer_prim, prim_gate, outs_from, clock_net, gate_clock, flop_reg}
 use Rattle.link_items.proofs.Listing.{with_none}
 use Rattle.link_items.proofs.Pinned.{wires_below, narrow, port_bits}
 use Rattle.link_circuit.proofs.Parting.{module_lawful}
@@ -126,32 +127,62 @@ comb_spread nets conns first c outs is wired =
     (omega arith) (omega arith) (omega arith) (omega arith) (λ n a b c d. omega (arith, b, c))
     (pin_ties_spread nets conns c.inputs first wired.widths) (gates_spread nets conns ins outs (outs_from first c) wired.wires))
 
+-- the constants of the input pins and of the clock pin, and the outputs, of a register or a clock gate with so many of these
+clocked_spread : (nets : List ℕ) (conns : List Conn) (first : ℕ) (c : Cell) (count : ℕ) (clock_pin outs : List ℕ) → AreWired nets conns
+    → IsSpread nets (outs_from first c) (outs_from first c + count) outs
+    → IsSpread nets first (first + (length c.inputs + (count + 1)))
+    ((outs_of (pin_ties conns first c.inputs) ++ outs_of (ties (outs_from first c + count) (wires_of conns clock_pin))) ++ outs)
+clocked_spread nets conns first c count clock_pin outs wired at_outs =
+    let to = first + (length c.inputs + (count + 1)) in
+    let last = outs_from first c + count in
+    let pins = outs_of (pin_ties conns first c.inputs) in
+    let clock = outs_of (ties last (wires_of conns clock_pin)) in
+    let few = narrow conns clock_pin wired.widths in
+    let at_clock : IsSpread nets last (last + 1) clock =
+    spread_wider nets clock last (last + length (wires_of conns clock_pin)) last (last + 1) (omega arith) (omega (arith, few))
+    (ties_spread nets (wires_of conns clock_pin) last) in
+    let later : IsSpread nets (outs_from first c) to (clock ++ outs) =
+    spread_join nets clock outs (outs_from first c) to last (last + 1) (outs_from first c) last
+    (omega arith) (omega arith) (omega arith) (omega arith) (λ n a b c d. omega (arith, a, d)) at_clock at_outs in
+    let joined : IsSpread nets first to (pins ++ (clock ++ outs)) =
+    spread_join nets pins (clock ++ outs) first to first (first + length c.inputs) (outs_from first c) to
+    (omega arith) (omega arith) (omega arith) (omega arith) (λ n a b c d. omega (arith, b, c)) (pin_ties_spread nets conns c.inputs first wired.widths) later in
+    subst (λ (ns : List ℕ). IsSpread nets first to ns) (sym (joined_twice pins clock outs)) joined
+
+-- what the parts of such a cell drive
+clocked_outs : (nets : List ℕ) (conns : List Conn) (first : ℕ) (c : Cell) (pins clock : List Part) (own : Part) → cell_ties conns first c ≡ pins ++ clock
+    → cell_part nets conns first c ≡ own ∷ []
+    → outs_of (cell_ties conns first c ++ cell_part nets conns first c) ≡ (outs_of pins ++ outs_of clock) ++ part_outs own
+clocked_outs nets conns first c pins clock own ties_are part_is =
+    ap (λ (ps : List Part). outs_of (ps ++ cell_part nets conns first c)) ties_are ∙ ap (λ (ps : List Part). outs_of ((pins ++ clock) ++ ps)) part_is
+    ∙ one_after (pins ++ clock) own ∙ ap (λ (ns : List ℕ). ns ++ part_outs own) (flat_map-append part_outs pins clock)
+
 flop_spread : (nets : List ℕ) (conns : List Conn) (first : ℕ) (c : Cell) (f : Flop) → c.kind ≡ kind.Flop f → AreWired nets conns
     → IsSpread nets first (first + (length c.inputs + (length f.outs + 1))) (outs_of (cell_ties conns first c ++ cell_part nets conns first c))
 flop_spread nets conns first c f is wired =
-    let to = first + (length c.inputs + (length f.outs + 1)) in
     let pins = pin_ties conns first c.inputs in
-    let last = outs_from first c + length f.outs in
-    let clock = ties last (wires_of conns f.clock) in
+    let clock = ties (outs_from first c + length f.outs) (wires_of conns f.clock) in
     let outs = map (λ (o : RegOut). o.net) (reg_outs nets conns (outs_from first c) f.outs) in
     let own : Part = part.Flop (clock_net nets conns first c f) (flop_reg nets conns first c f) in
-    let few = narrow conns f.clock wired.widths in
     let ties_are : cell_ties conns first c ≡ pins ++ clock = rw is refl in
     let part_is : cell_part nets conns first c ≡ own ∷ [] = rw is refl in
-    let all : outs_of (cell_ties conns first c ++ cell_part nets conns first c) ≡ (outs_of pins ++ outs_of clock) ++ outs =
-    ap (λ (ps : List Part). outs_of (ps ++ cell_part nets conns first c)) ties_are ∙ ap (λ (ps : List Part). outs_of ((pins ++ clock) ++ ps)) part_is
-    ∙ one_after (pins ++ clock) own ∙ ap (λ (ns : List ℕ). ns ++ outs) (flat_map-append part_outs pins clock) in
-    let at_clock : IsSpread nets last (last + 1) (outs_of clock) =
-    spread_wider nets (outs_of clock) last (last + length (wires_of conns f.clock)) last (last + 1) (omega arith) (omega (arith, few))
-    (ties_spread nets (wires_of conns f.clock) last) in
-    let at_outs = regs_spread nets conns f.outs (outs_from first c) wired.wires in
-    let later : IsSpread nets (outs_from first c) to (outs_of clock ++ outs) =
-    spread_join nets (outs_of clock) outs (outs_from first c) to last (last + 1) (outs_from first c) (outs_from first c + length f.outs)
-    (omega arith) (omega arith) (omega arith) (omega arith) (λ n a b c d. omega (arith, a, d)) at_clock at_outs in
-    let joined : IsSpread nets first to (outs_of pins ++ (outs_of clock ++ outs)) =
-    spread_join nets (outs_of pins) (outs_of clock ++ outs) first to first (first + length c.inputs) (outs_from first c) to
-    (omega arith) (omega arith) (omega arith) (omega arith) (λ n a b c d. omega (arith, b, c)) (pin_ties_spread nets conns c.inputs first wired.widths) later in
-    subst (λ (ns : List ℕ). IsSpread nets first to ns) (sym (all ∙ joined_twice (outs_of pins) (outs_of clock) outs)) joined
+    subst (λ (ns : List ℕ). IsSpread nets first (first + (length c.inputs + (length f.outs + 1))) ns)
+    (sym (clocked_outs nets conns first c pins clock own ties_are part_is))
+    (clocked_spread nets conns first c (length f.outs) f.clock outs wired (regs_spread nets conns f.outs (outs_from first c) wired.wires))
+
+-- a clock gate has one output
+gate_spread : (nets : List ℕ) (conns : List Conn) (first : ℕ) (c : Cell) (g : GateCell) → c.kind ≡ kind.Gate g → AreWired nets conns
+    → IsSpread nets first (first + (length c.inputs + 2)) (outs_of (cell_ties conns first c ++ cell_part nets conns first c))
+gate_spread nets conns first c g is wired =
+    let pins = pin_ties conns first c.inputs in
+    let clock = ties (outs_from first c + 1) (wires_of conns g.clock) in
+    let out = pin_net nets (outs_from first c) (wires_of conns g.out) in
+    let own : Part = part.Gate (gate_clock nets conns first c g) (pin_nets nets conns first c.inputs) out in
+    let ties_are : cell_ties conns first c ≡ pins ++ clock = rw is refl in
+    let part_is : cell_part nets conns first c ≡ own ∷ [] = rw is refl in
+    subst (λ (ns : List ℕ). IsSpread nets first (first + (length c.inputs + 2)) ns)
+    (sym (clocked_outs nets conns first c pins clock own ties_are part_is))
+    (clocked_spread nets conns first c 1 g.clock (out ∷ []) wired (pin_spread nets conns (outs_from first c) g.out wired.wires))
 
 none_spread : (nets : List ℕ) (conns : List Conn) (first : ℕ) (c : Cell) → cell_ties conns first c ++ cell_part nets conns first c ≡ []
     → IsSpread nets first (first + (length c.inputs + 0)) (outs_of (cell_ties conns first c ++ cell_part nets conns first c))
@@ -170,9 +201,9 @@ cell_spread nets conns first c (kind.Flop f) is wired =
     subst (λ (n : ℕ). IsSpread nets first (first + (length c.inputs + n)) (outs_of (cell_ties conns first c ++ cell_part nets conns first c))) (sym pins)
     (flop_spread nets conns first c f is wired)
 cell_spread nets conns first c (kind.Gate g) is wired =
-    let pins : other_pins c ≡ 0 = rw is refl in
+    let pins : other_pins c ≡ 2 = rw is refl in
     subst (λ (n : ℕ). IsSpread nets first (first + (length c.inputs + n)) (outs_of (cell_ties conns first c ++ cell_part nets conns first c))) (sym pins)
-    (none_spread nets conns first c (rw is refl))
+    (gate_spread nets conns first c g is wired)
 cell_spread nets conns first c kind.Other is wired =
     let pins : other_pins c ≡ 0 = rw is refl in
     subst (λ (n : ℕ). IsSpread nets first (first + (length c.inputs + n)) (outs_of (cell_ties conns first c ++ cell_part nets conns first c))) (sym pins)

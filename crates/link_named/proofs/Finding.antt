@@ -217,7 +217,7 @@ name_below s lib top clock c name n below has =
 
 -- a limit of the circuit is one of the netlist
 limit_of : (s : Source) (lib : Library) (flat : Flat) (c : Circuit) (k : LimitName) (n : ℕ) → IsAboveCircuit c k n → IsAboveLimit s lib flat c k n
-limit_of s lib flat c k n (above.Nets tree is more) = link.Nets tree is more
+limit_of s lib flat c k n (above.Nets tree is more) = link.Nets tree is (omega (arith, more))
 limit_of s lib flat c k n (above.Regs more) = link.Regs more
 limit_of s lib flat c k n (above.Inputs more) = link.Inputs more
 limit_of s lib flat c k n (above.Outputs more) = link.Outputs more

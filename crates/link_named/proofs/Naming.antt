@@ -38,7 +38,7 @@ use Rattle.link_defs.specs.Circuits as net
 use Rattle.link_defs.specs.Hierarchy.{cell_of, wires_of}
 use Rattle.link_defs.specs.Flatten.{Scope, Located, Flat, numbers, top_scope, flat_of}
 use Rattle.link_defs.specs.Parts.{parts_of, inst_parts, constant, ties, pin_ties, bit_ties, cell_ties, cell_part, pin_nets, comb_gates}
-use Rattle.link_defs.specs.Parts.{is_buffer_cell, is_buffer_prim, prim_gate, wire_nets, wire_net, outs_from, clock_net, flop_reg}
+use Rattle.link_defs.specs.Parts.{is_buffer_cell, is_buffer_prim, prim_gate, wire_nets, wire_net, outs_from, clock_net, gate_clock, flop_reg, pin_net}
 use Rattle.link_items.specs.Prims.{copy_parts}
 use Rattle.netlist_types.specs.declared.gates.PrimKind.{PrimKind}
 use Rattle.netlist_types.specs.declared.gates.PrimKind.TheVariants as prim
@@ -365,6 +365,23 @@ leaf_some full c None p q is same = cc
 leaf_some full c (Some x) p q is same =
     let l : Leaf = record { name = full; cell = Some c; part = x } in let same2 : x ≡ p = cc in (l, inl refl, same2 ∙ same)
 
+-- a register's or a clock gate's part comes after constants, and so it has a leaf
+clocked_leaf : (nets full : List ℕ) (conns : List Conn) (first : ℕ) (c : Cell) (last : ℕ) (ws : List Wire) (own q : Part) (pin : ℕ) → clock_of q ≡ Some pin
+    → cell_ties conns first c ≡ pin_ties conns first c.inputs ++ ties last ws → cell_part nets conns first c ≡ own ∷ []
+    → In q (cell_ties conns first c ++ cell_part nets conns first c)
+    → IsLeafOf (leaf_if_any full (Some c) (last_part (cell_ties conns first c ++ cell_part nets conns first c))) q
+clocked_leaf nets full conns first c last ws own q pin on ties_are part_is has =
+    let pins = pin_ties conns first c.inputs in
+    let tied = ties last ws in
+    let all : cell_ties conns first c ++ cell_part nets conns first c ≡ (pins ++ tied) ++ own ∷ [] =
+    ap (λ (ps : List Part). ps ++ cell_part nets conns first c) ties_are ∙ ap (λ (ps : List Part). (pins ++ tied) ++ ps) part_is in
+    let none : In q (pins ++ tied) → ⊥ = λ here. elim (In-cases q pins tied here) [
+      | inl l ↦ pin_ties_unclocked conns first c.inputs q pin on l
+      | inr r ↦ ties_unclocked last ws q pin on r
+    ] in
+    let same = last_only (pins ++ tied) own q none (subst (λ (ps : List Part). In q ps) all has) in
+    leaf_some full c (last_part (cell_ties conns first c ++ cell_part nets conns first c)) own q (ap last_part all ∙ last_is (pins ++ tied) own) same
+
 cell_leaf : (nets full : List ℕ) (conns : List Conn) (first : ℕ) (c : Cell) (k : CellKind) (q : Part) (pin : ℕ) → clock_of q ≡ Some pin → c.kind ≡ k
     → In q (cell_ties conns first c ++ cell_part nets conns first c)
     → IsLeafOf (leaf_if_any full (Some c) (last_part (cell_ties conns first c ++ cell_part nets conns first c))) q
@@ -379,22 +396,18 @@ cell_leaf nets full conns first c (kind.Comb outs) q pin on is has =
     (subst (λ (ps : List Part). In q ps) all has) in
     absurd (comb_unclocked (is_buffer_cell c.inputs outs) ins (comb_gates nets conns ins (outs_from first c) outs) q pin on same)
 cell_leaf nets full conns first c (kind.Flop f) q pin on is has =
-    let pins = pin_ties conns first c.inputs in
-    let last = outs_from first c + length f.outs in
-    let tied = ties last (wires_of conns f.clock) in
+    let tied = ties (outs_from first c + length f.outs) (wires_of conns f.clock) in
     let own : Part = part.Flop (clock_net nets conns first c f) (flop_reg nets conns first c f) in
-    let ties_are : cell_ties conns first c ≡ pins ++ tied = rw is refl in
+    let ties_are : cell_ties conns first c ≡ pin_ties conns first c.inputs ++ tied = rw is refl in
     let part_is : cell_part nets conns first c ≡ own ∷ [] = rw is refl in
-    let all : cell_ties conns first c ++ cell_part nets conns first c ≡ (pins ++ tied) ++ own ∷ [] =
-    ap (λ (ps : List Part). ps ++ cell_part nets conns first c) ties_are ∙ ap (λ (ps : List Part). (pins ++ tied) ++ ps) part_is in
-    let none : In q (pins ++ tied) → ⊥ = λ here. elim (In-cases q pins tied here) [
-      | inl l ↦ pin_ties_unclocked conns first c.inputs q pin on l
-      | inr r ↦ ties_unclocked last (wires_of conns f.clock) q pin on r
-    ] in
-    let same = last_only (pins ++ tied) own q none (subst (λ (ps : List Part). In q ps) all has) in
-    leaf_some full c (last_part (cell_ties conns first c ++ cell_part nets conns first c)) own q (ap last_part all ∙ last_is (pins ++ tied) own) same
+    clocked_leaf nets full conns first c (outs_from first c + length f.outs) (wires_of conns f.clock) own q pin on ties_are part_is has
 cell_leaf nets full conns first c (kind.Gate g) q pin on is has =
-    let none : cell_ties conns first c ++ cell_part nets conns first c ≡ [] = rw is refl in absurd (subst (λ (ps : List Part). In q ps) none has)
+    let tied = ties (outs_from first c + 1) (wires_of conns g.clock) in
+    let out = pin_net nets (outs_from first c) (wires_of conns g.out) in
+    let own : Part = part.Gate (gate_clock nets conns first c g) (pin_nets nets conns first c.inputs) out in
+    let ties_are : cell_ties conns first c ≡ pin_ties conns first c.inputs ++ tied = rw is refl in
+    let part_is : cell_part nets conns first c ≡ own ∷ [] = rw is refl in
+    clocked_leaf nets full conns first c (outs_from first c + 1) (wires_of conns g.clock) own q pin on ties_are part_is has
 cell_leaf nets full conns first c kind.Other q pin on is has =
     let none : cell_ties conns first c ++ cell_part nets conns first c ≡ [] = rw is refl in absurd (subst (λ (ps : List Part). In q ps) none has)
 

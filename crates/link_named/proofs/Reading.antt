@@ -23,6 +23,7 @@ use Rattle.cell_types.specs.declared.libraries.CellKind.{CellKind}
 use Rattle.cell_types.specs.declared.libraries.CellKind.TheVariants as kind
 use Rattle.cell_types.specs.declared.libraries.CombOut.{CombOut}
 use Rattle.cell_types.specs.declared.libraries.Flop.{Flop}
+use Rattle.cell_types.specs.declared.libraries.GateCell.{GateCell}
 use Rattle.link_defs.specs.declared.circuits.Part.{Part}
 use Rattle.link_defs.specs.declared.circuits.Part.TheVariants as part
 use Rattle.link_defs.specs.declared.faults.LinkFault.{LinkFault}
@@ -33,7 +34,7 @@ use Rattle.link_defs.specs.Faults.{in_pins, pin_of}
 use Rattle.link_defs.specs.Hierarchy.{cell_of, is_modelled, wires_of}
 use Rattle.link_defs.specs.Flatten.{Scope}
 use Rattle.link_defs.specs.Parts.{constant, ties, wire_nets, wire_net, bit_ties, pin_ties, pin_net, pin_nets, comb_gates, cell_ties, cell_part}
-use Rattle.link_defs.specs.Parts.{inst_parts, item_parts, is_buffer_cell, is_buffer_prim, prim_gate, outs_from, clock_net, flop_reg}
+use Rattle.link_defs.specs.Parts.{inst_parts, item_parts, is_buffer_cell, is_buffer_prim, prim_gate, outs_from, clock_net, gate_clock, flop_reg}
 use Rattle.link_items.specs.Faults.{IsInstFault, IsCellFault, IsFaultless}
 use Rattle.link_items.proofs.Listing.{with_none}
 use Rattle.link_items.proofs.Pinned.{wires_below}
@@ -165,46 +166,68 @@ comb_known nets conns first c outs n is joined has =
     (known_left nets (pin_ties conns first c.inputs) (own ∷ []) n
     (pins_known nets conns c.inputs first n joined.wires (λ pin there. joined.some pin (In-left pin c.inputs (clock_pins c.kind) there)) read))
 
-clock_in : (c : Cell) (f : Flop) → c.kind ≡ kind.Flop f → In f.clock (in_pins c)
-clock_in c f is =
-    let pins : clock_pins c.kind ≡ f.clock ∷ [] = rw is refl in
-    In-right f.clock c.inputs (clock_pins c.kind) (subst (λ (ps : List (List ℕ)). In f.clock ps) (sym pins) (inl refl))
+clock_in : (c : Cell) (clock : List ℕ) → clock_pins c.kind ≡ clock ∷ [] → In clock (in_pins c)
+clock_in c clock pins =
+    In-right clock c.inputs (clock_pins c.kind) (subst (λ (ps : List (List ℕ)). In clock ps) (sym pins) (inl refl))
 
--- a register reads its clock and its inputs
-flop_read : (nets : List ℕ) (conns : List Conn) (first : ℕ) (c : Cell) (f : Flop) (n : ℕ) → All (λ (c : Conn). AreWiresBelow (length nets) c.wires) conns
-    → (wires_of conns f.clock ≡ [] → ⊥) → ((pin : List ℕ) → In pin c.inputs → wires_of conns pin ≡ [] → ⊥)
-    → In n (part_reads (part.Flop (clock_net nets conns first c f) (flop_reg nets conns first c f)))
-    → IsKnown nets (pin_ties conns first c.inputs ++ ties (outs_from first c + length f.outs) (wires_of conns f.clock)) n
-flop_read nets conns first c f n wires clocked some (inl same) =
-    let last = outs_from first c + length f.outs in
-    subst (λ (m : ℕ). IsKnown nets (pin_ties conns first c.inputs ++ ties last (wires_of conns f.clock)) m) same
-    (known_right nets (pin_ties conns first c.inputs) (ties last (wires_of conns f.clock)) (clock_net nets conns first c f)
-    (pin_known nets conns last f.clock wires clocked))
-flop_read nets conns first c f n wires clocked some (inr rest) =
-    known_left nets (pin_ties conns first c.inputs) (ties (outs_from first c + length f.outs) (wires_of conns f.clock)) n
-    (pins_known nets conns c.inputs first n wires some rest)
+-- a register or a clock gate of so many outputs reads its clock and its inputs
+clocked_read : (nets : List ℕ) (conns : List Conn) (first : ℕ) (c : Cell) (count : ℕ) (clock : List ℕ) (n : ℕ) → AreJoined nets conns (in_pins c)
+    → In clock (in_pins c)
+    → In n (pin_net nets (outs_from first c + count) (wires_of conns clock) ∷ pin_nets nets conns first c.inputs)
+    → IsKnown nets (pin_ties conns first c.inputs ++ ties (outs_from first c + count) (wires_of conns clock)) n
+clocked_read nets conns first c count clock n joined stands (inl same) =
+    let last = outs_from first c + count in
+    subst (λ (m : ℕ). IsKnown nets (pin_ties conns first c.inputs ++ ties last (wires_of conns clock)) m) same
+    (known_right nets (pin_ties conns first c.inputs) (ties last (wires_of conns clock)) (pin_net nets last (wires_of conns clock))
+    (pin_known nets conns last clock joined.wires (joined.some clock stands)))
+clocked_read nets conns first c count clock n joined stands (inr rest) =
+    known_left nets (pin_ties conns first c.inputs) (ties (outs_from first c + count) (wires_of conns clock)) n
+    (pins_known nets conns c.inputs first n joined.wires (λ pin there. joined.some pin (In-left pin c.inputs (clock_pins c.kind) there)) rest)
+
+-- so it is with all parts of its cell
+clocked_known : (nets : List ℕ) (conns : List Conn) (first : ℕ) (c : Cell) (count : ℕ) (clock : List ℕ) (own : Part) (n : ℕ)
+    → cell_ties conns first c ≡ pin_ties conns first c.inputs ++ ties (outs_from first c + count) (wires_of conns clock)
+    → cell_part nets conns first c ≡ own ∷ []
+    → part_reads own ≡ pin_net nets (outs_from first c + count) (wires_of conns clock) ∷ pin_nets nets conns first c.inputs
+    → clock_pins c.kind ≡ clock ∷ [] → AreJoined nets conns (in_pins c) → In n (reads_of (cell_ties conns first c ++ cell_part nets conns first c))
+    → IsKnown nets (cell_ties conns first c ++ cell_part nets conns first c) n
+clocked_known nets conns first c count clock own n ties_are part_is reads pin_is joined has =
+    let pins = pin_ties conns first c.inputs in
+    let last = outs_from first c + count in
+    let tied = ties last (wires_of conns clock) in
+    let all : cell_ties conns first c ++ cell_part nets conns first c ≡ (pins ++ tied) ++ own ∷ [] =
+    ap (λ (ps : List Part). ps ++ cell_part nets conns first c) ties_are ∙ ap (λ (ps : List Part). (pins ++ tied) ++ ps) part_is in
+    let none : In n (reads_of (pins ++ tied)) → ⊥ = λ here. elim (reads_cases pins tied n here) [
+      | inl l ↦ pin_ties_read conns first c.inputs n l
+      | inr r ↦ ties_read last (wires_of conns clock) n r
+    ] in
+    let read = last_read (pins ++ tied) own n none (subst (λ (ps : List Part). In n (reads_of ps)) all has) in
+    subst (λ (ps : List Part). IsKnown nets ps n) (sym all)
+    (known_left nets (pins ++ tied) (own ∷ []) n
+    (clocked_read nets conns first c count clock n joined (clock_in c clock pin_is) (subst (λ (ns : List ℕ). In n ns) reads read)))
 
 flop_known : (nets : List ℕ) (conns : List Conn) (first : ℕ) (c : Cell) (f : Flop) (n : ℕ) → c.kind ≡ kind.Flop f
     → AreJoined nets conns (in_pins c) → In n (reads_of (cell_ties conns first c ++ cell_part nets conns first c))
     → IsKnown nets (cell_ties conns first c ++ cell_part nets conns first c) n
 flop_known nets conns first c f n is joined has =
-    let pins = pin_ties conns first c.inputs in
-    let last = outs_from first c + length f.outs in
-    let clock = ties last (wires_of conns f.clock) in
+    let clock = ties (outs_from first c + length f.outs) (wires_of conns f.clock) in
     let own : Part = part.Flop (clock_net nets conns first c f) (flop_reg nets conns first c f) in
-    let ties_are : cell_ties conns first c ≡ pins ++ clock = rw is refl in
+    let ties_are : cell_ties conns first c ≡ pin_ties conns first c.inputs ++ clock = rw is refl in
     let part_is : cell_part nets conns first c ≡ own ∷ [] = rw is refl in
-    let all : cell_ties conns first c ++ cell_part nets conns first c ≡ (pins ++ clock) ++ own ∷ [] =
-    ap (λ (ps : List Part). ps ++ cell_part nets conns first c) ties_are ∙ ap (λ (ps : List Part). (pins ++ clock) ++ ps) part_is in
-    let none : In n (reads_of (pins ++ clock)) → ⊥ = λ here. elim (reads_cases pins clock n here) [
-      | inl l ↦ pin_ties_read conns first c.inputs n l
-      | inr r ↦ ties_read last (wires_of conns f.clock) n r
-    ] in
-    let read = last_read (pins ++ clock) own n none (subst (λ (ps : List Part). In n (reads_of ps)) all has) in
-    subst (λ (ps : List Part). IsKnown nets ps n) (sym all)
-    (known_left nets (pins ++ clock) (own ∷ []) n
-    (flop_read nets conns first c f n joined.wires (joined.some f.clock (clock_in c f is))
-    (λ pin there. joined.some pin (In-left pin c.inputs (clock_pins c.kind) there)) read))
+    let pin_is : clock_pins c.kind ≡ f.clock ∷ [] = rw is refl in
+    clocked_known nets conns first c (length f.outs) f.clock own n ties_are part_is refl pin_is joined has
+
+gate_known : (nets : List ℕ) (conns : List Conn) (first : ℕ) (c : Cell) (g : GateCell) (n : ℕ) → c.kind ≡ kind.Gate g
+    → AreJoined nets conns (in_pins c) → In n (reads_of (cell_ties conns first c ++ cell_part nets conns first c))
+    → IsKnown nets (cell_ties conns first c ++ cell_part nets conns first c) n
+gate_known nets conns first c g n is joined has =
+    let clock = ties (outs_from first c + 1) (wires_of conns g.clock) in
+    let out = pin_net nets (outs_from first c) (wires_of conns g.out) in
+    let own : Part = part.Gate (gate_clock nets conns first c g) (pin_nets nets conns first c.inputs) out in
+    let ties_are : cell_ties conns first c ≡ pin_ties conns first c.inputs ++ clock = rw is refl in
+    let part_is : cell_part nets conns first c ≡ own ∷ [] = rw is refl in
+    let pin_is : clock_pins c.kind ≡ g.clock ∷ [] = rw is refl in
+    clocked_known nets conns first c 1 g.clock own n ties_are part_is refl pin_is joined has
 
 -- the pins of a cell that is not refused are connected
 joined_if : (nets : List ℕ) (full : List ℕ) (conns : List Conn) (c : Cell) → is_modelled c.kind ≡ true
@@ -224,8 +247,7 @@ cell_known nets full conns first c (kind.Comb outs) n is free wires has =
 cell_known nets full conns first c (kind.Flop f) n is free wires has =
     flop_known nets conns first c f n is (joined_if nets full conns c (rw is refl) free wires) has
 cell_known nets full conns first c (kind.Gate g) n is free wires has =
-    let none : cell_ties conns first c ++ cell_part nets conns first c ≡ [] = rw is refl in
-    absurd (subst (λ (ps : List Part). In n (reads_of ps)) none has)
+    gate_known nets conns first c g n is (joined_if nets full conns c (rw is refl) free wires) has
 cell_known nets full conns first c kind.Other n is free wires has =
     let none : cell_ties conns first c ++ cell_part nets conns first c ≡ [] = rw is refl in
     absurd (subst (λ (ps : List Part). In n (reads_of ps)) none has)
