@@ -6,9 +6,10 @@ use Rattle.std.proofs.lemmas.Bool.{cases_lt, eqb-true}
 use Rattle.std.proofs.lemmas.List.{length-map}
 use Rattle.std.proofs.lemmas.List.Elements.{All-cons, All-head, All-tail}
 use Rattle.std.proofs.lemmas.List.Sums.{sum_by-cons}
-use Rattle.net_model.specs.declared.netlist.Design.{Design}
 use Rattle.net_model.specs.declared.netlist.Gate.{Gate}
 use Rattle.net_model.specs.declared.netlist.Reg.{Reg}
+use Rattle.icg_rewrite.specs.declared.clock_gates.Gated.{Gated}
+use Rattle.icg_rewrite.specs.Rewritten.{rewritten}
 use Rattle.cell_types.specs.declared.libraries.Cell.{Cell}
 use Rattle.link_defs.specs.declared.circuits.Circuit.{Circuit}
 use Rattle.link_defs.specs.declared.circuits.Part.{Part}
@@ -17,12 +18,15 @@ use Rattle.link_defs.specs.declared.names.CellName.{CellName}
 use Rattle.link_defs.specs.CellNames.{Leaf, cell_name, cell_names}
 use Rattle.link_defs.specs.Circuits.{regs_of, part_regs}
 use Rattle.link_defs.specs.Designs.{number_by, drivers_by, moved_reg}
+use Rattle.link_defs.specs.GateOrders.{ClockPart}
+use Rattle.link_defs.specs.GatedDesigns.{enabled_drivers}
 use Rattle.link_defs.specs.Links.{source_count}
 use Rattle.link_defs.specs.Usable.{IsCellOf, is_reg}
 use Rattle.link_circuit.proofs.Lawfully.{all_none}
 use Rattle.link_cells.specs.Places.{ArePlacesOf}
 use Rattle.link_cells.proofs.Leafing.{IsShaped, leaf_regs, HasPart}
-use Rattle.link_cells.proofs.Roles.{IsKnown, leaf_good}
+use Rattle.link_cells.proofs.Enabled.{IsKnown, regs_many}
+use Rattle.link_cells.proofs.Roles.{leaf_good}
 
 -- the cells have the names of the leaves
 pub own_names : (number : ℕ → ℕ) (sources : ℕ) (tree : List Bool) (before : ℕ) (ls : List Leaf)
@@ -99,31 +103,33 @@ reg_at before p rest clock reg is =
     ap (λ (q : Part). slice_get (before ++ (part_regs q ++ rest)) (length before)) is ∙ first_at before reg rest
 
 -- the cells of leaves, where so many registers come before them
-cells_good : (c : Circuit) (tree : List Bool) (order : List Gate) (d : Design) (before : List Reg) (ls : List Leaf) → IsKnown c tree order d
-    → All (HasPart c.parts) ls → All IsShaped ls → regs_of c ≡ before ++ flat_map leaf_regs ls
-    → All (IsCellOf d) (cell_names (number_by (drivers_by c order)) (source_count c) tree (length before) ls)
+cells_good : (c : Circuit) (tree : List Bool) (order : List Gate) (gates : List ClockPart) (g : Gated) (before : List Reg) (ls : List Leaf)
+    → IsKnown c tree order gates g → All (HasPart c.parts) ls → All IsShaped ls → regs_of c ≡ before ++ flat_map leaf_regs ls
+    → All (IsCellOf (rewritten g)) (cell_names (number_by (enabled_drivers c order gates)) (source_count c) tree (length before) ls)
 unfolding cell_names
-cells_good c tree order d before [] known parts shaped regs = all_none (IsCellOf d)
-cells_good c tree order d before (l ∷ ls) known parts shaped regs =
-    let number = number_by (drivers_by c order) in
+cells_good c tree order gates g before [] known parts shaped regs = all_none (IsCellOf (rewritten g))
+cells_good c tree order gates g before (l ∷ ls) known parts shaped regs =
+    let number : ℕ → ℕ = number_by (enabled_drivers c order gates) in
     let rest = flat_map leaf_regs ls in
-    let further = cells_good c tree order d (before ++ part_regs l.part) ls known (All-tail (HasPart c.parts) l ls parts) (All-tail IsShaped l ls shaped)
-    (regs ∙ sym (append_assoc before (part_regs l.part) rest)) in
+    let further = cells_good c tree order gates g (before ++ part_regs l.part) ls known (All-tail (HasPart c.parts) l ls parts)
+    (All-tail IsShaped l ls shaped) (regs ∙ sym (append_assoc before (part_regs l.part) rest)) in
     let count : length (before ++ part_regs l.part) ≡ length before + length (part_regs l.part) = length-append before (part_regs l.part) in
-    All-cons (IsCellOf d) (cell_name number (source_count c) tree (length before) l)
+    All-cons (IsCellOf (rewritten g)) (cell_name number (source_count c) tree (length before) l)
     (cell_names number (source_count c) tree (length before + length (part_regs l.part)) ls)
-    (leaf_good c tree order d (length before) l.name l.cell l.part known (All-head (HasPart c.parts) l ls parts) (All-head IsShaped l ls shaped)
+    (leaf_good c tree order gates g (length before) l.name l.cell l.part known (All-head (HasPart c.parts) l ls parts) (All-head IsShaped l ls shaped)
     (λ clock reg is. ap (λ (rs : List Reg). slice_get rs (length before)) regs ∙ reg_at before l.part rest clock reg is))
-    (subst (λ (n : ℕ). All (IsCellOf d) (cell_names number (source_count c) tree n ls)) count further)
+    (subst (λ (n : ℕ). All (IsCellOf (rewritten g)) (cell_names number (source_count c) tree n ls)) count further)
 
--- every place of the cells of all leaves is one of the design
-pub places_good : (c : Circuit) (tree : List Bool) (order : List Gate) (d : Design) (ls : List Leaf) → IsKnown c tree order d → All (HasPart c.parts) ls
-    → All IsShaped ls → regs_of c ≡ flat_map leaf_regs ls
-    → ArePlacesOf d (cell_names (number_by (drivers_by c order)) (source_count c) tree 0 ls)
-places_good c tree order d ls known parts shaped regs =
-    let number = number_by (drivers_by c order) in
-    let count : length d.regs ≡ length (flat_map leaf_regs ls) = ap length known.design.regs ∙ length-map (regs_of c) (moved_reg number) ∙ ap length regs in
+-- every place of the cells of all leaves is one of the rewritten design
+pub places_good : (c : Circuit) (tree : List Bool) (order : List Gate) (gates : List ClockPart) (g : Gated) (ls : List Leaf) → IsKnown c tree order gates g
+    → All (HasPart c.parts) ls → All IsShaped ls → regs_of c ≡ flat_map leaf_regs ls
+    → ArePlacesOf (rewritten g) (cell_names (number_by (enabled_drivers c order gates)) (source_count c) tree 0 ls)
+places_good c tree order gates g ls known parts shaped regs =
+    let move : Reg → Reg = moved_reg (number_by (drivers_by c order)) in
+    let count : length g.design.regs ≡ length (flat_map leaf_regs ls) =
+    ap length known.gated_is.design.regs ∙ length-map (regs_of c) move ∙ ap length regs in
     record {
-      cells = cells_good c tree order d [] ls known parts shaped regs;
-      each_reg = λ r lt. one_each number (source_count c) tree 0 r ls (omega arith) (omega (arith, lt, count));
+      cells = cells_good c tree order gates g [] ls known parts shaped regs;
+      each_reg = λ r lt. one_each (number_by (enabled_drivers c order gates)) (source_count c) tree 0 r ls (omega arith)
+          (omega (arith, lt, count, regs_many g known.gated));
     }

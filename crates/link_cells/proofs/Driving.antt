@@ -7,8 +7,6 @@ use Rattle.std.proofs.lemmas.Bool.{cases_eq, cases_lt}
 use Rattle.std.proofs.lemmas.List.{length-map, map-append}
 use Rattle.std.proofs.lemmas.List.Elements.{All-append}
 use Rattle.std.proofs.lemmas.List.Sorted.{Contains-permutation, IsPermutation-sym}
-use Rattle.std.proofs.lemmas.Option.{get_or_from_slice_get}
-use Rattle.std.proofs.Math.ListN.{get_or-eq_default}
 use Rattle.net_model.specs.Netlist.{IsSound, AllBelow, reg_nets, gate_nets, driven_nets}
 use Rattle.net_model.specs.declared.netlist.Design.{Design}
 use Rattle.net_model.specs.declared.netlist.Gate.{Gate}
@@ -24,11 +22,9 @@ use Rattle.link_defs.specs.Circuits.{regs_of, part_gates}
 use Rattle.link_defs.specs.Designs.{moved, moved_out, moved_reg, number_by, drivers_by, equations, kept_gates, is_on_tree, IsDesignOf}
 use Rattle.link_defs.specs.Links.{source_count}
 use Rattle.link_design.specs.Lawful.{IsLawfulCircuit, IsLawfulPart, IsLawfulGate}
-use Rattle.link_design.specs.Rows.{IsDriverRow}
 use Rattle.link_design.proofs.DriverPlaces.{number_cases, number_within, number_at, counted_twice}
 use Rattle.link_design.proofs.Leading.{map_at}
 use Rattle.link_design.proofs.Parted.{all_in, all_from_in, data_sources_are, data_sources_below}
-use Rattle.link_cells.specs.Numbers.{number_in}
 
 -- the output nets of a register with other numbers
 pub reg_nets_moved : (f : ℕ → ℕ) (outs : List RegOut) → map (λ (o : RegOut). o.net) (map (moved_out f) outs) ≡ map f (map (λ (o : RegOut). o.net) outs)
@@ -99,7 +95,7 @@ kept_own : (tree : List Bool) (buffer : Bool) (ins : List ℕ) (gates : List Gat
 kept_own tree buffer ins gates g true has = absurd has
 kept_own tree buffer ins gates g false has = has
 
-kept_in_part : (tree : List Bool) (p : Part) (g : Gate) → In g (kept_gates tree p) → In g (part_gates p)
+pub kept_in_part : (tree : List Bool) (p : Part) (g : Gate) → In g (kept_gates tree p) → In g (part_gates p)
 kept_in_part tree (part.Comb buffer ins gates) g has = kept_own tree buffer ins gates g (is_on_tree tree (part.Comb buffer ins gates)) has
 kept_in_part tree (part.Flop clock reg) g has = absurd has
 kept_in_part tree (part.Gate clock enables out) g has = absurd has
@@ -120,29 +116,19 @@ order_below c tree order lawful perm = all_from_in (λ (n : ℕ). n < c.nets) (g
     (part_below c.nets p g (all_in (IsLawfulPart c.nets) c.parts lawful.parts p stands) (kept_in_part tree p g own)))
 
 -- so does each driver
-drivers_below : (c : Circuit) (tree : List Bool) (order : List Gate) → IsLawfulCircuit c → IsPermutation (equations tree c) order
+pub drivers_below : (c : Circuit) (tree : List Bool) (order : List Gate) → IsLawfulCircuit c → IsPermutation (equations tree c) order
     → AllBelow c.nets (drivers_by c order)
 drivers_below c tree order lawful perm =
     All-append (λ (n : ℕ). n < c.nets) (c.inputs ++ flat_map reg_nets (regs_of c)) (gate_nets order)
     (subst (λ (ns : List ℕ). AllBelow c.nets ns) (data_sources_are c) (data_sources_below c lawful)) (order_below c tree order lawful perm)
 
-no_number : (xs : List ℕ) (nets net : ℕ) → AllBelow nets xs → nets ≤ net → number_by xs net ≡ length xs
+-- a net past all drivers has the number of the drivers
+pub no_number : (xs : List ℕ) (nets net : ℕ) → AllBelow nets xs → nets ≤ net → number_by xs net ≡ length xs
 no_number xs nets net below past = elim (number_cases xs net) [
   | inl there ↦
       let lt : net < nets = all_in (λ (n : ℕ). n < nets) xs below net (In-from_Contains xs net (contains_at xs (number_by xs net) net there)) in
       absurd (omega (arith, lt, past))
   | inr none ↦ none
-]
-
--- the row of a design has the number of each net
-pub numbered : (c : Circuit) (tree : List Bool) (order : List Gate) (d : Design) (row : List ℕ) → IsLawfulCircuit c → IsDesignOf c tree order d
-    → IsDriverRow (drivers_by c order) c.nets row → (net : ℕ) → number_in row d.nets net ≡ number_by (drivers_by c order) net
-numbered c tree order d row lawful is row_is net = elim (cases_lt net c.nets) [
-  | inl lt ↦ get_or_from_slice_get row net (number_by (drivers_by c order) net) d.nets (row_is.at net lt)
-  | inr past ↦
-      get_or-eq_default row d.nets (omega (arith, row_is.len, past)) ∙ is.nets
-      ∙ sym (no_number (drivers_by c order) c.nets net (drivers_below c tree order lawful
-      (order_permutes c tree order is.order_is)) past)
 ]
 
 -- a gate of a part that is none of the clock tree's stands in the design, where its net's number says
@@ -157,9 +143,9 @@ gate_stands c tree order d buffer ins gates g is sound stands off has =
     ap (λ (i : ℕ). slice_get d.gates i) place ∙ ap (λ (gs : List Gate). slice_get gs k) is.gates
     ∙ map_at (moved (number_by (drivers_by c order))) order k g at
 
--- as many nets as gates drive are those that inputs and registers don't
-pub sources_are : (c : Circuit) (tree : List Bool) (order : List Gate) (d : Design) → IsDesignOf c tree order d → d.nets - length d.gates ≡ source_count c
-sources_are c tree order d is =
+-- gates drive as many nets as inputs and registers don't
+pub design_nets : (c : Circuit) (tree : List Bool) (order : List Gate) (d : Design) → IsDesignOf c tree order d → d.nets ≡ source_count c + length d.gates
+design_nets c tree order d is =
     let gates : length d.gates ≡ length order = ap length is.gates ∙ length-map order (moved (number_by (drivers_by c order))) in
     omega (
       arith,

@@ -22,7 +22,7 @@ use Rattle.cell_types.specs.declared.libraries.CellKind.{CellKind}
 use Rattle.cell_types.specs.declared.libraries.CellKind.TheVariants as kind
 use Rattle.link_defs.specs.declared.circuits.Part.{Part}
 use Rattle.link_defs.specs.declared.circuits.Part.TheVariants as part
-use Rattle.link_defs.specs.Circuits.{part_regs, part_gated}
+use Rattle.link_defs.specs.Circuits.{part_regs}
 use Rattle.link_defs.specs.CellNames.{Leaf, last_part, leaf_if_any, leaves_of}
 use Rattle.link_defs.specs.Flatten.{Scope, Located}
 use Rattle.link_defs.specs.Hierarchy.{cell_of, wires_of}
@@ -30,7 +30,7 @@ use Rattle.link_defs.specs.Parts.{ties, pin_ties, bit_ties, cell_ties, cell_part
 use Rattle.link_defs.specs.Parts.{is_buffer_prim, outs_from}
 use Rattle.link_items.specs.declared.made.LeafPlace.{LeafPlace}
 use Rattle.link_items.specs.Items.{AreLeavesAt, IsLeafAt, IsCellAt}
-use Rattle.link_items.specs.Cells.{comb_part, flop_part, flop_ties}
+use Rattle.link_items.specs.Cells.{comb_part, flop_part, flop_ties, gate_part, gate_ties}
 use Rattle.link_items.proofs.Listing.{contains_at, with_none}
 use Rattle.link_circuit.proofs.Lawfully.{length_pin_nets, all_none}
 use Rattle.link_cells.specs.Places.{cell_at, leaf_at}
@@ -45,10 +45,9 @@ part_pins (part.Comb buffer ins gates) = length ins
 part_pins (part.Flop clock reg) = length reg.ins
 part_pins (part.Gate clock enables out) = length enables
 
--- the part of a leaf has the input pins of its cell, and no others; no text leads to one that is a clock gate
+-- the part of a leaf has the input pins of its cell, and no others
 pub record IsShaped (l : Leaf) : Type 0 where
   pub pins : (c : Cell) → l.cell ≡ Some c → part_pins l.part ≡ length c.inputs
-  pub ungated : part_gated l.part ≡ []
 
 -- leaves have the registers of parts
 pub record AreLeavesOf (parts : List Part) (ls : List Leaf) : Type 0 where
@@ -117,7 +116,6 @@ cell_leaves_are nets conns first full c (kind.Comb outs) is =
     subst (λ (ps : List Part). AreLeavesOf ps (leaf_if_any full (Some c) (last_part ps))) (sym whole)
     (one_leaf front own full (Some c) (pin_ties_none conns c.inputs first) (record {
       pins = λ d same. length_pin_nets nets conns c.inputs first ∙ (let e : c ≡ d = cc in ap (λ (x : Cell). length x.inputs) e);
-      ungated = refl;
     }))
 cell_leaves_are nets conns first full c (kind.Flop f) is =
     let front = flop_ties conns first c f in
@@ -131,12 +129,20 @@ cell_leaves_are nets conns first full c (kind.Flop f) is =
     (none_both (pin_ties conns first c.inputs) (ties (outs_from first c + length f.outs) (wires_of conns f.clock)) (pin_ties_none conns c.inputs first)
     (ties_none (wires_of conns f.clock) (outs_from first c + length f.outs))) (record {
       pins = λ d same. length_pin_nets nets conns c.inputs first ∙ (let e : c ≡ d = cc in ap (λ (x : Cell). length x.inputs) e);
-      ungated = refl;
     }))
 cell_leaves_are nets conns first full c (kind.Gate g) is =
-    let none : cell_ties conns first c ++ cell_part nets conns first c ≡ [] = rw is refl in
-    subst (λ (ps : List Part). AreLeavesOf ps (leaf_if_any full (Some c) (last_part ps))) (sym none)
-    (record { regs = refl; shaped = all_none IsShaped })
+    let front = gate_ties conns first c g in
+    let own = gate_part nets conns first c g in
+    let ties_are : cell_ties conns first c ≡ front = rw is refl in
+    let part_is : cell_part nets conns first c ≡ own ∷ [] = rw is refl in
+    let whole : cell_ties conns first c ++ cell_part nets conns first c ≡ front ++ own ∷ [] =
+    ap (λ (ps : List Part). ps ++ cell_part nets conns first c) ties_are ∙ ap (λ (ps : List Part). front ++ ps) part_is in
+    subst (λ (ps : List Part). AreLeavesOf ps (leaf_if_any full (Some c) (last_part ps))) (sym whole)
+    (one_leaf front own full (Some c)
+    (none_both (pin_ties conns first c.inputs) (ties (outs_from first c + 1) (wires_of conns g.clock)) (pin_ties_none conns c.inputs first)
+    (ties_none (wires_of conns g.clock) (outs_from first c + 1))) (record {
+      pins = λ d same. length_pin_nets nets conns c.inputs first ∙ (let e : c ≡ d = cc in ap (λ (x : Cell). length x.inputs) e);
+    }))
 cell_leaves_are nets conns first full c kind.Other is =
     let none : cell_ties conns first c ++ cell_part nets conns first c ≡ [] = rw is refl in
     subst (λ (ps : List Part). AreLeavesOf ps (leaf_if_any full (Some c) (last_part ps))) (sym none)
@@ -163,11 +169,10 @@ inst_leaves nets conns first full None (Some c) parts is =
     subst (λ (ps : List Part). AreLeavesOf ps (leaf_if_any full (Some c) (last_part ps))) (sym is) (cell_leaves_are nets conns first full c c.kind refl)
 
 prim_leaves : (front : List Part) (p : Part) (prefix : List ℕ) (name : Option (List ℕ)) → flat_map part_regs front ≡ [] → part_regs p ≡ []
-    → part_gated p ≡ [] → AreLeavesOf (front ++ p ∷ [])
+    → AreLeavesOf (front ++ p ∷ [])
     (elim name [ None ↦ [] | Some n ↦ leaf_if_any (prefix ++ n) None (last_part (front ++ p ∷ [])) ])
-prim_leaves front p prefix None none comb ungated = no_leaf front p none comb
-prim_leaves front p prefix (Some n) none comb ungated =
-    one_leaf front p (prefix ++ n) None none (record { pins = λ c same. cc; ungated = ungated })
+prim_leaves front p prefix None none comb = no_leaf front p none comb
+prim_leaves front p prefix (Some n) none comb = one_leaf front p (prefix ++ n) None none (record { pins = λ c same. cc })
 
 -- the leaf of an item
 item_leaves : (s : Source) (lib : Library) (scope : Scope) (first : ℕ) (i : Item)
@@ -178,7 +183,7 @@ item_leaves s lib scope first (item.Inst cell name conns) =
 item_leaves s lib scope first (item.Prim k name outs ins) =
     let pins = wire_nets scope.nets first ins in
     prim_leaves (ties first ins) (part.Comb (is_buffer_prim k) pins (map (λ (out : ℕ). prim_gate k pins (slice_index scope.nets out)) outs)) scope.prefix name
-    (ties_none ins first) refl refl
+    (ties_none ins first) refl
 item_leaves s lib scope first (item.Copy to from) =
     let pins = wire_net scope.nets first from ∷ [] in
     no_leaf (ties first (from ∷ [])) (part.Comb true pins (prim_gate prim.Buf pins (slice_index scope.nets to) ∷ [])) (ties_none (from ∷ []) first) refl

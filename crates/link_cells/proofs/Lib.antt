@@ -1,4 +1,5 @@
 pub mod Driving
+pub mod Enabled
 pub mod Leafing
 pub mod Roles
 pub mod Counting

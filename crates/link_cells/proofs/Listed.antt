@@ -1,6 +1,8 @@
 -- Lists of pins and cells, one more at a time.
 use Rattle.std.proofs.Common.{◌≡◌, ℕ, zero, suc, ◌+◌, ◌-◌, ◌≤◌, Bool, false, List, [], ◌∷◌, ◌++◌, length, map, drop, Some, refl, ap, subst, sym, ◌∙◌, arith, append_assoc}
 use Rattle.std.specs.Prelude.{Option, slice_get, zip}
+use Rattle.net_model.specs.declared.netlist.Gate.{Gate}
+use Rattle.icg_rewrite.specs.Rewritten.{rewritten}
 use Rattle.link_defs.specs.declared.circuits.Part.{Part}
 use Rattle.link_defs.specs.declared.names.CellName.{CellName}
 use Rattle.link_defs.specs.declared.names.PinName.{PinName}
@@ -8,16 +10,17 @@ use Rattle.link_defs.specs.CellNames.{Leaf, output_role, cell_name, cell_names}
 use Rattle.link_defs.specs.declared.circuits.Circuit.{Circuit}
 use Rattle.link_defs.specs.Circuits.{part_regs}
 use Rattle.link_defs.specs.CellNames.{leaves}
-use Rattle.link_defs.specs.Designs.{number_by, drivers_by}
+use Rattle.link_defs.specs.Designs.{number_by}
 use Rattle.link_defs.specs.Flatten.{Flat}
+use Rattle.link_defs.specs.GatedDesigns.{enabled_drivers}
 use Rattle.link_defs.specs.Links.{source_count}
 use Rattle.link_defs.specs.Parts.{parts_of}
 use Rattle.cell_types.specs.declared.libraries.Library.{Library}
 use Rattle.netlist_types.specs.declared.sources.Source.{Source}
-use Rattle.link_design.specs.declared.designs.Held.{Held}
-use Rattle.link_design.specs.declared.designs.CircuitDesign.{CircuitDesign}
+use Rattle.gated_designs.specs.declared.designs.GatedDesign.{GatedDesign}
 use Rattle.link_design.specs.Lawful.{IsLawfulCircuit}
-use Rattle.link_design.specs.Made.{IsMade}
+use Rattle.gated_designs.specs.Made.{IsGatedDesign}
+use Rattle.gated_designs.proofs.ClockParts.{are_clocked}
 use Rattle.link_design.proofs.Leading.{map_at}
 use Rattle.link_items.specs.declared.made.LeafPlace.{LeafPlace}
 use Rattle.link_items.specs.Items.{AreLeavesAt}
@@ -29,7 +32,8 @@ use Rattle.std.proofs.lemmas.List.{length-map}
 use Rattle.std.proofs.lemmas.Option.{get_or_from_slice_get}
 use Rattle.link_cells.specs.Numbers.{number_in}
 use Rattle.link_cells.specs.Places.{drive_role, leaf_of, leaf_at, ArePlacesOf}
-use Rattle.link_cells.proofs.Driving.{numbered, sources_are}
+use Rattle.link_cells.proofs.Driving.{design_nets}
+use Rattle.link_cells.proofs.Enabled.{IsKnown, numbered}
 use Rattle.link_cells.proofs.Leafing.{leaves_are, leaf_parts, flat_leaves}
 use Rattle.link_cells.proofs.Counting.{places_good, own_names}
 
@@ -110,28 +114,42 @@ names_kept number sources tree lib parts places list is =
     ap (λ (cs : List CellName). map (λ (c : CellName). c.name) cs) is ∙ own_names number sources tree 0 (map (leaf_at lib parts) places)
     ∙ places_named lib parts places
 
--- the cells by the row of a design are those by its drivers
-pub names_agree : (c : Circuit) (h : Held) (made : CircuitDesign) (m : IsMade c h made) (sources : ℕ) (lib : Library) (places : List LeafPlace)
-    (found : List Leaf) → sources ≡ made.design.nets - length made.design.gates → IsLawfulCircuit c → AreLeavesAt lib c.parts places found
-    → cell_names (number_in made.numbers made.design.nets) sources made.tree 0 (map (leaf_at lib c.parts) places)
-    ≡ cell_names (number_by (drivers_by c m.order)) (source_count c) made.tree 0 found
-names_agree c h made m sources lib places found less lawful at =
-    let d = made.design in
-    let by_row = number_in made.numbers d.nets in
-    let by_drivers = number_by (drivers_by c m.order) in
-    let same : by_row ≡ by_drivers = λ i net. numbered c made.tree m.order d made.numbers lawful m.design_is m.numbers net i in
+-- what is known of a circuit by its design with clock gates
+known_of : (c : Circuit) (order : List Gate) (made : GatedDesign) → IsLawfulCircuit c → (m : IsGatedDesign c order made)
+    → IsKnown c made.tree order m.gates made.gated
+known_of c order made lawful m = record {
+  lawful = lawful;
+  once = m.once;
+  clocked = are_clocked c m.clocked;
+  gated_is = m.gated_is;
+  gated = m.lawful;
+}
+
+-- the cells by the row of a rewritten design are those by its drivers
+pub names_agree : (c : Circuit) (order : List Gate) (made : GatedDesign) (m : IsGatedDesign c order made) (nets sources : ℕ) (lib : Library)
+    (places : List LeafPlace) (found : List Leaf) → nets ≡ made.gated.design.nets + length made.gated.gates
+    → sources ≡ made.gated.design.nets - length made.gated.design.gates → IsLawfulCircuit c → AreLeavesAt lib c.parts places found
+    → cell_names (number_in made.numbers nets) sources made.tree 0 (map (leaf_at lib c.parts) places)
+    ≡ cell_names (number_by (enabled_drivers c order m.gates)) (source_count c) made.tree 0 found
+names_agree c order made m nets sources lib places found all less lawful at =
+    let d = made.gated.design in
+    let by_row = number_in made.numbers nets in
+    let by_drivers : ℕ → ℕ = number_by (enabled_drivers c order m.gates) in
+    let same : by_row ≡ by_drivers = λ i net. numbered c made.tree order m.gates made.gated made.numbers nets lawful m.gated_is m.numbers all net i in
     ap (λ (ls : List Leaf). cell_names by_row sources made.tree 0 ls) (leaves_are lib c.parts places found at)
     ∙ ap (λ (f : ℕ → ℕ). cell_names f sources made.tree 0 found) same
-    ∙ ap (λ (n : ℕ). cell_names by_drivers n made.tree 0 found) (less ∙ sources_are c made.tree m.order d m.design_is)
+    ∙ ap (λ (n : ℕ). cell_names by_drivers n made.tree 0 found) (omega (arith, less, design_nets c made.tree order d m.gated_is.design))
 
--- every place of them is one of the design
-pub places_are : (c : Circuit) (h : Held) (made : CircuitDesign) (m : IsMade c h made) (s : Source) (lib : Library) (places : List LeafPlace) (f : Flat)
-    (list : List CellName) → IsLawfulCircuit c → c.parts ≡ flat_map (parts_of s lib) f.items → AreLeavesAt lib c.parts places (leaves s lib f)
-    → list ≡ cell_names (number_by (drivers_by c m.order)) (source_count c) made.tree 0 (leaves s lib f) → ArePlacesOf made.design list
-places_are c h made m s lib places f list lawful parts at is =
+-- every place of them is one of the rewritten design
+pub places_are : (c : Circuit) (order : List Gate) (made : GatedDesign) (m : IsGatedDesign c order made) (s : Source) (lib : Library)
+    (places : List LeafPlace) (f : Flat) (list : List CellName) → IsLawfulCircuit c → c.parts ≡ flat_map (parts_of s lib) f.items
+    → AreLeavesAt lib c.parts places (leaves s lib f)
+    → list ≡ cell_names (number_by (enabled_drivers c order m.gates)) (source_count c) made.tree 0 (leaves s lib f)
+    → ArePlacesOf (rewritten made.gated) list
+places_are c order made m s lib places f list lawful parts at is =
     let all = flat_leaves s lib f.items in
-    subst (λ (cs : List CellName). ArePlacesOf made.design cs) (sym is)
-    (places_good c made.tree m.order made.design (leaves s lib f) (record { lawful = lawful; design = m.design_is; sound = m.sound })
+    subst (λ (cs : List CellName). ArePlacesOf (rewritten made.gated) cs) (sym is)
+    (places_good c made.tree order m.gates made.gated (leaves s lib f) (known_of c order made lawful m)
     (leaf_parts lib c.parts places (leaves s lib f) at) all.shaped (ap (λ (ps : List Part). flat_map part_regs ps) parts ∙ all.regs))
 
 -- numbers of the nets of items

@@ -8,8 +8,8 @@ use Rattle.link_defs.specs.declared.circuits.Part.TheVariants as part
 use Rattle.link_defs.specs.declared.names.CellName.{CellName}
 use Rattle.link_defs.specs.declared.names.PinName.{PinName}
 use Rattle.link_defs.specs.declared.names.PinRole.TheVariants as role
-use Rattle.link_defs.specs.CellNames.{Leaf, input_roles, clock_role, clock_pins, out_pins, output_role}
-use Rattle.link_defs.specs.Circuits.{part_outs}
+use Rattle.link_defs.specs.CellNames.{Leaf, input_roles, clock_role, tree_pins, out_pins, output_role}
+use Rattle.link_defs.specs.Circuits.{part_drives}
 use Rattle.link_defs.specs.Usable.{IsCellOf, is_reg}
 use Rattle.link_items.specs.declared.made.LeafPlace.{LeafPlace}
 
@@ -33,7 +33,7 @@ drive_role out = record { name = out.0; role = role.Drive out.1 }
 -- the pins of a cell that is none of the clock tree's
 abbrev pub data_roles : (ℕ → ℕ) → ℕ → ℕ → Part → Cell → List PinName
 data_roles number sources reg p c =
-    input_roles number sources reg p 0 c.inputs ++ map clock_role (clock_pins c.kind) ++ map (output_role number) (zip (out_pins c.kind) (part_outs p))
+    input_roles number sources reg p 0 c.inputs ++ map clock_role (tree_pins c.kind) ++ map (output_role number) (zip (out_pins c.kind) (part_drives p))
 
 -- every place of the cells is one of the design, and each register is that of one cell
 pub record ArePlacesOf (d : Design) (list : List CellName) : Type 0 where

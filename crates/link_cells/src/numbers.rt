@@ -8,8 +8,8 @@ ghost use Rattle.link_cells.specs.Numbers.{number_in};
 use link_defs::Part;
 use sdcv_base::Seq;
 
-/// For each net of a circuit its number in the design, and a mark if it is the clock tree's; how many nets the design has, and
-/// how many of them inputs and registers drive. A net that is none of the design has the number of the design's nets.
+/// For each net of a circuit its number in the rewritten design, and a mark if it is the clock tree's; how many nets this design
+/// has, and how many of them inputs and registers drive. A net that is none of the design has the number of the design's nets.
 #[derive(Drop)]
 pub(crate) struct Numbering<'a> {
     pub(crate) numbers: &'a Seq<usize>,

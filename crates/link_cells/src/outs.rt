@@ -5,7 +5,7 @@ ghost use Rattle.cell_types.specs.declared.libraries.FlopOut.{FlopOut as FlopOut
 ghost use Rattle.net_model.specs.Netlist.{gate_nets};
 ghost use Rattle.net_model.specs.declared.netlist.RegOut.{RegOut as RegOutRecord};
 ghost use Rattle.link_defs.specs.CellNames.{out_pins};
-ghost use Rattle.link_defs.specs.Circuits.{part_outs};
+ghost use Rattle.link_defs.specs.Circuits.{part_outs, part_drives};
 ghost use Rattle.link_defs.specs.Designs.{is_on_tree};
 ghost use Rattle.link_cells.specs.Numbers.{number_in};
 
@@ -47,7 +47,10 @@ pub(crate) fn out_names(alloc: Global, kind: &CellKind) -> Result<Seq<Name>, All
     match kind {
         CellKind::Comb(outs) => comb_names(alloc, outs),
         CellKind::Flop(flop) => flop_names(alloc, &flop.outs),
-        CellKind::Gate(_) => Ok(Seq::new(alloc)),
+        CellKind::Gate(gate) => {
+            let name = gate.out.copy(alloc)?;
+            Seq::one(alloc, name)
+        }
         CellKind::Other => Ok(Seq::new(alloc)),
     }
 }
@@ -76,12 +79,8 @@ fn reg_numbers(alloc: Global, n: &Numbering, outs: &Seq<RegOut>) -> Result<Seq<u
     Ok(list)
 }
 
-/// The numbers of the nets that a part drives.
-pub(crate) fn out_numbers(
-    alloc: Global,
-    n: &Numbering,
-    part: &Part,
-) -> Result<Seq<usize>, AllocError>
+/// The numbers of the nets that a part drives: a clock gate has that of its enable.
+fn out_numbers(alloc: Global, n: &Numbering, part: &Part) -> Result<Seq<usize>, AllocError>
     ensures { IfOk result (λ list. list ≡ map (number_in n.now.numbers.now n.now.nets) (part_outs part.now)) }
 {
     match part {
@@ -91,7 +90,22 @@ pub(crate) fn out_numbers(
     }
 }
 
-/// Those of the design's nets: a part of the clock tree drives none.
+/// The numbers of those that it drives with data: a clock gate drives none.
+pub(crate) fn drive_numbers(
+    alloc: Global,
+    n: &Numbering,
+    part: &Part,
+) -> Result<Seq<usize>, AllocError>
+    ensures { IfOk result (λ list. list ≡ map (number_in n.now.numbers.now n.now.nets) (part_drives part.now)) }
+{
+    match part {
+        Part::Comb { gates, .. } => gate_numbers(alloc, n, gates),
+        Part::Flop { reg, .. } => reg_numbers(alloc, n, &reg.outs),
+        Part::Gate { .. } => Ok(Seq::new(alloc)),
+    }
+}
+
+/// The numbers of the nets that a part drives in the design: a part of the clock tree drives none.
 pub(crate) fn design_outs(
     alloc: Global,
     n: &Numbering,

@@ -1,14 +1,14 @@
 //! The pins of cells.
-ghost use Rattle.std.specs.Prelude.{◌≡◌, ◌++◌, ◌-◌, ◌<◌, [], map, zip, length, IfOk, OnOk};
+ghost use Rattle.std.specs.Prelude.{◌≡◌, ◌++◌, ◌∷◌, ◌-◌, ◌<◌, [], map, zip, length, IfOk, OnOk};
 ghost use Rattle.std.specs.Option.{option_copied};
 ghost use Rattle.net_model.specs.declared.claims.PinRef.TheVariants.{GateIn};
 ghost use Rattle.net_model.specs.declared.netlist.Gate.{Gate as GateRecord};
-ghost use Rattle.link_defs.specs.CellNames.{clock_pins, clock_role, input_roles, loads as spec_loads, out_pins, pin_names as spec_pins, pins_if_any};
+ghost use Rattle.link_defs.specs.CellNames.{clock_role, input_roles, loads as spec_loads, out_pins, pin_names as spec_pins, pins_if_any, tree_pins as spec_tree};
 ghost use Rattle.link_cells.specs.Numbers.{number_in};
 ghost use Rattle.link_cells.specs.Places.{cell_at as spec_cell, drive_role, data_roles};
 
 use crate::numbers::Numbering;
-use crate::outs::{out_names, out_numbers};
+use crate::outs::{drive_numbers, out_names};
 use cell_types::{Cell, CellKind, Library};
 use link_defs::{Part, PinName, PinRole};
 use net_model::{Gate, PinRef};
@@ -46,7 +46,7 @@ fn loads(
     match part {
         Part::Comb { gates, .. } => gate_loads(alloc, n, gates, place),
         Part::Flop { .. } => Seq::one(alloc, PinRef::RegIn(reg, place)),
-        Part::Gate { .. } => Ok(Seq::new(alloc)),
+        Part::Gate { out, .. } => Seq::one(alloc, PinRef::GateIn(n.gate(*out), place)),
     }
 }
 
@@ -71,37 +71,41 @@ fn push_inputs(
     Ok(())
 }
 
+/// Appends a clock pin.
+fn push_clock(alloc: Global, list: &mut Seq<PinName>, pin: &Name) -> Result<(), AllocError>
+    ensures { OnOk result (list.new ≡ list.old ++ clock_role pin.now ∷ []) }
+{
+    let name = pin.copy(alloc)?;
+    list.push(PinName {
+        name,
+        role: PinRole::Clock,
+    })?;
+    Ok(())
+}
+
 /// Appends clock pins.
 fn push_clocks(alloc: Global, list: &mut Seq<PinName>, pins: &Seq<Name>) -> Result<(), AllocError>
     ensures { OnOk result (list.new ≡ list.old ++ map clock_role pins.now) }
 {
     for k in 0..pins.len() {
-        let name = pins.item(k).copy(alloc)?;
-        list.push(PinName {
-            name,
-            role: PinRole::Clock,
-        })?;
+        push_clock(alloc, list, pins.item(k))?;
     }
     Ok(())
 }
 
-/// Appends the clock pin of a flop.
-fn push_clock(alloc: Global, list: &mut Seq<PinName>, kind: &CellKind) -> Result<(), AllocError>
-    ensures { OnOk result (list.new ≡ list.old ++ map clock_role (clock_pins kind.now)) }
+/// Appends the pins that stand on the clock tree: of a flop its clock pin, of a clock gate its output too.
+fn push_tree(alloc: Global, list: &mut Seq<PinName>, kind: &CellKind) -> Result<(), AllocError>
+    ensures { OnOk result (list.new ≡ list.old ++ map clock_role (spec_tree kind.now)) }
 {
     match kind {
-        CellKind::Comb(_) => {}
-        CellKind::Flop(flop) => {
-            let name = flop.clock.copy(alloc)?;
-            list.push(PinName {
-                name,
-                role: PinRole::Clock,
-            })?;
+        CellKind::Comb(_) => Ok(()),
+        CellKind::Flop(flop) => push_clock(alloc, list, &flop.clock),
+        CellKind::Gate(gate) => {
+            push_clock(alloc, list, &gate.clock)?;
+            push_clock(alloc, list, &gate.out)
         }
-        CellKind::Gate(_) => {}
-        CellKind::Other => {}
+        CellKind::Other => Ok(()),
     }
-    Ok(())
 }
 
 /// Appends the output pins of these names, each with the number of its net, as far as there are both.
@@ -145,10 +149,10 @@ fn data_pins(
     ensures { IfOk result (λ list. list ≡ data_roles (number_in n.now.numbers.now n.now.nets) n.now.sources reg part.now cell.now) }
 {
     let outs = out_names(alloc, &cell.kind)?;
-    let nets = out_numbers(alloc, n, part)?;
+    let nets = drive_numbers(alloc, n, part)?;
     let mut list = Seq::new(alloc);
     push_inputs(alloc, &mut list, n, reg, part, &cell.inputs)?;
-    push_clock(alloc, &mut list, &cell.kind)?;
+    push_tree(alloc, &mut list, &cell.kind)?;
     push_drives(alloc, &mut list, &outs, &nets)?;
     Ok(list)
 }
