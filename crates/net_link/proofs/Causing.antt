@@ -1,10 +1,12 @@
 -- The causes of refusals, and none of them where there is a design.
-use Rattle.std.proofs.Common.{◌≡◌, ◌≢◌, ℕ, ◌≤◌, true, List, [], ◌∷◌, ◌++◌, length, map, Some, None, refl, ap}
+use Rattle.std.proofs.Common.{◌≡◌, ◌≢◌, ℕ, ◌+◌, ◌<◌, ◌≤◌, true, List, [], ◌∷◌, ◌++◌, length, map, Some, None, refl, ap}
 use Rattle.std.proofs.Common.{subst, sym, ◌∙◌, arith, inl, inr}
 use Rattle.std.specs.Prelude.{Option, Contains, slice_get}
 use Rattle.sdcv_base.specs.declared.limits.LimitName.{LimitName}
 use Rattle.sdcv_base.specs.declared.limits.LimitName.TheVariants as what
 use Rattle.net_model.proofs.Members.{In-left, In-cases, in_or, In-from_Contains, Contains-from_In}
+use Rattle.icg_rewrite.specs.Faults.{IsFull}
+use Rattle.icg_rewrite.specs.declared.clock_gates.Gated.{Gated}
 use Rattle.netlist_types.specs.declared.sources.Source.{Source}
 use Rattle.netlist_types.specs.declared.sources.Module.{Module}
 use Rattle.netlist_types.specs.declared.sources.Conn.{Conn}
@@ -25,7 +27,7 @@ use Rattle.link_defs.specs.declared.options.LinkOptions.{LinkOptions}
 use Rattle.link_defs.specs.CellNames.{Leaf, leaves}
 use Rattle.link_defs.specs.Circuits.{circuit_of, input_bits, output_bits, all_drivers, all_reads}
 use Rattle.link_defs.specs.Faults.{IsInstance, IsOfModule, IsOfCell, IsOfModelled, IsUnknownPin, IsOpenInput, HasManyDrivers, StandsTwice, bit_names, Clashes}
-use Rattle.link_defs.specs.Faults.{HasManyPins, IsWidePrim, is_counted, IsAboveLimit, IsBadSetting, IsFlatCause, IsCause, IsFaultless}
+use Rattle.link_defs.specs.Faults.{most_pins, HasManyPins, IsWidePrim, is_counted, IsAboveLimit, IsBadSetting, IsFlatCause, IsCause, IsFaultless}
 use Rattle.link_defs.specs.Faults as link
 use Rattle.link_defs.specs.Flatten.{Located, Flat, flat_of, full_names}
 use Rattle.link_defs.specs.Hierarchy.{cell_of, tops}
@@ -37,6 +39,8 @@ use Rattle.link_settings.specs.Ports.{IsPortCause}
 use Rattle.link_tops.specs.Tops.{IsTopCause}
 use Rattle.link_design.proofs.Parted.{all_in}
 use Rattle.net_link.specs.Nets.{IsOfTwoNets, IsNetCause}
+use Rattle.net_link.specs.Stages.{IsEnableCause}
+use Rattle.net_link.proofs.Rooms.{IsRoomy}
 
 -- a cause below the only top module is one of the source
 pub cause_of : (s : Source) (lib : Library) (o : LinkOptions) (top : Module) (e : LinkFault) → tops s ≡ top ∷ []
@@ -118,6 +122,42 @@ net_cause s lib o top flat c pairs (fault.Limit k n) is cause = absurd cause
 net_cause s lib o top flat c pairs (fault.BadSetting n) is cause = absurd cause
 net_cause s lib o top flat c pairs fault.Memory is cause = tt
 
+-- a limit that the enables break
+limit_cause : (s : Source) (lib : Library) (flat : Flat) (c : Circuit) (g : Gated) (k : LimitName) (n : ℕ)
+    → ((r : ℕ) → IsFull g r → IsAboveLimit s lib flat c what.Pins 6)
+    → (200000 < g.design.nets + length g.gates → IsAboveLimit s lib flat c what.Nets 200001) → IsEnableCause g (fault.Limit k n)
+    → IsAboveLimit s lib flat c k n
+limit_cause s lib flat c g what.Nets n pins nets cause = rw cause.0 (nets cause.1)
+limit_cause s lib flat c g what.Registers n pins nets cause = absurd cause
+limit_cause s lib flat c g what.Inputs n pins nets cause = absurd cause
+limit_cause s lib flat c g what.Outputs n pins nets cause = absurd cause
+limit_cause s lib flat c g what.Instances n pins nets cause = absurd cause
+limit_cause s lib flat c g what.Pins n pins nets cause = rw cause.0 (pins cause.1.0 cause.1.1)
+limit_cause s lib flat c g what.Through n pins nets cause = absurd cause
+limit_cause s lib flat c g what.Pairs n pins nets cause = absurd cause
+limit_cause s lib flat c g what.Judged n pins nets cause = absurd cause
+limit_cause s lib flat c g what.Hierarchy n pins nets cause = absurd cause
+
+-- why there is no room for enables
+pub enable_cause : (s : Source) (lib : Library) (o : LinkOptions) (top : Module) (flat : Flat) (c : Circuit) (g : Gated) (e : LinkFault)
+    → ((r : ℕ) → IsFull g r → IsAboveLimit s lib flat c what.Pins 6)
+    → (200000 < g.design.nets + length g.gates → IsAboveLimit s lib flat c what.Nets 200001) → IsEnableCause g e → IsFlatCause s lib o top flat c e
+enable_cause s lib o top flat c g (fault.UnknownCell n) pins nets cause = absurd cause
+enable_cause s lib o top flat c g (fault.UnsupportedCell n) pins nets cause = absurd cause
+enable_cause s lib o top flat c g (fault.UnknownPin n) pins nets cause = absurd cause
+enable_cause s lib o top flat c g (fault.OpenInput n) pins nets cause = absurd cause
+enable_cause s lib o top flat c g (fault.Undriven n) pins nets cause = absurd cause
+enable_cause s lib o top flat c g (fault.ManyDrivers n) pins nets cause = absurd cause
+enable_cause s lib o top flat c g (fault.Loop n) pins nets cause = absurd cause
+enable_cause s lib o top flat c g (fault.NotTheClock n) pins nets cause = absurd cause
+enable_cause s lib o top flat c g (fault.ClockAsData n) pins nets cause = absurd cause
+enable_cause s lib o top flat c g (fault.Recursive n) pins nets cause = absurd cause
+enable_cause s lib o top flat c g (fault.NameClash n) pins nets cause = absurd cause
+enable_cause s lib o top flat c g (fault.NoTop n) pins nets cause = absurd cause
+enable_cause s lib o top flat c g (fault.Limit k n) pins nets cause = limit_cause s lib flat c g k n pins nets cause
+enable_cause s lib o top flat c g (fault.BadSetting n) pins nets cause = absurd cause
+enable_cause s lib o top flat c g fault.Memory pins nets cause = tt
+
 -- the names of leaves, by their places
 pub names_of_leaves : (lib : Library) (parts : List Part) (places : List LeafPlace) (ls : List Leaf) → AreLeavesAt lib parts places ls
     → leaf_names places ≡ map (λ (l : Leaf). l.name) ls
@@ -151,6 +191,7 @@ pub record IsFree (s : Source) (lib : Library) (o : LinkOptions) (top : Module) 
   pub fine : AreFine s lib flat
   pub unrecursive : IsUnrecursive s
   pub circuit : IsFaultlessCircuit c
+  pub room : IsRoomy c
   pub places : (l : Leaf) → Contains (leaves s lib flat) l → (place : ℕ) × (slice_get c.parts place ≡ Some l.part)
   pub cells : IsApart (map (λ (l : Leaf). l.name) (leaves s lib flat))
   pub ports : IsApart (bit_names (input_bits top ++ output_bits top))
@@ -206,19 +247,20 @@ wide_item s lib flat at (item.Prim k name outs ins) fine has is wide =
     free (fault.Limit what.Pins 7) (λ e. cc) (subst (λ (y : Item). IsItemFault s lib at.scope y (fault.Limit what.Pins 7)) (sym is) bad)
 wide_item s lib flat at (item.Copy to from) fine has is wide = wide
 
-many_pins : (s : Source) (lib : Library) (flat : Flat) → AreFine s lib flat → HasManyPins s lib flat → ⊥
-many_pins s lib flat fine (link.Of_cell k full conns of wide) =
-    cell_free s lib flat k full conns (fault.Limit what.Pins 7) fine (λ e. cc) of.0 (λ cell. (of.1, (wide, refl)))
-many_pins s lib flat fine (link.Of_prim at has wide) = wide_item s lib flat at at.item fine has refl wide
+many_pins : (s : Source) (lib : Library) (flat : Flat) (c : Circuit) (n : ℕ) → AreFine s lib flat → IsRoomy c → HasManyPins s lib flat c n → ⊥
+many_pins s lib flat c n fine room (link.Of_cell k full conns of wide) =
+    cell_free s lib flat k full conns (fault.Limit what.Pins (most_pins k.kind + 1)) fine (λ e. cc) of.0 (λ cell. (of.1, (wide, refl)))
+many_pins s lib flat c n fine room (link.Of_prim at has wide) = wide_item s lib flat at at.item fine has refl wide
+many_pins s lib flat c n fine room (link.Of_gated x gate has under wide) = room.pins x gate has under wide
 
 above_limit : (s : Source) (lib : Library) (o : LinkOptions) (top : Module) (flat : Flat) (c : Circuit) (k : LimitName) (n : ℕ) → IsFree s lib o top flat c
     → IsAboveLimit s lib flat c k n → ⊥
-above_limit s lib o top flat c k n free (link.Nets tree is more) = free.circuit (circuit.Limit what.Nets 200001) (λ e. cc) (above.Nets tree is more)
+above_limit s lib o top flat c k n free (link.Nets tree is more) = omega (arith, more, free.room.nets tree is)
 above_limit s lib o top flat c k n free (link.Regs more) = free.circuit (circuit.Limit what.Registers 20001) (λ e. cc) (above.Regs more)
 above_limit s lib o top flat c k n free (link.Inputs more) = free.circuit (circuit.Limit what.Inputs 2001) (λ e. cc) (above.Inputs more)
 above_limit s lib o top flat c k n free (link.Outputs more) = free.circuit (circuit.Limit what.Outputs 20001) (λ e. cc) (above.Outputs more)
 above_limit s lib o top flat c k n free (link.Instances more) = let few = free.fine.few in omega (arith, more, few)
-above_limit s lib o top flat c k n free (link.Pins many) = many_pins s lib flat free.fine many
+above_limit s lib o top flat c k n free (link.Pins number many) = many_pins s lib flat c number free.fine free.room many
 above_limit s lib o top flat c k n free (link.Hierarchy at has counts deep) =
     let low : is_counted at ≡ true → at.scope.depth ≤ 256 =
     all_in (λ (a : Located). is_counted a ≡ true → a.scope.depth ≤ 256) flat.items free.fine.low at (In-from_Contains flat.items at has) in

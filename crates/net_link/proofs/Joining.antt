@@ -4,7 +4,12 @@ use Rattle.std.specs.Prelude.{Option}
 use Rattle.std.specs.List.{AllZip, IsDistinct}
 use Rattle.std.specs.Str.{bytes_eq}
 use Rattle.std.proofs.lemmas.Option.{slice_get_within}
+use Rattle.icg_rewrite.specs.Rewritten.{rewritten}
+use Rattle.icg_rewrite.specs.declared.clock_gates.Gated.{Gated}
+use Rattle.net_model.specs.Netlist.{IsSound}
+use Rattle.net_model.specs.declared.netlist.Design.{Design}
 use Rattle.net_model.specs.declared.netlist.Fixed.{Fixed}
+use Rattle.net_model.specs.declared.netlist.Gate.{Gate}
 use Rattle.netlist_types.specs.declared.sources.Source.{Source}
 use Rattle.netlist_types.specs.declared.sources.Module.{Module}
 use Rattle.cell_types.specs.declared.libraries.Library.{Library}
@@ -18,48 +23,46 @@ use Rattle.link_defs.specs.declared.names.CellName.{CellName}
 use Rattle.link_defs.specs.declared.names.Linked.{Linked}
 use Rattle.link_defs.specs.declared.names.NetName.{NetName}
 use Rattle.link_defs.specs.declared.options.LinkOptions.{LinkOptions}
-use Rattle.link_defs.specs.CellNames.{leaves, cell_names, AreNetNames}
+use Rattle.link_defs.specs.CellNames.{leaves}
 use Rattle.link_defs.specs.Circuits.{data_bits}
-use Rattle.link_defs.specs.Designs.{drivers_by, number_by}
 use Rattle.link_defs.specs.Faults.{IsFlatCause, IsCause}
 use Rattle.link_defs.specs.Flatten.{flat_of}
+use Rattle.link_defs.specs.GatedDesigns.{AreGatedSolutions}
 use Rattle.link_defs.specs.Hierarchy.{tops}
-use Rattle.link_defs.specs.Links.{IsLinked, IsSet, source_count}
+use Rattle.link_defs.specs.Links.{IsLinked, IsSet}
 use Rattle.link_defs.specs.Usable.{IsUsable}
 use Rattle.link_circuit.specs.declared.circuits.FlatCircuit.{FlatCircuit}
 use Rattle.link_settings.specs.declared.ports.TopPorts.{TopPorts}
 use Rattle.link_settings.specs.Ports.{AreTopPorts}
 use Rattle.link_tops.specs.Tops.{IsTop}
 use Rattle.net_link.specs.Nets.{names_in, IsNetCause}
-use Rattle.net_link.specs.Stages.{AreInner, IsFlatCircuit}
-use Rattle.net_link.proofs.Causing.{cause_of, net_cause}
-use Rattle.net_link.proofs.Linking.{ArePieces, AreSettings, inputs_below, linked_is, usable_is, parts_below}
+use Rattle.net_link.specs.Stages.{AreInner, IsEnableCause, IsFlatCircuit}
+use Rattle.net_link.proofs.Causing.{cause_of, net_cause, enable_cause}
+use Rattle.net_link.proofs.Linking.{ArePieces, AreSettings, inputs_below, linked_is, usable_is, parts_below, over_is}
+use Rattle.net_link.proofs.Rooms.{are_clocked, pins_cause, nets_full}
 use Rattle.net_link.proofs.Staging.{names_below}
+use Rattle.link_cells.specs.Places.{ArePlacesOf}
 
 -- a design with its names
-abbrev pub joined : CircuitDesign → TopPorts → List NetName → List CellName → Option (List ℕ) → Linked
-joined made ports nets cells clock =
-    record { design = made.design; names = record { cells = cells; ins = ports.ins; outs = ports.outs; nets = nets; clock = clock } }
+abbrev pub joined : Design → TopPorts → List NetName → List CellName → Option (List ℕ) → Linked
+joined d ports nets cells clock =
+    record { design = d; names = record { cells = cells; ins = ports.ins; outs = ports.outs; nets = nets; clock = clock } }
 
-pub pieces_of : (s : Source) (lib : Library) (top : Module) (h : Held) (ports : TopPorts) (c : FlatCircuit) (made : CircuitDesign) (nets : List NetName)
-    (cells : List CellName) (clock : Option (List ℕ)) (m : IsMade c.circuit h made)
-    → AreNetNames (flat_of s lib top) (drivers_by c.circuit m.order) (number_by (drivers_by c.circuit m.order)) nets
-    → cells ≡ cell_names (number_by (drivers_by c.circuit m.order)) (source_count c.circuit) made.tree 0 (leaves s lib (flat_of s lib top))
-    → ArePieces s lib top c.circuit (joined made ports nets cells clock)
-pieces_of s lib top h ports c made nets cells clock m nets_are cells_are =
-    record { tree = made.tree; order = m.order; sound = m.sound; design = m.design_is; cells = cells_are; nets = nets_are }
-
-pub settings_of : (o : LinkOptions) (top : Module) (ports : TopPorts) (c : FlatCircuit) (made : CircuitDesign) (nets : List NetName)
-    (cells : List CellName) (clock : Option (List ℕ)) → AreTopPorts top o ports → IsMade c.circuit ports.held made → clock ≡ o.clock
-    → AreSettings o top (joined made ports nets cells clock)
-settings_of o top ports c made nets cells clock set m same = record {
-  fixed = subst (λ (fs : List Fixed). AllZip (IsSet (data_bits o.clock top)) o.fixed fs) (sym m.fixed) set.fixed;
-  resets = subst (λ (fs : List Fixed). AllZip (IsSet (data_bits o.clock top)) o.resets fs) (sym m.resets) set.resets;
-  reset_len = m.reset_len ∙ set.reset_len;
-  ins = set.ins;
-  outs = set.outs;
-  clock = same;
-}
+settings_of : (o : LinkOptions) (top : Module) (ports : TopPorts) (c : FlatCircuit) (made : CircuitDesign) (g : Gated) (d : Design) (nets : List NetName)
+    (cells : List CellName) (clock : Option (List ℕ)) → AreTopPorts top o ports → IsMade c.circuit ports.held made → g.design ≡ made.design
+    → d ≡ rewritten g → clock ≡ o.clock → AreSettings o top (joined d ports nets cells clock)
+settings_of o top ports c made g d nets cells clock set m base is same =
+    let over = over_is d g is in
+    record {
+      fixed = subst (λ (fs : List Fixed). AllZip (IsSet (data_bits o.clock top)) o.fixed fs)
+          (sym (over.fixed ∙ ap (λ (x : Design). x.fixed) base ∙ m.fixed)) set.fixed;
+      resets = subst (λ (fs : List Fixed). AllZip (IsSet (data_bits o.clock top)) o.resets fs)
+          (sym (over.resets ∙ ap (λ (x : Design). x.resets) base ∙ m.resets)) set.resets;
+      reset_len = over.reset_len ∙ ap (λ (x : Design). x.reset_len) base ∙ m.reset_len ∙ set.reset_len;
+      ins = set.ins;
+      outs = set.outs;
+      clock = same;
+    }
 
 -- what is held is held among the inputs of the circuit
 pub held_below : (s : Source) (lib : Library) (o : LinkOptions) (top : Module) (ports : TopPorts) (c : FlatCircuit) → AreTopPorts top o ports
@@ -85,29 +88,65 @@ nets_cause s lib o top c e one is cause =
     circuit_cause s lib o top c e one is
     (net_cause s lib o top (flat_of s lib top) c.circuit (names_in s c.scopes) e (names_below s lib top o.clock c is.below) cause)
 
-inner_pieces : (s : Source) (lib : Library) (o : LinkOptions) (top : Module) (ports : TopPorts) (c : FlatCircuit) (made : CircuitDesign) (nets : List NetName)
-    (cells : List CellName) (clock : Option (List ℕ)) → IsFlatCircuit s lib top o.clock c → IsLawfulCircuit c.circuit → IsMade c.circuit ports.held made
-    → AreInner s lib c made cells nets → ArePieces s lib top c.circuit (joined made ports nets cells clock)
-inner_pieces s lib o top ports c made nets cells clock is lawful m inner =
-    pieces_of s lib top ports.held ports c made nets cells clock m (inner.nets_are ports.held m (flat_of s lib top) (names_below s lib top o.clock c is.below))
-    (inner.cells_are ports.held m (leaves s lib (flat_of s lib top)) lawful is.below.leaves)
+-- what stands of a design of a circuit: the design with its clock gates, its rewritten design, and their names
+pub record AreJoined (s : Source) (lib : Library) (c : FlatCircuit) (h : Held) (made : CircuitDesign) (g : Gated) (d : Design) (cells : List CellName)
+    (nets : List NetName) : Type 0 where
+  pub made_is : IsMade c.circuit h made
+  pub inner : AreInner s lib c made_is.order g cells nets
+  pub base : g.design ≡ made.design
+  pub design : d ≡ rewritten g
+  pub sound : IsSound d
+  pub solved : AreGatedSolutions c.circuit inner.tree made_is.order (rewritten g)
+
+pieces_of : (s : Source) (lib : Library) (o : LinkOptions) (top : Module) (ports : TopPorts) (c : FlatCircuit) (made : CircuitDesign) (g : Gated) (d : Design)
+    (nets : List NetName) (cells : List CellName) (clock : Option (List ℕ)) → IsFlatCircuit s lib top o.clock c → IsLawfulCircuit c.circuit
+    → AreJoined s lib c ports.held made g d cells nets → ArePieces s lib top c.circuit (joined d ports nets cells clock)
+pieces_of s lib o top ports c made g d nets cells clock is lawful all =
+    let inner = all.inner in
+    record {
+      tree = inner.tree;
+      order = all.made_is.order;
+      gates = inner.gates;
+      gated = g;
+      clocked = are_clocked c.circuit inner.clocked;
+      gated_is = inner.gated_is;
+      sound = all.sound;
+      design = all.design;
+      solutions = subst (λ (x : Design). AreGatedSolutions c.circuit inner.tree all.made_is.order x) (sym all.design) all.solved;
+      cells = inner.cells_are (leaves s lib (flat_of s lib top)) lawful is.below.leaves;
+      nets = inner.nets_are (flat_of s lib top) (names_below s lib top o.clock c is.below);
+    }
 
 -- the design with its names is what linking gives
-pub joined_linked : (s : Source) (lib : Library) (o : LinkOptions) (top : Module) (ports : TopPorts) (c : FlatCircuit) (made : CircuitDesign)
-    (nets : List NetName) (cells : List CellName) (clock : Option (List ℕ)) → tops s ≡ top ∷ [] → IsFlatCircuit s lib top o.clock c
-    → IsLawfulCircuit c.circuit → AreTopPorts top o ports → IsMade c.circuit ports.held made → AreInner s lib c made cells nets → clock ≡ o.clock
-    → IsLinked s lib o (joined made ports nets cells clock)
-joined_linked s lib o top ports c made nets cells clock one is lawful set m inner same =
-    linked_is s lib o top c.circuit (joined made ports nets cells clock) one is.below.circuit
-    (inner_pieces s lib o top ports c made nets cells clock is lawful m inner) (settings_of o top ports c made nets cells clock set m same)
+pub joined_linked : (s : Source) (lib : Library) (o : LinkOptions) (top : Module) (ports : TopPorts) (c : FlatCircuit) (made : CircuitDesign) (g : Gated)
+    (d : Design) (nets : List NetName) (cells : List CellName) (clock : Option (List ℕ)) → tops s ≡ top ∷ [] → IsFlatCircuit s lib top o.clock c
+    → IsLawfulCircuit c.circuit → AreTopPorts top o ports → AreJoined s lib c ports.held made g d cells nets → clock ≡ o.clock
+    → IsLinked s lib o (joined d ports nets cells clock)
+joined_linked s lib o top ports c made g d nets cells clock one is lawful set all same =
+    linked_is s lib o top c.circuit (joined d ports nets cells clock) one is.below.circuit
+    (pieces_of s lib o top ports c made g d nets cells clock is lawful all)
+    (settings_of o top ports c made g d nets cells clock set all.made_is all.base all.design same)
 
 -- and its names can be relied on
-pub joined_usable : (s : Source) (lib : Library) (o : LinkOptions) (top : Module) (ports : TopPorts) (c : FlatCircuit) (made : CircuitDesign)
-    (nets : List NetName) (cells : List CellName) (clock : Option (List ℕ)) → IsFlatCircuit s lib top o.clock c → IsLawfulCircuit c.circuit
-    → AreTopPorts top o ports → IsMade c.circuit ports.held made → AreInner s lib c made cells nets → clock ≡ o.clock
-    → IsUsable (joined made ports nets cells clock)
-joined_usable s lib o top ports c made nets cells clock is lawful set m inner same =
-    usable_is s lib o top c.circuit (joined made ports nets cells clock) is.below.circuit
-    (inner_pieces s lib o top ports c made nets cells clock is lawful m inner) (settings_of o top ports c made nets cells clock set m same)
-    (inner.places ports.held s (flat_of s lib top) lawful m (parts_below s lib top o.clock c.circuit is.below.circuit) is.below.leaves)
-    (subst (λ (ns : List (List ℕ)). IsDistinct bytes_eq ns) (sym inner.own) is.differ) set.differ
+pub joined_usable : (s : Source) (lib : Library) (o : LinkOptions) (top : Module) (ports : TopPorts) (c : FlatCircuit) (made : CircuitDesign) (g : Gated)
+    (d : Design) (nets : List NetName) (cells : List CellName) (clock : Option (List ℕ)) → IsFlatCircuit s lib top o.clock c
+    → IsLawfulCircuit c.circuit → AreTopPorts top o ports → AreJoined s lib c ports.held made g d cells nets → clock ≡ o.clock
+    → IsUsable (joined d ports nets cells clock)
+joined_usable s lib o top ports c made g d nets cells clock is lawful set all same =
+    usable_is s lib o top c.circuit (joined d ports nets cells clock) is.below.circuit
+    (pieces_of s lib o top ports c made g d nets cells clock is lawful all)
+    (settings_of o top ports c made g d nets cells clock set all.made_is all.base all.design same)
+    (subst (λ (x : Design). ArePlacesOf x cells) (sym all.design)
+    (all.inner.places s (flat_of s lib top) lawful (parts_below s lib top o.clock c.circuit is.below.circuit) is.below.leaves))
+    (subst (λ (ns : List (List ℕ)). IsDistinct bytes_eq ns) (sym all.inner.own) is.differ) set.differ
+
+-- why there is no room for the enables of the circuit below the only top module
+pub room_cause : (s : Source) (lib : Library) (o : LinkOptions) (top : Module) (c : FlatCircuit) (order : List Gate) (g : Gated) (cells : List CellName)
+    (nets : List NetName) (e : LinkFault) → tops s ≡ top ∷ [] → IsFlatCircuit s lib top o.clock c → AreInner s lib c order g cells nets
+    → IsEnableCause g e → IsCause s lib o e
+room_cause s lib o top c order g cells nets e one is inner cause =
+    let flat = flat_of s lib top in
+    circuit_cause s lib o top c e one is
+    (enable_cause s lib o top flat c.circuit g e
+    (pins_cause s lib flat c.circuit inner.tree order inner.gates g inner.clocked inner.gated_is)
+    (nets_full s lib flat c.circuit inner.tree order inner.gates g inner.gated_is) cause)

@@ -36,6 +36,7 @@ use Rattle.net_link.specs.Nets.{IsOfTwoNets, names_in}
 use Rattle.net_link.specs.Stages.{IsFlatCircuit}
 use Rattle.net_link.proofs.Causing.{names_of_leaves, faultless_is}
 use Rattle.net_link.proofs.Linking.{parts_below}
+use Rattle.net_link.proofs.Rooms.{IsRoomy}
 use Rattle.net_link.proofs.Tabling.{names_same}
 
 -- the circuit of a flat netlist, with its instances and leaves
@@ -90,9 +91,9 @@ leaf_part lib parts (x ∷ xs) (y ∷ ys) l all (inr later) = leaf_part lib part
 
 -- no refusal of the source has its cause, where no stage refused it
 pub free_below : (s : Source) (lib : Library) (o : LinkOptions) (top : Module) (c : FlatCircuit) → tops s ≡ top ∷ [] → IsFlatCircuit s lib top o.clock c
-    → IsUnrecursive s → IsFaultlessCircuit c.circuit → IsApart (bit_names (input_bits top ++ output_bits top))
+    → IsUnrecursive s → IsFaultlessCircuit c.circuit → IsRoomy c.circuit → IsApart (bit_names (input_bits top ++ output_bits top))
     → ((name : List ℕ) → IsOfTwoNets (names_in s c.scopes) c.circuit name → ⊥) → ((name : List ℕ) → IsBadSetting top o name → ⊥) → IsFaultless s lib o
-free_below s lib o top c one is ordered circuit ports nets settings =
+free_below s lib o top c one is ordered circuit room ports nets settings =
     let flat = flat_of s lib top in
     let same = is.below.circuit in
     let nets_apart = subst (λ (ps : List (List ℕ × ℕ)). (name : List ℕ) → IsOfTwoNets ps c.circuit name → ⊥)
@@ -101,6 +102,7 @@ free_below s lib o top c one is ordered circuit ports nets settings =
       fine = is.fine;
       unrecursive = ordered;
       circuit = subst (λ (k : Circuit). IsFaultlessCircuit k) same circuit;
+      room = subst (λ (k : Circuit). IsRoomy k) same room;
       places = λ l has.
           let (place, at) = leaf_part lib c.circuit.parts c.leaves (leaves s lib flat) l is.below.leaves (In-from_Contains (leaves s lib flat) l has) in
           (place, subst (λ (k : Circuit). slice_get k.parts place ≡ Some l.part) same at);

@@ -1,20 +1,28 @@
 -- What stands after the stages of linking.
-use Rattle.std.specs.Prelude.{◌≡◌, ℕ, List, ◌++◌, map, flat_map, Option}
+use Rattle.std.specs.Prelude.{◌≡◌, ℕ, ◌+◌, ◌<◌, ◌≤◌, ◌==◌, Bool, List, ◌++◌, length, map, flat_map, Option, count_by}
 use Rattle.std.specs.List.{IsDistinct}
 use Rattle.std.specs.Str.{bytes_eq}
+use Rattle.sdcv_base.specs.declared.limits.LimitName.TheVariants as what
+use Rattle.net_model.specs.declared.netlist.Gate.{Gate}
+use Rattle.icg_rewrite.specs.declared.clock_gates.Gated.{Gated}
+use Rattle.icg_rewrite.specs.Faults.{IsFull}
+use Rattle.icg_rewrite.specs.Gated.{AreGated}
+use Rattle.icg_rewrite.specs.Rewritten.{rewritten}
 use Rattle.netlist_types.specs.declared.sources.Source.{Source}
 use Rattle.netlist_types.specs.declared.sources.Module.{Module}
 use Rattle.cell_types.specs.declared.libraries.Library.{Library}
-use Rattle.link_design.specs.declared.designs.CircuitDesign.{CircuitDesign}
-use Rattle.link_design.specs.declared.designs.Held.{Held}
 use Rattle.link_design.specs.Lawful.{IsLawfulCircuit}
-use Rattle.link_design.specs.Made.{IsMade}
+use Rattle.link_design.specs.Made.{IsClocked}
+use Rattle.link_defs.specs.declared.faults.LinkFault.{LinkFault}
+use Rattle.link_defs.specs.declared.faults.LinkFault.TheVariants as fault
 use Rattle.link_defs.specs.declared.names.CellName.{CellName}
 use Rattle.link_defs.specs.declared.names.NetName.{NetName}
 use Rattle.link_defs.specs.declared.options.LinkOptions.{LinkOptions}
 use Rattle.link_defs.specs.CellNames.{Leaf, leaves, cell_names, AreNetNames}
-use Rattle.link_defs.specs.Circuits.{input_bits, output_bits}
+use Rattle.link_defs.specs.Circuits.{all_drivers, input_bits, output_bits}
 use Rattle.link_defs.specs.Designs.{drivers_by, number_by}
+use Rattle.link_defs.specs.GateOrders.{ClockPart}
+use Rattle.link_defs.specs.GatedDesigns.{IsGatedOf, enabled_drivers}
 use Rattle.link_defs.specs.Faults.{bit_names, IsBadSetting}
 use Rattle.link_defs.specs.Flatten.{Flat, flat_of, full_names}
 use Rattle.link_defs.specs.Links.{source_count}
@@ -39,14 +47,26 @@ pub record IsFitting (top : Module) (o : LinkOptions) : Type 0 where
   pub ports : IsApart (bit_names (input_bits top ++ output_bits top))
   pub settings : (name : List ℕ) → IsBadSetting top o name → ⊥
 
--- the cells and nets of a design by name, whatever its circuit was made of
-pub record AreInner (s : Source) (lib : Library) (c : FlatCircuit) (made : CircuitDesign) (cells : List CellName) (nets : List NetName) : Type 0 where
+-- the design of a circuit with its clock gates, and its cells and nets by name, whatever the circuit was made of
+pub record AreInner (s : Source) (lib : Library) (c : FlatCircuit) (order : List Gate) (g : Gated) (cells : List CellName) (nets : List NetName)
+    : Type 0 where
+  pub once : (net : ℕ) → count_by (λ m. m == net) (all_drivers c.circuit) ≤ 1
+  pub clocked : IsClocked c.circuit
+  pub lawful : AreGated g
+  pub tree : List Bool
+  pub gates : List ClockPart
+  pub gated_is : IsGatedOf c.circuit tree order gates g
   pub own : map (λ (x : CellName). x.name) cells ≡ leaf_names c.leaves
-  pub cells_are : (h : Held) (m : IsMade c.circuit h made) (found : List Leaf) → IsLawfulCircuit c.circuit
-      → AreLeavesAt lib c.circuit.parts c.leaves found
-      → cells ≡ cell_names (number_by (drivers_by c.circuit m.order)) (source_count c.circuit) made.tree 0 found
-  pub places : (h : Held) (src : Source) (f : Flat) → IsLawfulCircuit c.circuit → IsMade c.circuit h made
-      → c.circuit.parts ≡ flat_map (parts_of src lib) f.items → AreLeavesAt lib c.circuit.parts c.leaves (leaves src lib f)
-      → ArePlacesOf made.design cells
-  pub nets_are : (h : Held) (m : IsMade c.circuit h made) (flat : Flat) → full_names flat ≡ names_in s c.scopes
-      → AreNetNames flat (drivers_by c.circuit m.order) (number_by (drivers_by c.circuit m.order)) nets
+  pub cells_are : (found : List Leaf) → IsLawfulCircuit c.circuit → AreLeavesAt lib c.circuit.parts c.leaves found
+      → cells ≡ cell_names (number_by (enabled_drivers c.circuit order gates)) (source_count c.circuit) tree 0 found
+  pub places : (src : Source) (f : Flat) → IsLawfulCircuit c.circuit → c.circuit.parts ≡ flat_map (parts_of src lib) f.items
+      → AreLeavesAt lib c.circuit.parts c.leaves (leaves src lib f) → ArePlacesOf (rewritten g) cells
+  pub nets_are : (flat : Flat) → full_names flat ≡ names_in s c.scopes
+      → AreNetNames flat (drivers_by c.circuit order) (number_by (drivers_by c.circuit order)) nets
+
+-- why there is no room for enables; want of memory alone is free
+abbrev pub IsEnableCause : Gated → LinkFault → Type 0
+IsEnableCause g (fault.Limit what.Pins number) = (number ≡ 6) × ((r : ℕ) × IsFull g r)
+IsEnableCause g (fault.Limit what.Nets number) = (number ≡ 200001) × (200000 < g.design.nets + length g.gates)
+IsEnableCause g fault.Memory = Unit {0}
+IsEnableCause g e = ⊥

@@ -1,13 +1,19 @@
 //! From a source to the design of its circuit.
-ghost use Rattle.std.specs.Prelude.{◌<◌, length, IfOk, IfErr, OnOk};
+ghost use Rattle.std.specs.Prelude.{◌≡◌, ◌<◌, length, IfOk, IfErr, OnOk};
+ghost use Rattle.net_model.specs.Netlist.{IsSound};
+ghost use Rattle.icg_rewrite.specs.Faults.{HasRoom};
+ghost use Rattle.icg_rewrite.specs.Gated.{AreGated};
+ghost use Rattle.icg_rewrite.specs.Rewritten.{rewritten};
 ghost use Rattle.link_design.specs.Faults.{IsFaultless};
 ghost use Rattle.link_design.specs.Made.{IsHeldBy, IsMade};
 ghost use Rattle.link_defs.specs.Faults.{IsFlatCause};
 ghost use Rattle.link_defs.specs.Flatten.{flat_of};
 ghost use Rattle.link_flat.specs.Flats.{IsCauseBelow, IsUnrecursive};
 ghost use Rattle.link_items.specs.Items.{module_at};
-ghost use Rattle.net_link.specs.Stages.{IsFlatCircuit};
+ghost use Rattle.net_link.specs.Stages.{IsEnableCause, IsFlatCircuit};
 
+use gated_designs::with_enables;
+use icg_rewrite::{Gated, RewriteFault};
 use link_circuit::{FlatCircuit, circuit_of};
 use link_clashes::check_cells;
 use link_defs::{LinkFault, LinkOptions};
@@ -15,7 +21,8 @@ use link_design::{CircuitDesign, Held, design_of};
 use link_flat::flatten;
 use link_items::Netlist;
 use link_named::named_fault;
-use sdcv_base::Name;
+use net_model::Design;
+use sdcv_base::{LimitName, Name};
 use std::alloc::Global;
 
 /// The circuit below the module at a place, no two of whose cells have one name.
@@ -56,5 +63,21 @@ pub(crate) fn made_design(
     match design_of(alloc, &c.circuit, held) {
         Ok(made) => Ok(made),
         Err(fault) => Err(named_fault(alloc, netlist, top, options, c, fault)?),
+    }
+}
+
+/// The design with an enable for each clock gate.
+pub(crate) fn enabled_design(alloc: Global, gated: Gated) -> Result<Design, LinkFault>
+    requires { AreGated gated }
+    ensures ok { IfOk result (λ design. design ≡ rewritten gated) }
+    ensures sound { IfOk result IsSound }
+    ensures err { IfErr result (IsEnableCause gated) }
+    ensures none { OnOk result (HasRoom gated) }
+{
+    match with_enables(alloc, gated) {
+        Ok(design) => Ok(design),
+        Err(RewriteFault::Pins(_)) => Err(LinkFault::Limit(LimitName::Pins, 6)),
+        Err(RewriteFault::Nets(_)) => Err(LinkFault::Limit(LimitName::Nets, 200_001)),
+        Err(RewriteFault::Memory) => Err(LinkFault::Memory),
     }
 }

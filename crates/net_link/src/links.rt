@@ -16,13 +16,16 @@ ghost use Rattle.link_settings.specs.Ports.{AreTopPorts};
 ghost use Rattle.net_link.specs.Nets.{names_in, IsOfTwoNets, IsNetCause};
 ghost use Rattle.net_link.specs.Stages.{AreInner, IsFitting, IsFlatCircuit};
 
-use crate::circuits::{flat_circuit, made_design};
+use crate::circuits::{enabled_design, flat_circuit, made_design};
 use crate::nets::net_names;
 use cell_types::Library;
+use gated_designs::{GatedDesign, gated_of};
+use icg_rewrite::Gated;
 use link_cells::cell_names;
 use link_circuit::FlatCircuit;
 use link_defs::{CellName, LinkFault, LinkOptions, Linked, Names, NetName};
 use link_design::CircuitDesign;
+use link_gates::gated_solutions_are;
 use link_items::Netlist;
 use link_settings::{TopPorts, top_ports};
 use link_tops::one_top;
@@ -61,35 +64,45 @@ fn copy_name(alloc: Global, name: &Option<Name>) -> Result<Option<Name>, AllocEr
     }
 }
 
-/// The names of a design but those of its ports.
+/// A design with its clock gates, and its names but those of its ports.
 #[derive(Drop)]
 struct InnerNames {
+    gated: Gated,
     cells: Seq<CellName>,
     nets: Seq<NetName>,
     clock: Option<Name>,
 }
 
-/// The names of the design of a circuit but those of its ports.
+/// The design of a circuit with its clock gates, and its names but those of its ports.
 fn inner_names(
     alloc: Global,
     netlist: &Netlist,
     options: &LinkOptions,
     c: &FlatCircuit,
-    made: &CircuitDesign,
+    made: CircuitDesign,
 ) -> Result<InnerNames, LinkFault>
     requires scopes { AreScopes netlist.now.source.now c.now.scopes }
     requires lawful { IsLawfulCircuit c.now.circuit }
     requires leaves { (found : List LeafRecord) × AreLeavesAt netlist.now.library.now c.now.circuit.parts c.now.leaves found }
-    requires made { (held : HeldRecord) × IsMade c.now.circuit held made.now }
-    ensures ok { IfOk result (λ n. AreInner netlist.now.source.now netlist.now.library.now c.now made.now n.cells n.nets) }
+    requires made { (held : HeldRecord) × IsMade c.now.circuit held made }
+    ensures ok { IfOk result (λ n. (held : HeldRecord) (m : IsMade c.now.circuit held made)
+        → AreInner netlist.now.source.now netlist.now.library.now c.now m.order n.gated n.cells n.nets) }
+    ensures design { IfOk result (λ n. n.gated.design ≡ made.design) }
     ensures clock { IfOk result (λ n. n.clock ≡ options.now.clock) }
     ensures none { OnOk result ((name : List ℕ) → IsOfTwoNets (names_in netlist.now.source.now c.now.scopes) c.now.circuit name → ⊥) }
     ensures err { IfErr result (IsNetCause (names_in netlist.now.source.now c.now.scopes) c.now.circuit) }
 {
-    let nets = net_names(alloc, netlist, c, made)?;
-    let cells = cell_names(alloc, netlist.library, c, made)?;
+    let nets = net_names(alloc, netlist, c, &made)?;
+    let made = gated_of(alloc, &c.circuit, made)?;
+    let cells = cell_names(alloc, netlist.library, c, &made)?;
     let clock = copy_name(alloc, &options.clock)?;
-    Ok(InnerNames { cells, nets, clock })
+    let GatedDesign { gated, .. } = made;
+    Ok(InnerNames {
+        gated,
+        cells,
+        nets,
+        clock,
+    })
 }
 
 /// The design of the circuit below the top module, with all its names.
@@ -113,9 +126,15 @@ fn named_design(
 {
     let TopPorts { ins, outs, held } = ports;
     let made = made_design(alloc, netlist, top, options, c, held)?;
-    let inner = inner_names(alloc, netlist, options, c, &made)?;
-    let InnerNames { cells, nets, clock } = inner;
-    let CircuitDesign { design, .. } = made;
+    let inner = inner_names(alloc, netlist, options, c, made)?;
+    let InnerNames {
+        gated,
+        cells,
+        nets,
+        clock,
+    } = inner;
+    gated_solutions_are(&c.circuit, &gated);
+    let design = enabled_design(alloc, gated)?;
     let names = Names {
         cells,
         ins,

@@ -1,9 +1,17 @@
 use Rattle.net_link.proofs.links.inner_names.Goals as goal
 
 pub returns-clause-ok : goal.returns-clause-ok
-returns-clause-ok c = record {
-  own = c.in_ok-cells.ensures.own;
-  cells_are = c.in_ok-cells.ensures.names;
-  places = c.in_ok-cells.ensures.usable;
-  nets_are = c.in_ok-nets.ensures.ok;
-}
+returns-clause-ok c = λ held m.
+    let g = c.in_ok-made.ensures.gated held m in
+    record {
+      once = g.once;
+      clocked = g.clocked;
+      lawful = g.lawful;
+      tree = c.in_ok-made.made.tree;
+      gates = g.gates;
+      gated_is = g.gated_is;
+      own = c.in_ok-cells.ensures.own;
+      cells_are = λ found. c.in_ok-cells.ensures.names m.order g found;
+      places = λ src f lawful parts at. c.in_ok-cells.ensures.usable m.order src f lawful g parts at;
+      nets_are = c.in_ok-nets.ensures.ok held m;
+    }

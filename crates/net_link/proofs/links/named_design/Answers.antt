@@ -2,7 +2,8 @@ use Rattle.std.proofs.lemmas.Result.{err_from_is_err_and}
 use Rattle.link_defs.specs.CellNames.{leaves}
 use Rattle.link_defs.specs.Flatten.{flat_of}
 use Rattle.link_items.specs.Items.{module_at}
-use Rattle.net_link.proofs.Joining.{held_below, circuit_cause, nets_cause, top_within, joined_linked, joined_usable}
+use Rattle.net_link.proofs.Joining.{held_below, circuit_cause, nets_cause, top_within, joined_linked, joined_usable, room_cause}
+use Rattle.net_link.proofs.Rooms.{room_is}
 use Rattle.net_link.proofs.Staging.{top_is, lawful_below, free_below}
 use Rattle.net_link.proofs.links.named_design.Goals as goal
 
@@ -46,28 +47,66 @@ returns-in_err-inner-clause-err c =
     rw (p.1, p.2) (nets_cause s c.args.netlist.now.library.now c.args.options.now (module_at s c.args.top) c.args.c.now c.in_err-inner.field-0.0
     (top_is s c.args.top c.requires.top) c.requires.circuit c.in_err-inner.ensures.err)
 
+pub gated_solutions_are-requires-clause-once : goal.gated_solutions_are-requires-clause-once
+gated_solutions_are-requires-clause-once c = (c.in_ok-inner.ensures.ok c.args.ports.held c.in_ok-made.ensures.ok).once
+
+pub gated_solutions_are-requires-clause-gated : goal.gated_solutions_are-requires-clause-gated
+gated_solutions_are-requires-clause-gated c = (c.in_ok-inner.ensures.ok c.args.ports.held c.in_ok-made.ensures.ok).lawful
+
+pub enabled_design-requires : goal.enabled_design-requires
+enabled_design-requires c = (c.in_ok-inner.ensures.ok c.args.ports.held c.in_ok-made.ensures.ok).lawful
+
+pub returns-in_err-design-clause-err : goal.returns-in_err-design-clause-err
+returns-in_err-design-clause-err c =
+    let p = err_from_is_err_and c.from_residual-in_err-design.result c.from_residual-in_err-design.ensures.1 in
+    let s = c.args.netlist.now.source.now in
+    let inner = c.in_ok-inner.inner in
+    let made = c.in_ok-made.ensures.ok in
+    rw (p.1, p.2) (room_cause s c.args.netlist.now.library.now c.args.options.now (module_at s c.args.top) c.args.c.now made.order inner.gated
+    inner.cells inner.nets c.in_err-design.field-0.0 (top_is s c.args.top c.requires.top) c.requires.circuit
+    (c.in_ok-inner.ensures.ok c.args.ports.held made) c.in_err-design.ensures.err)
+
 pub returns-clause-ok : goal.returns-clause-ok
 returns-clause-ok c =
     let s = c.args.netlist.now.source.now in
     let lib = c.args.netlist.now.library.now in
     let inner = c.in_ok-inner.inner in
-    joined_linked s lib c.args.options.now (module_at s c.args.top) c.args.ports c.args.c.now c.in_ok-made.made inner.nets inner.cells inner.clock
-    (top_is s c.args.top c.requires.top) c.requires.circuit
+    let made = c.in_ok-made.ensures.ok in
+    joined_linked s lib c.args.options.now (module_at s c.args.top) c.args.ports c.args.c.now c.in_ok-made.made inner.gated c.in_ok-design.design
+    inner.nets inner.cells inner.clock (top_is s c.args.top c.requires.top) c.requires.circuit
     (lawful_below s lib c.args.top c.args.options.now.clock c.args.c.now c.args.netlist.now.lawful_source c.args.netlist.now.lawful_library
-    (top_within s c.args.top c.requires.top) c.requires.circuit) c.requires.ports c.in_ok-made.ensures.ok c.in_ok-inner.ensures.ok c.in_ok-inner.ensures.clock
+    (top_within s c.args.top c.requires.top) c.requires.circuit) c.requires.ports (record {
+      made_is = made;
+      inner = c.in_ok-inner.ensures.ok c.args.ports.held made;
+      base = c.in_ok-inner.ensures.design;
+      design = c.in_ok-design.ensures.ok;
+      sound = c.in_ok-design.ensures.sound;
+      solved = (let i = c.in_ok-inner.ensures.ok c.args.ports.held made in c.gated_solutions_are.ensures i.tree made.order i.gates i.gated_is);
+    }) c.in_ok-inner.ensures.clock
 
 pub returns-clause-usable : goal.returns-clause-usable
 returns-clause-usable c =
     let s = c.args.netlist.now.source.now in
     let lib = c.args.netlist.now.library.now in
     let inner = c.in_ok-inner.inner in
-    joined_usable s lib c.args.options.now (module_at s c.args.top) c.args.ports c.args.c.now c.in_ok-made.made inner.nets inner.cells inner.clock
-    c.requires.circuit
+    let made = c.in_ok-made.ensures.ok in
+    joined_usable s lib c.args.options.now (module_at s c.args.top) c.args.ports c.args.c.now c.in_ok-made.made inner.gated c.in_ok-design.design
+    inner.nets inner.cells inner.clock c.requires.circuit
     (lawful_below s lib c.args.top c.args.options.now.clock c.args.c.now c.args.netlist.now.lawful_source c.args.netlist.now.lawful_library
-    (top_within s c.args.top c.requires.top) c.requires.circuit) c.requires.ports c.in_ok-made.ensures.ok c.in_ok-inner.ensures.ok c.in_ok-inner.ensures.clock
+    (top_within s c.args.top c.requires.top) c.requires.circuit) c.requires.ports (record {
+      made_is = made;
+      inner = c.in_ok-inner.ensures.ok c.args.ports.held made;
+      base = c.in_ok-inner.ensures.design;
+      design = c.in_ok-design.ensures.ok;
+      sound = c.in_ok-design.ensures.sound;
+      solved = (let i = c.in_ok-inner.ensures.ok c.args.ports.held made in c.gated_solutions_are.ensures i.tree made.order i.gates i.gated_is);
+    }) c.in_ok-inner.ensures.clock
 
 pub returns-clause-none : goal.returns-clause-none
 returns-clause-none c =
     let s = c.args.netlist.now.source.now in
+    let inner = c.in_ok-inner.ensures.ok c.args.ports.held c.in_ok-made.ensures.ok in
     free_below s c.args.netlist.now.library.now c.args.options.now (module_at s c.args.top) c.args.c.now (top_is s c.args.top c.requires.top) c.requires.circuit
-    c.requires.ordered c.in_ok-made.ensures.none c.requires.fitting.ports c.in_ok-inner.ensures.none c.requires.fitting.settings
+    c.requires.ordered c.in_ok-made.ensures.none
+    (room_is c.args.c.now.circuit inner.tree c.in_ok-made.ensures.ok.order inner.gates c.in_ok-inner.inner.gated inner.lawful inner.gated_is
+    c.in_ok-design.ensures.none) c.requires.fitting.ports c.in_ok-inner.ensures.none c.requires.fitting.settings
