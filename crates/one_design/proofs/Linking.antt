@@ -6,8 +6,11 @@ use Rattle.std.specs.List.{list_any, AllZip}
 use Rattle.std.proofs.lemmas.Bool.Decides.{same_from_decides}
 use Rattle.sdcv_base.specs.declared.settings.Setting.{Setting}
 use Rattle.sdcv_base.specs.Seqs.{is_marked}
+use Rattle.net_model.specs.declared.netlist.Design.{Design}
 use Rattle.net_model.specs.declared.netlist.Fixed.{Fixed}
 use Rattle.net_model.specs.declared.netlist.Gate.{Gate}
+use Rattle.icg_rewrite.specs.declared.clock_gates.Gated.{Gated}
+use Rattle.icg_rewrite.specs.Rewritten.{rewritten}
 use Rattle.netlist_types.specs.declared.sources.Source.{Source}
 use Rattle.netlist_types.specs.declared.sources.Module.{Module}
 use Rattle.cell_types.specs.declared.libraries.Cell.{Cell}
@@ -19,13 +22,16 @@ use Rattle.link_defs.specs.declared.names.Linked.{Linked}
 use Rattle.link_defs.specs.declared.names.NetName.{NetName}
 use Rattle.link_defs.specs.declared.faults.LinkFault.TheVariants.{Memory}
 use Rattle.link_defs.specs.declared.options.LinkOptions.{LinkOptions}
-use Rattle.link_defs.specs.CellNames.{Leaf, AreNetNames, cell_name, cell_names, pins_if_any, clock_role, output_role, input_roles, clock_pins, out_pins, reg_of}
-use Rattle.link_defs.specs.Circuits.{PortBit, IsTree, all_gates, circuit_of, data_bits, part_outs, part_regs}
-use Rattle.link_defs.specs.Designs.{IsDesignOf, IsOrderOf, gate_at, gates_at, is_on_tree, tree_marks}
+use Rattle.link_defs.specs.CellNames.{Leaf, AreNetNames, cell_name, cell_names, pins_if_any, clock_role, output_role, input_roles, tree_pins, out_pins, reg_of}
+use Rattle.link_defs.specs.Circuits.{PortBit, IsTree, all_gates, circuit_of, data_bits, part_outs, part_drives, part_regs}
+use Rattle.link_defs.specs.Designs.{IsOrderOf, gate_at, gates_at, is_on_tree, tree_marks}
 use Rattle.link_defs.specs.Faults.{IsCause, IsFaultless}
 use Rattle.link_defs.specs.Flatten.{Flat}
+use Rattle.link_defs.specs.GateOrders.{ClockPart}
+use Rattle.link_defs.specs.GatedDesigns.{IsGatedOf}
 use Rattle.link_defs.specs.Hierarchy.{tops}
 use Rattle.link_defs.specs.Links.{AreNames, IsLinked, IsSet}
+use Rattle.link_gates.proofs.OneGated as gated
 use Rattle.one_design.specs.Answers.{IsOneAnswer}
 use Rattle.one_design.proofs.Differing.{inputs_differ, faultless_only}
 use Rattle.one_design.proofs.Keying.{IsKeyed, same_items}
@@ -66,8 +72,8 @@ module _ (c : Circuit) (x y : List Bool) (first : IsTree c x) (second : IsTree c
   pins_same number sources reg p None = refl
   pins_same number sources reg p (Some c) =
       let clocks = map clock_role (c.inputs ++ out_pins c.kind) in
-      let outs = map (output_role number) (zip (out_pins c.kind) (part_outs p)) in
-      ap (λ (b : Bool). if b then clocks else (input_roles number sources reg p 0 c.inputs ++ map clock_role (clock_pins c.kind) ++ outs)) (on_tree_same p)
+      let outs = map (output_role number) (zip (out_pins c.kind) (part_drives p)) in
+      ap (λ (b : Bool). if b then clocks else (input_roles number sources reg p 0 c.inputs ++ map clock_role (tree_pins c.kind) ++ outs)) (on_tree_same p)
 
   -- so is its name
   cell_same : (number : ℕ → ℕ) (sources before : ℕ) (leaf : Leaf) → cell_name number sources y before leaf ≡ cell_name number sources x before leaf
@@ -118,50 +124,101 @@ all_set_same bits once (s ∷ settings) (f ∷ fs) (g ∷ gs) first second =
     let rest = all_set_same bits once settings fs gs first.1 second.1 in
     λ i. here i ∷ rest i
 
--- what linking gives below this top module, with this clock tree and this order of gates
-record IsLinkedAt (s : Source) (lib : Library) (o : LinkOptions) (top : Module) (tree : List Bool) (order : List Gate) (l : Linked) : Type 0 where
-  design : IsDesignOf (circuit_of s lib top o.clock) tree order l.design
+-- the design with clock gates has the fixed and reset inputs of the one without
+given_fixed : (g : Gated) → (rewritten g).fixed ≡ g.design.fixed
+unfolding rewritten
+given_fixed g = refl
+
+given_resets : (g : Gated) → (rewritten g).resets ≡ g.design.resets
+unfolding rewritten
+given_resets g = refl
+
+given_reset_len : (g : Gated) → (rewritten g).reset_len ≡ g.design.reset_len
+unfolding rewritten
+given_reset_len g = refl
+
+-- what linking gives below this top module, with this clock tree, these orders of gates and of clock gates, and this design with clock gates
+record IsLinkedAt (s : Source) (lib : Library) (o : LinkOptions) (top : Module) (tree : List Bool) (order : List Gate) (gates : List ClockPart) (g : Gated)
+    (l : Linked) : Type 0 where
+  gated_is : IsGatedOf (circuit_of s lib top o.clock) tree order gates g
+  design : l.design ≡ rewritten g
   fixed : AllZip (IsSet (data_bits o.clock top)) o.fixed l.design.fixed
   resets : AllZip (IsSet (data_bits o.clock top)) o.resets l.design.resets
   reset_len : l.design.reset_len ≡ o.reset_len
-  names : AreNames s lib o top tree order l
+  names : AreNames s lib o top tree order gates l
 
-linked_at : (s : Source) (lib : Library) (o : LinkOptions) (l : Linked) (is : IsLinked s lib o l) → IsLinkedAt s lib o is.top is.tree is.order l
+linked_at : (s : Source) (lib : Library) (o : LinkOptions) (l : Linked) (is : IsLinked s lib o l)
+    → IsLinkedAt s lib o is.top is.tree is.order is.gates is.gated l
 linked_at s lib o l is =
-    record { design = is.design; fixed = is.fixed; resets = is.resets; reset_len = is.reset_len; names = is.names }
+    record { gated_is = is.gated_is; design = is.design; fixed = is.fixed; resets = is.resets; reset_len = is.reset_len; names = is.names }
+
+-- of one top module and one order of gates there is one design without the clock gates
+without_same : (s : Source) (lib : Library) (o : LinkOptions) (top : Module) (x y : List Bool) (order : List Gate) (gates others : List ClockPart)
+    (g h : Gated) (a b : Linked) → IsKeyed (λ (bit : PortBit). bit.port.name) (data_bits o.clock top) → IsLinkedAt s lib o top x order gates g a
+    → IsLinkedAt s lib o top y order others h b → h.design ≡ g.design
+without_same s lib o top x y order gates others g h a b once first second =
+    let bits = data_bits o.clock top in
+    let one = first.gated_is.design in
+    let other = second.gated_is.design in
+    let nets = other.nets ∙ sym one.nets in
+    let kept = other.gates ∙ sym one.gates in
+    let regs = other.regs ∙ sym one.regs in
+    let inputs = other.inputs ∙ sym one.inputs in
+    let outputs = other.outputs ∙ sym one.outputs in
+    let fixed_a : a.design.fixed ≡ g.design.fixed = ap (λ (d : Design). d.fixed) first.design ∙ given_fixed g in
+    let fixed_b : b.design.fixed ≡ h.design.fixed = ap (λ (d : Design). d.fixed) second.design ∙ given_fixed h in
+    let fixed = sym fixed_b ∙ all_set_same bits once o.fixed a.design.fixed b.design.fixed first.fixed second.fixed ∙ fixed_a in
+    let resets_a : a.design.resets ≡ g.design.resets = ap (λ (d : Design). d.resets) first.design ∙ given_resets g in
+    let resets_b : b.design.resets ≡ h.design.resets = ap (λ (d : Design). d.resets) second.design ∙ given_resets h in
+    let resets = sym resets_b ∙ all_set_same bits once o.resets a.design.resets b.design.resets first.resets second.resets ∙ resets_a in
+    let len_a : a.design.reset_len ≡ g.design.reset_len = ap (λ (d : Design). d.reset_len) first.design ∙ given_reset_len g in
+    let len_b : b.design.reset_len ≡ h.design.reset_len = ap (λ (d : Design). d.reset_len) second.design ∙ given_reset_len h in
+    let reset_len = sym len_b ∙ second.reset_len ∙ sym first.reset_len ∙ len_a in
+    λ i. record {
+      nets = nets i;
+      gates = kept i;
+      regs = regs i;
+      inputs = inputs i;
+      outputs = outputs i;
+      fixed = fixed i;
+      resets = resets i;
+      reset_len = reset_len i;
+    }
+
+-- so there is one with them
+with_same : (s : Source) (lib : Library) (o : LinkOptions) (top : Module) (x y : List Bool) (order : List Gate) (gates others : List ClockPart)
+    (g h : Gated) (a b : Linked) → IsKeyed (λ (bit : PortBit). bit.port.name) (data_bits o.clock top)
+    → gated.AreClocked (circuit_of s lib top o.clock) → IsLinkedAt s lib o top x order gates g a → IsLinkedAt s lib o top y order others h b
+    → b.design ≡ a.design
+with_same s lib o top x y order gates others g h a b once clocked first second =
+    let without = without_same s lib o top x y order gates others g h a b once first second in
+    let one : g ≡ h =
+    gated.gated_same (circuit_of s lib top o.clock) x y order gates others clocked g h first.gated_is second.gated_is (sym without) in
+    second.design ∙ ap rewritten (sym one) ∙ sym first.design
+
+-- and one list of each kind of names
+names_same : (s : Source) (lib : Library) (o : LinkOptions) (top : Module) (x y : List Bool) (order : List Gate) (gates : List ClockPart) (a b : Linked)
+    → IsTree (circuit_of s lib top o.clock) x → IsTree (circuit_of s lib top o.clock) y → AreNames s lib o top x order gates a
+    → AreNames s lib o top y order gates b → b.names ≡ a.names
+names_same s lib o top x y order gates a b first_tree second_tree first second =
+    let named = second.cells ∙ cells_same (circuit_of s lib top o.clock) x y first_tree second_tree _ _ 0 _ ∙ sym first.cells in
+    let ins = second.ins ∙ sym first.ins in
+    let outs = second.outs ∙ sym first.outs in
+    let called = nets_same _ _ _ a.names.nets b.names.nets first.nets second.nets in
+    let clock = second.clock ∙ sym first.clock in
+    λ i. record { cells = named i; ins = ins i; outs = outs i; nets = called i; clock = clock i }
 
 -- of one top module and one order of gates there is one design with its names
-at_same : (s : Source) (lib : Library) (o : LinkOptions) (top : Module) (x y : List Bool) (order : List Gate) (a b : Linked)
-    → IsKeyed (λ (bit : PortBit). bit.port.name) (data_bits o.clock top) → IsLinkedAt s lib o top x order a → IsLinkedAt s lib o top y order b → b ≡ a
-at_same s lib o top x y order a b once first second =
-    let c = circuit_of s lib top o.clock in
-    let bits = data_bits o.clock top in
-    let nets = second.design.nets ∙ sym first.design.nets in
-    let gates = second.design.gates ∙ sym first.design.gates in
-    let regs = second.design.regs ∙ sym first.design.regs in
-    let inputs = second.design.inputs ∙ sym first.design.inputs in
-    let outputs = second.design.outputs ∙ sym first.design.outputs in
-    let fixed = all_set_same bits once o.fixed a.design.fixed b.design.fixed first.fixed second.fixed in
-    let resets = all_set_same bits once o.resets a.design.resets b.design.resets first.resets second.resets in
-    let reset_len = second.reset_len ∙ sym first.reset_len in
-    let named = second.names.cells ∙ cells_same c x y first.design.tree_is second.design.tree_is _ _ 0 _ ∙ sym first.names.cells in
-    let ins = second.names.ins ∙ sym first.names.ins in
-    let outs = second.names.outs ∙ sym first.names.outs in
-    let called = nets_same _ _ _ a.names.nets b.names.nets first.names.nets second.names.nets in
-    let clock = second.names.clock ∙ sym first.names.clock in
-    λ i. record {
-      design = record {
-        nets = nets i;
-        gates = gates i;
-        regs = regs i;
-        inputs = inputs i;
-        outputs = outputs i;
-        fixed = fixed i;
-        resets = resets i;
-        reset_len = reset_len i;
-      };
-      names = record { cells = named i; ins = ins i; outs = outs i; nets = called i; clock = clock i };
-    }
+at_same : (s : Source) (lib : Library) (o : LinkOptions) (top : Module) (x y : List Bool) (order : List Gate) (gates others : List ClockPart)
+    (g h : Gated) (a b : Linked) → IsKeyed (λ (bit : PortBit). bit.port.name) (data_bits o.clock top)
+    → gated.AreClocked (circuit_of s lib top o.clock) → IsLinkedAt s lib o top x order gates g a → IsLinkedAt s lib o top y order others h b → b ≡ a
+at_same s lib o top x y order gates others g h a b once clocked first second =
+    let design = with_same s lib o top x y order gates others g h a b once clocked first second in
+    let ordered : gates ≡ others =
+    gated.order_same (circuit_of s lib top o.clock) clocked gates others first.gated_is.ordered second.gated_is.ordered in
+    let moved : AreNames s lib o top y order gates b = subst (λ (xs : List ClockPart). AreNames s lib o top y order xs b) (sym ordered) second.names in
+    let names = names_same s lib o top x y order gates a b first.gated_is.design.tree_is second.gated_is.design.tree_is first.names moved in
+    λ i. record { design = design i; names = names i }
 
 -- a netlist whose input bits have different names has one design with its names
 pub linked_same : (s : Source) (lib : Library) (o : LinkOptions) (a b : Linked)
@@ -170,13 +227,16 @@ pub linked_same : (s : Source) (lib : Library) (o : LinkOptions) (a b : Linked)
 linked_same s lib o a b once first second =
     let both : second.top ∷ [] ≡ first.top ∷ [] = sym second.top_is ∙ first.top_is in
     let top : second.top ≡ first.top = cc in
-    let moved : IsLinkedAt s lib o first.top second.tree second.order b =
-    subst (λ (m : Module). IsLinkedAt s lib o m second.tree second.order b) top (linked_at s lib o b second) in
+    let moved : IsLinkedAt s lib o first.top second.tree second.order second.gates second.gated b =
+    subst (λ (m : Module). IsLinkedAt s lib o m second.tree second.order second.gates second.gated b) top (linked_at s lib o b second) in
+    let one = first.gated_is.design in
+    let other = moved.gated_is.design in
     let order : second.order ≡ first.order =
-    order_same (circuit_of s lib first.top o.clock) first.tree second.tree first.design.tree_is moved.design.tree_is first.order second.order
-    first.design.order_is moved.design.order_is in
-    at_same s lib o first.top first.tree second.tree first.order a b (once first.top first.top_is) (linked_at s lib o a first)
-    (subst (λ (gates : List Gate). IsLinkedAt s lib o first.top second.tree gates b) order moved)
+    order_same (circuit_of s lib first.top o.clock) first.tree second.tree one.tree_is other.tree_is first.order second.order one.order_is other.order_is in
+    let ready : IsLinkedAt s lib o first.top second.tree first.order second.gates second.gated b =
+    subst (λ (gates : List Gate). IsLinkedAt s lib o first.top second.tree gates second.gates second.gated b) order moved in
+    at_same s lib o first.top first.tree second.tree first.order first.gates second.gates first.gated second.gated a b (once first.top first.top_is)
+    first.clocked (linked_at s lib o a first) ready
 
 -- a netlist without a fault has one answer
 pub one_linked : (s : Source) (lib : Library) (o : LinkOptions)
