@@ -8,7 +8,7 @@ use Rattle.report_text.specs.declared.options.RunOptions.{RunOptions}
 use Rattle.exception_expand.specs.declared.claims.Judging.{Judging}
 use Rattle.design_stages.specs.declared.designs.Reset.{Reset}
 use Rattle.mcp_detect.specs.declared.options.DetectOptions.{DetectOptions}
-use Rattle.detect_lines.specs.Lines.{detect_line}
+use Rattle.found_pairs.specs.Tellings.{detect_line}
 use Rattle.design_stages.specs.Designs.{LinksTo, Designs}
 use Rattle.design_stages.specs.Stages.{Staged}
 use Rattle.design_stages.specs.Texts as texts

@@ -9,7 +9,7 @@ use Rattle.mcp_detect.specs.Causes.{IsDetectCause, HasFewPairs}
 use Rattle.mcp_detect.specs.Detections.{AreDetected}
 use Rattle.found_pairs.specs.Laws.{SelectsFound}
 use Rattle.found_pairs.specs.Lines.{found_bytes}
-use Rattle.detect_lines.specs.Lines.{detected_lines}
+use Rattle.found_pairs.specs.Tellings.{detected_lines}
 use Rattle.sdcv_top.specs.declared.statuses.Ending.TheVariants as ending
 use Rattle.sdcv_top.specs.Outcomes.{Outcome}
 

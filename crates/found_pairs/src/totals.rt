@@ -1,10 +1,10 @@
 //! How many pairs are tried, found and written.
 ghost use Rattle.std.specs.Prelude.{◌≡◌, IfOk, count_by};
 ghost use Rattle.found_pairs.specs.Lines.{is_written};
-ghost use Rattle.detect_lines.specs.Lines.{is_found, total_line};
+ghost use Rattle.found_pairs.specs.Tellings.{is_found, total_line};
 
-use crate::pairs::is_found;
-use found_pairs::is_written;
+use crate::lines::is_written;
+use crate::told_pairs::is_found;
 use mcp_detect::Tried;
 use std::alloc::{AllocError, Global};
 

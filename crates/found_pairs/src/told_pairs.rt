@@ -2,9 +2,9 @@
 ghost use Rattle.std.specs.Prelude.{◌≡◌, ◌++◌, IfOk, OnOk};
 ghost use Rattle.std.specs.List.{flat_map};
 ghost use Rattle.answer_lines.specs.Texts.{bytes_of_lines};
-ghost use Rattle.detect_lines.specs.Lines.{is_found, pair_line, pair_lines};
+ghost use Rattle.found_pairs.specs.Tellings.{is_found, pair_line, pair_lines};
 
-use found_pairs::is_written;
+use crate::lines::is_written;
 use mcp_detect::Tried;
 use std::alloc::{AllocError, Global};
 

@@ -1,6 +1,6 @@
 //! The line of a design whose pairs are not tried.
 ghost use Rattle.std.specs.Prelude.{◌≡◌, IfOk, Some};
-ghost use Rattle.detect_lines.specs.Lines.{detect_line};
+ghost use Rattle.found_pairs.specs.Tellings.{detect_line};
 
 use mcp_detect::DetectFault;
 use std::alloc::{AllocError, Global};

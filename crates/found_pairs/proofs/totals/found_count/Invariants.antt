@@ -1,7 +1,7 @@
 use Rattle.std.proofs.Common.{◌≡◌, ◌≤◌, take}
 use Rattle.std.specs.Prelude.{count_by}
-use Rattle.detect_lines.specs.Lines.{is_found}
-use Rattle.detect_lines.proofs.totals.found_count.Given as goal
+use Rattle.found_pairs.specs.Tellings.{is_found}
+use Rattle.found_pairs.proofs.totals.found_count.Given as goal
 
 abbrev pub invariant-loop-pair : goal.invariant-loop-pair
 invariant-loop-pair l = record {

@@ -1,9 +1,9 @@
 //! All lines of a run that tells the multicycle pairs of a design.
 ghost use Rattle.std.specs.Prelude.{◌≡◌, IfOk, string_bytes};
 ghost use Rattle.answer_lines.specs.Texts.{bytes_of_lines};
-ghost use Rattle.detect_lines.specs.Lines.{detected_lines, header_line, header_text};
+ghost use Rattle.found_pairs.specs.Tellings.{detected_lines, header_line, header_text};
 
-use crate::pairs::add_pairs;
+use crate::told_pairs::add_pairs;
 use crate::totals::total_line;
 use mcp_detect::{DetectOptions, Detected};
 use report_text::mode_text;

@@ -1,7 +1,7 @@
 use Rattle.std.proofs.Common.{◌≡◌, ◌≤◌, take}
 use Rattle.std.specs.Prelude.{count_by}
 use Rattle.found_pairs.specs.Lines.{is_written}
-use Rattle.detect_lines.proofs.totals.written_count.Given as goal
+use Rattle.found_pairs.proofs.totals.written_count.Given as goal
 
 abbrev pub invariant-loop-pair : goal.invariant-loop-pair
 invariant-loop-pair l = record {
