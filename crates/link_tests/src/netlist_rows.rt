@@ -260,7 +260,73 @@ gate 15 >25 aaaaaaaa",
             b_reg[0]/D<r4.0 b_reg[0]/SI<r4.1 b_reg[0]/SE<r4.2 b_reg[0]/RN<r4.3 b_reg[0]/CK@ b_reg[0]/Q>13 b_reg[0]/QN>14 \
             b_reg[1]/D<r5.0 b_reg[1]/SI<r5.1 b_reg[1]/SE<r5.2 b_reg[1]/RN<r5.3 b_reg[1]/CK@ b_reg[1]/Q>15 b_reg[1]/QN>16",
     },
+    // a net of the top module with the full name of a port that it is connected to
+    Row {
+        netlist: r"module m (input a, output y); BUF g (.A(a), .Y(y)); endmodule
+            module top (input x, output z); wire \u1/a ; assign \u1/a = x; m u1 (.a(\u1/a ), .y(z)); endmodule",
+        cells: "",
+        clock: "",
+        fixed: "",
+        reset: "",
+        inputs: " x",
+        design: "in x=0
+out z=2
+cell u1/g 2
+gate 0 >1 aaaaaaaa
+gate 1 >2 aaaaaaaa",
+        names: "x=0 z=2 u1/a=1 u1/y=2 u1/g/A<g1.0 u1/g/Y>2",
+    },
+    // a register with an enable of its own behind two clock gates, which stand against the clock's way: its own bit moves to place 3
+    Row {
+        netlist: "module top (input clk, d, e, f, output y); DFFE a (.D(d), .E(e), .CK(gj), .Q(y));
+            ICG j (.EN(f), .CK(gi), .GCK(gj)); ICG i (.EN(e), .CK(clk), .GCK(gi)); endmodule",
+        cells: "",
+        clock: "clk",
+        fixed: "",
+        reset: "",
+        inputs: " clk d e f",
+        design: "clock clk
+in d=0 e=1 f=2
+out y=3
+cell a:0 3
+cell j 5
+cell i 4
+reg 0 1 5 >3 bf80bf80 - -
+gate 1 >4 aaaaaaaa
+gate 2 4 >5 88888888",
+        names: "d=0 e=1 f=2 y=3 a/D<r0.0 a/E<r0.1 a/CK@ a/Q>3 j/EN<g1.0 j/CK@ j/GCK@ i/EN<g0.0 i/CK@ i/GCK@",
+    },
+    // a clock gate with a test pin before its latch, behind a buffer, and a constant at an enable
+    Row {
+        netlist: "module top (input clk, d, e, output y); B b (.A(clk), .Y(c)); PRE i (.EN(e), .SE(1'b0), .CK(c), .GCK(g));
+            R a (.D(d), .CK(g), .Q(y)); endmodule",
+        cells: GATING,
+        clock: "clk",
+        fixed: "",
+        reset: "",
+        inputs: " clk d e",
+        design: "clock clk
+in d=0 e=1
+out y=2
+cell b
+cell i 4
+cell a:0 2
+reg 0 4 >2 b8b8b8b8 - -
+gate >3 00000000
+gate 1 3 >4 eeeeeeee",
+        names: "d=0 e=1 y=2 b/A@ b/Y@ i/EN<g1.0 i/SE<g1.1 i/CK@ i/GCK@ a/D<r0.0 a/CK@ a/Q>2",
+    },
 ];
+
+// A buffer, a flop and a clock gate with a test pin before its latch.
+const GATING: &str = "library (l) {
+  cell (B) { pin (A) { direction : input; } pin (Y) { direction : output; function : \"A\"; } }
+  cell (R) { ff (IQ, IQN) { clocked_on : \"CK\"; next_state : \"D\"; } pin (D, CK) { direction : input; }
+    pin (Q) { direction : output; function : \"IQ\"; } }
+  cell (PRE) { clock_gating_integrated_cell : latch_posedge_precontrol; latch (IQ, IQN) { enable : \"CK'\"; data_in : \"EN + SE\"; }
+    pin (EN) { direction : input; clock_gate_enable_pin : true; } pin (SE) { direction : input; clock_gate_test_pin : true; }
+    pin (CK) { direction : input; clock_gate_clock_pin : true; } pin (GCK) { direction : output; clock_gate_out_pin : true; } }
+}";
 
 // A block of two phases with a scan chain, as a synthesis tool writes it.
 const SCANNED: &str = r#"// as a synthesis tool writes it

@@ -77,22 +77,47 @@ pub(crate) const NETLISTS: &[(&str, &str, &str)] = &[
         "clk",
         "module m (input c, d, output q); DFF r (.D(d), .CK(c), .Q(q)); endmodule
          module top (input clk, d, output q); not (n, clk); m u (.c(n), .d(d), .q(q)); endmodule",
-        "the register u/r is not on the clock",
+        "u/r is not on the clock",
     ),
     (
         "clk",
         "module top (input clk, d, output q); DFF r (.D(d), .CK(d), .Q(q)); endmodule",
-        "the register r is not on the clock",
+        "r is not on the clock",
     ),
     (
         "clk",
         "module top (input clk, d, output q); DFF r (.D(d), .CK(1'b0), .Q(q)); endmodule",
-        "the register r is not on the clock",
+        "r is not on the clock",
     ),
     (
         "clk",
         "module top (input clk, d, output q); and (q, d, clk); endmodule",
         "the clock's net clk is read as data",
+    ),
+    (
+        "clk",
+        "module top (input clk, d, output q); ICG i (.EN(d), .CK(d), .GCK(g)); DFF r (.D(d), .CK(clk), .Q(q)); endmodule",
+        "i is not on the clock",
+    ),
+    (
+        "clk",
+        "module top (input clk, d, output q); not (n, clk); ICG i (.EN(d), .CK(n), .GCK(g)); DFF r (.D(d), .CK(clk), .Q(q)); endmodule",
+        "i is not on the clock",
+    ),
+    (
+        "clk",
+        "module top (input clk, d, output q); ICG i (.EN(d), .CK(clk), .GCK(g)); and (q, d, g); endmodule",
+        "the clock's net g is read as data",
+    ),
+    (
+        "clk",
+        "module top (input clk, d, output q); ICG i (.EN(clk), .CK(clk), .GCK(g)); DFF r (.D(d), .CK(g), .Q(q)); endmodule",
+        "the clock's net clk is read as data",
+    ),
+    (
+        "clk",
+        "module top (input clk, d, output q); ICG i (.EN(d), .CK(clk), .GCK(g)); BUF b (.A(clk), .Y(g)); DFF r (.D(d), .CK(g), .Q(q)); endmodule",
+        "g has more than one driver",
     ),
     (
         "clk",
@@ -213,10 +238,17 @@ pub(crate) const CELLS: &[(&str, &str, &str)] = &[
         "the cell LAT is not modelled",
     ),
     (
-        r#"library (l) { cell (CKG) { clock_gating_integrated_cell : "latch_posedge"; pin (E) { direction : input; clock_gate_enable_pin : true; }
+        r#"library (l) { cell (CKG) { clock_gating_integrated_cell : "latch_negedge"; pin (E) { direction : input; clock_gate_enable_pin : true; }
             pin (K) { direction : input; clock_gate_clock_pin : true; } pin (G) { direction : output; clock_gate_out_pin : true; } } }"#,
         "module top (input a, k, output y); CKG u (.E(a), .K(k), .G(y)); endmodule",
         "the cell CKG is not modelled",
+    ),
+    (
+        r#"library (l) { cell (CK6) { clock_gating_integrated_cell : "latch_posedge";
+            pin (A, B, C, D, E, F) { direction : input; clock_gate_enable_pin : true; }
+            pin (K) { direction : input; clock_gate_clock_pin : true; } pin (G) { direction : output; clock_gate_out_pin : true; } } }"#,
+        "module top (input a, k, output y); CK6 u (.A(a), .B(a), .C(a), .D(a), .E(a), .F(a), .K(k), .G(y)); endmodule",
+        "limit of pins: 6",
     ),
     (
         r#"library (l) { cell (AND7) { pin (A, B, C, D, E, F, G) { direction : input; }

@@ -1,20 +1,58 @@
 //! Texts linked, row by row.
+ghost use Rattle.std.specs.Prelude.{◌≤◌};
+ghost use Rattle.cell_types.specs.Libraries.{IsLawful as IsLawfulLibrary};
+ghost use Rattle.netlist_types.specs.Lawful.{IsLawful};
+
 use crate::givens::{Given, library, options};
 use crate::refusal_rows::{CELLS, CHAINS, COUNTS, Counted, NETLISTS, SETTINGS};
-use net_link::link;
+use cell_types::Library;
+use net_link::{LinkFault, LinkOptions, link};
 use std::alloc::Global;
 use std::test::Fail;
-use verilog_net::read_verilog;
+use verilog_net::{Source, read_verilog};
 
-/// How the refusal is told, and nothing where there is a design.
-fn told(alloc: Global, netlist: &str, cells: &str, given: &Given) -> Result<String, Fail> {
-    let source = read_verilog(alloc, netlist.as_bytes())?;
+/// How a source is refused, and nothing where it has a design.
+fn fault_of(
+    alloc: Global,
+    source: &Source,
+    library: &Library,
+    options: &LinkOptions,
+) -> Option<LinkFault>
+    requires source { IsLawful source.now }
+    requires library { IsLawfulLibrary library.now.cells }
+    requires resets { options.now.reset_len ≤ 64 }
+{
+    link(alloc, source, library, options).err()
+}
+
+/// How a source is refused with these cells.
+fn source_told(
+    alloc: Global,
+    source: &Source,
+    cells: &str,
+    given: &Given,
+) -> Result<Option<LinkFault>, Fail>
+    requires { IsLawful source.now }
+{
     let library = library(alloc, cells)?;
     let options = options(alloc, given)?;
-    match link(alloc, &source, &library, &options) {
-        Ok(_) => Ok(String::new(alloc)),
-        Err(fault) => Ok(format!(in alloc; "{fault}")?),
+    Ok(fault_of(alloc, source, &library, &options))
+}
+
+/// How the fault is told, and nothing where there is none.
+fn shown(alloc: Global, fault: &Option<LinkFault>) -> Result<String, Fail> {
+    let mut text = String::new(alloc);
+    if let Some(fault) = fault {
+        write!(&mut text, "{fault}")?;
     }
+    Ok(text)
+}
+
+/// How the refusal of a text is told, and nothing where there is a design.
+fn told(alloc: Global, netlist: &str, cells: &str, given: &Given) -> Result<String, Fail> {
+    let source = read_verilog(alloc, netlist.as_bytes())?;
+    let fault = source_told(alloc, &source, cells, given)?;
+    shown(alloc, &fault)
 }
 
 #[test]
