@@ -1,6 +1,7 @@
 //! Hosts with the files of calls.
 
 use crate::files::FILES;
+use crate::gated_files::FILES as GATED_FILES;
 use sdcv_base::{Fail, FileRec, MemHost, Name};
 use std::alloc::{AllocError, Global};
 
@@ -21,7 +22,19 @@ fn add_file(
     Ok(())
 }
 
-/// A host with these files, and then all of `FILES`. One of its calls may fail.
+// All of these texts are there too.
+fn add_texts(
+    alloc: Global,
+    files: &mut Vec<FileRec>,
+    texts: &[(&str, &str)],
+) -> Result<(), AllocError> {
+    for (name, text) in texts {
+        add_file(alloc, files, name, text.as_bytes())?;
+    }
+    Ok(())
+}
+
+/// A host with these files, and then all of `FILES`, those with clock gates too. One of its calls may fail.
 pub fn host_with(
     alloc: Global,
     own: &[(&str, &[u8])],
@@ -31,9 +44,8 @@ pub fn host_with(
     for (name, bytes) in own {
         add_file(alloc, &mut files, name, bytes)?;
     }
-    for (name, text) in FILES {
-        add_file(alloc, &mut files, name, text.as_bytes())?;
-    }
+    add_texts(alloc, &mut files, FILES)?;
+    add_texts(alloc, &mut files, GATED_FILES)?;
     let fails = Vec::from_slice(alloc, fail.as_slice())?;
     MemHost::new(alloc, files, fails, ROOM)
 }

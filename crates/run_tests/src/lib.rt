@@ -21,6 +21,10 @@ mod found_rows;
 #[cfg(test)]
 mod frozen;
 #[cfg(test)]
+mod gated_files;
+#[cfg(test)]
+mod gated_rows;
+#[cfg(test)]
 mod hostile;
 #[cfg(test)]
 mod hosts;
