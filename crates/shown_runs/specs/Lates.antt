@@ -1,5 +1,6 @@
 -- What is late in a cycle.
 use Rattle.std.specs.Prelude.{◌≡◌, ℕ, ◌==◌, Bool, true, false, List, [], map, find, Option, Some, None, IfSome}
+use Rattle.std.specs.List.{list_any}
 use Rattle.net_model.specs.Judge.{start_bit}
 use Rattle.net_model.specs.Layers.{IsLateCapture}
 use Rattle.net_model.specs.Ternary.{IsTernaryCapture}
@@ -7,24 +8,31 @@ use Rattle.net_model.specs.declared.netlist.Design.{Design}
 use Rattle.net_model.specs.declared.cycles.Cycle.{Cycle}
 use Rattle.net_model.specs.declared.claims.Claim.{Claim}
 use Rattle.net_model.specs.declared.terns.Tern.{Tern}
+use Rattle.link_defs.specs.declared.names.CellName.{CellName}
+use Rattle.link_defs.specs.declared.names.Names.{Names}
 use Rattle.link_defs.specs.declared.names.NetName.{NetName}
 use Rattle.link_defs.specs.declared.names.Linked.{Linked}
 use Rattle.carried_paths.specs.Carried.{IsCarried}
 use Rattle.shown_runs.specs.declared.lates.Late.{Late}
 
-abbrev pub name_if_any : Option NetName → List ℕ
-name_if_any None = []
-name_if_any (Some n) = n.name
+-- the cell drives the net
+abbrev pub drives : ℕ → CellName → Bool
+drives net c = list_any (λ (n : ℕ). n == net) c.outs
 
--- the first full name of a net
-abbrev pub first_name : List NetName → ℕ → List ℕ
-first_name names net = name_if_any (find (λ (n : NetName). n.net == net) names)
+abbrev pub name_if_any : Option NetName → Option CellName → List ℕ
+name_if_any (Some n) cell = n.name
+name_if_any None (Some c) = c.name
+name_if_any None None = []
+
+-- the first full name of a net; one that has none is told by the first cell that drives it, as the enable of a clock gate is
+abbrev pub first_name : Names → ℕ → List ℕ
+first_name names net = name_if_any (find (λ (n : NetName). n.net == net) names.nets) (find (drives net) names.cells)
 
 -- the nets of a path that carries the change, each by its first full name
 pub record IsNamedPath (l : Linked) (claim : Claim) (c : Cycle) (stale : Bool) (names : List (List ℕ)) : Type 0 where
   pub nets : List ℕ
   pub carried : IsCarried l.design claim c stale nets
-  pub by_name : names ≡ map (first_name l.names.nets) nets
+  pub by_name : names ≡ map (first_name l.names) nets
 
 -- the ternary capture where hazards count, and else none
 abbrev pub IsTernaryIf : Bool → Design → Claim → Cycle → Option Tern → Type 0
