@@ -1,154 +1,141 @@
 //! Exceptions with an edge, and false paths with a lag.
 use crate::netlists::{COPIED, MASKED, SHOWN_TWICE, TWO_OUTPUTS};
-use crate::shown::shown;
+use crate::shown::judge;
 use crate::stages::Texts;
 use std::test::Fail;
 
-// A netlist whose reset is `rst`, the lag, what follows a clock `ck` in the script, and all that is selected or the line of
-// the refusal (SDC 2.1, `-rise_from` and `-fall_from`).
-const COMMANDS: &[(&str, u8, &str, &str)] = &[
+// Over texts with a clock `ck`, what follows in the script, and all that is selected or the line of the refusal (SDC 2.1,
+// `-rise_from` and `-fall_from`). In the last group starts are pins of a register with an inverted output.
+const GROUPS: &[(Texts<'static>, &[(&str, &str)])] = &[
     (
-        COPIED,
-        0,
-        "set_false_path -rise_from a -to b",
-        "2 false rise 1\n1 a -> b rise\n",
+        Texts {
+            netlist: COPIED,
+            cells: "",
+            script: "create_clock -name ck -period 10 [get_ports clk]\n",
+            reset: "rst",
+            hazard: false,
+            lag: 0,
+        },
+        &[
+            (
+                "set_false_path -rise_from a -to b",
+                "2 false rise 1\n1 a -> b rise\n",
+            ),
+            (
+                "set_false_path -fall_from a -to b",
+                "2 false fall 1\n1 a -> b fall\n",
+            ),
+            (
+                "set_false_path -rise_from [get_clocks ck]",
+                "2 false rise 0 dropped ck 1\n",
+            ),
+            (
+                "set_false_path -fall_from [all_clocks]",
+                "2 false fall 0 dropped all_clocks 1\n",
+            ),
+            (
+                "create_clock -name v -period 10\nset_false_path -rise_from v",
+                "3 false rise 0\n",
+            ),
+            (
+                "set_false_path -from a -rise_from a -to b",
+                "refused sdc 4 BadOption 2 -rise_from\n",
+            ),
+            (
+                "set_false_path -rise_from a -fall_from a -to b",
+                "refused sdc 4 BadOption 2 -fall_from\n",
+            ),
+            (
+                "set_false_path -rise -from a -rise_from a",
+                "refused sdc 4 BadOption 2 -rise_from\n",
+            ),
+            (
+                "set_false_path -rise_from a -rise_to b",
+                "2 aside -rise_to\n",
+            ),
+            ("set_multicycle_path 2 -hold -rise_from a", "2 hold\n"),
+            (
+                "set_multicycle_path 2 -rise_from a -to b",
+                "2 multi 2 rise 1\n1 a -> b rise\n",
+            ),
+        ],
     ),
     (
-        COPIED,
-        0,
-        "set_false_path -fall_from a -to b",
-        "2 false fall 1\n1 a -> b fall\n",
+        Texts {
+            netlist: COPIED,
+            cells: "",
+            script: "create_clock -name ck -period 10 [get_ports clk]\n",
+            reset: "rst",
+            hazard: false,
+            lag: 1,
+        },
+        &[(
+            "set_false_path -rise_from a -to b",
+            "2 false rise 1\n1 a -> b rise lag 1\n",
+        )],
     ),
     (
-        COPIED,
-        1,
-        "set_false_path -rise_from a -to b",
-        "2 false rise 1\n1 a -> b rise lag 1\n",
+        Texts {
+            netlist: MASKED,
+            cells: "",
+            script: "create_clock -name ck -period 10 [get_ports clk]\n",
+            reset: "rst",
+            hazard: false,
+            lag: 8,
+        },
+        &[
+            (
+                "set_multicycle_path 1 -from a -to b",
+                "2 multi 1 1\n1 a -> b\n",
+            ),
+            (
+                "set_false_path -from [get_cells a] -to [get_cells b]",
+                "2 false 1\n1 a -> b lag 8\n",
+            ),
+        ],
     ),
     (
-        COPIED,
-        0,
-        "set_false_path -rise_from [get_clocks ck]",
-        "2 false rise 0 dropped ck 1\n",
+        Texts {
+            netlist: MASKED,
+            cells: "",
+            script: "create_clock -name ck -period 10 [get_ports clk]\n",
+            reset: "rst",
+            hazard: false,
+            lag: 0,
+        },
+        &[(
+            "set_false_path -rise_from rst",
+            "2 false rise 2\n1 rst -> a rise\n1 rst -> b rise\n",
+        )],
     ),
     (
-        COPIED,
-        0,
-        "set_false_path -fall_from [all_clocks]",
-        "2 false fall 0 dropped all_clocks 1\n",
-    ),
-    (
-        COPIED,
-        0,
-        "create_clock -name v -period 10\nset_false_path -rise_from v",
-        "3 false rise 0\n",
-    ),
-    (
-        COPIED,
-        0,
-        "set_false_path -from a -rise_from a -to b",
-        "refused sdc 4 BadOption 2 -rise_from\n",
-    ),
-    (
-        COPIED,
-        0,
-        "set_false_path -rise_from a -fall_from a -to b",
-        "refused sdc 4 BadOption 2 -fall_from\n",
-    ),
-    (
-        COPIED,
-        0,
-        "set_false_path -rise -from a -rise_from a",
-        "refused sdc 4 BadOption 2 -rise_from\n",
-    ),
-    (
-        COPIED,
-        0,
-        "set_false_path -rise_from a -rise_to b",
-        "2 aside -rise_to\n",
-    ),
-    (
-        COPIED,
-        0,
-        "set_multicycle_path 2 -hold -rise_from a",
-        "2 hold\n",
-    ),
-    (
-        COPIED,
-        0,
-        "set_multicycle_path 2 -rise_from a -to b",
-        "2 multi 2 rise 1\n1 a -> b rise\n",
-    ),
-    (
-        MASKED,
-        8,
-        "set_multicycle_path 1 -from a -to b",
-        "2 multi 1 1\n1 a -> b\n",
-    ),
-    (
-        MASKED,
-        8,
-        "set_false_path -from [get_cells a] -to [get_cells b]",
-        "2 false 1\n1 a -> b lag 8\n",
-    ),
-    (
-        MASKED,
-        0,
-        "set_false_path -rise_from rst",
-        "2 false rise 2\n1 rst -> a rise\n1 rst -> b rise\n",
-    ),
-];
-
-// Starts that are pins of a register with an inverted output, after each option.
-const PINS: &[(&str, &str)] = &[
-    ("-rise_from a/QN", "2 false rise 0 dropped a/QN 1\n"),
-    ("-fall_from a/QN", "2 false fall 0 dropped a/QN 1\n"),
-    ("-rise_from a/CK", "2 false rise 0 dropped a/CK 1\n"),
-    ("-rise_from a/Q", "2 false rise 1\n1 a -> y rise\n"),
-    ("-fall_from a", "2 false fall 1\n1 a -> y fall\n"),
-    ("-from a/QN", "2 false 1\n1 a -> y\n"),
-    ("-from a/CK", "2 false 1\n1 a -> y\n"),
-    ("-from a/Q", "2 false 1\n1 a -> y\n"),
-];
-
-#[test]
-fn an_edge_is_that_of_the_starts_own_bit(rt: HostRuntime) -> Result<(), Fail> {
-    for (options, want) in PINS {
-        let script = format!(in rt.alloc();
-            "create_clock -name ck -period 10 [get_ports clk]\nset_false_path {options} -to y\n"
-        )?;
-        let texts = Texts {
+        Texts {
             netlist: SHOWN_TWICE,
             cells: TWO_OUTPUTS,
-            script: script.as_str(),
+            script: "create_clock -name ck -period 10 [get_ports clk]\nset_false_path -to y ",
             reset: "",
             hazard: false,
             lag: 0,
-        };
-        let got = shown(rt.alloc(), &texts)?;
-        assert_eq!(rt; got.as_str(), *want, "{options}");
-    }
-    Ok(())
-}
+        },
+        &[
+            ("-rise_from a/QN", "2 false rise 0 dropped a/QN 1\n"),
+            ("-fall_from a/QN", "2 false fall 0 dropped a/QN 1\n"),
+            ("-rise_from a/CK", "2 false rise 0 dropped a/CK 1\n"),
+            ("-rise_from a/Q", "2 false rise 1\n1 a -> y rise\n"),
+            ("-fall_from a", "2 false fall 1\n1 a -> y fall\n"),
+            ("-from a/QN", "2 false 1\n1 a -> y\n"),
+            ("-from a/CK", "2 false 1\n1 a -> y\n"),
+            ("-from a/Q", "2 false 1\n1 a -> y\n"),
+        ],
+    ),
+];
 
 #[test]
-fn claims_have_the_edge_of_their_exception_and_false_paths_the_lag(
+fn claims_have_the_edge_of_the_starts_own_bit_and_false_paths_the_lag(
     rt: HostRuntime,
 ) -> Result<(), Fail> {
-    for (netlist, lag, commands, want) in COMMANDS {
-        let script = format!(in rt.alloc();
-            "create_clock -name ck -period 10 [get_ports clk]\n{commands}\n"
-        )?;
-        let texts = Texts {
-            netlist,
-            cells: "",
-            script: script.as_str(),
-            reset: "rst",
-            hazard: false,
-            lag: *lag,
-        };
-        let got = shown(rt.alloc(), &texts)?;
-        assert_eq!(rt; got.as_str(), *want, "{commands}");
+    for (texts, rows) in GROUPS {
+        judge(&rt, rt.alloc(), texts, rows)?;
     }
     Ok(())
 }

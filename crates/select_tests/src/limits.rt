@@ -1,7 +1,8 @@
 //! Scripts that select as much as they may, and too much.
 use crate::netlists::ALL_TO_ALL;
+use crate::shown::sure;
 use crate::stages::{Texts, Told, told_of_texts};
-use std::alloc::Global;
+use std::alloc::{AllocError, Global};
 use std::test::Fail;
 
 // A command and how many times it stands in its script, the reset of the netlist, and the number of pairs, or
@@ -37,36 +38,61 @@ const SCRIPTS: &[(&str, usize, &str, &str)] = &[
     ),
 ];
 
-fn repeated(alloc: Global, command: &str, times: usize) -> Result<String, Fail> {
+fn push_line(script: &mut String, command: &str) -> Result<(), AllocError> {
+    script.push_str(command)?;
+    script.push_str("\n")?;
+    Ok(())
+}
+
+fn repeated(alloc: Global, command: &str, times: usize) -> Result<String, AllocError> {
     let mut script = String::new(alloc);
     for _ in 0..times {
-        script.push_str(command)?;
-        script.push_str("\n")?;
+        push_line(&mut script, command)?;
     }
     Ok(script)
 }
 
-fn counted(alloc: Global, answer: Told) -> Result<String, Fail> {
+fn is_number(alloc: Global, number: usize, want: &str) -> Result<bool, Fail> {
+    let text = format!(in alloc; "{number}")?;
+    Ok(text.as_str() == want)
+}
+
+fn is_counted(alloc: Global, answer: &Told, want: &str) -> Result<bool, Fail> {
     match answer {
-        Told::Selected(selected) => Ok(format!(in alloc; "{}", selected.claims.len())?),
-        Told::Refused(line) => Ok(line),
+        Told::Selected(selected) => is_number(alloc, selected.claims.len(), want),
+        Told::Refused(line) => Ok(line.as_str() == want),
     }
+}
+
+fn is_limited(alloc: Global, script: &str, reset: &str, want: &str) -> Result<bool, Fail> {
+    let texts = Texts {
+        netlist: ALL_TO_ALL,
+        cells: "",
+        script,
+        reset,
+        hazard: false,
+        lag: 0,
+    };
+    let answer = told_of_texts(alloc, &texts)?;
+    is_counted(alloc, &answer, want)
+}
+
+fn is_limited_by(
+    alloc: Global,
+    command: &str,
+    times: usize,
+    reset: &str,
+    want: &str,
+) -> Result<bool, Fail> {
+    let script = repeated(alloc, command, times)?;
+    is_limited(alloc, script.as_str(), reset, want)
 }
 
 #[test]
 fn limits_are_what_a_script_may_select(rt: HostRuntime) -> Result<(), Fail> {
     for (command, times, reset, want) in SCRIPTS {
-        let script = repeated(rt.alloc(), command, *times)?;
-        let texts = Texts {
-            netlist: ALL_TO_ALL,
-            cells: "",
-            script: script.as_str(),
-            reset,
-            hazard: false,
-            lag: 0,
-        };
-        let got = counted(rt.alloc(), told_of_texts(rt.alloc(), &texts)?)?;
-        assert_eq!(rt; got.as_str(), *want, "{command}");
+        let right = is_limited_by(rt.alloc(), command, *times, reset, want)?;
+        sure(&rt, right, command);
     }
     Ok(())
 }

@@ -1,79 +1,101 @@
 //! The pairs of whole scripts.
 use crate::netlists::{CHOOSING, MASKED, NESTED, SCAN_CELLS, SCANNED, TOGGLING, TWO_WAYS};
-use crate::shown::shown;
+use crate::shown::{is_shown, judge, sure};
 use crate::stages::Texts;
 use std::test::Fail;
 
-// What follows a clock in a script whose reset is `rst`, and all that is selected.
-const COMMANDS: &[(&str, &str, &str)] = &[
+// Over texts with a clock, what follows in the script, and all that is selected.
+const GROUPS: &[(Texts<'static>, &[(&str, &str)])] = &[
     (
-        MASKED,
-        "set_false_path -from [get_cells a] -to [get_cells b]",
-        "2 false 1\n1 a -> b\n",
+        Texts {
+            netlist: MASKED,
+            cells: "",
+            script: "create_clock -name ck -period 10 [get_ports clk]\n",
+            reset: "rst",
+            hazard: false,
+            lag: 0,
+        },
+        &[
+            (
+                "set_false_path -from [get_cells a] -to [get_cells b]",
+                "2 false 1\n1 a -> b\n",
+            ),
+            (
+                "set_false_path -from [get_ports rst]",
+                "2 false 2\n1 rst -> a\n1 rst -> b\n",
+            ),
+            (
+                "set_multicycle_path 2",
+                "2 multi 2 5\n1 a -> b\n1 b -> y\n1 rst -> a\n1 rst -> b\n1 d -> a\n",
+            ),
+            (
+                "set_case_analysis 1 d\nset_multicycle_path 1 -hold\nset_false_path -from d\nset_false_path -fall",
+                "3 hold\n4 false 1\n5 aside -fall\n2 d -> a\n",
+            ),
+        ],
     ),
     (
-        MASKED,
-        "set_false_path -from [get_ports rst]",
-        "2 false 2\n1 rst -> a\n1 rst -> b\n",
+        Texts {
+            netlist: TOGGLING,
+            cells: "",
+            script: "create_clock -name ck -period 10 [get_ports clk]\n",
+            reset: "rst",
+            hazard: false,
+            lag: 0,
+        },
+        &[(
+            "set_multicycle_path 2 -from r -to r\nset_false_path",
+            "2 multi 2 1\n3 false 3\n1 r -> r\n2 r -> r\n2 r -> q\n2 rst -> r\n",
+        )],
     ),
     (
-        MASKED,
-        "set_multicycle_path 2",
-        "2 multi 2 5\n1 a -> b\n1 b -> y\n1 rst -> a\n1 rst -> b\n1 d -> a\n",
+        Texts {
+            netlist: TWO_WAYS,
+            cells: "",
+            script: "create_clock -name ck -period 10 [get_ports clk]\n",
+            reset: "rst",
+            hazard: false,
+            lag: 0,
+        },
+        &[
+            (
+                "set_false_path -from a -through [get_pins g1/A] -to b\nset_false_path -from a -through [get_pins h1/A] -to b",
+                "2 false 1\n3 false 1\n1 a -> b through 1\n2 a -> b through 1\n",
+            ),
+            (
+                "set_false_path -from a -through [get_pins g2/B] -through [get_pins h1/A] -to b",
+                "2 false 0\n",
+            ),
+            (
+                "set_false_path -through [get_pins h1/A] -through [get_pins g2/B]\nset_false_path -through h1/A -through [get_nets qa] -to b",
+                "2 false 1\n3 false 0\n1 a -> b through 1 1\n",
+            ),
+            (
+                "set_false_path -through [get_pins {g1/A h1/A}] -through h1/A",
+                "2 false 1\n1 a -> b through 2 1\n",
+            ),
+        ],
     ),
     (
-        MASKED,
-        "set_case_analysis 1 d\nset_multicycle_path 1 -hold\nset_false_path -from d\nset_false_path -fall",
-        "3 hold\n4 false 1\n5 aside -fall\n2 d -> a\n",
-    ),
-    (
-        TOGGLING,
-        "set_multicycle_path 2 -from r -to r\nset_false_path",
-        "2 multi 2 1\n3 false 3\n1 r -> r\n2 r -> r\n2 r -> q\n2 rst -> r\n",
-    ),
-    (
-        TWO_WAYS,
-        "set_false_path -from a -through [get_pins g1/A] -to b\nset_false_path -from a -through [get_pins h1/A] -to b",
-        "2 false 1\n3 false 1\n1 a -> b through 1\n2 a -> b through 1\n",
-    ),
-    (
-        TWO_WAYS,
-        "set_false_path -from a -through [get_pins g2/B] -through [get_pins h1/A] -to b",
-        "2 false 0\n",
-    ),
-    (
-        TWO_WAYS,
-        "set_false_path -through [get_pins h1/A] -through [get_pins g2/B]\nset_false_path -through h1/A -through [get_nets qa] -to b",
-        "2 false 1\n3 false 0\n1 a -> b through 1 1\n",
-    ),
-    (
-        TWO_WAYS,
-        "set_false_path -through [get_pins {g1/A h1/A}] -through h1/A",
-        "2 false 1\n1 a -> b through 2 1\n",
-    ),
-    (
-        CHOOSING,
-        "set_false_path -from s -to [get_cells {b c}]",
-        "2 false 2\n1 s -> b\n1 s -> c\n",
+        Texts {
+            netlist: CHOOSING,
+            cells: "",
+            script: "create_clock -name ck -period 10 [get_ports clk]\n",
+            reset: "rst",
+            hazard: false,
+            lag: 0,
+        },
+        &[(
+            "set_false_path -from s -to [get_cells {b c}]",
+            "2 false 2\n1 s -> b\n1 s -> c\n",
+        )],
     ),
 ];
 
 #[test]
 fn exceptions_select_their_pairs(rt: HostRuntime) -> Result<(), Fail> {
-    for (netlist, commands, want) in COMMANDS {
-        let script = format!(in rt.alloc();
-            "create_clock -name ck -period 10 [get_ports clk]\n{commands}\n"
-        )?;
-        let texts = Texts {
-            netlist,
-            cells: "",
-            script: script.as_str(),
-            reset: "rst",
-            hazard: false,
-            lag: 0,
-        };
-        let got = shown(rt.alloc(), &texts)?;
-        assert_eq!(rt; got.as_str(), *want, "{commands}");
+    for (texts, rows) in GROUPS {
+        judge(&rt, rt.alloc(), texts, rows)?;
     }
     Ok(())
 }
@@ -219,8 +241,7 @@ set_false_path -from [get_clocks {virt core}] -comment \"both; one is virtual\"
 #[test]
 fn scripts_of_tools_select_their_pairs(rt: HostRuntime) -> Result<(), Fail> {
     for (texts, want) in SCRIPTS {
-        let got = shown(rt.alloc(), texts)?;
-        assert_eq!(rt; got.as_str(), *want, "{}", texts.script);
+        sure(&rt, is_shown(rt.alloc(), texts, want)?, texts.script);
     }
     Ok(())
 }

@@ -1,9 +1,10 @@
 //! Texts that select nothing, each with the line of its refusal.
 use crate::netlists::{MASKED, TOGGLING};
-use crate::shown::shown;
+use crate::shown::{is_shown, judge, sure};
 use crate::stages::Texts;
-use cell_lib::read_lib;
+use cell_lib::{LibFault, read_lib};
 use fault_lines::liberty_line;
+use std::alloc::{AllocError, Global};
 use std::test::Fail;
 
 // Scripts over a netlist whose reset is `rst`; lines count from 1.
@@ -59,19 +60,15 @@ const SCRIPTS: &[(&str, &str)] = &[
 
 #[test]
 fn scripts_are_refused_for_their_cause(rt: HostRuntime) -> Result<(), Fail> {
-    for (script, want) in SCRIPTS {
-        let texts = Texts {
-            netlist: MASKED,
-            cells: "",
-            script,
-            reset: "rst",
-            hazard: false,
-            lag: 0,
-        };
-        let got = shown(rt.alloc(), &texts)?;
-        assert_eq!(rt; got.as_str(), *want, "{script}");
-    }
-    Ok(())
+    let texts = Texts {
+        netlist: MASKED,
+        cells: "",
+        script: "",
+        reset: "rst",
+        hazard: false,
+        lag: 0,
+    };
+    judge(&rt, rt.alloc(), &texts, SCRIPTS)
 }
 
 // Netlists under a script without commands.
@@ -91,33 +88,42 @@ const NETLISTS: &[(&str, &str)] = &[
     (TOGGLING, "refused link 8 NotTheClock r\n"),
 ];
 
+fn is_refused(alloc: Global, netlist: &str, want: &str) -> Result<bool, Fail> {
+    let texts = Texts {
+        netlist,
+        cells: "",
+        script: "",
+        reset: "",
+        hazard: false,
+        lag: 0,
+    };
+    is_shown(alloc, &texts, want)
+}
+
 #[test]
 fn an_empty_script_leaves_a_netlist_without_a_clock(rt: HostRuntime) -> Result<(), Fail> {
     for (netlist, want) in NETLISTS {
-        let texts = Texts {
-            netlist,
-            cells: "",
-            script: "",
-            reset: "",
-            hazard: false,
-            lag: 0,
-        };
-        let got = shown(rt.alloc(), &texts)?;
-        assert_eq!(rt; got.as_str(), *want, "{netlist}");
+        sure(&rt, is_refused(rt.alloc(), netlist, want)?, netlist);
     }
     Ok(())
 }
 
+fn is_line(alloc: Global, fault: &LibFault, want: &[u8]) -> Result<bool, AllocError> {
+    let line = liberty_line(alloc, fault)?;
+    Ok(line.as_slice() == want)
+}
+
+fn refusal(alloc: Global, text: &str) -> Option<LibFault> {
+    read_lib(alloc, text.as_bytes()).err()
+}
+
 #[test]
-fn a_function_that_breaks_off_is_refused_at_its_place(rt: HostRuntime) -> Result<(), Fail> {
+fn a_function_that_breaks_off_is_refused_at_its_place(rt: HostRuntime) -> Result<(), AllocError> {
     let text = "library (l) { cell (X) { pin (Y) { direction : output; function : \"A +\"; } } }";
-    let line = match read_lib(rt.alloc(), text.as_bytes()) {
-        Ok(_) => return Err("a refusal")?,
-        Err(fault) => liberty_line(rt.alloc(), &fault)?,
+    let right = match &refusal(rt.alloc(), text) {
+        Some(fault) => is_line(rt.alloc(), fault, b"refused liberty 2 Function 67\n")?,
+        None => false,
     };
-    assert_eq!(rt;
-        line.as_slice(),
-        b"refused liberty 2 Function 67\n".as_slice()
-    );
+    assert!(rt; right);
     Ok(())
 }

@@ -4,6 +4,7 @@ use exception_expand::{CommandLine, Listing, PairLine, Selected};
 use net_model::{Claim, Edge, Kind};
 use sdc_objects::Warning;
 use std::alloc::Global;
+use std::process::Abort;
 use std::test::Fail;
 
 // An edge, where it is not any.
@@ -84,10 +85,52 @@ fn listing(alloc: Global, selected: &Selected) -> Result<String, Fail> {
     Ok(text)
 }
 
-/// The lines of what the texts give.
-pub(crate) fn shown(alloc: Global, texts: &Texts) -> Result<String, Fail> {
-    match told_of_texts(alloc, texts)? {
-        Told::Selected(selected) => listing(alloc, &selected),
-        Told::Refused(line) => Ok(line),
+fn is_listed(alloc: Global, selected: &Selected, want: &str) -> Result<bool, Fail> {
+    let text = listing(alloc, selected)?;
+    Ok(text.as_str() == want)
+}
+
+fn is_told(alloc: Global, told: &Told, want: &str) -> Result<bool, Fail> {
+    match told {
+        Told::Selected(selected) => is_listed(alloc, selected, want),
+        Told::Refused(line) => Ok(line.as_str() == want),
     }
+}
+
+/// Whether the texts give these lines.
+pub(crate) fn is_shown(alloc: Global, texts: &Texts, want: &str) -> Result<bool, Fail> {
+    let told = told_of_texts(alloc, texts)?;
+    is_told(alloc, &told, want)
+}
+
+// The same, with a line after the script.
+fn is_shown_with(alloc: Global, texts: &Texts, line: &str, want: &str) -> Result<bool, Fail> {
+    let script = format!(in alloc; "{}{line}\n", texts.script)?;
+    let texts = Texts {
+        netlist: texts.netlist,
+        cells: texts.cells,
+        script: script.as_str(),
+        reset: texts.reset,
+        hazard: texts.hazard,
+        lag: texts.lag,
+    };
+    is_shown(alloc, &texts, want)
+}
+
+/// Stops where a row is wrong, and names its text.
+pub(crate) fn sure(rt: &impl Abort, right: bool, text: &str) {
+    assert!(rt; right, "{text}");
+}
+
+/// Judges rows: each is a line that follows the script of the texts, and what all that gives.
+pub(crate) fn judge(
+    rt: &impl Abort,
+    alloc: Global,
+    texts: &Texts,
+    rows: &[(&str, &str)],
+) -> Result<(), Fail> {
+    for (line, want) in rows {
+        sure(rt, is_shown_with(alloc, texts, line, want)?, line);
+    }
+    Ok(())
 }

@@ -9,9 +9,9 @@ use cell_lib::read_lib;
 use cell_types::{Library, builtin};
 use exception_expand::{Selected, expand};
 use fault_lines::{expand_line, link_line, sdc_line};
-use net_link::{LinkOptions, Linked, link, top_inputs};
-use sdc_settings::{Settings, settings};
-use sdc_text::{Script, What, read_sdc};
+use net_link::{LinkFault, LinkOptions, Linked, PortName, link, top_inputs};
+use sdc_settings::{ExpandFault, Settings, settings};
+use sdc_text::{Script, SdcFault, What, read_sdc};
 use sdcv_base::{Kind, Name, Seq, Setting};
 use std::alloc::{AllocError, Global};
 use std::test::Fail;
@@ -38,6 +38,21 @@ pub(crate) enum Told {
 
 fn refused(alloc: Global, line: &[u8]) -> Result<Told, Fail> {
     Ok(Told::Refused(String::from_utf8_lossy(alloc, line)?))
+}
+
+fn link_refused(alloc: Global, fault: &LinkFault) -> Result<Told, Fail> {
+    let line = link_line(alloc, fault)?;
+    refused(alloc, line.as_slice())
+}
+
+fn expand_refused(alloc: Global, fault: &ExpandFault) -> Result<Told, Fail> {
+    let line = expand_line(alloc, fault)?;
+    refused(alloc, line.as_slice())
+}
+
+fn sdc_refused(alloc: Global, fault: &SdcFault) -> Result<Told, Fail> {
+    let line = sdc_line(alloc, fault)?;
+    refused(alloc, line.as_slice())
 }
 
 fn resets(alloc: Global, reset: &str) -> Result<Seq<Setting>, AllocError> {
@@ -109,8 +124,40 @@ fn told_of_design(
     }
     match expand(alloc, linked, script, texts.hazard, texts.lag) {
         Ok(selected) => Ok(Told::Selected(selected)),
-        Err(fault) => refused(alloc, expand_line(alloc, &fault)?.as_slice()),
+        Err(fault) => expand_refused(alloc, &fault),
     }
+}
+
+fn told_of_library(
+    alloc: Global,
+    texts: &Texts,
+    source: &Source,
+    script: &Script,
+    options: &LinkOptions,
+    library: &Library,
+) -> Result<Told, Fail>
+    requires source { IsLawful source.now }
+    requires library { IsLawfulLibrary library.now.cells }
+    requires resets { options.now.reset_len ≡ 1 }
+{
+    match link(alloc, source, library, options) {
+        Ok(linked) => told_of_design(alloc, texts, script, &linked),
+        Err(fault) => link_refused(alloc, &fault),
+    }
+}
+
+fn told_of_options(
+    alloc: Global,
+    texts: &Texts,
+    source: &Source,
+    script: &Script,
+    options: &LinkOptions,
+) -> Result<Told, Fail>
+    requires source { IsLawful source.now }
+    requires resets { options.now.reset_len ≡ 1 }
+{
+    let library = library(alloc, texts.cells)?;
+    told_of_library(alloc, texts, source, script, options, &library)
 }
 
 fn told_of_settings(
@@ -120,14 +167,20 @@ fn told_of_settings(
     script: &Script,
     settings: Settings,
 ) -> Result<Told, Fail>
-    requires { IsLawful source.now }
+    requires source { IsLawful source.now }
 {
-    let library = library(alloc, texts.cells)?;
     let options = options(alloc, texts, settings)?;
-    match link(alloc, source, &library, &options) {
-        Ok(linked) => told_of_design(alloc, texts, script, &linked),
-        Err(fault) => refused(alloc, link_line(alloc, &fault)?.as_slice()),
-    }
+    told_of_options(alloc, texts, source, script, &options)
+}
+
+fn settled(
+    alloc: Global,
+    texts: &Texts,
+    script: &Script,
+    inputs: &Seq<PortName>,
+) -> Result<Settings, ExpandFault> {
+    let resets = resets(alloc, texts.reset)?;
+    settings(alloc, script, inputs, &resets)
 }
 
 fn told_of_script(
@@ -136,13 +189,12 @@ fn told_of_script(
     source: &Source,
     script: &Script,
 ) -> Result<Told, Fail>
-    requires { IsLawful source.now }
+    requires source { IsLawful source.now }
 {
     let inputs = top_inputs(alloc, source)?;
-    let resets = resets(alloc, texts.reset)?;
-    match settings(alloc, script, &inputs, &resets) {
+    match settled(alloc, texts, script, &inputs) {
         Ok(settings) => told_of_settings(alloc, texts, source, script, settings),
-        Err(fault) => refused(alloc, expand_line(alloc, &fault)?.as_slice()),
+        Err(fault) => expand_refused(alloc, &fault),
     }
 }
 
@@ -151,6 +203,6 @@ pub(crate) fn told_of_texts(alloc: Global, texts: &Texts) -> Result<Told, Fail> 
     let source = read_verilog(alloc, texts.netlist.as_bytes())?;
     match read_sdc(alloc, texts.script.as_bytes()) {
         Ok(script) => told_of_script(alloc, texts, &source, &script),
-        Err(fault) => refused(alloc, sdc_line(alloc, &fault)?.as_slice()),
+        Err(fault) => sdc_refused(alloc, &fault),
     }
 }

@@ -1,5 +1,5 @@
 //! Clauses and formulas in normal form, and what a clause does, judged by hand.
-use crate::numbers::{formula, lit, lits};
+use crate::numbers::{formula, lit, lits, sure};
 use proof_log::{Assignment, Clause, Effect, Lit, LitSet};
 use std::alloc::{AllocError, Global};
 use std::process::Abort;
@@ -13,11 +13,26 @@ const NORMAL: &[(&[i32], Option<&[i32]>)] = &[
     (&[-1, 1], None),
 ];
 
+fn normal(alloc: Global, given: &[i32]) -> Result<Option<Clause>, AllocError> {
+    let given = lits(alloc, given)?;
+    Clause::normal(alloc, &given)
+}
+
+fn are(alloc: Global, clause: &Clause, want: &[i32]) -> Result<bool, AllocError> {
+    let want = lits(alloc, want)?;
+    Ok(clause.as_slice() == want.as_slice())
+}
+
+// Whether the copy of a clause has these literals.
+fn is_copied(alloc: Global, clause: &Clause, want: &[i32]) -> Result<bool, AllocError> {
+    let copy = clause.copy(alloc)?;
+    are(alloc, &copy, want)
+}
+
 fn is_normal_form(alloc: Global, given: &[i32], want: Option<&[i32]>) -> Result<bool, AllocError> {
-    match (Clause::normal(alloc, &lits(alloc, given)?)?, want) {
-        (Some(clause), Some(want)) => Ok(
-            clause.copy(alloc)?.as_slice() == lits(alloc, want)?.as_slice(),
-        ),
+    let found = normal(alloc, given)?;
+    match (&found, want) {
+        (Some(clause), Some(want)) => is_copied(alloc, clause, want),
         (None, None) => Ok(true),
         _ => Ok(false),
     }
@@ -25,8 +40,8 @@ fn is_normal_form(alloc: Global, given: &[i32], want: Option<&[i32]>) -> Result<
 
 #[test]
 fn a_clause_has_each_variable_once(rt: HostRuntime) -> Result<(), AllocError> {
-    for (given, want) in NORMAL {
-        assert!(rt; is_normal_form(rt.alloc(), given, *want)?, "of {given:?}");
+    for (place, (given, want)) in NORMAL.iter().enumerate() {
+        sure(&rt, is_normal_form(rt.alloc(), given, *want)?, place);
     }
     Ok(())
 }
@@ -41,11 +56,16 @@ const FORMULAS: &[(u32, &[i32], bool)] = &[
     (2, &[1, -1], false),
 ];
 
+fn is_told_normal(alloc: Global, vars: u32, numbers: &[i32]) -> Result<bool, AllocError> {
+    let formula = formula(alloc, vars, &[numbers])?;
+    Ok(formula.is_normal())
+}
+
 #[test]
 fn a_formula_is_told_to_be_normal(rt: HostRuntime) -> Result<(), AllocError> {
-    for (vars, numbers, want) in FORMULAS {
-        let formula = formula(rt.alloc(), *vars, &[numbers])?;
-        assert!(rt; formula.is_normal() == *want, "{numbers:?} over {vars}");
+    for (place, (vars, numbers, want)) in FORMULAS.iter().enumerate() {
+        let told = is_told_normal(rt.alloc(), *vars, numbers)?;
+        sure(&rt, told == *want, place);
     }
     Ok(())
 }
@@ -77,9 +97,7 @@ fn effect_of(does: &Does) -> Effect {
 }
 
 fn set_unset(rt: &impl Abort, set: &mut Assignment, l: Lit) {
-    assert!(rt; l.var() <= set.vars());
-    assert!(rt; !set.is_set(l));
-    assert!(rt; !set.is_set(l.negated()));
+    assert!(rt; l.var() <= set.vars() && !set.is_set(l) && !set.is_set(l.negated()));
     set.set(l);
 }
 
@@ -91,21 +109,33 @@ fn two_set(rt: &impl Abort, alloc: Global) -> Result<Assignment, AllocError> {
     Ok(set)
 }
 
+fn has_effect(
+    alloc: Global,
+    set: &Assignment,
+    clause: &[i32],
+    does: &Does,
+) -> Result<bool, AllocError> {
+    let clause = lits(alloc, clause)?;
+    Ok(set.effect(&clause) == effect_of(does))
+}
+
+fn judge_effects(rt: &impl Abort, alloc: Global, set: &Assignment) -> Result<(), AllocError> {
+    for (place, (clause, does)) in EFFECTS.iter().enumerate() {
+        sure(rt, has_effect(alloc, set, clause, does)?, place);
+    }
+    Ok(())
+}
+
 #[test]
 fn a_clause_is_false_unit_or_neither(rt: HostRuntime) -> Result<(), AllocError> {
     let set = two_set(&rt, rt.alloc())?;
-    for (clause, does) in EFFECTS {
-        let found = set.effect(&lits(rt.alloc(), clause)?);
-        assert!(rt; found == effect_of(does), "of {clause:?}");
-    }
-    Ok(())
+    judge_effects(&rt, rt.alloc(), &set)
 }
 
 #[test]
 fn a_shorter_assignment_keeps_the_first_literals(rt: HostRuntime) -> Result<(), AllocError> {
     let mut set = two_set(&rt, rt.alloc())?;
     set.truncate(1);
-    assert!(rt; !set.is_set(lit(-2)));
-    assert!(rt; set.is_set(lit(1)));
+    assert!(rt; !set.is_set(lit(-2)) && set.is_set(lit(1)));
     Ok(())
 }

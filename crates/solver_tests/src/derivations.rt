@@ -1,19 +1,30 @@
 //! Derivations that refute, and the first faults of others, judged by hand.
-use crate::numbers::{clause, formula};
-use proof_log::{DerivStep, Derivation, Formula};
+use crate::numbers::{clause, formula, sure};
+use proof_log::{Clause, DerivStep, Derivation, Formula};
 use rup_check::{CheckFault, check};
 use sdcv_base::Seq;
 use std::alloc::{AllocError, Global};
 use std::process::Abort;
 
+fn step(alloc: Global, clause: Clause, hints: &[u64]) -> Result<DerivStep, AllocError> {
+    let hints = Seq::from_vec(Vec::from_slice(alloc, hints)?);
+    Ok(DerivStep { clause, hints })
+}
+
+fn push_step(
+    alloc: Global,
+    list: &mut Seq<DerivStep>,
+    numbers: &[i32],
+    hints: &[u64],
+) -> Result<(), AllocError> {
+    list.push(step(alloc, clause(alloc, numbers)?, hints)?)?;
+    Ok(())
+}
+
 fn derivation(alloc: Global, steps: &[(&[i32], &[u64])]) -> Result<Derivation, AllocError> {
     let mut list = Seq::new(alloc);
     for (numbers, hints) in steps {
-        let hints = Seq::from_vec(Vec::from_slice(alloc, hints)?);
-        list.push(DerivStep {
-            clause: clause(alloc, numbers)?,
-            hints,
-        })?;
+        push_step(alloc, &mut list, numbers, hints)?;
     }
     Ok(Derivation { steps: list })
 }
@@ -73,6 +84,11 @@ const OF_ONE: &[Judged] = &[
     ),
 ];
 
+fn is_judged(alloc: Global, formula: &Formula, row: &Judged) -> Result<bool, AllocError> {
+    let derivation = derivation(alloc, row.0)?;
+    Ok(check(alloc, formula, &derivation) == row.1)
+}
+
 fn judge(
     rt: &impl Abort,
     alloc: Global,
@@ -80,14 +96,24 @@ fn judge(
     rows: &[Judged],
 ) -> Result<(), AllocError> {
     for (place, row) in rows.iter().enumerate() {
-        let found = check(alloc, formula, &derivation(alloc, row.0)?);
-        assert!(rt; found == row.1, "row {place}");
+        sure(rt, is_judged(alloc, formula, row)?, place);
     }
     Ok(())
 }
 
+fn judge_over(
+    rt: &impl Abort,
+    alloc: Global,
+    vars: u32,
+    clauses: &[&[i32]],
+    rows: &[Judged],
+) -> Result<(), AllocError> {
+    let formula = formula(alloc, vars, clauses)?;
+    judge(rt, alloc, &formula, rows)
+}
+
 #[test]
 fn the_first_fault_is_named(rt: HostRuntime) -> Result<(), AllocError> {
-    judge(&rt, rt.alloc(), &formula(rt.alloc(), 2, FOUR)?, OF_FOUR)?;
-    judge(&rt, rt.alloc(), &formula(rt.alloc(), 1, ONE)?, OF_ONE)
+    judge_over(&rt, rt.alloc(), 2, FOUR, OF_FOUR)?;
+    judge_over(&rt, rt.alloc(), 1, ONE, OF_ONE)
 }

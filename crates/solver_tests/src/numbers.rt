@@ -2,6 +2,12 @@
 use proof_log::{Clause, Formula, Lit};
 use sdcv_base::Seq;
 use std::alloc::{AllocError, Global};
+use std::process::Abort;
+
+/// Stops where a row of a table is wrong, and names its place.
+pub fn sure(rt: &impl Abort, right: bool, place: usize) {
+    assert!(rt; right, "row {place}");
+}
 
 /// A literal by its variable, negative for its complement.
 pub fn lit(number: i32) -> Lit {
@@ -23,10 +29,19 @@ pub fn clause(alloc: Global, numbers: &[i32]) -> Result<Clause, AllocError> {
     })
 }
 
+pub fn push_clause(
+    alloc: Global,
+    list: &mut Seq<Clause>,
+    numbers: &[i32],
+) -> Result<(), AllocError> {
+    list.push(clause(alloc, numbers)?)?;
+    Ok(())
+}
+
 pub fn formula(alloc: Global, vars: u32, clauses: &[&[i32]]) -> Result<Formula, AllocError> {
     let mut list = Seq::new(alloc);
     for numbers in clauses {
-        list.push(clause(alloc, numbers)?)?;
+        push_clause(alloc, &mut list, numbers)?;
     }
     Ok(Formula {
         vars,

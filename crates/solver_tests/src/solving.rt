@@ -1,19 +1,34 @@
 //! Formulas with a model and without, and the steps of the search, known by hand.
-use crate::numbers::{clause, formula};
+use crate::numbers::{formula, push_clause, sure};
 use proof_log::{Clause, Formula};
 use rup_check::check;
 use sat_solver::{Answer, Engine, Learnt, solve};
 use sdcv_base::Seq;
 use std::alloc::{AllocError, Global};
-use std::test::Fail;
 
 // What is found of a formula.
-#[derive(Clone, Copy, Debug, PartialEq, Eq)]
+#[derive(Clone, Copy, PartialEq, Eq)]
 enum Found {
     NotNormal,
     Model,
     Refuted,
+    Unchecked,
     Spent,
+}
+
+// What an answer says of a formula, and in how many steps; a derivation refutes where the checker accepts it.
+fn said(alloc: Global, formula: &Formula, answer: &Answer) -> (Found, usize) {
+    match answer {
+        Answer::Sat(_) => (Found::Model, 0),
+        Answer::Unsat(derivation) => {
+            if check(alloc, formula, derivation).is_ok() {
+                (Found::Refuted, derivation.steps.len())
+            } else {
+                (Found::Unchecked, 0)
+            }
+        }
+        Answer::Spent(log) => (Found::Spent, log.steps.len()),
+    }
 }
 
 // What is found, and in how many steps.
@@ -21,11 +36,8 @@ fn told(alloc: Global, formula: &Formula, budget: u64) -> Result<(Found, usize),
     if !formula.is_normal() {
         return Ok((Found::NotNormal, 0));
     }
-    match solve(alloc, formula, budget)? {
-        Answer::Sat(_) => Ok((Found::Model, 0)),
-        Answer::Unsat(derivation) => Ok((Found::Refuted, derivation.steps.len())),
-        Answer::Spent(log) => Ok((Found::Spent, log.steps.len())),
-    }
+    let answer = solve(alloc, formula, budget)?;
+    Ok(said(alloc, formula, &answer))
 }
 
 // Decides a variable, if units alone meet no conflict.
@@ -35,16 +47,38 @@ fn decide_once(engine: &mut Engine) {
     }
 }
 
-// What the engine learns from the conflict that units meet above the lowest level, if there is one.
-fn learnt(alloc: Global, engine: &mut Engine) -> Result<Option<Learnt>, AllocError> {
+// The level of what is learnt, how many literals and hints it has, and the number of its first hint.
+fn counts(learnt: &Learnt) -> [usize; 4] {
+    let hints = learnt.step.hints.as_slice();
+    let first = hints.first().copied().unwrap_or(0);
+    let literals = learnt.step.clause.as_slice().len();
+    [learnt.level, literals, hints.len(), first as usize]
+}
+
+// What the engine learns from the conflict that units meet above the lowest level, if there is one, in numbers; the last is 0
+// where units meet a conflict again.
+fn learnt(alloc: Global, engine: &mut Engine) -> Result<[usize; 4], AllocError> {
     let conflict = engine.propagate();
     if engine.level() == 0 {
-        return Ok(None);
+        return Ok([0; 4]);
     }
-    match conflict {
-        Some(place) => Ok(Some(engine.learn(alloc, place)?)),
-        None => Ok(None),
+    let Some(place) = conflict else {
+        return Ok([0; 4]);
+    };
+    let learnt = engine.learn(alloc, place)?;
+    let [level, literals, hints, first] = counts(&learnt);
+    if engine.propagate().is_some() {
+        return Ok([level, literals, hints, 0]);
     }
+    Ok([level, literals, hints, first])
+}
+
+// What is learnt after so many decisions.
+fn decided_wrong(alloc: Global, engine: &mut Engine, times: u32) -> Result<[usize; 4], AllocError> {
+    for _ in 0..times {
+        decide_once(engine);
+    }
+    learnt(alloc, engine)
 }
 
 // How many levels are open.
@@ -59,19 +93,27 @@ fn leave(engine: &mut Engine, level: usize) {
     }
 }
 
+// Decides a variable, if units alone meet no conflict: the one that is decided, else 0.
+fn next_decided(engine: &mut Engine) -> usize {
+    if engine.propagate().is_some() {
+        return 0;
+    }
+    match engine.decide() {
+        Some(l) => l.var() as usize,
+        None => 0,
+    }
+}
+
 // How many different variables are decided, of so many without clauses, at most so often.
 fn decided(alloc: Global, engine: &mut Engine, vars: u32, times: u32) -> Result<usize, AllocError> {
     let mut seen = vec![in alloc; false; vars as usize + 1]?;
     let mut count = 0usize;
     for _ in 0..times {
-        if engine.propagate().is_none() {
-            if let Some(l) = engine.decide() {
-                if let Some(there) = seen.get_mut(l.var() as usize) {
-                    if !*there {
-                        *there = true;
-                        count = count.saturating_add(1);
-                    }
-                }
+        let var = next_decided(engine);
+        if let Some(there) = seen.get_mut(var) {
+            if var > 0 && !*there {
+                *there = true;
+                count = count.saturating_add(1);
             }
         }
     }
@@ -119,60 +161,46 @@ const FOUR_PIGEONS: &[&[i32]] = &[
     &[-9, -12],
 ];
 
-// Known by hand; pigeons never fit into fewer holes.
-const CASES: &[(u32, &[&[i32]], Found)] = &[
-    (0, &[], Found::Model),
-    (0, &[&[]], Found::Refuted),
-    (2, &[&[1, 2]], Found::Model),
-    (2, BOTH_IN_ALL_SIGNS, Found::Refuted),
+// With a budget of steps, what is found, and in how many steps, where they are counted (else 0). Known by hand; pigeons never fit
+// into fewer holes. One learnt clause is too little for four pigeons: with a pigeon in or out of a hole no clause is unit yet.
+const CASES: &[(u32, &[&[i32]], u64, Found, usize)] = &[
+    (0, &[], 1000, Found::Model, 0),
+    (0, &[&[]], 1000, Found::Refuted, 0),
+    (2, &[&[1, 2]], 1000, Found::Model, 0),
+    (2, BOTH_IN_ALL_SIGNS, 1000, Found::Refuted, 0),
     (
         5,
         &[&[-1, 2], &[-2, 3], &[-3, 4], &[-4, 5], &[1]],
+        1000,
         Found::Model,
+        0,
     ),
-    (2, &[&[1], &[-1]], Found::Refuted),
-    (6, THREE_PIGEONS, Found::Refuted),
-    (12, FOUR_PIGEONS, Found::Refuted),
+    (2, &[&[1], &[-1]], 1000, Found::Refuted, 0),
+    (6, THREE_PIGEONS, 1000, Found::Refuted, 0),
+    (12, FOUR_PIGEONS, 1000, Found::Refuted, 0),
+    (12, FOUR_PIGEONS, 1, Found::Spent, 1),
 ];
 
-#[test]
-fn formulas_have_a_model_or_none(rt: HostRuntime) -> Result<(), Fail> {
-    for (vars, clauses, want) in CASES {
-        let f = formula(rt.alloc(), *vars, clauses)?;
-        let (what, _steps) = told(rt.alloc(), &f, 1000)?;
-        assert!(rt; what == *want);
-    }
-    Ok(())
-}
-
-// Whether the solver refutes a formula by a derivation that the checker accepts.
-fn is_refuted(alloc: Global, formula: &Formula) -> Result<bool, AllocError> {
-    if !formula.is_normal() {
-        return Ok(false);
-    }
-    match solve(alloc, formula, 1000)? {
-        Answer::Unsat(derivation) => Ok(check(alloc, formula, &derivation).is_ok()),
-        _ => Ok(false),
-    }
+fn told_of(
+    alloc: Global,
+    vars: u32,
+    clauses: &[&[i32]],
+    budget: u64,
+) -> Result<(Found, usize), AllocError> {
+    let formula = formula(alloc, vars, clauses)?;
+    told(alloc, &formula, budget)
 }
 
 #[test]
-fn refutations_of_pigeons_are_checked(rt: HostRuntime) -> Result<(), Fail> {
-    let three = formula(rt.alloc(), 6, THREE_PIGEONS)?;
-    assert!(rt; is_refuted(rt.alloc(), &three)?);
-    let four = formula(rt.alloc(), 12, FOUR_PIGEONS)?;
-    assert!(rt; is_refuted(rt.alloc(), &four)?);
-    Ok(())
-}
-
-// One learnt clause is too little for four pigeons: with a pigeon in or out of a hole no clause is
-// unit yet.
-#[test]
-fn a_spent_budget_gives_as_many_steps(rt: HostRuntime) -> Result<(), Fail> {
-    let f = formula(rt.alloc(), 12, FOUR_PIGEONS)?;
-    let (what, steps) = told(rt.alloc(), &f, 1)?;
-    assert_eq!(rt; what, Found::Spent);
-    assert_eq!(rt; steps, 1);
+fn formulas_have_a_model_or_none(rt: HostRuntime) -> Result<(), AllocError> {
+    for (place, (vars, clauses, budget, want, count)) in CASES.iter().enumerate() {
+        let (what, steps) = told_of(rt.alloc(), *vars, clauses, *budget)?;
+        sure(
+            &rt,
+            what == *want && (*count == 0 || steps == *count),
+            place,
+        );
+    }
     Ok(())
 }
 
@@ -180,95 +208,55 @@ fn a_spent_budget_gives_as_many_steps(rt: HostRuntime) -> Result<(), Fail> {
 // even ones from the last back, so that a scan in either direction sets only a few literals.
 const LAST: i32 = 1_000_000;
 
-fn implication(alloc: Global, var: i32) -> Result<Clause, AllocError> {
-    clause(alloc, &[var.wrapping_neg(), var.wrapping_add(1)])
+fn push_implication(alloc: Global, list: &mut Seq<Clause>, var: i32) -> Result<(), AllocError> {
+    push_clause(alloc, list, &[var.wrapping_neg(), var.wrapping_add(1)])
+}
+
+// So many, from a variable on, by a step.
+fn push_implications(
+    alloc: Global,
+    list: &mut Seq<Clause>,
+    first: i32,
+    step: i32,
+    count: i32,
+) -> Result<(), AllocError> {
+    for k in 0..count {
+        push_implication(alloc, list, first.wrapping_add(k.wrapping_mul(step)))?;
+    }
+    Ok(())
+}
+
+fn push_chain(alloc: Global, list: &mut Seq<Clause>) -> Result<(), AllocError> {
+    push_implications(alloc, list, 1, 2, LAST / 2)?;
+    push_implications(alloc, list, LAST - 2, -2, LAST / 2 - 1)?;
+    push_clause(alloc, list, &[1])?;
+    push_clause(alloc, list, &[-LAST])
 }
 
 fn chain(alloc: Global) -> Result<Formula, AllocError> {
     let mut clauses = Seq::new(alloc);
-    for k in 0..LAST / 2 {
-        clauses.push(implication(alloc, k.wrapping_mul(2).wrapping_add(1))?)?;
-    }
-    for k in 1..LAST / 2 {
-        clauses.push(implication(alloc, LAST.wrapping_sub(k.wrapping_mul(2)))?)?;
-    }
-    clauses.push(clause(alloc, &[1])?)?;
-    clauses.push(clause(alloc, &[-LAST])?)?;
+    push_chain(alloc, &mut clauses)?;
     Ok(Formula {
         vars: 1_000_000,
         clauses,
     })
 }
 
+fn told_of_chain(alloc: Global) -> Result<(Found, usize), AllocError> {
+    let formula = chain(alloc)?;
+    told(alloc, &formula, 1)
+}
+
 // Units alone refute it, in one step.
 #[test]
-fn a_chain_of_a_million_is_refuted(rt: HostRuntime) -> Result<(), Fail> {
-    let f = chain(rt.alloc())?;
-    let (what, steps) = told(rt.alloc(), &f, 1)?;
-    assert_eq!(rt; what, Found::Refuted);
-    assert_eq!(rt; steps, 1);
-    Ok(())
-}
-
-// A million variables without clauses are decided one by one.
-#[test]
-fn a_million_variables_are_decided(rt: HostRuntime) -> Result<(), Fail> {
-    let f = formula(rt.alloc(), 1_000_000, &[])?;
-    if f.is_normal() {
-        let mut engine = Engine::load(rt.alloc(), &f)?;
-        assert_eq!(rt;
-            decided(rt.alloc(), &mut engine, 1_000_000, 1_000_001)?,
-            1_000_000
-        );
-        return Ok(());
-    }
-    assert!(rt; false);
-    Ok(())
-}
-
-// Any decision on two variables in all four signs is a conflict, from which its complement follows
-// by the two clauses that have the complement.
-#[test]
-fn a_decision_is_learnt_to_be_wrong(rt: HostRuntime) -> Result<(), Fail> {
-    let f = formula(rt.alloc(), 2, BOTH_IN_ALL_SIGNS)?;
-    if f.is_normal() {
-        let mut engine = Engine::load(rt.alloc(), &f)?;
-        decide_once(&mut engine);
-        if let Some(learnt) = learnt(rt.alloc(), &mut engine)? {
-            assert_eq!(rt; learnt.level, 0);
-            assert_eq!(rt; learnt.step.clause.as_slice().len(), 1);
-            assert_eq!(rt; learnt.step.hints.len(), 2);
-            assert!(rt; engine.propagate().is_some());
-            return Ok(());
-        }
-    }
-    assert!(rt; false);
+fn a_chain_of_a_million_is_refuted(rt: HostRuntime) -> Result<(), AllocError> {
+    let (what, steps) = told_of_chain(rt.alloc())?;
+    assert!(rt; what == Found::Refuted && steps == 1);
     Ok(())
 }
 
 // Variable 2 is false where 1 is, and with 3 false both values of 4 are wrong.
 const ONE_IMPLIED: &[&[i32]] = &[&[1, -2], &[1, 2, 3, 4], &[1, 2, 3, -4]];
-
-// Of 1, 2 and 3, which are false together, 2 is left out, since 1 false makes it false: two literals
-// are learnt, and the clause that makes 2 false is the first of three hints.
-#[test]
-fn an_implied_literal_is_left_out(rt: HostRuntime) -> Result<(), Fail> {
-    let f = formula(rt.alloc(), 4, ONE_IMPLIED)?;
-    if f.is_normal() {
-        let mut engine = Engine::load(rt.alloc(), &f)?;
-        decide_once(&mut engine);
-        decide_once(&mut engine);
-        if let Some(learnt) = learnt(rt.alloc(), &mut engine)? {
-            assert_eq!(rt; learnt.level, 1);
-            assert_eq!(rt; learnt.step.clause.as_slice().len(), 2);
-            assert_eq!(rt; learnt.step.hints.len(), 3);
-            assert!(rt; learnt.step.hints.as_slice().first().copied() == Some(1));
-            return Ok(());
-        }
-    }
-    assert!(rt; false);
-    Ok(())
-}
 
 // How many of three variables are decided and how many levels that opens; then, once all levels but one are left, how many
 // are decided anew in one go, and how many levels are open.
@@ -280,15 +268,67 @@ fn reopened(alloc: Global, engine: &mut Engine) -> Result<[usize; 4], AllocError
     Ok([first, opened, again, level(engine)])
 }
 
-// A level that is left can be decided again.
-#[test]
-fn levels_are_opened_and_left(rt: HostRuntime) -> Result<(), Fail> {
-    let f = formula(rt.alloc(), 3, &[])?;
-    if f.is_normal() {
-        let mut engine = Engine::load(rt.alloc(), &f)?;
-        assert!(rt; reopened(rt.alloc(), &mut engine)? == [3, 3, 1, 2]);
-        return Ok(());
+/// What an engine does.
+enum Task {
+    /// Decides once more than there are variables, without clauses: how many different ones are decided.
+    Decide(u32),
+    /// Decides, leaves and decides anew.
+    Reopen,
+    /// Learns from the conflict that units meet after so many decisions.
+    Learn(u32),
+}
+
+fn done_by(alloc: Global, engine: &mut Engine, task: &Task) -> Result<[usize; 4], AllocError> {
+    match task {
+        Task::Decide(vars) => {
+            let count = decided(alloc, engine, *vars, vars.wrapping_add(1))?;
+            Ok([count, 0, 0, 0])
+        }
+        Task::Reopen => reopened(alloc, engine),
+        Task::Learn(times) => decided_wrong(alloc, engine, *times),
     }
-    assert!(rt; false);
+}
+
+// Of a formula that is not normal, no number is right.
+fn done_with(alloc: Global, formula: &Formula, task: &Task) -> Result<[usize; 4], AllocError> {
+    if !formula.is_normal() {
+        return Ok([usize::MAX; 4]);
+    }
+    let mut engine = Engine::load(alloc, formula)?;
+    done_by(alloc, &mut engine, task)
+}
+
+fn done(
+    alloc: Global,
+    vars: u32,
+    clauses: &[&[i32]],
+    task: &Task,
+) -> Result<[usize; 4], AllocError> {
+    let formula = formula(alloc, vars, clauses)?;
+    done_with(alloc, &formula, task)
+}
+
+// Known by hand: a million variables without clauses are decided one by one, and a level that is left can be decided again.
+// Any decision on two variables in all four signs is a conflict, from which its complement follows by the two clauses that have
+// the complement, which is a conflict again. Of 1, 2 and 3, which are false together, 2 is left out, since 1 false makes it false:
+// two literals are learnt, and the clause that makes 2 false is the first of three hints; then all clauses are true.
+const TASKS: &[(u32, &[&[i32]], Task, [usize; 4])] = &[
+    (
+        1_000_000,
+        &[],
+        Task::Decide(1_000_000),
+        [1_000_000, 0, 0, 0],
+    ),
+    (3, &[], Task::Reopen, [3, 3, 1, 2]),
+    (2, BOTH_IN_ALL_SIGNS, Task::Learn(1), [0, 1, 2, 0]),
+    (4, ONE_IMPLIED, Task::Learn(2), [1, 2, 3, 1]),
+];
+
+#[test]
+fn an_engine_decides_and_learns_and_goes_back(rt: HostRuntime) -> Result<(), AllocError> {
+    for (place, (vars, clauses, task, want)) in TASKS.iter().enumerate() {
+        let got = done(rt.alloc(), *vars, clauses, task)?;
+        sure(&rt, got == *want, place);
+    }
     Ok(())
 }
