@@ -1,100 +1,67 @@
-//! Answers to certificates that are written by hand.
-use crate::builders::Told::{Fixed, Single, Steps};
-use crate::builders::{
-    TIED, Told, cert_keeping, cert_telling, check_sound, claims_to, clause_of, is_wanted, steps_of,
-};
+//! The answer to a certificate that no text can spell.
+ghost use Rattle.std.specs.Prelude.{All, IfOk};
+ghost use Rattle.net_model.specs.Netlist.{IsSound};
+ghost use Rattle.net_model.specs.Fits.{Fits};
+ghost use Rattle.cert_values.specs.Certs.{IsComplete};
+
+use crate::builders::{claims_of, is_wanted, sound_design};
+use crate::machines::TIED;
 use cert_check::check;
-use cert_values::CertFault::{
-    self, Invariant, NotTrivial, Pair, TwicePair, UnknownPair, UnknownRegister,
-};
-use net_model::{Kind, Start};
-use net_samples::design;
-use rup_check::CheckFault::{HintMissing, NoConflict, NotEmpty};
-use std::test;
+use cert_values::{Cert, CertFault, PairProof};
+use net_model::{Claim, Design};
+use proof_log::{Clause, DerivStep, Derivation};
+use rup_check::CheckFault::HintMissing;
+use sdcv_base::Seq;
+use std::alloc::{AllocError, Global};
+use std::process::Abort;
+use verdict_types::Proof;
 
-/// The one claim, what is told, and the answer.
-type Row = (
-    Kind,
-    Start,
-    &'static [(u64, Told)],
-    Result<&'static [u64], CertFault>,
-);
-
-const FALSE: Kind = Kind::False;
-
-// It judges no capture.
-const ONCE: Kind = Kind::Multi(1);
-
-const REG: Start = Start::Reg(0);
-
-const RESET: Start = Start::Input(0);
-
-// Numbers count from 1. An unknown number comes before one that is listed twice, and that before what is not of its kind.
-const ROWS: [Row; 16] = [
-    (FALSE, REG, &[], Ok(&[])),
-    (ONCE, REG, &[(1, Single)], Ok(&[1])),
-    (FALSE, RESET, &[(1, Fixed)], Ok(&[1])),
-    (ONCE, REG, &[(2, Single)], Err(UnknownPair(2))),
-    (ONCE, REG, &[(0, Single)], Err(UnknownPair(0))),
-    (ONCE, REG, &[(1, Single), (1, Single)], Err(TwicePair(1))),
-    (
-        ONCE,
-        REG,
-        &[(1, Single), (1, Single), (3, Single)],
-        Err(UnknownPair(3)),
-    ),
-    (FALSE, REG, &[(1, Single), (1, Single)], Err(TwicePair(1))),
-    (FALSE, REG, &[(1, Single)], Err(NotTrivial(1))),
-    (FALSE, REG, &[(1, Fixed)], Err(NotTrivial(1))),
-    (ONCE, RESET, &[(1, Fixed)], Err(NotTrivial(1))),
-    (ONCE, REG, &[(1, Steps(&[]))], Err(NotTrivial(1))),
-    (FALSE, REG, &[(1, Steps(&[]))], Err(Pair(1, NotEmpty))),
-    (
-        FALSE,
-        REG,
-        &[(1, Steps(&[&[]]))],
-        Err(Pair(1, NoConflict(1))),
-    ),
-    (
-        FALSE,
-        REG,
-        &[(1, Steps(&[&[999999]]))],
-        Err(Pair(1, HintMissing(1))),
-    ),
-    (
-        FALSE,
-        REG,
-        &[(1, Steps(&[&[0]]))],
-        Err(Pair(1, HintMissing(1))),
-    ),
-];
-
-#[test]
-fn each_cause_is_told_in_its_order(rt: HostRuntime) -> Result<(), test::Fail> {
-    let alloc = rt.alloc();
-    let design = design(alloc, TIED)?;
-    check_sound(&rt, alloc, &design);
-    for (kind, start, rows, want) in ROWS {
-        let claims = claims_to(&rt, alloc, &design, kind, start)?;
-        let cert = cert_telling(alloc, rows)?;
-        let found = check(alloc, &design, claims.as_slice(), &cert);
-        assert!(rt; is_wanted(&found, &want));
-    }
-    Ok(())
+// An empty clause that names clause 0, which no line of a text can do.
+fn step_naming_0(alloc: Global) -> Result<DerivStep, AllocError> {
+    let hints = Seq::one(alloc, 0)?;
+    let lits = Seq::new(alloc);
+    let clause = Clause { lits };
+    Ok(DerivStep { clause, hints })
 }
 
-// Register 8 is none of the two; register 0 has no derivation.
+// A certificate that keeps nothing, and has that step for claim 1, at depth 0.
+fn cert_naming_0(alloc: Global) -> Result<Cert, AllocError>
+    ensures { IfOk result (λ c. IsComplete c) }
+{
+    let steps = Seq::one(alloc, step_naming_0(alloc)?)?;
+    let proof = Proof::Depth {
+        depth: 0,
+        base: Seq::new(alloc),
+        step: Derivation { steps },
+    };
+    Ok(Cert {
+        version: 2,
+        depth: 0,
+        kept: Seq::new(alloc),
+        proofs: Seq::new(alloc),
+        pairs: Seq::one(alloc, PairProof { number: 1, proof })?,
+    })
+}
+
+fn is_refused(alloc: Global, design: &Design, claims: &Seq<Claim>) -> Result<bool, AllocError>
+    requires sound { IsSound design.now }
+    requires fit { All (Fits design.now) claims.now }
+{
+    let cert = cert_naming_0(alloc)?;
+    let found = check(alloc, design, claims.as_slice(), &cert);
+    Ok(is_wanted(&found, &Err(CertFault::Pair(1, HintMissing(1)))))
+}
+
+fn is_refused_of(rt: &impl Abort, alloc: Global, design: &Design) -> Result<bool, AllocError>
+    requires sound { IsSound design.now }
+{
+    let claims = claims_of(rt, alloc, design, &[&[]])?;
+    is_refused(alloc, design, &claims)
+}
+
 #[test]
-fn kept_clauses_need_registers_and_derivations(rt: HostRuntime) -> Result<(), test::Fail> {
-    let alloc = rt.alloc();
-    let design = design(alloc, TIED)?;
-    check_sound(&rt, alloc, &design);
-    let claims = claims_to(&rt, alloc, &design, FALSE, REG)?;
-    for (reg, want) in [(8, UnknownRegister(1)), (0, Invariant(1, NotEmpty))] {
-        let clause = clause_of(alloc, reg, true)?;
-        let cert = cert_keeping(alloc, clause, steps_of(alloc, &[])?, steps_of(alloc, &[])?)?;
-        let found = check(alloc, &design, claims.as_slice(), &cert);
-        assert!(rt; is_wanted(&found, &Err(want)));
-    }
+fn a_step_may_not_name_clause_0(rt: HostRuntime) -> Result<(), AllocError> {
+    let design = sound_design(&rt, rt.alloc(), TIED)?;
+    assert!(rt; is_refused_of(&rt, rt.alloc(), &design)?);
     Ok(())
 }

@@ -50,6 +50,27 @@ fn verdicts_on(
     Ok(verdicts)
 }
 
+/// The same, of a design that is not prepared.
+fn verdicts_of(
+    alloc: Global,
+    design: &Design,
+    claims: &Seq<Claim>,
+    inv: &InvSet,
+    limits: Limits,
+) -> Result<Seq<Verdict>, AllocError>
+    requires sound { IsSound design.now }
+    requires fit { All (Fits design.now) claims.now }
+    requires names { All (NamesRegs design.now) inv.now.kept }
+    requires met { AreAlwaysMet design.now inv.now.kept }
+    requires few { limits.depth ≤ 64 }
+    requires some { 0 < limits.budget }
+    ensures right { IfOk result (AreRightVerdicts design.now claims.now inv.now.kept limits) }
+    ensures in_form { IfOk result (All IsVerdictInForm) }
+{
+    let prepared = Prepared::of(alloc, design)?;
+    verdicts_on(alloc, &prepared, claims, inv, limits)
+}
+
 /// The verdicts on some claims, with clauses kept at a depth, and the text of their certificate.
 pub fn find(
     alloc: Global,
@@ -66,8 +87,7 @@ pub fn find(
     ensures { IfOk result (λ f. IsAcceptedText design.now claims.now f.text.items (justified_numbers f.verdicts)) }
 {
     let inv = invariants(alloc, design, claims, depth, limits.budget)?;
-    let prepared = Prepared::of(alloc, design)?;
-    let verdicts = verdicts_on(alloc, &prepared, claims, &inv, limits)?;
+    let verdicts = verdicts_of(alloc, design, claims, &inv, limits)?;
     let text = write_cert(alloc, verdicts.as_slice(), &inv)?;
     found_is_writable(design, claims, &inv, limits, &verdicts);
     Ok(Found { verdicts, text })

@@ -71,7 +71,7 @@ const LINES: &[(Kind, &str, bool, Option<Stop>)] = &[
 fn a_line_that_is_cut_off_is_told_from_one_that_breaks_its_form(rt: HostRuntime) {
     for (kind, line, cut, want) in LINES {
         let found = stop_of(rt.alloc(), *kind, line.as_bytes(), *cut);
-        assert_eq!(rt; found, *want, "{line} {cut}");
+        assert!(rt; found == *want, "{line}");
     }
 }
 
@@ -94,6 +94,6 @@ const SECONDS: &[(&str, Result<Section, Fault>)] = &[
 #[test]
 fn a_fault_stands_where_the_text_goes_wrong(rt: HostRuntime) {
     for (text, want) in SECONDS {
-        assert_eq!(rt; second_section(text.as_bytes()), *want, "{text}");
+        assert!(rt; second_section(text.as_bytes()) == *want, "{text}");
     }
 }

@@ -1,129 +1,213 @@
 //! Answers to texts that are written by hand.
-use crate::builders::{TIED, check_sound, claims_to, is_wanted};
-use cert_call::check_cert;
+ghost use Rattle.net_model.specs.Netlist.{IsSound};
+ghost use Rattle.net_model.specs.Fits.{Fits};
+ghost use Rattle.std.specs.Prelude.{All};
+
+use crate::builders::{claims_of, ends_early, has_answer, sound_design};
+use crate::machines::TIED;
 use cert_values::CertFault::{
     self, Form, Invariant, NotTrivial, Pair, TwicePair, UnknownPair, UnknownRegister, Version,
 };
-use net_model::{Kind, Start};
-use net_samples::design;
+use net_model::{Claim, Design};
+use net_samples::Ask;
+use net_samples::Ask::{In, Multi};
 use rup_check::CheckFault::{HintMissing, NoConflict, NotEmpty};
+use sdcv_base::Seq;
 use std::alloc::{AllocError, Global};
-use std::test;
+use std::process::Abort;
 
-/// The one claim's kind, a text, and the answer.
-type Row = (Kind, &'static str, Result<&'static [u64], CertFault>);
+/// The claims, what follows `sdcv-cert ` in some texts of one ending, that ending, and the answer.
+struct Row(
+    &'static [&'static [Ask]],
+    &'static [&'static str],
+    &'static str,
+    Result<&'static [u64], CertFault>,
+);
 
-const FALSE: Kind = Kind::False;
+const FALSE: &[&[Ask]] = &[&[]];
 
 // It judges no capture.
-const ONCE: Kind = Kind::Multi(1);
+const ONCE: &[&[Ask]] = &[&[Multi(1)]];
 
-const SINGLE: &str = "sdcv-cert 1\ninv 0 0\npair 1 single\nend\n";
+// These begin at the reset, which never toggles after it.
+const RESET: &[&[Ask]] = &[&[In(0)]];
 
-const ROWS: [Row; 14] = [
-    (ONCE, SINGLE, Ok(&[1])),
-    (FALSE, SINGLE, Err(NotTrivial(1))),
-    (ONCE, "sdcv-cert 1\ninv 0 0\npair 1 single\n", Err(Form(34))),
-    (
+const RESET_ONCE: &[&[Ask]] = &[&[In(0), Multi(1)]];
+
+const EITHER: &[&str] = &["1", "2"];
+
+// Numbers count from 1. An unknown number comes before one that is listed twice, and that before what is not of its kind.
+const ROWS: &[Row] = &[
+    Row(ONCE, EITHER, "\ninv 0 0\npair 1 single\nend\n", Ok(&[1])),
+    Row(FALSE, EITHER, "\ninv 0 0\nend\n", Ok(&[])),
+    Row(RESET, EITHER, "\ninv 0 0\npair 1 fixed\nend\n", Ok(&[1])),
+    Row(ONCE, &["1"], "\ninv 0 0\npair 1 single\n", Err(Form(34))),
+    Row(
         ONCE,
-        "sdcv-cert 1\ninv 0 0\npair 1 single\nend\n\n",
+        &["1"],
+        "\ninv 0 0\npair 1 single\nend\n\n",
         Err(Form(38)),
     ),
-    (
+    Row(
         ONCE,
-        "sdcv-cert 9\ninv 0 0\npair 1 single\nend\n",
+        &["9"],
+        "\ninv 0 0\npair 1 single\nend\n",
         Err(Version(9)),
     ),
-    (ONCE, "sdcv-cert 9", Err(Form(0))),
-    (ONCE, "sdcv-cert 01\ninv 0 0\nend\n", Err(Form(0))),
-    (
+    Row(ONCE, &["20"], "\ninv 0 0\nend\n", Err(Version(20))),
+    Row(
+        FALSE,
+        &["3"],
+        "\ninv 0 0\npair 1 depth 0\ni 1\ns 0 0\nend\n",
+        Err(Version(3)),
+    ),
+    Row(ONCE, &["9", "20"], "", Err(Form(0))),
+    Row(ONCE, &["2"], "", Err(Form(11))),
+    Row(ONCE, &["01", "02"], "\ninv 0 0\nend\n", Err(Form(0))),
+    Row(
         ONCE,
-        "sdcv-cert 1\ninv 0 0\npair 2 single\nend\n",
+        EITHER,
+        "\ninv 0 0\npair 2 single\nend\n",
         Err(UnknownPair(2)),
     ),
-    (
+    Row(
         ONCE,
-        "sdcv-cert 1\ninv 0 0\npair 1 single\npair 1 single\nend\n",
+        EITHER,
+        "\ninv 0 0\npair 0 single\nend\n",
+        Err(UnknownPair(0)),
+    ),
+    Row(
+        ONCE,
+        EITHER,
+        "\ninv 0 0\npair 1 single\npair 1 single\nend\n",
         Err(TwicePair(1)),
     ),
-    (ONCE, "sdcv-cert 2\ninv 0 0\npair 1 single\nend\n", Ok(&[1])),
-    (ONCE, "sdcv-cert 2", Err(Form(11))),
-    (ONCE, "sdcv-cert 02\ninv 0 0\nend\n", Err(Form(0))),
-    (ONCE, "sdcv-cert 20\ninv 0 0\nend\n", Err(Version(20))),
-    (ONCE, "sdcv-cert 20", Err(Form(0))),
-];
-
-// What follows the first line, and the answer where that says version 1 or 2.
-const EITHER: [(&str, Result<&[u64], CertFault>); 7] = [
-    (
-        "inv 0 0\npair 1 depth 0\ni 1\ns 0 0\nend\n",
-        Err(Pair(1, NoConflict(1))),
+    Row(
+        ONCE,
+        EITHER,
+        "\ninv 0 0\npair 1 single\npair 1 single\npair 3 single\nend\n",
+        Err(UnknownPair(3)),
     ),
-    (
-        "inv 0 0\npair 1 depth 0\ni 0\nend\n",
+    Row(
+        FALSE,
+        EITHER,
+        "\ninv 0 0\npair 1 single\npair 1 single\nend\n",
+        Err(TwicePair(1)),
+    ),
+    Row(
+        FALSE,
+        EITHER,
+        "\ninv 0 0\npair 1 single\nend\n",
+        Err(NotTrivial(1)),
+    ),
+    Row(
+        FALSE,
+        EITHER,
+        "\ninv 0 0\npair 1 fixed\nend\n",
+        Err(NotTrivial(1)),
+    ),
+    Row(
+        RESET_ONCE,
+        EITHER,
+        "\ninv 0 0\npair 1 fixed\nend\n",
+        Err(NotTrivial(1)),
+    ),
+    Row(
+        ONCE,
+        EITHER,
+        "\ninv 0 0\npair 1 depth 0\ni 0\nend\n",
+        Err(NotTrivial(1)),
+    ),
+    Row(
+        FALSE,
+        EITHER,
+        "\ninv 0 0\npair 1 depth 0\ni 0\nend\n",
         Err(Pair(1, NotEmpty)),
     ),
-    (
-        "inv 0 0\npair 1 depth 0\ni 1\ns 0 999999 0\nend\n",
+    Row(
+        FALSE,
+        EITHER,
+        "\ninv 0 0\npair 1 depth 0\ni 1\ns 0 0\nend\n",
+        Err(Pair(1, NoConflict(1))),
+    ),
+    Row(
+        FALSE,
+        EITHER,
+        "\ninv 0 0\npair 1 depth 0\ni 1\ns 0 999999 0\nend\n",
         Err(Pair(1, HintMissing(1))),
     ),
-    ("inv 1 1\nk 9\nb 0\ni 0\nend\n", Err(UnknownRegister(1))),
-    ("inv 1 1\nk 1\nb 0\ni 0\nend\n", Err(Invariant(1, NotEmpty))),
-    ("inv 0 0\nend\n", Ok(&[])),
-    ("inv 0 0\npair 1 single\nend\n", Err(NotTrivial(1))),
+    // Register 8 is none of the two; register 0 has no derivation.
+    Row(
+        FALSE,
+        EITHER,
+        "\ninv 1 1\nk 9\nb 0\ni 0\nend\n",
+        Err(UnknownRegister(1)),
+    ),
+    Row(
+        FALSE,
+        EITHER,
+        "\ninv 1 1\nk 1\nb 0\ni 0\nend\n",
+        Err(Invariant(1, NotEmpty)),
+    ),
 ];
 
-#[test]
-fn each_text_has_its_answer(rt: HostRuntime) -> Result<(), test::Fail> {
-    let alloc = rt.alloc();
-    let design = design(alloc, TIED)?;
-    check_sound(&rt, alloc, &design);
-    for (kind, text, want) in ROWS {
-        let claims = claims_to(&rt, alloc, &design, kind, Start::Reg(0))?;
-        let found = check_cert(alloc, &design, claims.as_slice(), text.as_bytes());
-        assert!(rt; is_wanted(&found, &want));
-    }
-    Ok(())
+// Each front of a text that is accepted ends early.
+fn is_answered(
+    alloc: Global,
+    design: &Design,
+    claims: &Seq<Claim>,
+    version: &str,
+    row: &Row,
+) -> Result<bool, AllocError>
+    requires sound { IsSound design.now }
+    requires fit { All (Fits design.now) claims.now }
+{
+    let text = format!(in alloc; "sdcv-cert {version}{}", row.2)?;
+    let bytes = text.as_bytes();
+    Ok(
+        has_answer(alloc, design, claims, bytes, &row.3)
+            && (row.3.is_err() || ends_early(alloc, design, claims, bytes)),
+    )
 }
 
-fn text_of(alloc: Global, first: &str, rest: &str) -> Result<Vec<u8>, AllocError> {
-    let mut text = Vec::new(alloc);
-    text.extend_from_slice(first.as_bytes())?;
-    text.extend_from_slice(rest.as_bytes())?;
-    Ok(text)
-}
-
-#[test]
-fn both_versions_have_the_answer_and_no_third(rt: HostRuntime) -> Result<(), test::Fail> {
-    let alloc = rt.alloc();
-    let design = design(alloc, TIED)?;
-    check_sound(&rt, alloc, &design);
-    let claims = claims_to(&rt, alloc, &design, FALSE, Start::Reg(0))?;
-    for (rest, want) in EITHER {
-        for (first, want) in [
-            ("sdcv-cert 1\n", want),
-            ("sdcv-cert 2\n", want),
-            ("sdcv-cert 3\n", Err(Version(3))),
-        ] {
-            let text = text_of(alloc, first, rest)?;
-            let found = check_cert(alloc, &design, claims.as_slice(), text.as_slice());
-            assert!(rt; is_wanted(&found, &want));
+fn are_answered(
+    alloc: Global,
+    design: &Design,
+    claims: &Seq<Claim>,
+    row: &Row,
+) -> Result<bool, AllocError>
+    requires sound { IsSound design.now }
+    requires fit { All (Fits design.now) claims.now }
+{
+    for version in row.1 {
+        if !is_answered(alloc, design, claims, version, row)? {
+            return Ok(false);
         }
     }
-    Ok(())
+    Ok(true)
+}
+
+fn is_right_of(
+    rt: &impl Abort,
+    alloc: Global,
+    design: &Design,
+    row: &Row,
+) -> Result<bool, AllocError>
+    requires sound { IsSound design.now }
+{
+    let claims = claims_of(rt, alloc, design, row.0)?;
+    are_answered(alloc, design, &claims, row)
+}
+
+fn is_right(rt: &impl Abort, alloc: Global, row: &Row) -> Result<bool, AllocError> {
+    let design = sound_design(rt, alloc, TIED)?;
+    is_right_of(rt, alloc, &design, row)
 }
 
 #[test]
-fn a_text_that_is_cut_off_ends_early(rt: HostRuntime) -> Result<(), test::Fail> {
-    let alloc = rt.alloc();
-    let design = design(alloc, TIED)?;
-    check_sound(&rt, alloc, &design);
-    let claims = claims_to(&rt, alloc, &design, ONCE, Start::Reg(0))?;
-    let bytes = SINGLE.as_bytes();
-    assert!(rt; bytes.len() == 38);
-    for k in 0..bytes.len() {
-        let found = check_cert(alloc, &design, claims.as_slice(), &bytes[..k]);
-        assert!(rt; is_wanted(&found, &Err(Form(k))));
+fn each_text_has_its_answer(rt: HostRuntime) -> Result<(), AllocError> {
+    for row in ROWS {
+        assert!(rt; is_right(&rt, rt.alloc(), row)?, "{}", row.2);
     }
     Ok(())
 }

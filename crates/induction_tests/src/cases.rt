@@ -1,37 +1,48 @@
-//! Sound designs, each with a claim.
-ghost use Rattle.std.specs.Prelude.{◌<◌, All, IfOk, length};
+//! Sound designs, and claims that fit them.
+ghost use Rattle.std.specs.Prelude.{All, IfOk};
 ghost use Rattle.net_model.specs.Netlist.{IsSound};
 ghost use Rattle.net_model.specs.Fits.{Fits};
 
 use net_model::{Claim, Design};
-use net_samples::{Ask, Case, Part, case_of};
+use net_samples::{Ask, Part, case_of, design};
 use sdcv_base::Seq;
 use std::alloc::{AllocError, Global};
 use std::process::Abort;
 
-/// A design, which is sound, and a claim that fits it.
-pub fn sound_case(
-    rt: &impl Abort,
-    alloc: Global,
-    parts: &[Part],
-    query: &[Ask],
-) -> Result<Case, AllocError>
-    ensures sound { IfOk result (λ case. IsSound case.design) }
-    ensures fits { IfOk result (λ case. Fits case.design case.claim) }
+/// A design, which is sound.
+pub fn sound_design(rt: &impl Abort, alloc: Global, parts: &[Part]) -> Result<Design, AllocError>
+    ensures { IfOk result (λ d. IsSound d) }
 {
-    let case = case_of(alloc, parts, query)?;
-    assert!(rt; case.design.check(alloc).is_ok());
-    assert!(rt; case.claim.fits(&case.design));
-    Ok(case)
+    let design = design(alloc, parts)?;
+    assert!(rt; design.check(alloc).is_ok());
+    Ok(design)
 }
 
-/// A claim alone.
-pub fn one_claim(alloc: Global, design: &Design, claim: Claim) -> Result<Seq<Claim>, AllocError>
-    requires { Fits design.now claim }
-    ensures fit { IfOk result (All (Fits design.now)) }
-    ensures some { IfOk result (λ claims. 0 < length claims) }
+fn claim_of(
+    rt: &impl Abort,
+    alloc: Global,
+    design: &Design,
+    query: &[Ask],
+) -> Result<Claim, AllocError>
+    ensures { IfOk result (Fits design.now) }
+{
+    let claim = case_of(alloc, &[], query)?.claim;
+    assert!(rt; claim.fits(design));
+    Ok(claim)
+}
+
+/// Claims that fit the design.
+pub fn claims_of(
+    rt: &impl Abort,
+    alloc: Global,
+    design: &Design,
+    queries: &[&[Ask]],
+) -> Result<Seq<Claim>, AllocError>
+    ensures { IfOk result (All (Fits design.now)) }
 {
     let mut claims = Seq::new(alloc);
-    claims.push(claim)?;
+    for query in queries {
+        claims.push(claim_of(rt, alloc, design, query)?)?;
+    }
     Ok(claims)
 }

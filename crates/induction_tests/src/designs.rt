@@ -1,7 +1,7 @@
 //! Designs whose claims and invariants are worked out by hand.
 use net_samples::Form::{And, AndOr, Choice, Nor, Not, One, Pin, Xor};
 use net_samples::Out::{Q, Qn};
-use net_samples::Part::{Drives, Holds, Nets, Reset};
+use net_samples::Part::{Drives, Holds, Nets, Outputs, Reset};
 use net_samples::{Controls, Part};
 
 const FREE: Controls = Controls(None, None, true);
@@ -144,4 +144,41 @@ pub const TURNS: &[Part] = &[
     Nets(2, &[0]),
     Reset(0, true),
     Holds(Pin(0), CLEARED, &[1, 0], &[Qn(1)]),
+];
+
+const PLAIN: Controls = Controls(None, None, false);
+
+/// Register 1 takes a conjunction of registers 0 and 2, which take the input, and register 3 takes register 1, which a port shows.
+pub const JOINED: &[Part] = &[
+    Nets(6, &[0]),
+    Outputs(&[2]),
+    Drives(And(0, 1), &[1, 3], 5),
+    Holds(Pin(0), PLAIN, &[0], &[Q(1)]),
+    Holds(Pin(0), PLAIN, &[5], &[Q(2)]),
+    Holds(Pin(0), PLAIN, &[0], &[Q(3)]),
+    Holds(Pin(0), PLAIN, &[2], &[Q(4)]),
+];
+
+/// Eighteen registers in a row, each of which takes the one before it.
+pub const LONG: &[Part] = &[
+    Nets(19, &[0]),
+    Outputs(&[18]),
+    Holds(Pin(0), PLAIN, &[0], &[Q(1)]),
+    Holds(Pin(0), PLAIN, &[1], &[Q(2)]),
+    Holds(Pin(0), PLAIN, &[2], &[Q(3)]),
+    Holds(Pin(0), PLAIN, &[3], &[Q(4)]),
+    Holds(Pin(0), PLAIN, &[4], &[Q(5)]),
+    Holds(Pin(0), PLAIN, &[5], &[Q(6)]),
+    Holds(Pin(0), PLAIN, &[6], &[Q(7)]),
+    Holds(Pin(0), PLAIN, &[7], &[Q(8)]),
+    Holds(Pin(0), PLAIN, &[8], &[Q(9)]),
+    Holds(Pin(0), PLAIN, &[9], &[Q(10)]),
+    Holds(Pin(0), PLAIN, &[10], &[Q(11)]),
+    Holds(Pin(0), PLAIN, &[11], &[Q(12)]),
+    Holds(Pin(0), PLAIN, &[12], &[Q(13)]),
+    Holds(Pin(0), PLAIN, &[13], &[Q(14)]),
+    Holds(Pin(0), PLAIN, &[14], &[Q(15)]),
+    Holds(Pin(0), PLAIN, &[15], &[Q(16)]),
+    Holds(Pin(0), PLAIN, &[16], &[Q(17)]),
+    Holds(Pin(0), PLAIN, &[17], &[Q(18)]),
 ];
