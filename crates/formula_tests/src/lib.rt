@@ -2,8 +2,8 @@
 //!
 //! For each row of a table, a design and a query, every assignment of the formula's variables and every run are tried: the
 //! models are just the runs that answer the query by replay, and there are as many of them as another program has found.
-//! The keys of a query, the rows and cubes of a function, and the sizes of formulas in either coding are checked by hand.
-//! This crate has tests alone.
+//! The keys of a query, the rows and cubes of a function, the prime cubes of the cells of a usual library, and the sizes of
+//! formulas in either coding are checked by hand. This crate has tests alone.
 #![tactic(auto)]
 
 #[cfg(test)]
@@ -12,6 +12,8 @@ mod cubes;
 mod frames;
 #[cfg(test)]
 mod plain_answers;
+#[cfg(test)]
+mod prime_cells;
 #[cfg(test)]
 mod sizes;
 #[cfg(test)]

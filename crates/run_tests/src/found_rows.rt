@@ -87,12 +87,15 @@ total tried 1 found 1 written 1
 ",
         ),
     ),
+    // Where glitches count, the bit of the phase that takes its own change through a gate has no multiplier.
     Row(
-        "detect counter builtin s --out c --reset rst=1",
+        "detect phases builtin s --out c --reset rst=1 --hazard",
         CLOCK,
         Done,
         End(
-            "total tried 16 found 8 written 8
+            "bound 4
+found a -> b multi 2
+total tried 8 found 1 written 1
 ",
         ),
     ),
@@ -182,6 +185,34 @@ fn found_pairs_are_saved_as_they_are_told(rt: HostRuntime) -> Result<(), AllocEr
 #[test]
 fn pairs_are_found_up_to_their_multiplier(rt: HostRuntime) -> Result<(), AllocError> {
     check_calls(&rt, rt.alloc(), COUNTED, &FINDS)
+}
+
+// One pair more, from `a` to `b`, would need a clause of three literals.
+const COUNTER: Row = Row(
+    "detect counter builtin s --out c --reset rst=1",
+    CLOCK,
+    Done,
+    End(
+        "total tried 16 found 8 written 8
+",
+    ),
+);
+
+const OF_COUNTER: &[&str] = &[
+    "found r2 -> r1 multi 2",
+    "found r2 -> r2 multi 3",
+    "found r0 -> a multi 4",
+];
+
+#[test]
+fn a_counter_has_pairs_of_each_multiplier(rt: HostRuntime) -> Result<(), AllocError> {
+    let host = host_after(&rt, rt.alloc(), &COUNTER, &FINDS)?;
+    let text = String::from_utf8_lossy(rt.alloc(), host.printed())?;
+    for line in OF_COUNTER {
+        assert!(rt; text.as_str().lines().any(|it| it == *line), "{line}");
+    }
+    assert!(rt; !text.as_str().contains("a -> b"));
+    Ok(())
 }
 
 #[test]

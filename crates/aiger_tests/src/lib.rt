@@ -1,5 +1,0 @@
-//! Tests of and-inverter graphs: their texts, beside what the format says.
-#![tactic(auto)]
-
-#[cfg(test)]
-mod texts;

@@ -1,5 +1,0 @@
-use Rattle.net_model.specs.Form.{IsOver}
-use Rattle.prime_tests.proofs.cells.product.Given as goal
-
-abbrev pub invariant-loop-place : goal.invariant-loop-place
-invariant-loop-place l = IsOver l.places l.func

@@ -1,5 +1,0 @@
-use Rattle.net_model.specs.Form.{IsOver}
-use Rattle.prime_tests.proofs.cells.sum.Given as goal
-
-abbrev pub invariant-loop-marks : goal.invariant-loop-marks
-invariant-loop-marks l = IsOver l.places l.func

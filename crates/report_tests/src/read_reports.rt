@@ -1,0 +1,119 @@
+//! Reports read back, and texts that are none.
+use crate::read_cases::{NOTES, SAMPLER};
+use report_rows::ReportFault::{self, Json, Line};
+use report_rows::{Said, Word, read_report};
+use std::alloc::Global;
+use std::process::Abort;
+use std::test;
+
+const HEAD: &str = "sdcv 1 mode plain reset 1 depth 8 budget 20000 inv 1\n";
+
+// What follows the first line, and the line at which that is no report.
+const NONE: [(&str, u64); 17] = [
+    ("", 2),
+    ("\n", 2),
+    ("total 0 justified 0 refuted 0 undecided 0", 3),
+    ("total 0 justified 0 refuted 0 undecided 0\n\n", 3),
+    ("total 1 justified 1 refuted 0 undecided 0\n", 2),
+    ("total 0 justified 0 refuted 0 unde\n", 2),
+    ("command 1 line 1 false\n", 2),
+    ("command 1 line 1 false pairs 18446744073709551616\n", 2),
+    ("warning command 1 nothing x\n", 2),
+    ("command 1 line 1 hold\nwarning command 2 nothing x\n", 3),
+    ("pair 2 command 1 false a -> b justified fixed\n", 2),
+    ("pair 1 command 1 false a -> b justif\n", 2),
+    ("pair 1 command 1 false a -> b justified\n", 2),
+    ("pair 1 command 1 a -> b justified fixed\n", 2),
+    ("pair 1 command 1 false a -> b justified fixed\r\n", 2),
+    ("found a -> b multi 4\n", 2),
+    ("refused sdc 1 Syntax 12\n", 2),
+];
+
+#[test]
+fn the_first_line_that_is_none_of_a_report_is_told(rt: HostRuntime) -> Result<(), test::Fail> {
+    let alloc = rt.alloc();
+    for (rest, line) in NONE {
+        let text = format!(in alloc; "{HEAD}{rest}")?;
+        let fault = read_report(alloc, text.as_bytes()).err();
+        assert_eq!(rt; fault, Some(Line(line)), "{rest}");
+    }
+    Ok(())
+}
+
+// Whole texts that are no reports: nothing, a refused run, a report of `detect`, one with CRLF, and JSON.
+const NO_REPORTS: [(&str, ReportFault); 9] = [
+    ("", Line(1)),
+    ("refused verilog 1 Syntax 120\n", Line(1)),
+    (
+        "sdcv 1 detect mode plain reset 1 depth 8 budget 20000 inv 1 bound 4\n",
+        Line(1),
+    ),
+    (
+        "sdcv 1 mode plain reset 1 depth 8 budget 20000 inv 1\r\n",
+        Line(1),
+    ),
+    (
+        "sdcv 1 mode plain reset 1 depth 8 budget 20000 inv 1 lag\n",
+        Line(1),
+    ),
+    ("{", Json),
+    ("{}", Json),
+    (
+        r#"{"mode":"plain","reset":0,"commands":[],"pairs":{}}"#,
+        Json,
+    ),
+    (
+        r#"{"mode":"plain","reset":-1,"commands":[],"pairs":[]}"#,
+        Json,
+    ),
+];
+
+#[test]
+fn what_is_no_report_is_refused(rt: HostRuntime) -> Result<(), test::Fail> {
+    let alloc = rt.alloc();
+    for (text, want) in NO_REPORTS {
+        assert_eq!(rt;
+            read_report(alloc, text.as_bytes()).err(),
+            Some(want),
+            "{text}"
+        );
+    }
+    Ok(())
+}
+
+// No part of the text that ends before its end is a report.
+fn check_cuts(rt: &impl Abort, alloc: Global, text: &[u8]) {
+    for end in 0..text.len() {
+        assert!(rt; read_report(alloc, &text[..end]).is_err(), "{end}");
+    }
+}
+
+#[test]
+fn each_cut_of_a_report_is_refused(rt: HostRuntime) {
+    check_cuts(&rt, rt.alloc(), SAMPLER.as_bytes());
+    check_cuts(&rt, rt.alloc(), NOTES.as_bytes());
+}
+
+#[test]
+fn rows_have_what_the_lines_say(rt: HostRuntime) -> Result<(), test::Fail> {
+    let report = read_report(rt.alloc(), NOTES.as_bytes())?;
+    assert!(rt; report.hazard);
+    assert_eq!(rt; (report.reset, report.lag), (0, 2));
+    let Some(warned) = report.script.as_slice().get(5) else {
+        rt.abort();
+    };
+    assert_eq!(rt; (warned.command, warned.line), (4, 5));
+    assert!(rt;
+        matches!(&warned.said, Said::Warns(text) if text.as_bytes() == b"dropped x[*] 2".as_slice())
+    );
+    let Some(last) = report.pairs.as_slice().get(2) else {
+        rt.abort();
+    };
+    assert_eq!(rt; (last.number, last.command), (3, 4));
+    assert!(rt; last.kind.as_bytes() == b"multi 2 rise".as_slice());
+    assert!(rt; last.start.as_bytes() == b"m[4]/a[x]".as_slice());
+    assert!(rt; last.end.as_bytes() == b"q[]_reg".as_slice());
+    assert_eq!(rt; last.verdict, Word::Undecided);
+    assert!(rt; last.why.as_bytes() == b"budget base 3".as_slice());
+    Ok(())
+}
