@@ -14,7 +14,7 @@ use sdcv_base::Seq;
 use std::alloc::{AllocError, Global};
 
 /// A start and an end of a design.
-#[derive(Clone, Copy, Debug, PartialEq, Eq)]
+#[derive(Clone, Copy, PartialEq, Eq)]
 pub struct Pair {
     pub start: Start,
     pub end: End,

@@ -5,7 +5,7 @@ use sdcv_base::{Edge, Kind, Name, Seq};
 
 /// What an exception does: it claims something of so many pairs, at these changes of their starts, or it is a `-hold` command, or this option, which it has,
 /// sets it aside.
-#[derive(Debug, Drop)]
+#[derive(Drop)]
 pub enum Listing {
     Claiming(Kind, Edge, u64),
     Hold,
@@ -14,7 +14,7 @@ pub enum Listing {
 
 /// An exception, the line of its first byte, from 1, and the warnings of its objects: those after `-from` or the like, after each
 /// `-through`, and after `-to`.
-#[derive(Debug, Drop)]
+#[derive(Drop)]
 pub struct CommandLine {
     pub line: u64,
     pub listing: Listing,
@@ -22,7 +22,7 @@ pub struct CommandLine {
 }
 
 /// A selected pair: its command, by its place among the exceptions from 1, and the names of its start and its end.
-#[derive(Debug, Drop)]
+#[derive(Drop)]
 pub struct PairLine {
     pub command: u64,
     pub start: Name,

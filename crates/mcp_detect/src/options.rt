@@ -6,7 +6,7 @@ use verdicts::Limits;
 
 /// Whether the claims allow no glitch either, the greatest depth of a query, how many clauses may be learnt for each, the depth
 /// of the induction by which clauses over register bits are kept, and the largest multiplier that is tried.
-#[derive(Clone, Copy, Debug, PartialEq, Eq)]
+#[derive(Clone, Copy, PartialEq, Eq)]
 pub struct DetectOptions {
     pub hazard: bool,
     pub depth: usize,

@@ -4,21 +4,21 @@ use crate::gates::PrimKind;
 use sdcv_base::{Name, Seq};
 
 /// The direction of a port.
-#[derive(Clone, Copy, Debug, PartialEq, Eq)]
+#[derive(Clone, Copy, PartialEq, Eq)]
 pub enum Dir {
     Input,
     Output,
 }
 
 /// What a pin or an assignment reads: a constant, or a net of the module by its number.
-#[derive(Clone, Copy, Debug, PartialEq, Eq)]
+#[derive(Clone, Copy, PartialEq, Eq)]
 pub enum Wire {
     Const(bool),
     Net(usize),
 }
 
 /// A port and the numbers of its nets, the most significant bit first. A `bus` was declared with a range.
-#[derive(Debug, Drop)]
+#[derive(Drop)]
 pub struct Port {
     pub name: Name,
     pub dir: Dir,
@@ -27,14 +27,14 @@ pub struct Port {
 }
 
 /// The connection of a pin, the most significant bit first. An open one has no wires.
-#[derive(Debug, Drop)]
+#[derive(Drop)]
 pub struct Conn {
     pub pin: Name,
     pub wires: Option<Seq<Wire>>,
 }
 
 /// What stands in a module: an instance of a cell or module, a gate primitive, or one bit of an assignment.
-#[derive(Debug, Drop)]
+#[derive(Drop)]
 pub enum Item {
     Inst {
         cell: Name,
@@ -55,7 +55,7 @@ pub enum Item {
 
 /// A module. Its nets are single bits, and the place of a name in `nets` is the number of the net: they are numbered
 /// in the order in which their names first stand in the module's text.
-#[derive(Debug, Drop)]
+#[derive(Drop)]
 pub struct Module {
     pub name: Name,
     pub ports: Seq<Port>,
@@ -64,7 +64,7 @@ pub struct Module {
 }
 
 /// The modules of a text in their order.
-#[derive(Debug, Drop)]
+#[derive(Drop)]
 pub struct Source {
     pub modules: Seq<Module>,
 }

@@ -10,7 +10,7 @@ use sdcv_base::{Name, Seq};
 use std::alloc::{AllocError, Global};
 
 /// One line of what is told.
-#[derive(Debug, Drop)]
+#[derive(Drop)]
 pub enum Finding {
     /// The script has no exception.
     NoException,

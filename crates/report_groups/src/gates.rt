@@ -1,7 +1,7 @@
 //! What stops a build.
 
 /// What stops a build: its lines, and whether there is none.
-#[derive(Debug, Drop)]
+#[derive(Drop)]
 pub struct Gate {
     pub text: Vec<u8>,
     pub passes: bool,

@@ -13,7 +13,7 @@ use std::alloc::{AllocError, Global};
 use texts::NameTable;
 
 /// Pairs that differ in their number and in the indices of their names alone.
-#[derive(Debug, Drop)]
+#[derive(Drop)]
 pub struct Group {
     /// The row of its first pair, with each `[digits]` of start and end as `[*]`.
     pub row: PairRow,

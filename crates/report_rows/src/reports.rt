@@ -10,7 +10,7 @@ pub enum Word {
 }
 
 /// What the lines of an exception say of it.
-#[derive(Debug, Drop)]
+#[derive(Drop)]
 pub enum Said {
     /// What it does (`false`, `multi 2 rise`, `hold`, `aside -rise`), and of how many pairs it claims that.
     Does(Name, u64),
@@ -19,7 +19,7 @@ pub enum Said {
 }
 
 /// A row on an exception: its number in the script, from 1, and the line where it stands there.
-#[derive(Debug, Drop)]
+#[derive(Drop)]
 pub struct ScriptRow {
     pub command: u64,
     pub line: u64,
@@ -27,7 +27,7 @@ pub struct ScriptRow {
 }
 
 /// The row of a pair. Pairs are numbered from 1, in the order of the rows.
-#[derive(Debug, Drop)]
+#[derive(Drop)]
 pub struct PairRow {
     pub number: u64,
     /// The number of the exception that selects it.
@@ -42,7 +42,7 @@ pub struct PairRow {
 }
 
 /// A report: whether its claims are judged with hazards, the cycles of reset, the lag of its false paths, and its rows.
-#[derive(Debug, Drop)]
+#[derive(Drop)]
 pub struct Report {
     pub hazard: bool,
     pub reset: u64,

@@ -1,7 +1,7 @@
 //! The options of a run, as its report says them.
 
 /// How far a run looks, and what its claims allow.
-#[derive(Clone, Copy, Debug, PartialEq, Eq)]
+#[derive(Clone, Copy, PartialEq, Eq)]
 pub struct RunOptions {
     pub hazard: bool,
     pub reset_len: usize,

@@ -6,7 +6,7 @@ use std::alloc::{AllocError, Global};
 use verdict_types::Verdict;
 
 /// How many of some pairs are justified, refuted and undecided.
-#[derive(Clone, Copy, Debug, PartialEq, Eq)]
+#[derive(Clone, Copy, PartialEq, Eq)]
 pub struct Tally {
     pub pairs: usize,
     pub justified: usize,

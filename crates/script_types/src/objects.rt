@@ -5,7 +5,7 @@ use sdcv_base::{Name, Seq};
 use std::alloc::{AllocError, Global};
 
 /// The objects that a pattern may match. `Any` is a pattern outside a `get_` command.
-#[derive(Clone, Copy, Debug, PartialEq, Eq)]
+#[derive(Clone, Copy, PartialEq, Eq)]
 pub enum Class {
     Ports,
     Cells,
@@ -16,14 +16,14 @@ pub enum Class {
 }
 
 /// A pattern and the class of what it matches; `hier` lets it match below any part of a name.
-#[derive(Debug, Drop)]
+#[derive(Drop)]
 pub struct Query {
     pub class: Class,
     pub hier: bool,
     pub pattern: Name,
 }
 
-#[derive(Debug, Drop)]
+#[derive(Drop)]
 pub enum Object {
     Named(Query),
     AllInputs,

@@ -6,7 +6,7 @@ use sdcv_base::{Edge, Kind, Name, Seq};
 /// A timing exception (SDC 2.1, `set_false_path` and `set_multicycle_path`), with a list of objects for each `-through` in
 /// its order. `from` is the list after `-from`, `-rise_from` or `-fall_from`, and `edge` says which of the three it was; without
 /// any of them it is `Any`.
-#[derive(Debug, Drop)]
+#[derive(Drop)]
 pub struct Exception {
     pub kind: Kind,
     pub edge: Edge,
@@ -17,7 +17,7 @@ pub struct Exception {
 
 /// What a command says. `Aside` carries the first option for which an exception is set aside, and `Passed` is a command
 /// that changes no exception.
-#[derive(Debug, Drop)]
+#[derive(Drop)]
 pub enum What {
     Clock {
         name: Option<Name>,
@@ -34,14 +34,14 @@ pub enum What {
 }
 
 /// A command, and the line of its first byte, from 1.
-#[derive(Debug, Drop)]
+#[derive(Drop)]
 pub struct Command {
     pub line: u64,
     pub what: What,
 }
 
 /// The commands of a text in their order.
-#[derive(Debug, Drop)]
+#[derive(Drop)]
 pub struct Script {
     pub commands: Seq<Command>,
 }

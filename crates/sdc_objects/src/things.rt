@@ -7,7 +7,7 @@ use std::alloc::AllocError;
 
 /// A thing that an object of a script can name: a cell, an input bit or an output bit by its place among the names of the
 /// design, a pin by its cell's place and its own there, a net by its number, a clock by whether it has a source.
-#[derive(Clone, Copy, Debug, PartialEq, Eq)]
+#[derive(Clone, Copy, PartialEq, Eq)]
 pub enum Thing {
     Cell(usize),
     Pin(usize, usize),
@@ -19,7 +19,7 @@ pub enum Thing {
 }
 
 /// The place of an object in an exception.
-#[derive(Clone, Copy, Debug, PartialEq, Eq)]
+#[derive(Clone, Copy, PartialEq, Eq)]
 pub enum Place {
     From,
     To,
@@ -27,7 +27,7 @@ pub enum Place {
 }
 
 /// On which side of the design a port stands.
-#[derive(Clone, Copy, Debug, PartialEq, Eq)]
+#[derive(Clone, Copy, PartialEq, Eq)]
 pub enum Side {
     In,
     Out,

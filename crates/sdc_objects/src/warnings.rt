@@ -10,7 +10,7 @@ use sdcv_base::{Name, Seq};
 use std::alloc::{AllocError, Global};
 
 /// Nothing goes by this pattern, or so many of the things that it names can't stand in its place.
-#[derive(Debug, Drop)]
+#[derive(Drop)]
 pub enum Warning {
     Nothing(Name),
     Dropped(Name, u64),

@@ -14,7 +14,7 @@ use sdcv_base::{Name, Seq};
 use std::alloc::{AllocError, Global};
 
 /// An input bit, by its place, is given a value by a command on this line.
-#[derive(Clone, Copy, Debug, PartialEq, Eq)]
+#[derive(Clone, Copy, PartialEq, Eq)]
 pub struct Given {
     pub line: u64,
     pub value: bool,

@@ -10,7 +10,7 @@ use sdcv_base::Name;
 use std::alloc::{AllocError, Global};
 
 /// The word that names a command, and the line of its first byte, from 1.
-#[derive(Debug, Drop)]
+#[derive(Drop)]
 pub struct Head {
     pub line: u64,
     pub name: Name,

@@ -5,7 +5,7 @@ ghost use Rattle.sdc_text.specs.Kinds as spec;
 use crate::options::{PathCommand, is};
 
 /// A kind of command.
-#[derive(Clone, Copy, Debug, PartialEq, Eq)]
+#[derive(Clone, Copy, PartialEq, Eq)]
 pub enum CommandKind {
     /// It sets a variable.
     Set,

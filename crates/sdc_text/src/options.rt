@@ -6,14 +6,14 @@ ghost use Rattle.sdc_text.specs.Options as spec;
 use sdcv_base::Edge;
 
 /// The commands of timing exceptions.
-#[derive(Clone, Copy, Debug, PartialEq, Eq)]
+#[derive(Clone, Copy, PartialEq, Eq)]
 pub enum PathCommand {
     FalsePath,
     Multicycle,
 }
 
 /// An option of a timing exception.
-#[derive(Clone, Copy, Debug, PartialEq, Eq)]
+#[derive(Clone, Copy, PartialEq, Eq)]
 pub enum PathOption {
     /// The starts come next, with the change of their own bits at which the paths begin.
     From(Edge),
@@ -31,7 +31,7 @@ pub enum PathOption {
 }
 
 /// An option of `create_clock`.
-#[derive(Clone, Copy, Debug, PartialEq, Eq)]
+#[derive(Clone, Copy, PartialEq, Eq)]
 pub enum ClockOption {
     /// The clock's name comes next.
     Called,

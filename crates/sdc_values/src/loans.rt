@@ -6,7 +6,7 @@ use std::borrow::Cow;
 use std::marker::Model;
 
 /// A value that is lent, or that is kept here. Contracts see the value alone.
-#[derive(Debug, Drop)]
+#[derive(Drop)]
 pub struct Loan<'a, T> {
     held: Cow<'a, T>,
 }

@@ -7,7 +7,7 @@ use script_types::Class;
 use texts::byte_at;
 
 /// A command that may stand in brackets.
-#[derive(Clone, Copy, Debug, PartialEq, Eq)]
+#[derive(Clone, Copy, PartialEq, Eq)]
 pub enum NestedKind {
     List,
     Get(Class),

@@ -7,14 +7,14 @@ use sdcv_base::{Name, Seq};
 use std::alloc::{AllocError, Global};
 
 /// What a word or a variable stands for.
-#[derive(Debug, Drop)]
+#[derive(Drop)]
 pub enum Value {
     Text(Name),
     Objects(Seq<Object>),
 }
 
 /// What a word of a command says. The value of a variable that a word is alone is lent, and not copied.
-#[derive(Debug, Drop)]
+#[derive(Drop)]
 pub struct Said<'a> {
     /// Where the word begins in the whole text, from 0.
     pub offset: usize,

@@ -3,7 +3,7 @@
 use sdcv_base::{Name, Seq};
 
 /// A piece of a word's value.
-#[derive(Debug, Drop)]
+#[derive(Drop)]
 pub enum Piece {
     /// These bytes.
     Bytes(Name),
@@ -12,7 +12,7 @@ pub enum Piece {
 }
 
 /// A word of a command, or a bracket around the words of a nested command. Offsets are those of the first byte, from 0.
-#[derive(Debug, Drop)]
+#[derive(Drop)]
 pub enum Word {
     /// A word in braces, in quotes or bare. Its value is that of its pieces, one after the other.
     Text { offset: usize, pieces: Seq<Piece> },
@@ -23,7 +23,7 @@ pub enum Word {
 }
 
 /// A command as it is written: the line of its first byte, from 1, and its words.
-#[derive(Debug, Drop)]
+#[derive(Drop)]
 pub struct RawCommand {
     pub line: u64,
     pub words: Seq<Word>,

@@ -5,7 +5,7 @@ use std::alloc::AllocError;
 use view_commands::Stop;
 
 /// Why a run has no answer.
-#[derive(Debug, Drop)]
+#[derive(Drop)]
 pub enum Ended {
     /// There is nothing to print or to save.
     Stopped(Stop),

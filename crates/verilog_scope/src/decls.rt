@@ -14,7 +14,7 @@ use texts::{NameTable, Named};
 use verilog_syntax::{Head, ItemDecl, ModuleDecl, NetKind, PortDecl, PrimDecl, Range};
 
 /// What is declared of a name: a port's direction, a net's kind, and the range of either.
-#[derive(Clone, Copy, Debug, PartialEq, Eq)]
+#[derive(Clone, Copy, PartialEq, Eq)]
 pub struct Decl {
     pub dir: Option<Dir>,
     pub kind: Option<NetKind>,

@@ -5,7 +5,7 @@ ghost use Rattle.verilog_scope.specs.Ranges as spec;
 use verilog_syntax::{Range, Select};
 
 /// Bits that stand together: the first, counted from the most significant or from the first net, and how many they are.
-#[derive(Clone, Copy, Debug, PartialEq, Eq)]
+#[derive(Clone, Copy, PartialEq, Eq)]
 pub struct Run {
     pub first: usize,
     pub count: usize,

@@ -5,21 +5,21 @@ use sdcv_base::{Name, Seq};
 use texts::Named;
 
 /// The numbers of a bus's first and last bit. They rise or fall, or are one number.
-#[derive(Clone, Copy, Debug, PartialEq, Eq)]
+#[derive(Clone, Copy, PartialEq, Eq)]
 pub struct Range {
     pub msb: u16,
     pub lsb: u16,
 }
 
 /// A name and where it begins in the text. An escaped one begins at its backslash.
-#[derive(Debug, Drop)]
+#[derive(Drop)]
 pub struct Spelled {
     pub offset: usize,
     pub name: Name,
 }
 
 /// Which bits of a name are meant, by their numbers.
-#[derive(Clone, Copy, Debug, PartialEq, Eq)]
+#[derive(Clone, Copy, PartialEq, Eq)]
 pub enum Select {
     All,
     Bit(u16),
@@ -27,28 +27,28 @@ pub enum Select {
 }
 
 /// What an expression is made of. The bits of a constant stand most significant first.
-#[derive(Debug, Drop)]
+#[derive(Drop)]
 pub enum Part {
     Net { name: Name, select: Select },
     Bits(Seq<bool>),
 }
 
 /// A part and where it begins.
-#[derive(Debug, Drop)]
+#[derive(Drop)]
 pub struct PartDecl {
     pub offset: usize,
     pub part: Part,
 }
 
 /// An expression and where it begins: its parts, most significant first. Braces within braces leave no trace.
-#[derive(Debug, Drop)]
+#[derive(Drop)]
 pub struct TermDecl {
     pub offset: usize,
     pub parts: Seq<PartDecl>,
 }
 
 /// A connection of a pin by its name, from its `.` on. One without parts is open.
-#[derive(Debug, Drop)]
+#[derive(Drop)]
 pub struct ConnDecl {
     pub offset: usize,
     pub pin: Name,
@@ -56,7 +56,7 @@ pub struct ConnDecl {
 }
 
 /// A port with its direction and range, whether they stand at its name or at one before it.
-#[derive(Debug, Drop)]
+#[derive(Drop)]
 pub struct PortDecl {
     pub dir: Dir,
     pub range: Option<Range>,
@@ -64,7 +64,7 @@ pub struct PortDecl {
 }
 
 /// The port list of a module. One that is absent or empty is `Names` of none.
-#[derive(Debug, Drop)]
+#[derive(Drop)]
 pub enum Head {
     Names(Seq<Spelled>),
     Ports(Seq<PortDecl>),
@@ -79,14 +79,14 @@ pub enum NetKind {
 }
 
 /// An instance with its connections in the order of the text.
-#[derive(Debug, Drop)]
+#[derive(Drop)]
 pub struct InstDecl {
     pub name: Name,
     pub conns: Seq<ConnDecl>,
 }
 
 /// An instance of a gate primitive. No constant stands among its outputs.
-#[derive(Debug, Drop)]
+#[derive(Drop)]
 pub struct PrimDecl {
     pub name: Option<Name>,
     pub outs: Seq<TermDecl>,
@@ -94,14 +94,14 @@ pub struct PrimDecl {
 }
 
 /// An assignment. No constant stands in its target.
-#[derive(Debug, Drop)]
+#[derive(Drop)]
 pub struct AssignDecl {
     pub target: TermDecl,
     pub value: TermDecl,
 }
 
 /// An item of a module: one statement of the text.
-#[derive(Debug, Drop)]
+#[derive(Drop)]
 pub enum ItemDecl {
     Ports(Seq<PortDecl>),
     Nets {
@@ -122,7 +122,7 @@ pub enum ItemDecl {
 }
 
 /// A module, its items in the order of the text.
-#[derive(Debug, Drop)]
+#[derive(Drop)]
 pub struct ModuleDecl {
     pub name: Name,
     pub head: Head,
