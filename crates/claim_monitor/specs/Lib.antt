@@ -8,3 +8,4 @@ pub mod Histories
 pub mod Watches
 pub mod Monitors
 pub mod Rises
+pub mod AigerTexts

@@ -7,10 +7,12 @@
 //!
 //! `watch` joins `literals_of` (`cycle_literals.rt`), the literals of a cycle, those of what ends capture (`captures.rt`),
 //! `flipped_literal` (`lates.rt`, over `layers.rt`), that of a capture where the start comes late, `bad_literal` (`bads.rt`), which is 1
-//! exactly where the bits in front and the cycle tell that the run is caught, and the latches (`histories.rt`). The text of the graph
-//! is left to `and_graphs`.
+//! exactly where the bits in front and the cycle tell that the run is caught, and the latches (`histories.rt`). `write_aiger`
+//! (`aiger_texts.rt`) watches a claim and gives the graph as an AIGER text, which `and_graphs` writes. Which claim is written, and
+//! where the text is saved, is left to the crate above.
 #![tactic(auto)]
 
+mod aiger_texts;
 mod bads;
 mod captures;
 mod cycle_literals;
@@ -23,6 +25,7 @@ mod monitors;
 mod nets;
 mod sizes;
 
+pub use aiger_texts::{AigerText, write_aiger};
 pub use cycle_literals::Literals;
 pub use laws::{
     each_has_a_run, front_begins, front_goes_on, front_tells, monitor_watches,

@@ -24,7 +24,7 @@ use Rattle.gated_designs.proofs.ClockParts.{are_clocked}
 use Rattle.link_design.proofs.Leading.{map_at}
 use Rattle.link_items.specs.declared.made.LeafPlace.{LeafPlace}
 use Rattle.link_items.specs.Items.{AreLeavesAt}
-use Rattle.link_clashes.specs.Clashes.{leaf_names}
+use Rattle.link_tops.specs.Clashes.{leaf_names}
 use Rattle.link_items.proofs.Listing.{drop_next, drop_past, with_none}
 use Rattle.link_defs.specs.declared.circuits.Part.TheVariants as part
 use Rattle.std.specs.Prelude.{flat_map}

@@ -15,7 +15,7 @@ ghost use Rattle.link_items.specs.declared.made.LeafPlace.{LeafPlace as LeafReco
 ghost use Rattle.link_items.specs.Items.{AreLeavesAt};
 ghost use Rattle.link_design.specs.Lawful.{IsLawfulCircuit};
 ghost use Rattle.gated_designs.specs.Made.{IsGatedDesign};
-ghost use Rattle.link_clashes.specs.Clashes.{leaf_names};
+ghost use Rattle.link_tops.specs.Clashes.{leaf_names};
 ghost use Rattle.link_cells.specs.Numbers.{number_in};
 ghost use Rattle.link_cells.specs.Places.{leaf_of, leaf_at, ArePlacesOf};
 

@@ -2,7 +2,7 @@
 //! design's numbers.
 //!
 //! Read `cells.rt` first: `cell_names` makes the list, and says that every place in it is one of the design. `specs/Places.antt`
-//! says what of a leaf is told by places. Whether two leaves have one name is left to `link_clashes`.
+//! says what of a leaf is told by places. Whether two leaves have one name is left to `link_tops`.
 #![tactic(auto)]
 
 mod cells;

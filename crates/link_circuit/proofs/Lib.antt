@@ -3,3 +3,9 @@ pub mod Parting
 pub mod Placing
 pub mod Circuited
 pub mod Ported
+pub mod Spread
+pub mod Driving
+pub mod Reading
+pub mod Seating
+pub mod Naming
+pub mod Finding

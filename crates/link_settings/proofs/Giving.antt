@@ -22,7 +22,7 @@ use Rattle.link_defs.specs.Links.{IsSet}
 use Rattle.link_design.proofs.Leading.{map_from}
 use Rattle.link_items.proofs.Listing.{contains_at, kept_at, last_at, take_next}
 use Rattle.link_items.proofs.Searching.{place_of_item, in_among, not_both}
-use Rattle.link_clashes.proofs.Clashing.{added_twice, names_split}
+use Rattle.link_tops.proofs.Clashing.{added_twice, names_split}
 use Rattle.link_settings.specs.Given.{setting_names, IsGiven, IsUnfit, IsUnfitName}
 
 -- lists that agree place by place, one behind another

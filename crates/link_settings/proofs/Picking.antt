@@ -9,7 +9,7 @@ use Rattle.link_defs.specs.Circuits.{PortBit, is_clock as is_clock_bit}
 use Rattle.link_defs.specs.Faults.{bit_names}
 use Rattle.link_defs.specs.Links.{ports_of}
 use Rattle.link_items.proofs.Searching.{eq_flips}
-use Rattle.link_clashes.specs.Clashes.{port_names}
+use Rattle.link_tops.specs.Clashes.{port_names}
 use Rattle.link_settings.specs.Data.{is_clock, data_port, data_ports}
 
 -- bits have the names of their ports

@@ -19,8 +19,8 @@ use Rattle.link_defs.specs.Circuits.{PortBit, input_bits, output_bits, data_bits
 use Rattle.link_defs.specs.Faults.{StandsTwice, bit_names, set_names, IsBadSetting, No_clock, No_input, Twice}
 use Rattle.link_defs.specs.Links.{ports_of}
 use Rattle.link_items.proofs.Searching.{among_in, in_among}
-use Rattle.link_clashes.specs.Clashes.{port_names, IsClash}
-use Rattle.link_clashes.proofs.Clashing.{apart}
+use Rattle.link_tops.specs.Clashes.{port_names, IsClash}
+use Rattle.link_tops.proofs.Clashing.{apart}
 use Rattle.link_settings.specs.declared.ports.TopPorts.{TopPorts}
 use Rattle.link_settings.specs.Data.{data_ports}
 use Rattle.link_settings.specs.Given.{IsGiven, IsHeldAt, IsUnfit, IsUnfitName}

@@ -1,7 +1,7 @@
 //! The input bits without the clock's.
 ghost use Rattle.std.specs.Prelude.{◌≡◌, ◌++◌, [], if◌then◌else◌, IfOk, OnOk};
 ghost use Rattle.texts.specs.Names.{with_names};
-ghost use Rattle.link_clashes.specs.Clashes.{port_names};
+ghost use Rattle.link_tops.specs.Clashes.{port_names};
 ghost use Rattle.link_settings.specs.Data.{is_clock as has_clock, data_ports, data_port};
 
 use link_defs::PortName;

@@ -5,16 +5,15 @@ ghost use Rattle.texts.specs.Names.{are_distinct};
 ghost use Rattle.netlist_types.specs.declared.sources.Port.{Port as PortRecord};
 ghost use Rattle.link_defs.specs.Circuits.{input_bits, output_bits};
 ghost use Rattle.link_defs.specs.Faults.{bit_names, set_names, IsBadSetting};
-ghost use Rattle.link_clashes.specs.Clashes.{port_names, IsApart};
+ghost use Rattle.link_tops.specs.Clashes.{port_names, IsApart};
 ghost use Rattle.link_settings.specs.Given.{IsHeldAt, IsUnfit};
 ghost use Rattle.link_settings.specs.Ports.{AreTopPorts, IsPortCause, IsNameFault, IsClockAmong};
 
 use crate::given::held_of;
 use crate::inputs::{data_names, data_table};
-use link_clashes::add_ports;
 use link_defs::{LinkFault, LinkOptions, PortName};
 use link_design::Held;
-use link_tops::{input_names, output_names};
+use link_tops::{add_ports, input_names, output_names};
 use netlist_types::Module;
 use sdcv_base::{Name, Seq};
 use std::alloc::Global;

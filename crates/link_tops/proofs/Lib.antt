@@ -1,2 +1,3 @@
 pub mod Topping
 pub mod Porting
+pub mod Clashing

@@ -18,7 +18,7 @@ use Rattle.cell_types.specs.declared.libraries.Cell.{Cell}
 use Rattle.link_design.specs.declared.faults.CircuitFault.TheVariants as circuit
 use Rattle.link_design.specs.Faults.{IsFaultless as IsFaultlessCircuit, IsAboveLimit as IsAboveCircuit}
 use Rattle.link_design.specs.Faults as above
-use Rattle.link_clashes.specs.Clashes.{leaf_names, IsApart, IsClash}
+use Rattle.link_tops.specs.Clashes.{leaf_names, IsApart, IsClash}
 use Rattle.link_defs.specs.declared.circuits.Circuit.{Circuit}
 use Rattle.link_defs.specs.declared.circuits.Part.{Part}
 use Rattle.link_defs.specs.declared.faults.LinkFault.{LinkFault}

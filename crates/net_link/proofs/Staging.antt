@@ -13,7 +13,7 @@ use Rattle.link_design.specs.Faults.{IsFaultless as IsFaultlessCircuit}
 use Rattle.link_design.specs.Lawful.{IsLawfulCircuit}
 use Rattle.link_circuit.proofs.Circuited.{circuit_lawful}
 use Rattle.link_circuit.specs.declared.circuits.FlatCircuit.{FlatCircuit}
-use Rattle.link_clashes.specs.Clashes.{leaf_names, IsApart}
+use Rattle.link_tops.specs.Clashes.{leaf_names, IsApart}
 use Rattle.link_defs.specs.declared.circuits.Circuit.{Circuit}
 use Rattle.link_defs.specs.declared.circuits.Part.{Part}
 use Rattle.link_defs.specs.declared.options.LinkOptions.{LinkOptions}
@@ -29,8 +29,8 @@ use Rattle.link_items.specs.declared.made.LeafPlace.{LeafPlace}
 use Rattle.link_items.specs.Items.{module_at, scope_of, AreLeavesAt}
 use Rattle.link_items.proofs.Naming.{some_at}
 use Rattle.link_items.proofs.Pinned.{lawful_at}
-use Rattle.link_named.proofs.Finding.{module_is}
-use Rattle.link_named.specs.Names.{IsCircuitBelow}
+use Rattle.link_circuit.proofs.Finding.{module_is}
+use Rattle.link_circuit.specs.Names.{IsCircuitBelow}
 use Rattle.link_tops.specs.Tops.{IsTop}
 use Rattle.net_link.specs.Nets.{IsOfTwoNets, names_in}
 use Rattle.net_link.specs.Stages.{IsFlatCircuit}

@@ -29,10 +29,10 @@ use Rattle.link_defs.specs.Links.{source_count}
 use Rattle.link_defs.specs.Parts.{parts_of}
 use Rattle.link_items.specs.Items.{AreLeavesAt}
 use Rattle.link_cells.specs.Places.{ArePlacesOf}
-use Rattle.link_clashes.specs.Clashes.{leaf_names, IsApart}
+use Rattle.link_tops.specs.Clashes.{leaf_names, IsApart}
 use Rattle.link_flat.specs.Flats.{AreFine}
 use Rattle.link_circuit.specs.declared.circuits.FlatCircuit.{FlatCircuit}
-use Rattle.link_named.specs.Names.{IsCircuitBelow}
+use Rattle.link_circuit.specs.Names.{IsCircuitBelow}
 use Rattle.net_link.specs.Nets.{names_in}
 
 -- the circuit below a module, none of whose items is refused and no two of whose leaves have one name

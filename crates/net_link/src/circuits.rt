@@ -14,13 +14,12 @@ ghost use Rattle.net_link.specs.Stages.{IsEnableCause, IsFlatCircuit};
 
 use gated_designs::with_enables;
 use icg_rewrite::{Gated, RewriteFault};
-use link_circuit::{FlatCircuit, circuit_of};
-use link_clashes::check_cells;
+use link_circuit::{FlatCircuit, circuit_of, named_fault};
 use link_defs::{LinkFault, LinkOptions};
 use link_design::{CircuitDesign, Held, design_of};
 use link_flat::flatten;
 use link_items::Netlist;
-use link_named::named_fault;
+use link_tops::check_cells;
 use net_model::Design;
 use sdcv_base::{LimitName, Name};
 use std::alloc::Global;

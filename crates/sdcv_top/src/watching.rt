@@ -2,7 +2,7 @@
 ghost use Rattle.std.specs.Prelude.{◌≡◌, false, All, IfOk};
 ghost use Rattle.net_model.specs.declared.claims.Claim.{Claim as TheClaim};
 ghost use Rattle.net_model.specs.declared.netlist.Design.{Design as TheDesign};
-ghost use Rattle.aiger_out.specs.AigerTexts.{IsAigerOf};
+ghost use Rattle.claim_monitor.specs.AigerTexts.{IsAigerOf};
 ghost use Rattle.design_stages.specs.Designs.{CanBeJudged};
 ghost use Rattle.sdcv_top.specs.Jobs.{Watched};
 ghost use Rattle.sdcv_top.specs.Monitors.{IsWatchedOut, aiger_line};
@@ -11,8 +11,8 @@ ghost use Rattle.sdcv_top.specs.Plans.{IsPlanned, outcome_of};
 use crate::plans::{Plan, SavedFile};
 use crate::replaying::numbered;
 use crate::statuses::Ending;
-use aiger_out::{AigerText, write_aiger};
 use answer_lines::no_pair_line;
+use claim_monitor::{AigerText, write_aiger};
 use design_stages::{Designed, Refusal};
 use std::alloc::{AllocError, Global};
 

@@ -1,5 +1,5 @@
 use Rattle.std.proofs.Common.{arith}
-use Rattle.link_clashes.proofs.Clashing.{there_again}
+use Rattle.link_tops.proofs.Clashing.{there_again}
 use Rattle.link_settings.proofs.Giving.{unknown, again, place_none, place_there}
 use Rattle.link_settings.proofs.given.give.Goals as goal
 

@@ -3,7 +3,7 @@ use Rattle.std.proofs.lemmas.List.{map-append}
 use Rattle.std.proofs.lemmas.Result.{err_from_is_err_and}
 use Rattle.sdcv_base.specs.declared.settings.Setting.{Setting}
 use Rattle.link_defs.specs.Faults.{set_names}
-use Rattle.link_clashes.proofs.Clashing.{all_distinct}
+use Rattle.link_tops.proofs.Clashing.{all_distinct}
 use Rattle.link_settings.specs.Given.{setting_names, IsUnfit}
 use Rattle.link_settings.proofs.Giving.{unfit_more}
 use Rattle.link_settings.proofs.given.held_of.Goals as goal

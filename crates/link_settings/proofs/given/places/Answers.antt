@@ -5,7 +5,7 @@ use Rattle.std.proofs.lemmas.Result.{err_from_is_err_and}
 use Rattle.texts.specs.Names.{are_distinct}
 use Rattle.sdcv_base.specs.declared.settings.Setting.{Setting}
 use Rattle.link_items.proofs.Listing.{with_none}
-use Rattle.link_clashes.proofs.Clashing.{distinct_more, names_next, names_all}
+use Rattle.link_tops.proofs.Clashing.{distinct_more, names_next, names_all}
 use Rattle.link_settings.specs.Given.{IsGiven}
 use Rattle.link_settings.proofs.Giving.{given_next, unfit_of_all}
 use Rattle.link_settings.proofs.given.places.Goals as goal

@@ -4,7 +4,7 @@ use Rattle.texts.specs.Names.{with_name, with_names}
 use Rattle.texts.proofs.NameLemmas.{with_names-push}
 use Rattle.link_defs.specs.declared.names.PortName.{PortName}
 use Rattle.link_items.proofs.Listing.{map_next}
-use Rattle.link_clashes.specs.Clashes.{port_names}
+use Rattle.link_tops.specs.Clashes.{port_names}
 use Rattle.link_settings.proofs.inputs.data_table.Goals as goal
 
 pub loop-k-preserved : goal.loop-k-preserved

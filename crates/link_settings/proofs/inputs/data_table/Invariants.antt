@@ -1,6 +1,6 @@
 use Rattle.std.proofs.Common.{◌≡◌, [], take}
 use Rattle.texts.specs.Names.{with_names}
-use Rattle.link_clashes.specs.Clashes.{port_names}
+use Rattle.link_tops.specs.Clashes.{port_names}
 use Rattle.link_settings.proofs.inputs.data_table.Given as goal
 
 abbrev pub invariant-loop-k : goal.invariant-loop-k

@@ -1,7 +1,7 @@
 use Rattle.std.proofs.Common.{List, ℕ, ◌++◌, ap, subst, sym, ◌∙◌}
 use Rattle.std.proofs.lemmas.Result.{err_from_is_err_and}
-use Rattle.link_clashes.specs.Clashes.{port_names, IsClash}
-use Rattle.link_clashes.proofs.Clashing.{all_distinct, clash_more}
+use Rattle.link_tops.specs.Clashes.{port_names, IsClash}
+use Rattle.link_tops.proofs.Clashing.{all_distinct, clash_more}
 use Rattle.link_settings.specs.Ports.{IsNameFault, IsClockAmong}
 use Rattle.link_settings.proofs.Placing.{clash_fault}
 use Rattle.link_settings.proofs.ports.check_names.Goals as goal

@@ -2,7 +2,7 @@ use Rattle.std.proofs.Common.{List, ℕ, [], subst, ◌∙◌}
 use Rattle.std.proofs.lemmas.Result.{err_from_is_err_and}
 use Rattle.texts.proofs.NameLemmas.{with_names_new, are_new_none}
 use Rattle.link_defs.specs.Faults.{set_names}
-use Rattle.link_clashes.specs.Clashes.{port_names}
+use Rattle.link_tops.specs.Clashes.{port_names}
 use Rattle.link_settings.specs.Given.{IsHeldAt, IsUnfit}
 use Rattle.link_settings.proofs.ports.held_among.Goals as goal
 

@@ -4,8 +4,8 @@ use Rattle.texts.specs.Names.{are_distinct}
 use Rattle.texts.proofs.NameLemmas.{are_distinct_front}
 use Rattle.link_defs.specs.declared.names.PortName.{PortName}
 use Rattle.link_defs.specs.Circuits.{input_bits}
-use Rattle.link_clashes.specs.Clashes.{port_names, IsApart}
-use Rattle.link_clashes.proofs.Clashing.{apart}
+use Rattle.link_tops.specs.Clashes.{port_names, IsApart}
+use Rattle.link_tops.proofs.Clashing.{apart}
 use Rattle.link_settings.specs.Ports.{IsClockAmong}
 use Rattle.link_settings.proofs.Picking.{names_of_bits, distinct_fewer}
 use Rattle.link_settings.proofs.Placing.{name_cause, setting_cause, data_names_are, settings_fit, ports_made, all_names}

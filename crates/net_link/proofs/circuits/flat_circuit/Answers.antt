@@ -1,7 +1,7 @@
 use Rattle.std.proofs.lemmas.Result.{err_from_is_err_and}
 use Rattle.link_defs.specs.CellNames.{leaves}
 use Rattle.link_defs.specs.Flatten.{flat_of}
-use Rattle.link_clashes.specs.Clashes.{leaf_names}
+use Rattle.link_tops.specs.Clashes.{leaf_names}
 use Rattle.link_items.specs.Items.{module_at}
 use Rattle.net_link.proofs.Causing.{leaf_cause, names_of_leaves}
 use Rattle.net_link.proofs.Staging.{flat_circuit_is}

@@ -1,7 +1,0 @@
-use Rattle.link_clashes.proofs.Clashing.{added_twice, there_again}
-use Rattle.link_clashes.proofs.names.add_new.Goals as goal
-
-pub returns-clause-err : goal.returns-clause-err
-returns-clause-err c =
-    rw c.in_ok-copy.ensures (added_twice c.args.names.now c.args.name.now
-    (there_again c.args.names.now c.args.name.now c.in_ok-add.field-0 c.in_ok-add.ensures.fresh c.if-branch.false))

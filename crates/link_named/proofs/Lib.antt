@@ -1,6 +1,0 @@
-pub mod Spread
-pub mod Driving
-pub mod Reading
-pub mod Seating
-pub mod Naming
-pub mod Finding

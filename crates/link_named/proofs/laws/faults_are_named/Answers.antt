@@ -1,5 +1,0 @@
-use Rattle.link_named.proofs.Naming.{all_named}
-use Rattle.link_named.proofs.laws.faults_are_named.Goals as goal
-
-pub returns : goal.returns
-returns c = all_named c.args.source.now c.args.library.now c.args.top.now

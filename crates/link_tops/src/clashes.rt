@@ -1,0 +1,67 @@
+//! Names that are added one by one, each where it is new.
+ghost use Rattle.std.specs.Prelude.{◌≡◌, ◌++◌, ◌∷◌, [], true, false, IfErr, OnOk};
+ghost use Rattle.std.specs.List.{IsDistinct};
+ghost use Rattle.std.specs.Str.{bytes_eq};
+ghost use Rattle.texts.specs.Names.{is_among, are_distinct};
+ghost use Rattle.link_tops.specs.Clashes.{port_names, leaf_names, IsApart, IsClash};
+
+use link_defs::{LinkFault, PortName};
+use link_items::LeafPlace;
+use sdcv_base::{Name, Seq};
+use std::alloc::Global;
+use texts::NameTable;
+
+/// Adds a name, or refuses one that is there.
+fn add_new(alloc: Global, names: &mut NameTable, name: &Name) -> Result<(), LinkFault>
+    ensures fresh { OnOk result (is_among name.now names.old ≡ false) }
+    ensures ok { OnOk result (names.new ≡ names.old ++ name.now ∷ []) }
+    ensures err { IfErr result (IsClash (names.old ++ name.now ∷ [])) }
+{
+    if names.add(alloc, name)? {
+        return Ok(());
+    }
+    Err(LinkFault::NameClash(name.copy(alloc)?))
+}
+
+/// Adds the names of port bits, or refuses one that is there.
+pub fn add_ports(
+    alloc: Global,
+    names: &mut NameTable,
+    ports: &Seq<PortName>,
+) -> Result<(), LinkFault>
+    ensures ok { OnOk result (names.new ≡ names.old ++ port_names ports.now) }
+    ensures distinct { OnOk result (are_distinct names.old ≡ true → are_distinct names.new ≡ true) }
+    ensures err { IfErr result (IsClash (names.old ++ port_names ports.now)) }
+{
+    for k in 0..ports.len() {
+        add_new(alloc, names, &ports.item(k).name)?;
+    }
+    Ok(())
+}
+
+/// Adds the names of leaves, or refuses one that is there.
+fn add_leaves(
+    alloc: Global,
+    names: &mut NameTable,
+    leaves: &Seq<LeafPlace>,
+) -> Result<(), LinkFault>
+    ensures ok { OnOk result (names.new ≡ names.old ++ leaf_names leaves.now) }
+    ensures distinct { OnOk result (are_distinct names.old ≡ true → are_distinct names.new ≡ true) }
+    ensures err { IfErr result (IsClash (names.old ++ leaf_names leaves.now)) }
+{
+    for k in 0..leaves.len() {
+        add_new(alloc, names, &leaves.item(k).name)?;
+    }
+    Ok(())
+}
+
+/// Refuses a name that two leaves have.
+pub fn check_cells(alloc: Global, leaves: &Seq<LeafPlace>) -> Result<(), LinkFault>
+    ensures differ { OnOk result (IsDistinct bytes_eq (leaf_names leaves.now)) }
+    ensures none { OnOk result (IsApart (leaf_names leaves.now)) }
+    ensures err { IfErr result (IsClash (leaf_names leaves.now)) }
+{
+    let mut names = NameTable::new(alloc);
+    add_leaves(alloc, &mut names, leaves)?;
+    Ok(())
+}
