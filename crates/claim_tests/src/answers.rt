@@ -4,8 +4,9 @@ ghost use Rattle.net_model.specs.Netlist.{IsSound};
 ghost use Rattle.net_model.specs.Fits.{Fits};
 ghost use Rattle.cert_values.specs.Certs.{IsComplete};
 
-use crate::builders::{claims_of, is_wanted, sound_design};
+use crate::cases::{claims_of, sound_design};
 use crate::machines::TIED;
+use crate::wanted_answers::is_wanted;
 use cert_check::check;
 use cert_values::{Cert, CertFault, PairProof};
 use net_model::{Claim, Design};

@@ -3,9 +3,10 @@ ghost use Rattle.std.specs.Prelude.{All};
 ghost use Rattle.net_model.specs.Netlist.{IsSound};
 ghost use Rattle.net_model.specs.Fits.{Fits};
 
-use crate::builders::{claims_of, ends_early, sound_design};
+use crate::cases::{claims_of, sound_design};
 use crate::finding::find;
 use crate::machines::{DRAINS, SWAP};
+use crate::wanted_answers::ends_early;
 use cert_call::check_cert;
 use cert_text::read_cert;
 use cert_values::{Cert, CertFault, PairProof};

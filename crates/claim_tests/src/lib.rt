@@ -9,8 +9,6 @@
 #[cfg(test)]
 mod answers;
 #[cfg(test)]
-mod builders;
-#[cfg(test)]
 mod cases;
 #[cfg(test)]
 mod certificates;
@@ -32,5 +30,7 @@ mod lists;
 mod machines;
 #[cfg(test)]
 mod texts;
+#[cfg(test)]
+mod wanted_answers;
 #[cfg(test)]
 mod wants;

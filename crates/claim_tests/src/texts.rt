@@ -3,8 +3,9 @@ ghost use Rattle.net_model.specs.Netlist.{IsSound};
 ghost use Rattle.net_model.specs.Fits.{Fits};
 ghost use Rattle.std.specs.Prelude.{All};
 
-use crate::builders::{claims_of, ends_early, has_answer, sound_design};
+use crate::cases::{claims_of, sound_design};
 use crate::machines::TIED;
+use crate::wanted_answers::{ends_early, has_answer};
 use cert_values::CertFault::{
     self, Form, Invariant, NotTrivial, Pair, TwicePair, UnknownPair, UnknownRegister, Version,
 };
