@@ -1,15 +1,19 @@
 -- How a command is built, one step after another, and what is computed of it.
-use Rattle.std.proofs.Common.{◌≡◌, ◌∙◌, ◌<◌, ◌+◌, ap, ap₂, sym, refl, true, ℕ, List, [], fold, take, get_or, length, map, ◌∷◌, subst, inl, inr}
+use Rattle.std.proofs.Common.{◌≡◌, ◌∙◌, ◌<◌, ◌+◌, ◌||◌, false, ap, ap₂, sym, refl, true, ℕ, List, [], fold, take, get_or, length, map, ◌∷◌, subst, inl, inr}
+use Rattle.std.proofs.Math.Bool.{or-false}
+use Rattle.std.proofs.lemmas.Bool.{or_from}
 use Rattle.std.proofs.lemmas.List.Folds.{fold-map}
 use Rattle.std.proofs.lemmas.List.Sums.{fold_more}
+use Rattle.clap.specs.declared.builder.Arg.{Arg}
 use Rattle.clap.specs.declared.builder.Command.{Command}
+use Rattle.clap.specs.declared.builder.Command.TheViews.{out-Command as fields_of}
 use Rattle.clap.specs.declared.error.Error.{Error}
 use Rattle.clap.specs.declared.error.ErrorKind.TheVariants as kind
-use Rattle.clap.specs.Words.{HasKind, Kinds, kind_of, App, is_simple, is_simple_and_free, new_app, shape_of, with_rule, with_subcommand}
+use Rattle.clap.specs.Words.{AddsArg, AddsSubcommand, App, HasKind, Kinds, kind_of, is_simple, is_simple_and_free, new_app, rule_of, with_rule, with_subcommand}
 use Rattle.clap.proofs.OnLiterals.{clap_on_literals}
 use Rattle.clap_words.specs.declared.commands.CommandRow.{CommandRow as TheCommandRow}
 use Rattle.clap_words.specs.Commands.{command_rows, seen_option, seen_row}
-use Rattle.clap_words.specs.Apps.{AddsShape, IsCommand, Makes, app_from, command_app, position_rule, sdcv_app, top_app, with_commands, with_options}
+use Rattle.clap_words.specs.Apps.{IsCommand, Makes, app_from, command_app, position_rule, sdcv_app, top_app, with_commands, with_options}
 
 -- a step more of a command that is built by one step for each item of a list
 pub makes_more : {X : Type 0} (start old new : Command) (f : App → X → App) (g : App → App) (xs : List X) (i : ℕ) (d : X) → i < length xs
@@ -33,14 +37,19 @@ from_none kinds e has none =
     let at_none : HasKind [] e = subst P none has in
     elim at_none [ inl h ↦ h | inr h ↦ absurd h ]
 
+-- an argument that is not global, the last
+pub rule_more : (old new : Command) (a : Arg) → a.global ≡ false → AddsArg old a new → Makes old (λ b. with_rule b (rule_of a)) new
+rule_more old new a local adds =
+    (adds.shape local, adds.globals ∙ ap (λ g. (fields_of old).has_globals || g) local ∙ or-false (fields_of old).has_globals)
+
 -- a subcommand more
 pub commands_more : (old sub new : Command) (rows : List TheCommandRow) (i : ℕ) (d : TheCommandRow) → i < length rows
-    → IsCommand (with_commands (take i rows) top_app) old → IsCommand (app_from (get_or rows i d)) sub → AddsShape old (shape_of sub) new
+    → IsCommand (with_commands (take i rows) top_app) old → IsCommand (app_from (get_or rows i d)) sub → AddsSubcommand old sub new
     → IsCommand (with_commands (take (i + 1) rows) top_app) new
 commands_more old sub new rows i d below is is_sub adds =
     let step : App → TheCommandRow → App = λ b row. with_subcommand b (app_from row).top in (
-      adds.0 ∙ ap₂ with_subcommand is.0 (ap (λ (a : App). a.top) is_sub.0) ∙ sym (fold_more step top_app rows i d below),
-      adds.1 ∙ is.1,
+      adds.shape is_sub.1 ∙ ap₂ with_subcommand is.0 (ap (λ (a : App). a.top) is_sub.0) ∙ sym (fold_more step top_app rows i d below),
+      adds.globals ∙ or_from (fields_of old).has_globals (fields_of sub).has_globals is.1 is_sub.1,
     )
 
 -- a row of the program's table makes the command of the row that it shows

@@ -4,7 +4,7 @@ use Rattle.clap.specs.declared.builder.Command.{Command}
 use Rattle.clap.specs.declared.builder.Command.TheViews.{out-Command as fields_of}
 use Rattle.clap.specs.declared.builder.ArgAction.TheVariants.{Set, SetTrue}
 use Rattle.clap.specs.Simple.{new_shape}
-use Rattle.clap.specs.Words.{App, Rule, Shape, app_of, new_app, new_rule, with_rule, with_subcommand}
+use Rattle.clap.specs.Words.{App, Rule, app_of, new_app, new_rule, with_rule, with_subcommand}
 use Rattle.clap_words.specs.declared.commands.Form.{Form}
 use Rattle.clap_words.specs.declared.commands.Form.TheVariants.{Flag, Valued, Needed}
 use Rattle.clap_words.specs.declared.commands.OptionRow.{OptionRow as TheOptionRow}
@@ -41,12 +41,6 @@ sdcv_app = fold (λ a row. with_subcommand a (command_app row).top) top_app comm
 
 abbrev pub Makes : Command → (App → App) → Command → Type 0
 Makes old f new = (app_of new ≡ f (app_of old)) × ((fields_of new).has_globals ≡ (fields_of old).has_globals)
-
-abbrev pub AddsRule : Command → Rule → Command → Type 0
-AddsRule old rule new = Makes old (λ a. with_rule a rule) new
-
-abbrev pub AddsShape : Command → Shape → Command → Type 0
-AddsShape old shape new = Makes old (λ a. with_subcommand a shape) new
 
 abbrev pub IsCommand : App → Command → Type 0
 IsCommand a c = (app_of c ≡ a) × ((fields_of c).has_globals ≡ false)

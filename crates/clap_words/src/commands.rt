@@ -5,6 +5,13 @@ ghost use Rattle.clap_words.specs.Commands.{command_rows, seen_row};
 use crate::commands::Form::{Flag, Needed, Valued};
 use crate::rules::ValueRule;
 
+/// The program's version, and that of the certificates.
+pub const VERSION: &str = "0.9.0 (reads certificates sdcv-cert 1 and 2, writes 2)";
+
+/// What help says of the program.
+pub const ABOUT: &str =
+    "Prove or refute the timing exceptions of a script, for each register pair that they select";
+
 /// How an option stands in the words.
 #[derive(Clone, Copy)]
 pub enum Form {
