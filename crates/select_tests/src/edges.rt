@@ -2,7 +2,7 @@
 use crate::netlists::{COPIED, MASKED, SHOWN_TWICE, TWO_OUTPUTS};
 use crate::shown::judge;
 use crate::stages::Texts;
-use std::test::Fail;
+use std::alloc::AllocError;
 
 // Over texts with a clock `ck`, what follows in the script, and all that is selected or the line of the refusal (SDC 2.1,
 // `-rise_from` and `-fall_from`). In the last group starts are pins of a register with an inverted output.
@@ -133,7 +133,7 @@ const GROUPS: &[(Texts<'static>, &[(&str, &str)])] = &[
 #[test]
 fn claims_have_the_edge_of_the_starts_own_bit_and_false_paths_the_lag(
     rt: HostRuntime,
-) -> Result<(), Fail> {
+) -> Result<(), AllocError> {
     for (texts, rows) in GROUPS {
         judge(&rt, rt.alloc(), texts, rows)?;
     }

@@ -1,9 +1,9 @@
 //! Scripts that select as much as they may, and too much.
 use crate::netlists::ALL_TO_ALL;
-use crate::shown::sure;
-use crate::stages::{Texts, Told, told_of_texts};
+use crate::shown::{is_line, sure};
+use crate::stages::{Texts, found};
+use design_stages::{Designed, Refusal};
 use std::alloc::{AllocError, Global};
-use std::test::Fail;
 
 // A command and how many times it stands in its script, the reset of the netlist, and the number of pairs, or
 // the line of the refusal. Each command selects 100 pairs, of which 60 go through `m`; a multiplier of 1 asks for no
@@ -38,33 +38,31 @@ const SCRIPTS: &[(&str, usize, &str, &str)] = &[
     ),
 ];
 
-fn push_line(script: &mut String, command: &str) -> Result<(), AllocError> {
-    script.push_str(command)?;
-    script.push_str("\n")?;
+fn push_lines(script: &mut String, command: &str, times: usize) -> Result<(), AllocError> {
+    for _ in 0..times {
+        script.push_str(command)?;
+        script.push_str("\n")?;
+    }
     Ok(())
 }
 
-fn repeated(alloc: Global, command: &str, times: usize) -> Result<String, AllocError> {
-    let mut script = String::new(alloc);
-    for _ in 0..times {
-        push_line(&mut script, command)?;
-    }
-    Ok(script)
-}
-
-fn is_number(alloc: Global, number: usize, want: &str) -> Result<bool, Fail> {
+fn is_number(alloc: Global, number: usize, want: &str) -> Result<bool, AllocError> {
     let text = format!(in alloc; "{number}")?;
     Ok(text.as_str() == want)
 }
 
-fn is_counted(alloc: Global, answer: &Told, want: &str) -> Result<bool, Fail> {
-    match answer {
-        Told::Selected(selected) => is_number(alloc, selected.claims.len(), want),
-        Told::Refused(line) => Ok(line.as_str() == want),
+fn is_counted(
+    alloc: Global,
+    found: &Result<Designed, Refusal>,
+    want: &str,
+) -> Result<bool, AllocError> {
+    match found {
+        Ok(designed) => is_number(alloc, designed.selected.claims.len(), want),
+        Err(refusal) => Ok(is_line(refusal, want)),
     }
 }
 
-fn is_limited(alloc: Global, script: &str, reset: &str, want: &str) -> Result<bool, Fail> {
+fn is_limited(alloc: Global, script: &str, reset: &str, want: &str) -> Result<bool, AllocError> {
     let texts = Texts {
         netlist: ALL_TO_ALL,
         cells: "",
@@ -73,8 +71,8 @@ fn is_limited(alloc: Global, script: &str, reset: &str, want: &str) -> Result<bo
         hazard: false,
         lag: 0,
     };
-    let answer = told_of_texts(alloc, &texts)?;
-    is_counted(alloc, &answer, want)
+    let found = found(alloc, &texts);
+    is_counted(alloc, &found, want)
 }
 
 fn is_limited_by(
@@ -83,13 +81,14 @@ fn is_limited_by(
     times: usize,
     reset: &str,
     want: &str,
-) -> Result<bool, Fail> {
-    let script = repeated(alloc, command, times)?;
+) -> Result<bool, AllocError> {
+    let mut script = String::new(alloc);
+    push_lines(&mut script, command, times)?;
     is_limited(alloc, script.as_str(), reset, want)
 }
 
 #[test]
-fn limits_are_what_a_script_may_select(rt: HostRuntime) -> Result<(), Fail> {
+fn limits_are_what_a_script_may_select(rt: HostRuntime) -> Result<(), AllocError> {
     for (command, times, reset, want) in SCRIPTS {
         let right = is_limited_by(rt.alloc(), command, *times, reset, want)?;
         sure(&rt, right, command);

@@ -2,7 +2,7 @@
 use crate::netlists::NESTED;
 use crate::shown::judge;
 use crate::stages::Texts;
-use std::test::Fail;
+use std::alloc::AllocError;
 
 // Objects of a false path in a script with a clock and a virtual one (SDC 2.1, object access), and all that it selects.
 const OBJECTS: &[(&str, &str)] = &[
@@ -92,7 +92,7 @@ const OBJECTS: &[(&str, &str)] = &[
 ];
 
 #[test]
-fn objects_stand_for_starts_and_ends_and_pins(rt: HostRuntime) -> Result<(), Fail> {
+fn objects_stand_for_starts_and_ends_and_pins(rt: HostRuntime) -> Result<(), AllocError> {
     let texts = Texts {
         netlist: NESTED,
         cells: "",

@@ -2,7 +2,7 @@
 use crate::netlists::{CHOOSING, MASKED, NESTED, SCAN_CELLS, SCANNED, TOGGLING, TWO_WAYS};
 use crate::shown::{is_shown, judge, sure};
 use crate::stages::Texts;
-use std::test::Fail;
+use std::alloc::AllocError;
 
 // Over texts with a clock, what follows in the script, and all that is selected.
 const GROUPS: &[(Texts<'static>, &[(&str, &str)])] = &[
@@ -93,7 +93,7 @@ const GROUPS: &[(Texts<'static>, &[(&str, &str)])] = &[
 ];
 
 #[test]
-fn exceptions_select_their_pairs(rt: HostRuntime) -> Result<(), Fail> {
+fn exceptions_select_their_pairs(rt: HostRuntime) -> Result<(), AllocError> {
     for (texts, rows) in GROUPS {
         judge(&rt, rt.alloc(), texts, rows)?;
     }
@@ -239,7 +239,7 @@ set_false_path -from [get_clocks {virt core}] -comment \"both; one is virtual\"
 ];
 
 #[test]
-fn scripts_of_tools_select_their_pairs(rt: HostRuntime) -> Result<(), Fail> {
+fn scripts_of_tools_select_their_pairs(rt: HostRuntime) -> Result<(), AllocError> {
     for (texts, want) in SCRIPTS {
         sure(&rt, is_shown(rt.alloc(), texts, want)?, texts.script);
     }

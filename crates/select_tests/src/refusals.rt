@@ -2,10 +2,7 @@
 use crate::netlists::{MASKED, TOGGLING};
 use crate::shown::{is_shown, judge, sure};
 use crate::stages::Texts;
-use cell_lib::{LibFault, read_lib};
-use fault_lines::liberty_line;
 use std::alloc::{AllocError, Global};
-use std::test::Fail;
 
 // Scripts over a netlist whose reset is `rst`; lines count from 1.
 const SCRIPTS: &[(&str, &str)] = &[
@@ -59,7 +56,7 @@ const SCRIPTS: &[(&str, &str)] = &[
 ];
 
 #[test]
-fn scripts_are_refused_for_their_cause(rt: HostRuntime) -> Result<(), Fail> {
+fn scripts_are_refused_for_their_cause(rt: HostRuntime) -> Result<(), AllocError> {
     let texts = Texts {
         netlist: MASKED,
         cells: "",
@@ -88,7 +85,7 @@ const NETLISTS: &[(&str, &str)] = &[
     (TOGGLING, "refused link 8 NotTheClock r\n"),
 ];
 
-fn is_refused(alloc: Global, netlist: &str, want: &str) -> Result<bool, Fail> {
+fn is_refused(alloc: Global, netlist: &str, want: &str) -> Result<bool, AllocError> {
     let texts = Texts {
         netlist,
         cells: "",
@@ -101,29 +98,24 @@ fn is_refused(alloc: Global, netlist: &str, want: &str) -> Result<bool, Fail> {
 }
 
 #[test]
-fn an_empty_script_leaves_a_netlist_without_a_clock(rt: HostRuntime) -> Result<(), Fail> {
+fn an_empty_script_leaves_a_netlist_without_a_clock(rt: HostRuntime) -> Result<(), AllocError> {
     for (netlist, want) in NETLISTS {
         sure(&rt, is_refused(rt.alloc(), netlist, want)?, netlist);
     }
     Ok(())
 }
 
-fn is_line(alloc: Global, fault: &LibFault, want: &[u8]) -> Result<bool, AllocError> {
-    let line = liberty_line(alloc, fault)?;
-    Ok(line.as_slice() == want)
-}
-
-fn refusal(alloc: Global, text: &str) -> Option<LibFault> {
-    read_lib(alloc, text.as_bytes()).err()
-}
-
 #[test]
 fn a_function_that_breaks_off_is_refused_at_its_place(rt: HostRuntime) -> Result<(), AllocError> {
-    let text = "library (l) { cell (X) { pin (Y) { direction : output; function : \"A +\"; } } }";
-    let right = match &refusal(rt.alloc(), text) {
-        Some(fault) => is_line(rt.alloc(), fault, b"refused liberty 2 Function 67\n")?,
-        None => false,
+    let texts = Texts {
+        netlist: MASKED,
+        cells: "library (l) { cell (X) { pin (Y) { direction : output; function : \"A +\"; } } }",
+        script: "",
+        reset: "",
+        hazard: false,
+        lag: 0,
     };
+    let right = is_shown(rt.alloc(), &texts, "refused liberty 2 Function 67\n")?;
     assert!(rt; right);
     Ok(())
 }

@@ -1,11 +1,11 @@
 //! Selections as lines: first each exception, then each pair.
-use crate::stages::{Texts, Told, told_of_texts};
+use crate::stages::{Texts, found};
+use design_stages::{Designed, Refusal};
 use exception_expand::{CommandLine, Listing, PairLine, Selected};
 use net_model::{Claim, Edge, Kind};
 use sdc_objects::Warning;
-use std::alloc::Global;
+use std::alloc::{AllocError, Global};
 use std::process::Abort;
-use std::test::Fail;
 
 // An edge, where it is not any.
 fn edge_word(edge: Edge) -> &'static str {
@@ -16,95 +16,120 @@ fn edge_word(edge: Edge) -> &'static str {
     }
 }
 
-fn push_kind(text: &mut String, kind: Kind) -> Result<(), Fail> {
+fn push_kind(text: &mut String, kind: Kind) -> Result<(), AllocError> {
     match kind {
-        Kind::False => write!(text, "false")?,
-        Kind::Multi(k) => write!(text, "multi {k}")?,
+        Kind::False => text.push_str("false"),
+        Kind::Multi(k) => write!(text, "multi {k}"),
     }
-    Ok(())
 }
 
-fn push_listing(text: &mut String, listing: &Listing) -> Result<(), Fail> {
+fn push_listing(text: &mut String, listing: &Listing) -> Result<(), AllocError> {
     match listing {
         Listing::Claiming(kind, edge, pairs) => {
             push_kind(text, *kind)?;
-            write!(text, "{} {pairs}", edge_word(*edge))?
+            write!(text, "{} {pairs}", edge_word(*edge))
         }
-        Listing::Hold => write!(text, "hold")?,
-        Listing::Aside(option) => write!(text, "aside {option}")?,
+        Listing::Hold => text.push_str("hold"),
+        Listing::Aside(option) => write!(text, "aside {option}"),
     }
-    Ok(())
+}
+
+fn push_warning(text: &mut String, warning: &Warning) -> Result<(), AllocError> {
+    match warning {
+        Warning::Nothing(pattern) => write!(text, " nothing {pattern}"),
+        Warning::Dropped(pattern, count) => write!(text, " dropped {pattern} {count}"),
+    }
 }
 
 // Its line in the script, what it is, and its warnings.
-fn push_command(text: &mut String, command: &CommandLine) -> Result<(), Fail> {
+fn push_command(text: &mut String, command: &CommandLine) -> Result<(), AllocError> {
     write!(text, "{} ", command.line)?;
     push_listing(text, &command.listing)?;
     for warning in command.warnings.as_slice() {
-        match warning {
-            Warning::Nothing(pattern) => write!(text, " nothing {pattern}")?,
-            Warning::Dropped(pattern, count) => write!(text, " dropped {pattern} {count}")?,
-        }
+        push_warning(text, warning)?;
     }
-    Ok(text.push_str("\n")?)
+    text.push_str("\n")
 }
 
-// The place of its exception, its start and its end, how many pins stand in each through set of its claim, and the claim's
-// edge, lag and hazard where it has them.
-fn push_pair(text: &mut String, pair: &PairLine, claim: &Claim) -> Result<(), Fail> {
-    write!(text, "{} {} -> {}", pair.command, pair.start, pair.end)?;
+// How many pins stand in each through set.
+fn push_through(text: &mut String, claim: &Claim) -> Result<(), AllocError> {
     if claim.through.len() > 0 {
         text.push_str(" through")?;
     }
     for set in claim.through.as_slice() {
         write!(text, " {}", set.pins().len())?;
     }
+    Ok(())
+}
+
+// The edge, the lag and the hazard, where there are any.
+fn push_manner(text: &mut String, claim: &Claim) -> Result<(), AllocError> {
     text.push_str(edge_word(claim.edge))?;
     if claim.lag > 0 {
         write!(text, " lag {}", claim.lag)?;
     }
-    if claim.hazard {
-        text.push_str(" hazard")?;
-    }
-    Ok(text.push_str("\n")?)
+    text.push_str(if claim.hazard { " hazard\n" } else { "\n" })
 }
 
-fn listing(alloc: Global, selected: &Selected) -> Result<String, Fail> {
+// The place of its exception, its start and its end, and what its claim asks.
+fn push_pair(text: &mut String, pair: &PairLine, claim: &Claim) -> Result<(), AllocError> {
+    write!(text, "{} {} -> {}", pair.command, pair.start, pair.end)?;
+    push_through(text, claim)?;
+    push_manner(text, claim)
+}
+
+fn push_commands(text: &mut String, commands: &[CommandLine]) -> Result<(), AllocError> {
+    for command in commands {
+        push_command(text, command)?;
+    }
+    Ok(())
+}
+
+fn push_pairs(text: &mut String, pairs: &[PairLine], claims: &[Claim]) -> Result<(), AllocError> {
+    for (pair, claim) in pairs.iter().zip(claims) {
+        push_pair(text, pair, claim)?;
+    }
+    Ok(())
+}
+
+fn push_selected(text: &mut String, selected: &Selected) -> Result<(), AllocError> {
+    push_commands(text, selected.commands.as_slice())?;
+    push_pairs(text, selected.pairs.as_slice(), selected.claims.as_slice())
+}
+
+fn is_listed(alloc: Global, selected: &Selected, want: &str) -> Result<bool, AllocError> {
     let mut text = String::new(alloc);
-    for command in selected.commands.as_slice() {
-        push_command(&mut text, command)?;
-    }
-    for (pair, claim) in selected
-        .pairs
-        .as_slice()
-        .iter()
-        .zip(selected.claims.as_slice())
-    {
-        push_pair(&mut text, pair, claim)?;
-    }
-    Ok(text)
-}
-
-fn is_listed(alloc: Global, selected: &Selected, want: &str) -> Result<bool, Fail> {
-    let text = listing(alloc, selected)?;
+    push_selected(&mut text, selected)?;
     Ok(text.as_str() == want)
 }
 
-fn is_told(alloc: Global, told: &Told, want: &str) -> Result<bool, Fail> {
-    match told {
-        Told::Selected(selected) => is_listed(alloc, selected, want),
-        Told::Refused(line) => Ok(line.as_str() == want),
+/// Whether this is the line of the refusal. Want of memory has none.
+pub(crate) fn is_line(refusal: &Refusal, want: &str) -> bool {
+    match refusal {
+        Refusal::Line(line) => line.as_slice() == want.as_bytes(),
+        Refusal::Memory => false,
+    }
+}
+
+fn is_told(
+    alloc: Global,
+    found: &Result<Designed, Refusal>,
+    want: &str,
+) -> Result<bool, AllocError> {
+    match found {
+        Ok(designed) => is_listed(alloc, &designed.selected, want),
+        Err(refusal) => Ok(is_line(refusal, want)),
     }
 }
 
 /// Whether the texts give these lines.
-pub(crate) fn is_shown(alloc: Global, texts: &Texts, want: &str) -> Result<bool, Fail> {
-    let told = told_of_texts(alloc, texts)?;
-    is_told(alloc, &told, want)
+pub(crate) fn is_shown(alloc: Global, texts: &Texts, want: &str) -> Result<bool, AllocError> {
+    let found = found(alloc, texts);
+    is_told(alloc, &found, want)
 }
 
 // The same, with a line after the script.
-fn is_shown_with(alloc: Global, texts: &Texts, line: &str, want: &str) -> Result<bool, Fail> {
+fn is_shown_with(alloc: Global, texts: &Texts, line: &str, want: &str) -> Result<bool, AllocError> {
     let script = format!(in alloc; "{}{line}\n", texts.script)?;
     let texts = Texts {
         netlist: texts.netlist,
@@ -128,7 +153,7 @@ pub(crate) fn judge(
     alloc: Global,
     texts: &Texts,
     rows: &[(&str, &str)],
-) -> Result<(), Fail> {
+) -> Result<(), AllocError> {
     for (line, want) in rows {
         sure(rt, is_shown_with(alloc, texts, line, want)?, line);
     }
