@@ -1,10 +1,13 @@
 //! What each command reads, and what it prints or saves. A command answers its status.
+ghost use Rattle.std.specs.Prelude.{◌≤◌};
+
 use crate::commands::{Asked, DesignWords, RunWords};
-use crate::ends::Ended;
-use crate::reads::{bytes_of, texts_of};
+use crate::ends::{Ended, or_ended};
+use crate::reads::{bytes_of, run_texts, texts_of};
+use design_stages::Reset;
 use sdcv_base::Host;
 use std::alloc::Global;
-use view_commands::{bits, gate, groups, reset_of, shown, waved};
+use view_commands::{Gate, Stop, bits, gate, groups, reset_of, shown, waved};
 
 /// Does what the words ask for.
 pub fn answer<H: Host>(alloc: Global, host: &mut H, asked: &Asked<'_>) -> Result<u8, Ended> {
@@ -12,23 +15,49 @@ pub fn answer<H: Host>(alloc: Global, host: &mut H, asked: &Asked<'_>) -> Result
         Asked::Groups { report, csv } => print_groups(alloc, host, report, csv),
         Asked::Gate { report } => print_gate(alloc, host, report),
         Asked::Bits(words) => print_bits(alloc, host, &words),
-        Asked::Show(words) => print_run(alloc, host, &words),
-        Asked::Wave { run, out } => save_wave(alloc, host, &run, out),
+        Asked::Show(words) => tell_run(alloc, host, &words, None),
+        Asked::Wave { run, out } => tell_run(alloc, host, &run, Some(out)),
+    }
+}
+
+fn print_text<H: Host>(host: &mut H, text: &[u8]) -> Result<u8, Ended> {
+    host.print(text)?;
+    Ok(0)
+}
+
+fn printed<H: Host>(host: &mut H, told: Result<Vec<u8>, Stop>) -> Result<u8, Ended> {
+    match told {
+        Ok(text) => print_text(host, &text),
+        Err(stop) => Err(Ended::Stopped(stop)),
+    }
+}
+
+fn save_text<H: Host>(host: &mut H, out: &str, text: &[u8]) -> Result<u8, Ended> {
+    host.save(out, text)?;
+    Ok(0)
+}
+
+fn saved<H: Host>(host: &mut H, out: &str, told: Result<Vec<u8>, Stop>) -> Result<u8, Ended> {
+    match told {
+        Ok(text) => save_text(host, out, &text),
+        Err(stop) => Err(Ended::Stopped(stop)),
     }
 }
 
 // Prints a report by groups, or the groups as comma-separated values.
 fn print_groups<H: Host>(alloc: Global, host: &mut H, name: &str, csv: bool) -> Result<u8, Ended> {
     let report = bytes_of(alloc, host, name)?;
-    let text = groups(alloc, name, &report, csv)?;
-    host.print(&text)?;
-    Ok(0)
+    printed(host, groups(alloc, name, &report, csv))
+}
+
+fn gate_of<H: Host>(alloc: Global, host: &mut H, name: &str) -> Result<Gate, Ended> {
+    let report = bytes_of(alloc, host, name)?;
+    or_ended(gate(alloc, name, &report))
 }
 
 // Prints what stops a build; the status is 0 where nothing does, and else 1.
 fn print_gate<H: Host>(alloc: Global, host: &mut H, name: &str) -> Result<u8, Ended> {
-    let report = bytes_of(alloc, host, name)?;
-    let gate = gate(alloc, name, &report)?;
+    let gate = gate_of(alloc, host, name)?;
     host.print(&gate.text)?;
     Ok(if gate.passes { 0 } else { 1 })
 }
@@ -36,33 +65,51 @@ fn print_gate<H: Host>(alloc: Global, host: &mut H, name: &str) -> Result<u8, En
 // Prints a line for each bit of a stimulus.
 fn print_bits<H: Host>(alloc: Global, host: &mut H, words: &DesignWords<'_>) -> Result<u8, Ended> {
     let reset = reset_of(alloc, &words.reset)?;
+    print_bits_with(alloc, host, words, reset)
+}
+
+fn print_bits_with<H: Host>(
+    alloc: Global,
+    host: &mut H,
+    words: &DesignWords<'_>,
+    reset: Reset,
+) -> Result<u8, Ended>
+    requires { reset.len ≤ 64 }
+{
     let texts = texts_of(alloc, host, words)?;
-    let text = bits(alloc, &texts, reset)?;
-    host.print(&text)?;
-    Ok(0)
+    printed(host, bits(alloc, &texts, reset))
 }
 
-// Prints the run of a refuted pair.
-fn print_run<H: Host>(alloc: Global, host: &mut H, words: &RunWords<'_>) -> Result<u8, Ended> {
-    let reset = reset_of(alloc, &words.design.reset)?;
-    let texts = texts_of(alloc, host, &words.design)?;
-    let report = bytes_of(alloc, host, words.pair.report)?;
-    let text = shown(alloc, &words.pair, &texts, reset, &report)?;
-    host.print(&text)?;
-    Ok(0)
-}
-
-// Saves the run of a refuted pair as a value change dump.
-fn save_wave<H: Host>(
+// Tells the run of a refuted pair: prints it, or saves it as a value change dump under the name.
+fn tell_run<H: Host>(
     alloc: Global,
     host: &mut H,
     words: &RunWords<'_>,
-    out: &str,
+    out: Option<&str>,
 ) -> Result<u8, Ended> {
     let reset = reset_of(alloc, &words.design.reset)?;
-    let texts = texts_of(alloc, host, &words.design)?;
-    let report = bytes_of(alloc, host, words.pair.report)?;
-    let text = waved(alloc, &words.pair, &texts, reset, &report)?;
-    host.save(out, &text)?;
-    Ok(0)
+    tell_run_with(alloc, host, words, out, reset)
+}
+
+fn tell_run_with<H: Host>(
+    alloc: Global,
+    host: &mut H,
+    words: &RunWords<'_>,
+    out: Option<&str>,
+    reset: Reset,
+) -> Result<u8, Ended>
+    requires { reset.len ≤ 64 }
+{
+    let read = run_texts(alloc, host, words)?;
+    match out {
+        None => printed(
+            host,
+            shown(alloc, &words.pair, &read.texts, reset, &read.report),
+        ),
+        Some(out) => saved(
+            host,
+            out,
+            waved(alloc, &words.pair, &read.texts, reset, &read.report),
+        ),
+    }
 }

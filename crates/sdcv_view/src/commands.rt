@@ -175,34 +175,19 @@ fn parser_of<'a>(rule: Rule) -> ValueParser<'a> {
     }
 }
 
-// An argument with a value, which may have to be there.
-fn valued<'a>(alloc: Global, row: ArgRow, needed: bool) -> Arg<'a> {
-    Arg::new(alloc, row.id)
-        .help(row.sentence)
-        .required(needed)
+fn valued<'a>(arg: Arg<'a>, row: ArgRow) -> Arg<'a> {
+    arg.value_name(row.value)
         .value_parser(parser_of(row.rule))
         .action(ArgAction::Set)
 }
 
-fn option<'a>(alloc: Global, row: ArgRow, needed: bool) -> Arg<'a> {
-    valued(alloc, row, needed)
-        .long(row.id)
-        .value_name(row.value)
-}
-
-fn flag<'a>(alloc: Global, row: ArgRow) -> Arg<'a> {
-    Arg::new(alloc, row.id)
-        .long(row.id)
-        .help(row.sentence)
-        .action(ArgAction::SetTrue)
-}
-
 fn arg_of<'a>(alloc: Global, row: ArgRow) -> Arg<'a> {
+    let arg = Arg::new(alloc, row.id).help(row.sentence);
     match row.form {
-        Form::Place => valued(alloc, row, true),
-        Form::Flag => flag(alloc, row),
-        Form::Valued => option(alloc, row, false),
-        Form::Needed => option(alloc, row, true),
+        Form::Place => valued(arg.required(true), row),
+        Form::Flag => arg.long(row.id).action(ArgAction::SetTrue),
+        Form::Valued => valued(arg.long(row.id), row),
+        Form::Needed => valued(arg.long(row.id).required(true), row),
     }
 }
 
@@ -216,21 +201,20 @@ fn subcommand<'a>(alloc: Global, row: CommandRow) -> Result<Command<'a>, AllocEr
 
 // The program with its name and its version, and no command yet.
 fn bare<'a>(alloc: Global) -> Result<Command<'a>, AllocError> {
-    let command = Command::new(alloc, "sdcv_view").bin_name("sdcv_view")?;
-    Ok(
-        command
-            .no_binary_name(true)
-            .version("0.9.0")
-            .about("Show a report of sdcv, the bits of a stimulus, and the run of a refuted pair")
-            .arg_required_else_help(true)
-            .subcommand_required(true),
-    )
+    Command::new(alloc, "sdcv_view")
+        .no_binary_name(true)
+        .version("0.9.0")
+        .about("Show a report of sdcv, the bits of a stimulus, and the run of a refuted pair")
+        .arg_required_else_help(true)
+        .subcommand_required(true)
+        .bin_name("sdcv_view")
 }
 
 fn whole<'a>(alloc: Global) -> Result<Command<'a>, AllocError> {
     let mut command = bare(alloc)?;
     for row in &ROWS {
-        command = command.subcommand(subcommand(alloc, *row)?)?;
+        let sub = subcommand(alloc, *row)?;
+        command = command.subcommand(sub)?;
     }
     Ok(command)
 }
@@ -281,11 +265,17 @@ fn asked_of<'a>(name: &str, matches: &ArgMatches<'a>) -> Asked<'a> {
     }
 }
 
+// What the matches of the program ask for.
+fn asked_in<'a>(matches: &ArgMatches<'a>) -> Asked<'a> {
+    match matches.subcommand() {
+        Some((name, inner)) => asked_of(name, inner),
+        None => Asked::Gate { report: "" },
+    }
+}
+
 /// What the words ask for, or what `clap` tells of them: help, the version, or what is wrong with them.
 pub fn asked_by<'a>(alloc: Global, words: &'a [String]) -> Result<Asked<'a>, Error> {
-    let matches = whole(alloc)?.try_get_matches_from(words)?;
-    match matches.subcommand() {
-        Some((name, inner)) => Ok(asked_of(name, inner)),
-        None => Ok(Asked::Gate { report: "" }),
-    }
+    let command = whole(alloc)?;
+    let matches = command.try_get_matches_from(words)?;
+    Ok(asked_in(&matches))
 }

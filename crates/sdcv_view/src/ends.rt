@@ -13,6 +13,14 @@ pub enum Ended {
     Host,
 }
 
+/// What was made, or why the run has no answer.
+pub fn or_ended<T>(made: Result<T, Stop>) -> Result<T, Ended> {
+    match made {
+        Ok(made) => Ok(made),
+        Err(stop) => Err(Ended::Stopped(stop)),
+    }
+}
+
 impl From<Stop> for Ended {
     fn from(stop: Stop) -> Ended {
         Ended::Stopped(stop)

@@ -1,12 +1,24 @@
--- The run of a refuted pair.
+-- A refuted pair of a report, and its run in a design.
+use Rattle.std.specs.Prelude.{◌≡◌, ◌<◌, ◌≤◌, Some, length, slice_get}
 use Rattle.net_model.specs.Netlist.{IsSound}
 use Rattle.net_model.specs.Fits.{Fits}
+use Rattle.net_model.specs.declared.claims.Claim.{Claim}
+use Rattle.net_model.specs.declared.cycles.Stimulus.{Stimulus}
 use Rattle.run_views.specs.Violations.{IsShowable, IsViolation}
+use Rattle.design_stages.specs.declared.designs.Designed.{Designed}
+use Rattle.view_commands.specs.declared.pairs.RefutedPair.{RefutedPair}
 use Rattle.view_commands.specs.declared.runs.PairRun.{PairRun}
 
--- a sound design, a claim that fits it, and a run that violates the claim
-pub record IsPairRun (r : PairRun) : Type 0 where
-  pub sound : IsSound r.linked.design
-  pub fits : Fits r.linked.design r.claim
-  pub violates : IsViolation r.linked.design r.claim r.stimulus r.violation
-  pub showable : IsShowable r.linked.design r.violation
+-- a pair of the report, and a lag that can be judged
+pub record IsRefutedPair (p : RefutedPair) : Type 0 where
+  pub in_report : p.asked.place < length p.report.pairs
+  pub lag : p.asked.judging.lag ≤ 8
+
+-- a sound design, a claim of it that fits it, and a run of the stimulus that violates the claim
+pub record IsPairRun (d : Designed) (s : Stimulus) (r : PairRun) : Type 0 where
+  pub sound : IsSound d.linked.design
+  pub claim : Claim
+  pub at : slice_get d.selected.claims r.place ≡ Some claim
+  pub fits : Fits d.linked.design claim
+  pub violates : IsViolation d.linked.design claim s r.violation
+  pub showable : IsShowable d.linked.design r.violation

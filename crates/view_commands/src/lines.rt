@@ -1,6 +1,8 @@
 //! Why a report is refused, in a line.
+use crate::words::PairWords;
 use report_rows::ReportFault;
 use std::alloc::{AllocError, Global};
+use witness_replay::{ReplayFault, StimFault};
 
 /// The line of a text that is no report. `name` is that of its file.
 pub(crate) fn report_line(
@@ -14,5 +16,39 @@ pub(crate) fn report_line(
         }
         ReportFault::Json => format!(in alloc; "{name}: it is no JSON of a report"),
         ReportFault::Memory => Err(AllocError),
+    }
+}
+
+/// The line of a report without a stimulus of its pair.
+pub(crate) fn stimulus_line(
+    alloc: Global,
+    words: &PairWords<'_>,
+    fault: StimFault,
+) -> Result<String, AllocError> {
+    let PairWords { report, pair } = *words;
+    match fault {
+        StimFault::NoBlock => format!(in alloc; "{report}: pair {pair} has no stimulus"),
+        StimFault::Form(line) => format!(in alloc;
+            "{report}: the stimulus of pair {pair} breaks its form at line {line}"
+        ),
+        StimFault::Memory => Err(AllocError),
+    }
+}
+
+/// The line of a report of other texts: the stimulus of its pair is none of this design.
+pub(crate) fn replay_line(
+    alloc: Global,
+    words: &PairWords<'_>,
+    fault: ReplayFault,
+) -> Result<String, AllocError> {
+    let PairWords { report, pair } = *words;
+    match fault {
+        ReplayFault::Shape => format!(in alloc;
+            "{report} is of other texts: the stimulus of pair {pair} has other numbers of bits"
+        ),
+        ReplayFault::NotReset(cycle) => format!(in alloc;
+            "{report} is of other texts: in cycle {cycle} of pair {pair} a reset or fixed input has another value"
+        ),
+        ReplayFault::Memory => Err(AllocError),
     }
 }

@@ -1,6 +1,8 @@
 //! A refuted pair of a report.
-ghost use Rattle.std.specs.Prelude.{◌≤◌, IfOk};
+ghost use Rattle.std.specs.Prelude.{◌≡◌, ◌≤◌, ◌<◌, IfOk, Some, length, slice_get};
+ghost use Rattle.view_commands.specs.Runs.{IsRefutedPair};
 
+use crate::lines::stimulus_line;
 use crate::reports::report_in;
 use crate::stops::Stop;
 use crate::words::PairWords;
@@ -9,12 +11,20 @@ use net_model::Stimulus;
 use report_rows::{PairRow, Report, Word, stimulus_of};
 use sdcv_base::Seq;
 use std::alloc::Global;
-use witness_replay::StimFault;
 
 /// A refuted pair of a report with its stimulus, and how the claims of the report are judged.
+///
+/// What always holds (`IsRefutedPair`): the pair is one of the report's, and the lag is one that can be judged.
 #[derive(Drop)]
 pub(crate) struct RefutedPair {
-    pub row: PairRow,
+    pub report: Report,
+    pub asked: AskedPair,
+}
+
+/// A refuted pair: its place among those of its report, from 0, its stimulus, and how its claim is judged.
+#[derive(Drop)]
+pub(crate) struct AskedPair {
+    pub place: usize,
     pub stimulus: Stimulus,
     pub judging: Judging,
 }
@@ -27,30 +37,30 @@ fn verdict_word(word: Word) -> &'static str {
     }
 }
 
-// The row of the pair that these words ask for.
-fn row_of(alloc: Global, words: &PairWords<'_>, rows: Seq<PairRow>) -> Result<PairRow, Stop> {
-    let mut rows = rows.into_vec();
+// The place of the pair that these words ask for.
+fn place_of(alloc: Global, words: &PairWords<'_>, rows: &Seq<PairRow>) -> Result<usize, Stop>
+    ensures { IfOk result (λ place. place < length rows.now) }
+{
     let count = rows.len();
     match words.pair.checked_sub(1) {
-        Some(place) if place < count as u64 => Ok(rows.swap_remove(place as usize)),
+        Some(place) if place < count as u64 => Ok(place as usize),
         _ => {
             let PairWords { report, pair } = *words;
-            Err(Stop::Refused(format!(in alloc; "{report}: no pair {pair}, it has {count}")?))
+            Err(Stop::refused(format!(in alloc; "{report}: no pair {pair}, it has {count}")))
         }
     }
 }
 
-// The row, if it is of a refuted pair.
-fn refuted_row(alloc: Global, words: &PairWords<'_>, rows: Seq<PairRow>) -> Result<PairRow, Stop> {
-    let row = row_of(alloc, words, rows)?;
+// The pair is refuted.
+fn check_refuted(alloc: Global, words: &PairWords<'_>, row: &PairRow) -> Result<(), Stop> {
     if row.verdict == Word::Refuted {
-        return Ok(row);
+        return Ok(());
     }
     let PairWords { report, pair } = *words;
     let verdict = verdict_word(row.verdict);
-    Err(Stop::Refused(format!(in alloc;
+    Err(Stop::refused(format!(in alloc;
         "{report}: pair {pair} is {verdict}, only a refuted pair has a run"
-    )?))
+    )))
 }
 
 // How the claims of a report are judged.
@@ -64,7 +74,7 @@ fn judging_of(alloc: Global, name: &str, report: &Report) -> Result<Judging, Sto
         });
     }
     let lag = report.lag;
-    Err(Stop::Refused(format!(in alloc; "{name}: its lag {lag} is above 8")?))
+    Err(Stop::refused(format!(in alloc; "{name}: its lag {lag} is above 8")))
 }
 
 fn cycles_word(count: u64) -> &'static str {
@@ -78,23 +88,39 @@ fn check_reset(alloc: Global, name: &str, report: &Report, len: usize) -> Result
         return Ok(());
     }
     let cycles = cycles_word(then);
-    Err(Stop::Refused(format!(in alloc;
+    Err(Stop::refused(format!(in alloc;
         "{name} was made with {then} {cycles} of reset, these words give {len}: give --reset as then"
-    )?))
+    )))
 }
 
 fn stimulus_in(alloc: Global, words: &PairWords<'_>, text: &[u8]) -> Result<Stimulus, Stop> {
-    let PairWords { report, pair } = *words;
-    match stimulus_of(alloc, text, pair) {
+    match stimulus_of(alloc, text, words.pair) {
         Ok(stimulus) => Ok(stimulus),
-        Err(StimFault::NoBlock) => Err(Stop::Refused(format!(in alloc;
-            "{report}: pair {pair} has no stimulus"
-        )?)),
-        Err(StimFault::Form(line)) => Err(Stop::Refused(format!(in alloc;
-            "{report}: the stimulus of pair {pair} breaks its form at line {line}"
-        )?)),
-        Err(StimFault::Memory) => Err(Stop::Memory),
+        Err(fault) => Err(Stop::refused(stimulus_line(alloc, words, fault))),
     }
+}
+
+// The pair that these words ask for, in a text and its report.
+fn asked_pair(
+    alloc: Global,
+    words: &PairWords<'_>,
+    text: &[u8],
+    report: &Report,
+    reset: usize,
+) -> Result<AskedPair, Stop>
+    ensures place { IfOk result (λ asked. asked.place < length report.now.pairs) }
+    ensures lag { IfOk result (λ asked. asked.judging.lag ≤ 8) }
+{
+    check_reset(alloc, words.report, report, reset)?;
+    let judging = judging_of(alloc, words.report, report)?;
+    let place = place_of(alloc, words, &report.pairs)?;
+    check_refuted(alloc, words, report.pairs.item(place))?;
+    let stimulus = stimulus_in(alloc, words, text)?;
+    Ok(AskedPair {
+        place,
+        stimulus,
+        judging,
+    })
 }
 
 /// The pair that these words ask for, in a report that was made with so many cycles of reset.
@@ -104,16 +130,9 @@ pub(crate) fn refuted_pair(
     text: &[u8],
     reset: usize,
 ) -> Result<RefutedPair, Stop>
-    ensures { IfOk result (λ pair. pair.judging.lag ≤ 8) }
+    ensures { IfOk result IsRefutedPair }
 {
     let report = report_in(alloc, words.report, text)?;
-    check_reset(alloc, words.report, &report, reset)?;
-    let judging = judging_of(alloc, words.report, &report)?;
-    let row = refuted_row(alloc, words, report.pairs)?;
-    let stimulus = stimulus_in(alloc, words, text)?;
-    Ok(RefutedPair {
-        row,
-        stimulus,
-        judging,
-    })
+    let asked = asked_pair(alloc, words, text, &report, reset)?;
+    Ok(RefutedPair { report, asked })
 }

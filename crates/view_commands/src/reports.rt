@@ -1,6 +1,6 @@
 //! What is told of a report alone.
 use crate::lines::report_line;
-use crate::stops::Stop;
+use crate::stops::{Stop, or_stop};
 use report_groups::{Gate, csv_text, groups_text};
 use report_rows::{Report, read_report};
 use std::alloc::{AllocError, Global};
@@ -9,14 +9,14 @@ use std::alloc::{AllocError, Global};
 pub(crate) fn report_in(alloc: Global, name: &str, text: &[u8]) -> Result<Report, Stop> {
     match read_report(alloc, text) {
         Ok(report) => Ok(report),
-        Err(fault) => Err(Stop::Refused(report_line(alloc, name, fault)?)),
+        Err(fault) => Err(Stop::refused(report_line(alloc, name, fault))),
     }
 }
 
 /// A report by groups, or the groups as comma-separated values. `name` is that of the report's file.
 pub fn groups(alloc: Global, name: &str, report: &[u8], csv: bool) -> Result<Vec<u8>, Stop> {
     let read = report_in(alloc, name, report)?;
-    Ok(told(alloc, &read, csv)?)
+    or_stop(told(alloc, &read, csv))
 }
 
 fn told(alloc: Global, report: &Report, csv: bool) -> Result<Vec<u8>, AllocError> {
@@ -30,5 +30,5 @@ fn told(alloc: Global, report: &Report, csv: bool) -> Result<Vec<u8>, AllocError
 /// What of a report stops a build. `name` is that of the report's file.
 pub fn gate(alloc: Global, name: &str, report: &[u8]) -> Result<Gate, Stop> {
     let read = report_in(alloc, name, report)?;
-    Ok(report_groups::gate(alloc, &read)?)
+    or_stop(report_groups::gate(alloc, &read))
 }

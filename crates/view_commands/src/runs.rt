@@ -1,44 +1,34 @@
 //! The run of a refuted pair, in the design of its texts.
-ghost use Rattle.std.specs.Prelude.{◌≡◌, ◌<◌, ◌≤◌, length, IfOk, Some, slice_get};
+ghost use Rattle.std.specs.Prelude.{◌≡◌, ◌<◌, length, IfOk};
 ghost use Rattle.net_model.specs.Netlist.{IsSound};
 ghost use Rattle.net_model.specs.Fits.{Fits};
 ghost use Rattle.run_views.specs.Violations.{IsShowable, IsViolation};
-ghost use Rattle.design_stages.specs.Designs.{AreLawful, CanBeJudged};
-ghost use Rattle.view_commands.specs.Runs.{IsPairRun};
+ghost use Rattle.design_stages.specs.Designs.{CanBeJudged};
+ghost use Rattle.view_commands.specs.Runs.{IsPairRun, IsRefutedPair};
 
-use crate::pairs::{RefutedPair, refuted_pair};
+use crate::lines::replay_line;
+use crate::pairs::RefutedPair;
 use crate::stops::Stop;
 use crate::words::PairWords;
-use design_stages::{Designed, ReadTexts, Reset, designed};
+use design_stages::Designed;
 use exception_expand::{PairLine, Selected};
-use link_defs::Linked;
 use net_model::{Claim, Design, Stimulus};
 use report_rows::PairRow;
 use report_text::claim_text;
 use run_views::{Violation, violation};
-use sdcv_base::Seq;
 use std::alloc::{AllocError, Global};
-use witness_replay::ReplayFault;
 
-/// A refuted pair of a design, and the run that violates its claim.
+/// The run of a refuted pair in a design.
 ///
-/// What always holds (`IsPairRun`): the design is sound, the claim fits it, and the run violates the claim.
+/// What holds where it was made (`IsPairRun`): the design is sound, the claim at the place fits it, and the run violates the
+/// claim.
 #[derive(Drop)]
 pub(crate) struct PairRun {
-    pub linked: Linked,
+    /// The place of the pair among those that are selected in the design.
+    pub place: usize,
     /// The line of the pair's exception in the constraints, from 1.
     pub line: u64,
-    /// What the report says of the pair.
-    pub row: PairRow,
-    pub claim: Claim,
-    pub stimulus: Stimulus,
     pub violation: Violation,
-}
-
-// A report of other texts, and how that is seen.
-fn other_texts(alloc: Global, words: &PairWords<'_>, why: &str) -> Result<Stop, AllocError> {
-    let report = words.report;
-    Ok(Stop::Refused(format!(in alloc; "{report} is of other texts: {why}")?))
 }
 
 // What a report says that is claimed of a pair.
@@ -59,6 +49,14 @@ fn claimed_of(alloc: Global, claim: &Claim, line: &PairLine) -> Result<String, A
     format!(in alloc; "{kind} {start} -> {end}")
 }
 
+// A report of other texts: it says something else of the pair than what is claimed here.
+fn other_pair(alloc: Global, words: &PairWords<'_>, said: &str, here: &str) -> Stop {
+    let PairWords { report, pair } = *words;
+    Stop::refused(format!(in alloc;
+        "{report} is of other texts: its pair {pair} is {said}, here it is {here}"
+    ))
+}
+
 // The report says of the pair what is claimed of it here.
 fn check_pair(
     alloc: Global,
@@ -72,22 +70,21 @@ fn check_pair(
     if said.as_bytes() == here.as_bytes() {
         return Ok(());
     }
-    let pair = words.pair;
-    let why = format!(in alloc; "its pair {pair} is {said}, here it is {here}")?;
-    Err(other_texts(alloc, words, &why)?)
+    Err(other_pair(alloc, words, &said, &here))
 }
 
-// Here are fewer pairs than the report has.
-fn fewer_pairs(
-    alloc: Global,
-    words: &PairWords<'_>,
-    row: &PairRow,
-    count: usize,
-) -> Result<Stop, AllocError> {
-    let pair = words.pair;
-    let said = said_of(alloc, row)?;
-    let why = format!(in alloc; "its pair {pair} is {said}, here are {count} pairs")?;
-    other_texts(alloc, words, &why)
+// A report of other texts: here are fewer pairs than it has.
+fn fewer_pairs(alloc: Global, words: &PairWords<'_>, row: &PairRow, count: usize) -> Stop {
+    let PairWords { report, pair } = *words;
+    let PairRow {
+        kind,
+        start,
+        end,
+        ..
+    } = row;
+    Stop::refused(format!(in alloc;
+        "{report} is of other texts: its pair {pair} is {kind} {start} -> {end}, here are {count} pairs"
+    ))
 }
 
 // The place of the pair that these words ask for, where the report says of it what is claimed of it here.
@@ -103,7 +100,7 @@ fn place_of(
     let count = selected.pairs.len();
     let place = words.pair.saturating_sub(1);
     if place >= count as u64 {
-        return Err(fewer_pairs(alloc, words, row, count)?);
+        return Err(fewer_pairs(alloc, words, row, count));
     }
     let place = place as usize;
     let claim = selected.claims.item(place);
@@ -120,13 +117,12 @@ fn line_of(selected: &Selected, pair: &PairLine) -> u64 {
     }
 }
 
-// The claim at a place.
-fn taken(claims: Seq<Claim>, place: usize) -> Claim
-    requires { place < length claims }
-    ensures { slice_get claims place ≡ Some result }
-{
-    let mut list = claims.into_vec();
-    list.swap_remove(place)
+// A report of other texts: the run of its stimulus violates nothing.
+fn no_violation(alloc: Global, words: &PairWords<'_>) -> Stop {
+    let PairWords { report, pair } = *words;
+    Stop::refused(format!(in alloc;
+        "{report} is of other texts: the run of pair {pair} violates nothing here"
+    ))
 }
 
 // The run of a stimulus that violates a claim.
@@ -142,62 +138,33 @@ fn violation_of(
     ensures found { IfOk result (IsViolation design.now claim.now stimulus.now) }
     ensures showable { IfOk result (IsShowable design.now) }
 {
-    let pair = words.pair;
-    let why = match violation(alloc, design, claim, stimulus) {
-        Ok(Some(found)) => return Ok(found),
-        Ok(None) => format!(in alloc; "the run of pair {pair} violates nothing here")?,
-        Err(ReplayFault::Shape) => {
-            format!(in alloc; "the stimulus of pair {pair} has other numbers of bits")?
-        }
-        Err(ReplayFault::NotReset(cycle)) => {
-            format!(in alloc;
-                "in cycle {cycle} of pair {pair} a reset or fixed input has another value"
-            )?
-        }
-        Err(ReplayFault::Memory) => return Err(Stop::Memory),
-    };
-    Err(other_texts(alloc, words, &why)?)
+    match violation(alloc, design, claim, stimulus) {
+        Ok(Some(found)) => Ok(found),
+        Ok(None) => Err(no_violation(alloc, words)),
+        Err(fault) => Err(Stop::refused(replay_line(alloc, words, fault))),
+    }
 }
 
-// The run of a pair in its design.
-fn run_in(
+/// The run of a pair in its design. A report that is not of these texts is refused.
+pub(crate) fn pair_run(
     alloc: Global,
     words: &PairWords<'_>,
-    pair: RefutedPair,
-    designed: Designed,
+    pair: &RefutedPair,
+    designed: &Designed,
 ) -> Result<PairRun, Stop>
-    requires { CanBeJudged designed }
-    ensures { IfOk result IsPairRun }
+    requires pair { IsRefutedPair pair.now }
+    requires design { CanBeJudged designed.now }
+    ensures { IfOk result (IsPairRun designed.now pair.now.asked.stimulus) }
 {
-    let RefutedPair { row, stimulus, .. } = pair;
     let Designed { linked, selected } = designed;
-    let place = place_of(alloc, words, &row, &selected)?;
-    let line = line_of(&selected, selected.pairs.item(place));
-    let claim = taken(selected.claims, place);
-    let violation = violation_of(alloc, words, &linked.design, &claim, &stimulus)?;
+    let row = pair.report.pairs.item(pair.asked.place);
+    let place = place_of(alloc, words, row, selected)?;
+    let line = line_of(selected, selected.pairs.item(place));
+    let claim = selected.claims.item(place);
+    let violation = violation_of(alloc, words, &linked.design, claim, &pair.asked.stimulus)?;
     Ok(PairRun {
-        linked,
+        place,
         line,
-        row,
-        claim,
-        stimulus,
         violation,
     })
-}
-
-/// The run of the pair that these words ask for. A report that is not of these texts is refused.
-pub(crate) fn run_of(
-    alloc: Global,
-    words: &PairWords<'_>,
-    texts: &ReadTexts,
-    reset: Reset,
-    report: &[u8],
-) -> Result<PairRun, Stop>
-    requires lawful { AreLawful texts.now }
-    requires reset { reset.len ≤ 64 }
-    ensures { IfOk result IsPairRun }
-{
-    let pair = refuted_pair(alloc, words, report, reset.len)?;
-    let designed = designed(alloc, texts, reset, pair.judging)?;
-    run_in(alloc, words, pair, designed)
 }

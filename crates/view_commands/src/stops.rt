@@ -25,6 +25,14 @@ pub enum Stop {
 }
 
 impl Stop {
+    /// What is refused in this line, or want of memory for it.
+    pub fn refused(line: Result<String, AllocError>) -> Stop {
+        match line {
+            Ok(line) => Stop::Refused(line),
+            Err(_) => Stop::Memory,
+        }
+    }
+
     /// The status of a program that ends so.
     pub fn status(&self) -> u8
         ensures { result ≡ status_of self.now }
@@ -34,6 +42,14 @@ impl Stop {
             Stop::Line(_) | Stop::Refused(_) => 3,
             Stop::Memory => 6,
         }
+    }
+}
+
+/// What was made, where there was memory for it.
+pub(crate) fn or_stop<T>(made: Result<T, AllocError>) -> Result<T, Stop> {
+    match made {
+        Ok(made) => Ok(made),
+        Err(_) => Err(Stop::Memory),
     }
 }
 

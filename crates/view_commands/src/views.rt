@@ -1,20 +1,33 @@
 //! What is told of a design: the bits of a stimulus, and the run of a refuted pair as text and as a waveform.
 ghost use Rattle.std.specs.Prelude.{◌≤◌};
-ghost use Rattle.design_stages.specs.Designs.{AreLawful};
+ghost use Rattle.design_stages.specs.Designs.{AreLawful, CanBeJudged};
+ghost use Rattle.run_views.specs.Violations.{IsShowable};
+ghost use Rattle.view_commands.specs.Runs.{IsPairRun, IsRefutedPair};
 
-use crate::runs::{PairRun, run_of};
-use crate::stops::Stop;
+use crate::pairs::{RefutedPair, refuted_pair};
+use crate::runs::{PairRun, pair_run};
+use crate::stops::{Stop, or_stop};
 use crate::words::PairWords;
-use design_stages::{ReadTexts, Reset, designed};
+use design_stages::{Designed, ReadTexts, Reset, designed};
 use exception_expand::Judging;
+use link_defs::Linked;
 use link_tops::one_top;
 use named_runs::bits_text;
 use netlist_types::Source;
 use report_rows::PairRow;
+use run_views::Violation;
 use run_waves::wave;
 use sdcv_base::Name;
 use shown_runs::{Heading, show};
 use std::alloc::{AllocError, Global};
+
+/// How the run of a pair is told.
+#[derive(Clone, Copy)]
+enum View {
+    Text,
+    /// As a value change dump.
+    Wave,
+}
 
 /// A line for each bit of a stimulus of the design, with its full name.
 pub fn bits(alloc: Global, texts: &ReadTexts, reset: Reset) -> Result<Vec<u8>, Stop>
@@ -26,29 +39,7 @@ pub fn bits(alloc: Global, texts: &ReadTexts, reset: Reset) -> Result<Vec<u8>, S
         lag: 0,
     };
     let designed = designed(alloc, texts, reset, judging)?;
-    Ok(bits_text(alloc, &designed.linked)?)
-}
-
-// What the report says of the pair, with the line of its exception.
-fn heading_of(alloc: Global, run: &PairRun) -> Result<Heading, AllocError> {
-    let PairRow {
-        number,
-        command,
-        kind,
-        start,
-        end,
-        why,
-        ..
-    } = &run.row;
-    Ok(Heading {
-        number: *number,
-        command: *command,
-        line: run.line,
-        kind: kind.copy(alloc)?,
-        start: start.copy(alloc)?,
-        end: end.copy(alloc)?,
-        why: why.copy(alloc)?,
-    })
+    or_stop(bits_text(alloc, &designed.linked))
 }
 
 /// The run of a refuted pair of a report as text.
@@ -62,17 +53,7 @@ pub fn shown(
     requires lawful { AreLawful texts.now }
     requires reset { reset.len ≤ 64 }
 {
-    let run = run_of(alloc, words, texts, reset, report)?;
-    let heading = heading_of(alloc, &run)?;
-    Ok(show(alloc, &heading, &run.linked, &run.claim, &run.violation)?)
-}
-
-// The name of the module that no module instantiates. A source that was linked has one, so what is left is want of memory.
-fn top_name(alloc: Global, source: &Source) -> Result<Name, AllocError> {
-    match one_top(alloc, source) {
-        Ok(place) => source.modules.item(place).name.copy(alloc),
-        Err(_) => Err(AllocError),
-    }
+    viewed(alloc, words, texts, reset, report, View::Text)
 }
 
 /// The run of a refuted pair of a report as a value change dump.
@@ -86,7 +67,116 @@ pub fn waved(
     requires lawful { AreLawful texts.now }
     requires reset { reset.len ≤ 64 }
 {
-    let run = run_of(alloc, words, texts, reset, report)?;
-    let top = top_name(alloc, &texts.source)?;
-    Ok(wave(alloc, &top, &run.linked, &run.violation)?)
+    viewed(alloc, words, texts, reset, report, View::Wave)
+}
+
+// The run of the pair that these words ask for.
+fn viewed(
+    alloc: Global,
+    words: &PairWords<'_>,
+    texts: &ReadTexts,
+    reset: Reset,
+    report: &[u8],
+    view: View,
+) -> Result<Vec<u8>, Stop>
+    requires lawful { AreLawful texts.now }
+    requires reset { reset.len ≤ 64 }
+{
+    let pair = refuted_pair(alloc, words, report, reset.len)?;
+    pair_view(alloc, words, texts, reset, &pair, view)
+}
+
+// The run of a pair, in the design of these texts.
+fn pair_view(
+    alloc: Global,
+    words: &PairWords<'_>,
+    texts: &ReadTexts,
+    reset: Reset,
+    pair: &RefutedPair,
+    view: View,
+) -> Result<Vec<u8>, Stop>
+    requires lawful { AreLawful texts.now }
+    requires reset { reset.len ≤ 64 }
+    requires pair { IsRefutedPair pair.now }
+{
+    let designed = designed(alloc, texts, reset, pair.asked.judging)?;
+    match view {
+        View::Text => shown_pair(alloc, words, pair, &designed),
+        View::Wave => waved_pair(alloc, words, pair, &designed, &texts.source),
+    }
+}
+
+fn shown_pair(
+    alloc: Global,
+    words: &PairWords<'_>,
+    pair: &RefutedPair,
+    designed: &Designed,
+) -> Result<Vec<u8>, Stop>
+    requires pair { IsRefutedPair pair.now }
+    requires design { CanBeJudged designed.now }
+{
+    let run = pair_run(alloc, words, pair, designed)?;
+    or_stop(show_run(alloc, pair, designed, &run))
+}
+
+fn show_run(
+    alloc: Global,
+    pair: &RefutedPair,
+    designed: &Designed,
+    run: &PairRun,
+) -> Result<Vec<u8>, AllocError>
+    requires pair { IsRefutedPair pair.now }
+    requires run { IsPairRun designed.now pair.now.asked.stimulus run.now }
+{
+    let row = pair.report.pairs.item(pair.asked.place);
+    let heading = heading_of(alloc, row, run.line)?;
+    let claim = designed.selected.claims.item(run.place);
+    show(alloc, &heading, &designed.linked, claim, &run.violation)
+}
+
+// What the report says of the pair, with the line of its exception.
+fn heading_of(alloc: Global, row: &PairRow, line: u64) -> Result<Heading, AllocError> {
+    Ok(Heading {
+        number: row.number,
+        command: row.command,
+        line,
+        kind: row.kind.copy(alloc)?,
+        start: row.start.copy(alloc)?,
+        end: row.end.copy(alloc)?,
+        why: row.why.copy(alloc)?,
+    })
+}
+
+fn waved_pair(
+    alloc: Global,
+    words: &PairWords<'_>,
+    pair: &RefutedPair,
+    designed: &Designed,
+    source: &Source,
+) -> Result<Vec<u8>, Stop>
+    requires pair { IsRefutedPair pair.now }
+    requires design { CanBeJudged designed.now }
+{
+    let run = pair_run(alloc, words, pair, designed)?;
+    or_stop(wave_run(alloc, source, &designed.linked, &run.violation))
+}
+
+fn wave_run(
+    alloc: Global,
+    source: &Source,
+    linked: &Linked,
+    violation: &Violation,
+) -> Result<Vec<u8>, AllocError>
+    requires { IsShowable linked.now.design violation.now }
+{
+    let top = top_name(alloc, source)?;
+    wave(alloc, &top, linked, violation)
+}
+
+// The name of the module that no module instantiates. A source that was linked has one, so what is left is want of memory.
+fn top_name(alloc: Global, source: &Source) -> Result<Name, AllocError> {
+    match one_top(alloc, source) {
+        Ok(place) => source.modules.item(place).name.copy(alloc),
+        Err(_) => Err(AllocError),
+    }
 }
