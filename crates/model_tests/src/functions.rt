@@ -6,7 +6,6 @@ ghost use Rattle.net_model.specs.Netlist.{IsOptionOver};
 use net_model::{Args, Func, Reg, RegOut, Tern, Value, capture_func};
 use sdcv_base::Seq;
 use std::alloc::{AllocError, Global};
-use std::test;
 
 // Place 0 where select, place 2, is 1, else place 1.
 fn multiplexer(alloc: Global) -> Result<Func, AllocError>
@@ -33,14 +32,27 @@ const SELECTED: &[Selected] = &[
     Selected(Tern::Unknown, Tern::One, Tern::Zero, Tern::One),
 ];
 
+fn copied(alloc: Global) -> Result<Func, AllocError>
+    ensures { IfOk result (IsOver 7) }
+{
+    let mux = multiplexer(alloc)?;
+    mux.copy(alloc)
+}
+
+fn output_of(mux: &Func, row: &Selected) -> Tern
+    requires { IsOver 7 mux.now }
+{
+    let mut args = Args::of(row.0);
+    args.set(1, row.1);
+    args.set(2, row.2);
+    Tern::apply(mux, &args)
+}
+
 #[test]
-fn a_multiplexer_as_one_cell_has_no_hazard_inside(rt: HostRuntime) -> Result<(), test::Fail> {
-    let mux = multiplexer(rt.alloc())?.copy(rt.alloc())?;
-    for Selected(a, b, select, want) in SELECTED {
-        let mut args = Args::of(*a);
-        args.set(1, *b);
-        args.set(2, *select);
-        assert_eq!(rt; Tern::apply(&mux, &args), *want, "{a:?} {b:?} {select:?}");
+fn a_multiplexer_as_one_cell_has_no_hazard_inside(rt: HostRuntime) -> Result<(), AllocError> {
+    let mux = copied(rt.alloc())?;
+    for (place, row) in SELECTED.iter().enumerate() {
+        assert_eq!(rt; output_of(&mux, row), row.3, "row {place}");
     }
     Ok(())
 }
@@ -89,19 +101,20 @@ const CAPTURED: &[Captured] = &[
     Captured(false, true, true, false, true, true),
 ];
 
+fn capture_of(alloc: Global, row: &Captured) -> Result<bool, AllocError> {
+    let func = toggle_capture(alloc, row.4)?;
+    let mut args = Args::of(row.3);
+    args.set(0, row.0);
+    args.set(1, row.1);
+    args.set(2, row.2);
+    Ok(bool::apply(&func, &args))
+}
+
 #[test]
-fn clear_and_preset_come_before_the_next_state(rt: HostRuntime) -> Result<(), test::Fail> {
-    for Captured(enable, clear, preset, own, both, want) in CAPTURED {
-        let func = toggle_capture(rt.alloc(), *both)?;
-        let mut args = Args::of(*own);
-        args.set(0, *enable);
-        args.set(1, *clear);
-        args.set(2, *preset);
-        assert_eq!(rt;
-            bool::apply(&func, &args),
-            *want,
-            "{enable} {clear} {preset} {own} {both}"
-        );
+fn clear_and_preset_come_before_the_next_state(rt: HostRuntime) -> Result<(), AllocError> {
+    for (place, row) in CAPTURED.iter().enumerate() {
+        let found = capture_of(rt.alloc(), row)?;
+        assert_eq!(rt; found, row.5, "row {place}");
     }
     Ok(())
 }

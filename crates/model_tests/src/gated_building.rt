@@ -5,19 +5,9 @@ ghost use Rattle.icg_rewrite.specs.Gated.{AreGated, IsBelowIfAny};
 
 use icg_rewrite::{ClockGate, Gated};
 use net_model::{Design, Func};
-use net_samples::{Part, design};
 use sdcv_base::Seq;
 use std::alloc::{AllocError, Global};
 use std::process::Abort;
-
-/// A design of these parts, which is sound.
-pub fn sound_design(rt: &impl Abort, alloc: Global, parts: &[Part]) -> Result<Design, AllocError>
-    ensures { IfOk result IsSound }
-{
-    let design = design(alloc, parts)?;
-    assert!(rt; design.check(alloc).is_ok());
-    Ok(design)
-}
 
 /// A design without clock gates.
 pub fn ungated(alloc: Global, design: Design) -> Result<Gated, AllocError>

@@ -1,10 +1,13 @@
 //! What registers capture at a gated clock edge, by hand.
 ghost use Rattle.std.specs.Prelude.{IfOk};
 ghost use Rattle.icg_rewrite.specs.Gated.{AreGated};
+ghost use Rattle.net_model.specs.Netlist.{IsSound};
+ghost use Rattle.net_model.specs.Cycles.{IsSettled};
 
-use crate::gated_building::{add_gate, is_below, put_behind, sound_design, ungated};
+use crate::gated_building::{add_gate, is_below, put_behind, ungated};
+use crate::sound_cases::sound_design;
 use icg_rewrite::{Gated, RewriteFault, rewrite};
-use net_model::Cycle;
+use net_model::{Cycle, Design};
 use net_samples::Form::{Choice, Pin};
 use net_samples::Out::Q;
 use net_samples::Part::{Holds, Nets};
@@ -13,7 +16,6 @@ use net_sim::{settle, step};
 use sdcv_base::Seq;
 use std::alloc::{AllocError, Global};
 use std::process::Abort;
-use std::test;
 
 /// A design with clock gates: its parts, the net of the enable of each clock gate with its parent, and registers with the
 /// clock gates behind which they stand.
@@ -102,27 +104,11 @@ fn gated(rt: &impl Abort, alloc: Global, sample: &Sample) -> Result<Gated, Alloc
     Ok(gated)
 }
 
-/// What the registers of the rewritten design capture where they have these bits, and the inputs those.
-fn captured(
-    rt: &impl Abort,
-    alloc: Global,
-    sample: &Sample,
-    bits: &[bool],
-    ins: &[bool],
-) -> Result<Seq<bool>, AllocError> {
+fn rewritten(rt: &impl Abort, alloc: Global, sample: &Sample) -> Result<Design, AllocError>
+    ensures { IfOk result IsSound }
+{
     let gated = gated(rt, alloc, sample)?;
-    let Ok(design) = rewrite(alloc, &gated) else {
-        return Err(AllocError);
-    };
-    let mut cycle = Cycle::blank(alloc, &design)?;
-    cycle.bits = Seq::of(alloc, bits)?;
-    cycle.ins = Seq::of(alloc, ins)?;
-    assert!(rt; cycle.bits.len() == design.regs.len());
-    assert!(rt; cycle.ins.len() == design.inputs.len());
-    settle(&design, &mut cycle);
-    let mut next = Cycle::blank(alloc, &design)?;
-    step(&design, &cycle, &mut next);
-    Ok(next.bits)
+    rewrite(alloc, &gated).map_err(|_| AllocError)
 }
 
 /// Bits of registers and inputs, and what the registers then capture.
@@ -133,6 +119,34 @@ struct Edge(
     &'static [bool],
     &'static [bool],
 );
+
+// The settled cycle in which registers and inputs have these bits.
+fn settled(
+    rt: &impl Abort,
+    alloc: Global,
+    design: &Design,
+    edge: &Edge,
+) -> Result<Cycle, AllocError>
+    requires { IsSound design.now }
+    ensures { IfOk result (IsSettled design.now) }
+{
+    let mut cycle = Cycle::blank(alloc, design)?;
+    cycle.bits = Seq::of(alloc, edge.2)?;
+    cycle.ins = Seq::of(alloc, edge.3)?;
+    assert!(rt; cycle.bits.len() == design.regs.len());
+    assert!(rt; cycle.ins.len() == design.inputs.len());
+    settle(design, &mut cycle);
+    Ok(cycle)
+}
+
+fn check_edge(rt: &impl Abort, alloc: Global, edge: &Edge) -> Result<(), AllocError> {
+    let design = rewritten(rt, alloc, &edge.1)?;
+    let cycle = settled(rt, alloc, &design, edge)?;
+    let mut next = Cycle::blank(alloc, &design)?;
+    step(&design, &cycle, &mut next);
+    assert!(rt; next.bits.as_slice() == edge.4, "{}", edge.0);
+    Ok(())
+}
 
 const O: bool = false;
 
@@ -156,16 +170,15 @@ const EDGES: &[Edge] = &[
 ];
 
 #[test]
-fn gated_edges_capture_what_is_worked_out_by_hand(rt: HostRuntime) -> Result<(), test::Fail> {
-    for Edge(name, sample, bits, ins, want) in EDGES {
-        let found = captured(&rt, rt.alloc(), sample, bits, ins)?;
-        assert!(rt; found.as_slice() == *want, "{name}");
+fn gated_edges_capture_what_is_worked_out_by_hand(rt: HostRuntime) -> Result<(), AllocError> {
+    for edge in EDGES {
+        check_edge(&rt, rt.alloc(), edge)?;
     }
     Ok(())
 }
 
 #[test]
-fn a_register_with_six_pins_has_no_room_for_an_enable(rt: HostRuntime) -> Result<(), test::Fail> {
+fn a_register_with_six_pins_has_no_room_for_an_enable(rt: HostRuntime) -> Result<(), AllocError> {
     let gated = gated(&rt, rt.alloc(), &SIX_PINS)?;
     let refused = rewrite(rt.alloc(), &gated).err();
     assert_eq!(rt; refused, Some(RewriteFault::Pins(1)));
