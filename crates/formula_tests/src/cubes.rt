@@ -5,7 +5,6 @@ ghost use Rattle.net_model.specs.Form.{IsOver};
 use cell_cubes::{cubes, rows};
 use net_model::{Func, Tern};
 use std::alloc::{AllocError, Global};
-use std::test;
 
 // The conjunction of the places 0 and 1.
 fn conjunction(alloc: Global) -> Result<Func, AllocError>
@@ -16,7 +15,7 @@ fn conjunction(alloc: Global) -> Result<Func, AllocError>
 
 // The first row is all zeros; the third has place 1 alone.
 #[test]
-fn rows_of_a_conjunction_ascend_by_bits(rt: HostRuntime) -> Result<(), test::Fail> {
+fn rows_of_a_conjunction_ascend_by_bits(rt: HostRuntime) -> Result<(), AllocError> {
     let alloc = rt.alloc();
     let func = conjunction(alloc)?;
     let values = rows(alloc, &func, 2)?;
@@ -27,7 +26,7 @@ fn rows_of_a_conjunction_ascend_by_bits(rt: HostRuntime) -> Result<(), test::Fai
 // Of the nine cubes of two places a conjunction is constant on six: 00, 10, 01, 11, X0 and 0X, place 0 first, which are
 // the numbers 0, 1, 3, 4, 2 and 6.
 #[test]
-fn cubes_of_a_conjunction_ascend_by_number(rt: HostRuntime) -> Result<(), test::Fail> {
+fn cubes_of_a_conjunction_ascend_by_number(rt: HostRuntime) -> Result<(), AllocError> {
     let alloc = rt.alloc();
     let func = conjunction(alloc)?;
     let want = [

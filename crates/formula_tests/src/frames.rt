@@ -89,11 +89,15 @@ fn last_moved(alloc: Global, case: &Case) -> Result<Seq<bool>, AllocError>
     Ok(row)
 }
 
+fn moved_in(rt: &impl Abort, alloc: Global, row: &Moved) -> Result<Seq<bool>, AllocError> {
+    let case = case(rt, alloc, row.0)?;
+    last_moved(alloc, &case)
+}
+
 #[test]
 fn nets_are_moved_through_the_sets_in_order(rt: HostRuntime) -> Result<(), AllocError> {
     for (place, row) in MOVED.iter().enumerate() {
-        let case = case(&rt, rt.alloc(), row.0)?;
-        let moved = last_moved(rt.alloc(), &case)?;
+        let moved = moved_in(&rt, rt.alloc(), row)?;
         assert!(rt; moved.as_slice() == row.1, "case {place}");
     }
     Ok(())
@@ -155,8 +159,8 @@ fn subject_lit(rt: &impl Abort, subject: &Subject, row: &Read) -> KeyLit
     }
 }
 
-// The same, of a design and a claim.
-fn read_lit(rt: &impl Abort, alloc: Global, case: &Case, row: &Read) -> Result<KeyLit, AllocError>
+// The same, of a case.
+fn case_lit(rt: &impl Abort, alloc: Global, case: &Case, row: &Read) -> Result<KeyLit, AllocError>
     requires sound { IsSound case.now.design }
     requires fits { Fits case.now.design case.now.claim }
 {
@@ -165,12 +169,17 @@ fn read_lit(rt: &impl Abort, alloc: Global, case: &Case, row: &Read) -> Result<K
     Ok(subject_lit(rt, &subject, row))
 }
 
+// The same, of the query of a row.
+fn read_lit(rt: &impl Abort, alloc: Global, row: &Read) -> Result<KeyLit, AllocError> {
+    let case = case(rt, alloc, row.0)?;
+    case_lit(rt, alloc, &case, row)
+}
+
 #[test]
 fn literals_are_those_of_layers_and_rails(rt: HostRuntime) -> Result<(), AllocError> {
     for (place, row) in READS.iter().enumerate() {
-        let case = case(&rt, rt.alloc(), row.0)?;
+        let found = read_lit(&rt, rt.alloc(), row)?;
         let (key, positive) = (key(row.3), row.4);
-        let found = read_lit(&rt, rt.alloc(), &case, row)?;
         assert_eq!(rt; found, KeyLit { key, positive }, "case {place}");
     }
     Ok(())

@@ -6,10 +6,11 @@ ghost use Rattle.net_model.specs.Form.{IsOver};
 
 use frame_unroll::counts;
 use net_model::{Func, Tern};
-use prime_cubes::{cell_of, primes};
+use prime_cubes::{Cell, cell_of, primes};
 use query_model::{Coding, Cube};
+use sdcv_base::Seq;
 use std::alloc::{AllocError, Global};
-use std::test;
+use std::process::Abort;
 
 /// A function as a sum of products, its prime cubes in their order, and the places on which it depends.
 struct Row {
@@ -142,54 +143,83 @@ fn shown(alloc: Global, cubes: &[Cube]) -> Result<String, AllocError> {
     Ok(text)
 }
 
+fn found_primes(alloc: Global, row: &Row) -> Result<String, AllocError> {
+    let places = row.places.min(7);
+    let func = sum(alloc, row.products, places)?;
+    let found = primes(alloc, &func, places)?;
+    shown(alloc, found.as_slice())
+}
+
 #[test]
-fn prime_cubes_are_those_by_hand(rt: HostRuntime) -> Result<(), test::Fail> {
-    let alloc = rt.alloc();
+fn prime_cubes_are_those_by_hand(rt: HostRuntime) -> Result<(), AllocError> {
     for row in ROWS {
-        let places = row.places.min(7);
-        let func = sum(alloc, row.products, places)?;
-        let found = primes(alloc, &func, places)?;
-        let text = shown(alloc, found.as_slice())?;
-        assert_eq!(rt; text.as_str(), row.primes, "{}", row.name);
+        let found = found_primes(rt.alloc(), row)?;
+        assert_eq!(rt; found.as_str(), row.primes, "{}", row.name);
     }
     Ok(())
+}
+
+// The marks of the places of a row by a coding.
+fn counted(alloc: Global, row: &Row, coding: Coding) -> Result<Seq<bool>, AllocError> {
+    let places = row.places.min(7);
+    let func = sum(alloc, row.products, places)?;
+    counts(alloc, &func, places, coding)
 }
 
 #[test]
 fn a_place_counts_by_rows_and_where_the_function_depends_on_it(
     rt: HostRuntime,
-) -> Result<(), test::Fail> {
-    let alloc = rt.alloc();
+) -> Result<(), AllocError> {
     for row in ROWS {
-        let places = row.places.min(7);
-        let func = sum(alloc, row.products, places)?;
-        let by_rows = counts(alloc, &func, places, Coding::Rows)?;
+        let by_rows = counted(rt.alloc(), row, Coding::Rows)?;
         assert_eq!(rt; by_rows.len(), row.counts.len(), "{}", row.name);
-        for count in by_rows.as_slice() {
-            assert!(rt; *count, "{}", row.name);
-        }
-        let by_primes = counts(alloc, &func, places, Coding::Primes)?;
+        assert!(rt;
+            by_rows.as_slice().iter().all(|count| *count),
+            "{}",
+            row.name
+        );
+        let by_primes = counted(rt.alloc(), row, Coding::Primes)?;
         assert!(rt; by_primes.as_slice() == row.counts, "{}", row.name);
     }
     Ok(())
 }
 
+/// A coding, and the covering and the settling cubes of a conjunction.
+struct Coded(Coding, &'static str, &'static str);
+
 // By rows a conjunction has its four rows and the six cubes on which it is constant; by prime cubes one list serves as both.
-#[test]
-fn a_cell_has_the_cubes_of_its_coding(rt: HostRuntime) -> Result<(), test::Fail> {
-    let alloc = rt.alloc();
+const CODED: &[Coded] = &[
+    Coded(
+        Coding::Rows,
+        "00:0 10:0 01:0 11:1",
+        "00:0 10:0 X0:0 01:0 11:1 0X:0",
+    ),
+    Coded(Coding::Primes, "X0:0 11:1 0X:0", "X0:0 11:1 0X:0"),
+];
+
+// The cell of a conjunction.
+fn conjunction_in(alloc: Global, coding: Coding) -> Result<Cell, AllocError> {
     let func = sum(alloc, &["11"], 2)?;
-    for (coding, covering, settling) in [
-        (
-            Coding::Rows,
-            "00:0 10:0 01:0 11:1",
-            "00:0 10:0 X0:0 01:0 11:1 0X:0",
-        ),
-        (Coding::Primes, "X0:0 11:1 0X:0", "X0:0 11:1 0X:0"),
-    ] {
-        let cell = cell_of(alloc, &func, 2, coding)?;
-        assert_eq!(rt; shown(alloc, cell.covering())?.as_str(), covering);
-        assert_eq!(rt; shown(alloc, cell.settling())?.as_str(), settling);
+    cell_of(alloc, &func, 2, coding)
+}
+
+fn check_cubes(
+    rt: &impl Abort,
+    alloc: Global,
+    cubes: &[Cube],
+    want: &str,
+) -> Result<(), AllocError> {
+    let found = shown(alloc, cubes)?;
+    assert_eq!(rt; found.as_str(), want);
+    Ok(())
+}
+
+#[test]
+fn a_cell_has_the_cubes_of_its_coding(rt: HostRuntime) -> Result<(), AllocError> {
+    for row in CODED {
+        let cell = conjunction_in(rt.alloc(), row.0)?;
+        check_cubes(&rt, rt.alloc(), cell.covering(), row.1)?;
+        check_cubes(&rt, rt.alloc(), cell.settling(), row.2)?;
     }
     Ok(())
 }
