@@ -1,8 +1,7 @@
-use std::alloc::Global;
-use std::test::Fail;
+use std::alloc::{AllocError, Global};
 use verilog_net::{Conn, Dir, Item, Port, Source, Wire, read_verilog};
 
-fn push_wire(text: &mut String, wire: &Wire) -> Result<(), Fail> {
+fn push_wire(text: &mut String, wire: &Wire) -> Result<(), AllocError> {
     match wire {
         Wire::Const(true) => text.push_str("'1")?,
         Wire::Const(false) => text.push_str("'0")?,
@@ -11,7 +10,7 @@ fn push_wire(text: &mut String, wire: &Wire) -> Result<(), Fail> {
     Ok(())
 }
 
-fn push_port(text: &mut String, port: &Port) -> Result<(), Fail> {
+fn push_port(text: &mut String, port: &Port) -> Result<(), AllocError> {
     text.push_str(match port.dir {
         Dir::Input => " input ",
         Dir::Output => " output ",
@@ -25,7 +24,7 @@ fn push_port(text: &mut String, port: &Port) -> Result<(), Fail> {
     Ok(())
 }
 
-fn push_conn(text: &mut String, conn: &Conn) -> Result<(), Fail> {
+fn push_conn(text: &mut String, conn: &Conn) -> Result<(), AllocError> {
     let pin = &conn.pin;
     write!(text, " {pin}")?;
     if let Some(wires) = &conn.wires {
@@ -37,7 +36,7 @@ fn push_conn(text: &mut String, conn: &Conn) -> Result<(), Fail> {
     Ok(())
 }
 
-fn push_prim(text: &mut String, outs: &[usize], ins: &[Wire]) -> Result<(), Fail> {
+fn push_prim(text: &mut String, outs: &[usize], ins: &[Wire]) -> Result<(), AllocError> {
     for out in outs {
         write!(text, " {out}")?;
     }
@@ -49,7 +48,7 @@ fn push_prim(text: &mut String, outs: &[usize], ins: &[Wire]) -> Result<(), Fail
     Ok(())
 }
 
-fn push_item(text: &mut String, item: &Item) -> Result<(), Fail> {
+fn push_item(text: &mut String, item: &Item) -> Result<(), AllocError> {
     match item {
         Item::Inst { cell, name, conns } => {
             write!(text, " {cell} {name}")?;
@@ -80,7 +79,7 @@ fn push_item(text: &mut String, item: &Item) -> Result<(), Fail> {
 }
 
 // A netlist in one line: each module with its ports and their nets, the names of its nets, and its items.
-fn shown(alloc: Global, source: &Source) -> Result<String, Fail> {
+fn shown(alloc: Global, source: &Source) -> Result<String, AllocError> {
     let mut text = String::new(alloc);
     for module in source.modules.as_slice() {
         let name = &module.name;
@@ -99,10 +98,10 @@ fn shown(alloc: Global, source: &Source) -> Result<String, Fail> {
     Ok(text)
 }
 
-fn told(alloc: Global, text: &[u8]) -> Result<String, Fail> {
+fn told(alloc: Global, text: &[u8]) -> Result<String, AllocError> {
     match read_verilog(alloc, text) {
         Ok(source) => shown(alloc, &source),
-        Err(fault) => Ok(format!(in alloc; "{fault}")?),
+        Err(fault) => format!(in alloc; "{fault}"),
     }
 }
 
@@ -257,39 +256,47 @@ const TEXTS: &[(&str, &str)] = &[
 ];
 
 #[test]
-fn texts_are_netlists_or_faults(rt: HostRuntime) -> Result<(), Fail> {
-    let alloc = rt.alloc();
+fn texts_are_netlists_or_faults(rt: HostRuntime) -> Result<(), AllocError> {
     for (text, want) in TEXTS {
-        let told = told(alloc, text.as_bytes())?;
+        let told = told(rt.alloc(), text.as_bytes())?;
         assert_eq!(rt; told.as_str(), *want, "{text}");
     }
     Ok(())
 }
 
-// What stands before, in and after braces, how many there are, and the netlist or how its fault is told; by hand.
-const BRACES: &[(&str, usize, &str, &str, &str)] = &[
-    (
+/// What stands before, in and after braces, how many there are, and the netlist or how its fault is told.
+struct Nesting(
+    &'static str,
+    usize,
+    &'static str,
+    &'static str,
+    &'static str,
+);
+
+// By hand.
+const BRACES: &[Nesting] = &[
+    Nesting(
         "module m (output y); assign y = ",
         256,
         "1'b0",
         "; endmodule",
         "/m: output y 0; y | 0 < '0;",
     ),
-    (
+    Nesting(
         "module m (output y); assign y = ",
         257,
         "1'b0",
         "; endmodule",
         "byte 288: too many braces are open here",
     ),
-    (
+    Nesting(
         "module m (output y); assign ",
         257,
         "y",
         " = 1'b0; endmodule",
         "byte 284: too many braces are open here",
     ),
-    (
+    Nesting(
         "module m (output y); assign y = /*",
         300,
         "",
@@ -298,22 +305,30 @@ const BRACES: &[(&str, usize, &str, &str, &str)] = &[
     ),
 ];
 
+fn braced(alloc: Global, row: &Nesting) -> Result<String, AllocError> {
+    let mut text = String::new(alloc);
+    text.push_str(row.0)?;
+    for _ in 0..row.1 {
+        text.push_str("{")?;
+    }
+    text.push_str(row.2)?;
+    for _ in 0..row.1 {
+        text.push_str("}")?;
+    }
+    text.push_str(row.3)?;
+    Ok(text)
+}
+
+fn told_braced(alloc: Global, row: &Nesting) -> Result<String, AllocError> {
+    let text = braced(alloc, row)?;
+    told(alloc, text.as_bytes())
+}
+
 #[test]
-fn braces_nest_to_their_limit(rt: HostRuntime) -> Result<(), Fail> {
-    let alloc = rt.alloc();
-    for (before, count, inside, after, want) in BRACES {
-        let mut text = String::new(alloc);
-        text.push_str(before)?;
-        for _ in 0..*count {
-            text.push_str("{")?;
-        }
-        text.push_str(inside)?;
-        for _ in 0..*count {
-            text.push_str("}")?;
-        }
-        text.push_str(after)?;
-        let told = told(alloc, text.as_bytes())?;
-        assert_eq!(rt; told.as_str(), *want, "{before} {count}");
+fn braces_nest_to_their_limit(rt: HostRuntime) -> Result<(), AllocError> {
+    for row in BRACES {
+        let told = told_braced(rt.alloc(), row)?;
+        assert_eq!(rt; told.as_str(), row.4, "{} {}", row.0, row.1);
     }
     Ok(())
 }

@@ -1,21 +1,24 @@
-use std::alloc::Global;
-use std::test::Fail;
+use std::alloc::{AllocError, Global};
 use verilog_scope::Scope;
 use verilog_syntax::{ModuleDecl, read_modules};
+use verilog_words::SyntaxFault;
 
-fn told(alloc: Global, decl: &ModuleDecl) -> Result<String, Fail> {
+fn shown(alloc: Global, scope: &Scope) -> Result<String, AllocError> {
+    let mut text = String::new(alloc);
+    let names = scope.names.names(alloc)?;
+    for name in names.as_slice() {
+        let run = scope.bits(name);
+        let first = run.first;
+        let count = run.count;
+        write!(text, " {name} {first}+{count}")?;
+    }
+    Ok(text)
+}
+
+fn told(alloc: Global, decl: &ModuleDecl) -> Result<String, AllocError> {
     match Scope::of(alloc, decl) {
-        Ok(scope) => {
-            let mut text = String::new(alloc);
-            for name in scope.names.names(alloc)? {
-                let run = scope.bits(&name);
-                let first = run.first;
-                let count = run.count;
-                write!(text, " {name} {first}+{count}")?;
-            }
-            Ok(text)
-        }
-        Err(fault) => Ok(format!(in alloc; "{fault}")?),
+        Ok(scope) => shown(alloc, &scope),
+        Err(fault) => format!(in alloc; "{fault}"),
     }
 }
 
@@ -69,15 +72,22 @@ const MODULES: &[(&str, &str)] = &[
     ),
 ];
 
+// The modules of a text, one after the other.
+fn told_text(alloc: Global, text: &str) -> Result<String, SyntaxFault> {
+    let decls = read_modules(alloc, text.as_bytes())?;
+    let mut all = String::new(alloc);
+    for decl in decls.as_slice() {
+        let told = told(alloc, decl)?;
+        all.push_str(&told)?;
+    }
+    Ok(all)
+}
+
 #[test]
-fn names_of_a_module_have_their_nets(rt: HostRuntime) -> Result<(), Fail> {
-    let alloc = rt.alloc();
+fn names_of_a_module_have_their_nets(rt: HostRuntime) -> Result<(), SyntaxFault> {
     for (text, want) in MODULES {
-        let decls = read_modules(alloc, text.as_bytes())?;
-        for decl in decls.as_slice() {
-            let told = told(alloc, decl)?;
-            assert_eq!(rt; told.as_str(), *want, "{text}");
-        }
+        let told = told_text(rt.alloc(), text)?;
+        assert_eq!(rt; told.as_str(), *want, "{text}");
     }
     Ok(())
 }

@@ -1,11 +1,10 @@
-use std::alloc::Global;
-use std::test::Fail;
+use std::alloc::{AllocError, Global};
 use verilog_syntax::{
     ConnDecl, Dir, Head, ItemDecl, ModuleDecl, Part, PartDecl, PortDecl, PrimDecl, Range, Select,
     Spelled, TermDecl, read_modules,
 };
 
-fn show_parts(out: &mut String, parts: &[PartDecl]) -> Result<(), Fail> {
+fn show_parts(out: &mut String, parts: &[PartDecl]) -> Result<(), AllocError> {
     for part in parts {
         let offset = part.offset;
         write!(out, " {offset}:")?;
@@ -25,21 +24,21 @@ fn show_parts(out: &mut String, parts: &[PartDecl]) -> Result<(), Fail> {
     Ok(())
 }
 
-fn show_terms(out: &mut String, terms: &[TermDecl]) -> Result<(), Fail> {
+fn show_terms(out: &mut String, terms: &[TermDecl]) -> Result<(), AllocError> {
     for term in terms {
         show_parts(out, term.parts.as_slice())?;
     }
     Ok(())
 }
 
-fn show_range(out: &mut String, range: Option<Range>) -> Result<(), Fail> {
+fn show_range(out: &mut String, range: Option<Range>) -> Result<(), AllocError> {
     if let Some(Range { msb, lsb }) = range {
         write!(out, "[{msb}:{lsb}]")?;
     }
     Ok(())
 }
 
-fn show_ports(out: &mut String, ports: &[PortDecl]) -> Result<(), Fail> {
+fn show_ports(out: &mut String, ports: &[PortDecl]) -> Result<(), AllocError> {
     for port in ports {
         out.push_str(match port.dir {
             Dir::Input => " in",
@@ -52,7 +51,7 @@ fn show_ports(out: &mut String, ports: &[PortDecl]) -> Result<(), Fail> {
     Ok(())
 }
 
-fn show_conns(out: &mut String, conns: &[ConnDecl]) -> Result<(), Fail> {
+fn show_conns(out: &mut String, conns: &[ConnDecl]) -> Result<(), AllocError> {
     for conn in conns {
         let ConnDecl { offset, pin, parts } = conn;
         write!(out, " .{offset}:{pin}")?;
@@ -64,7 +63,7 @@ fn show_conns(out: &mut String, conns: &[ConnDecl]) -> Result<(), Fail> {
     Ok(())
 }
 
-fn show_prims(out: &mut String, prims: &[PrimDecl]) -> Result<(), Fail> {
+fn show_prims(out: &mut String, prims: &[PrimDecl]) -> Result<(), AllocError> {
     for prim in prims {
         match &prim.name {
             Some(name) => write!(out, " {name}")?,
@@ -77,7 +76,7 @@ fn show_prims(out: &mut String, prims: &[PrimDecl]) -> Result<(), Fail> {
     Ok(())
 }
 
-fn show_item(out: &mut String, item: &ItemDecl) -> Result<(), Fail> {
+fn show_item(out: &mut String, item: &ItemDecl) -> Result<(), AllocError> {
     match item {
         ItemDecl::Ports(ports) => show_ports(out, ports.as_slice())?,
         ItemDecl::Nets { kind, range, names } => {
@@ -111,7 +110,7 @@ fn show_item(out: &mut String, item: &ItemDecl) -> Result<(), Fail> {
 }
 
 // A `/` before each module and a `;` before each of its items; what has an offset is shown with it.
-fn listing(alloc: Global, modules: &[ModuleDecl]) -> Result<String, Fail> {
+fn listing(alloc: Global, modules: &[ModuleDecl]) -> Result<String, AllocError> {
     let mut out = String::new(alloc);
     for module in modules {
         let name = &module.name;
@@ -248,14 +247,17 @@ const TEXTS: &[(&str, &str)] = &[
     ),
 ];
 
+fn told(alloc: Global, text: &str) -> Result<String, AllocError> {
+    match read_modules(alloc, text.as_bytes()) {
+        Ok(modules) => listing(alloc, modules.as_slice()),
+        Err(fault) => format!(in alloc; "{fault}"),
+    }
+}
+
 #[test]
-fn texts_are_declarations_or_faults(rt: HostRuntime) -> Result<(), Fail> {
-    let alloc = rt.alloc();
+fn texts_are_declarations_or_faults(rt: HostRuntime) -> Result<(), AllocError> {
     for (text, want) in TEXTS {
-        let told = match read_modules(alloc, text.as_bytes()) {
-            Ok(modules) => listing(alloc, modules.as_slice())?,
-            Err(fault) => format!(in alloc; "{fault}")?,
-        };
+        let told = told(rt.alloc(), text)?;
         assert_eq!(rt; told.as_str(), *want, "{text}");
     }
     Ok(())

@@ -1,6 +1,6 @@
 use sdcv_base::{Cursor, Name};
-use std::alloc::Global;
-use std::test::Fail;
+use std::alloc::{AllocError, Global};
+use std::process::Abort;
 use verilog_words::{
     PrimKind, SyntaxFault, Word, begins_name, begins_number, next_word, opens_list, skip_blanks,
     take_constant, take_name, take_number,
@@ -123,7 +123,7 @@ const CONSTANTS: &[(&str, &str)] = &[
     ("64'h10000000000000000", "!4"),
 ];
 
-fn show_constant(alloc: Global, text: &[u8]) -> Result<String, Fail> {
+fn show_constant(alloc: Global, text: &[u8]) -> Result<String, AllocError> {
     let mut c = Cursor::new(text);
     let mut shown = String::new(alloc);
     let found = take_constant(alloc, &mut c);
@@ -140,7 +140,7 @@ fn show_constant(alloc: Global, text: &[u8]) -> Result<String, Fail> {
 }
 
 #[test]
-fn constants_have_their_bits(rt: HostRuntime) -> Result<(), Fail> {
+fn constants_have_their_bits(rt: HostRuntime) -> Result<(), AllocError> {
     for (text, want) in CONSTANTS {
         let shown = show_constant(rt.alloc(), text.as_bytes())?;
         assert_eq!(rt; shown.as_str(), *want, "{text}");
@@ -179,27 +179,31 @@ fn what_comes_next_is_told(rt: HostRuntime) {
     }
 }
 
+fn check_told(
+    rt: &impl Abort,
+    alloc: Global,
+    fault: &SyntaxFault,
+    want: &str,
+) -> Result<(), AllocError> {
+    let told = format!(in alloc; "{fault}")?;
+    assert_eq!(rt; told.as_str(), want);
+    Ok(())
+}
+
+fn unsupported(alloc: Global) -> Result<SyntaxFault, AllocError> {
+    Ok(SyntaxFault::Unsupported(18, Name::new(alloc, b"reg")?))
+}
+
 // What developers see of each fault.
 #[test]
-fn faults_are_shown(rt: HostRuntime) -> Result<(), Fail> {
-    let word = Name::new(rt.alloc(), b"reg")?;
-    for (fault, want) in [
-        (
-            SyntaxFault::Syntax(7),
-            "byte 7: no netlist goes on like this",
-        ),
-        (
-            SyntaxFault::Unsupported(18, word),
-            "byte 18: reg begins nothing that a netlist has",
-        ),
-        (
-            SyntaxFault::Deep(288),
-            "byte 288: too many marks are open here",
-        ),
-        (SyntaxFault::Memory, "out of memory"),
-    ] {
-        let shown = format!(in rt.alloc(); "{fault}")?;
-        assert_eq!(rt; shown.as_str(), want);
-    }
-    Ok(())
+fn faults_are_shown(rt: HostRuntime) -> Result<(), AllocError> {
+    let alloc = rt.alloc();
+    let syntax = "byte 7: no netlist goes on like this";
+    check_told(&rt, alloc, &SyntaxFault::Syntax(7), syntax)?;
+    let begins = "byte 18: reg begins nothing that a netlist has";
+    let unsupported = unsupported(alloc)?;
+    check_told(&rt, alloc, &unsupported, begins)?;
+    let deep = "byte 288: too many marks are open here";
+    check_told(&rt, alloc, &SyntaxFault::Deep(288), deep)?;
+    check_told(&rt, alloc, &SyntaxFault::Memory, "out of memory")
 }
