@@ -7,10 +7,10 @@ use cert_values::CertFault::{
     self, Form, Invariant, NotTrivial, Pair, TwicePair, UnknownPair, UnknownRegister, Version,
 };
 use rup_check::CheckFault::{HintMissing, HintNotUnit, NoConflict, NotEmpty};
-use std::test;
+use std::alloc::{AllocError, Global};
 use witness_replay::{Replay, ReplayFault, StimFault};
 
-const REJECTED: [(CertFault, &str); 10] = [
+const REJECTED: &[(CertFault, &str)] = &[
     (Form(34), "rejected 1 Form 34\n"),
     (Version(9), "rejected 2 Version 9\n"),
     (UnknownRegister(1), "rejected 3 UnknownRegister 1\n"),
@@ -27,55 +27,82 @@ const REJECTED: [(CertFault, &str); 10] = [
 ];
 
 #[test]
-fn each_cause_of_a_certificate_has_its_line(rt: HostRuntime) -> Result<(), test::Fail> {
-    let alloc = rt.alloc();
+fn each_cause_of_a_certificate_has_its_line(rt: HostRuntime) -> Result<(), AllocError> {
     for (fault, want) in REJECTED {
-        let line = rejected_line(alloc, &fault)?;
+        let line = rejected_line(rt.alloc(), fault)?;
         assert!(rt; line.as_slice() == want.as_bytes(), "{want}");
     }
     Ok(())
 }
 
-#[test]
-fn each_accepted_pair_has_a_line(rt: HostRuntime) -> Result<(), test::Fail> {
-    let alloc = rt.alloc();
-    let none = accepted_lines(alloc, &[], 1)?;
-    assert!(rt; joined(alloc, &none)?.as_slice() == b"accepted 0 of 1\n".as_slice());
-    let two = accepted_lines(alloc, &[1, 10], 12)?;
-    assert!(rt;
-        joined(alloc, &two)?.as_slice() == b"accepted 2 of 12\npair 1\npair 10\n".as_slice()
-    );
-    Ok(())
+/// Pairs of which the claims hold, of so many, and their lines.
+struct Accepted(&'static [u64], usize, &'static str);
+
+const ACCEPTED: &[Accepted] = &[
+    Accepted(&[], 1, "accepted 0 of 1\n"),
+    Accepted(&[1, 10], 12, "accepted 2 of 12\npair 1\npair 10\n"),
+];
+
+fn accepted_text(alloc: Global, row: &Accepted) -> Result<Vec<u8>, AllocError> {
+    let lines = accepted_lines(alloc, row.0, row.1)?;
+    joined(alloc, &lines)
 }
 
 #[test]
-fn each_answer_to_a_replay_has_its_line(rt: HostRuntime) -> Result<(), test::Fail> {
-    let alloc = rt.alloc();
-    let rows = [
-        (no_pair_line(alloc, 2)?, "refused pair 1 NoPair 2\n"),
-        (
-            stimulus_line(alloc, &StimFault::NoBlock)?,
-            "refused stimulus 1 NoBlock\n",
-        ),
-        (
-            stimulus_line(alloc, &StimFault::Form(4))?,
-            "refused stimulus 2 Form 4\n",
-        ),
-        (
-            replay_line(alloc, &ReplayFault::Shape)?,
-            "refused replay 1 Shape\n",
-        ),
-        (
-            replay_line(alloc, &ReplayFault::NotReset(0))?,
-            "refused replay 2 NotReset 0\n",
-        ),
-        (
-            replayed_line(alloc, 1, Replay::Violated(2))?,
-            "pair 1 violated at 2\n",
-        ),
-        (replayed_line(alloc, 1, Replay::Holds)?, "pair 1 holds\n"),
-    ];
-    for (line, want) in &rows {
+fn each_accepted_pair_has_a_line(rt: HostRuntime) -> Result<(), AllocError> {
+    for row in ACCEPTED {
+        let text = accepted_text(rt.alloc(), row)?;
+        assert!(rt; text.as_slice() == row.2.as_bytes(), "{}", row.2);
+    }
+    Ok(())
+}
+
+/// What a replay of pair 1 comes to.
+enum Replayed {
+    NoPair(u64),
+    NoStimulus(StimFault),
+    Refused(ReplayFault),
+    Answer(Replay),
+}
+
+const REPLAYED: &[(Replayed, &str)] = &[
+    (Replayed::NoPair(2), "refused pair 1 NoPair 2\n"),
+    (
+        Replayed::NoStimulus(StimFault::NoBlock),
+        "refused stimulus 1 NoBlock\n",
+    ),
+    (
+        Replayed::NoStimulus(StimFault::Form(4)),
+        "refused stimulus 2 Form 4\n",
+    ),
+    (
+        Replayed::Refused(ReplayFault::Shape),
+        "refused replay 1 Shape\n",
+    ),
+    (
+        Replayed::Refused(ReplayFault::NotReset(0)),
+        "refused replay 2 NotReset 0\n",
+    ),
+    (
+        Replayed::Answer(Replay::Violated(2)),
+        "pair 1 violated at 2\n",
+    ),
+    (Replayed::Answer(Replay::Holds), "pair 1 holds\n"),
+];
+
+fn line_of(alloc: Global, row: &Replayed) -> Result<Vec<u8>, AllocError> {
+    match row {
+        Replayed::NoPair(number) => no_pair_line(alloc, *number),
+        Replayed::NoStimulus(fault) => stimulus_line(alloc, fault),
+        Replayed::Refused(fault) => replay_line(alloc, fault),
+        Replayed::Answer(answer) => replayed_line(alloc, 1, *answer),
+    }
+}
+
+#[test]
+fn each_answer_to_a_replay_has_its_line(rt: HostRuntime) -> Result<(), AllocError> {
+    for (row, want) in REPLAYED {
+        let line = line_of(rt.alloc(), row)?;
         assert!(rt; line.as_slice() == want.as_bytes(), "{want}");
     }
     Ok(())

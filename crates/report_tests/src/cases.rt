@@ -208,4 +208,4 @@ total 3 justified 2 refuted 1 undecided 0
 \"reset\":1,\"total\":{\"justified\":2,\"pairs\":3,\"refuted\":1,\"undecided\":0}}\n",
 };
 
-pub const CASES: [Case; 5] = [NOTHING, NO_CELL, EACH, HAZARDS, EDGES];
+pub const CASES: &[Case] = &[NOTHING, NO_CELL, EACH, HAZARDS, EDGES];

@@ -1,7 +1,6 @@
 use sdcv_base::{Seq, Setting};
-use sdcv_words::{Command, Finding, Job, Options, command_of};
+use sdcv_words::{Command, Finding, Job, Options, Texts, command_of};
 use std::alloc::{AllocError, Global};
-use std::test::Fail;
 
 /// The words between the bars.
 pub fn words_in(alloc: Global, text: &str) -> Result<Vec<String>, AllocError> {
@@ -54,6 +53,25 @@ fn finding_text(alloc: Global, finding: &Finding<'_>) -> Result<String, AllocErr
     format!(in alloc; "detect <{out}> depth {depth} budget {budget} inv {inv} bound {bound}")
 }
 
+fn texts_text(alloc: Global, texts: &Texts<'_>) -> Result<String, AllocError> {
+    let v = texts.netlist;
+    let l = texts.cells;
+    let s = texts.constraints;
+    format!(in alloc; "<{v}> <{l}> <{s}>")
+}
+
+// The texts, the options and what else is said, in one line.
+fn line(
+    alloc: Global,
+    texts: &Texts<'_>,
+    options: &Options,
+    rest: &str,
+) -> Result<String, AllocError> {
+    let texts = texts_text(alloc, texts)?;
+    let options = options_text(alloc, options)?;
+    format!(in alloc; "{texts} {options} {rest}")
+}
+
 // A command in one line.
 fn told(alloc: Global, command: &Command<'_>) -> Result<String, AllocError> {
     match command {
@@ -63,23 +81,15 @@ fn told(alloc: Global, command: &Command<'_>) -> Result<String, AllocError> {
             job,
         } => {
             let job = job_text(alloc, job)?;
-            let options = options_text(alloc, options)?;
-            let v = texts.netlist;
-            let l = texts.cells;
-            let s = texts.constraints;
-            format!(in alloc; "<{v}> <{l}> <{s}> {options} {job}")
+            line(alloc, texts, options, job.as_str())
         }
         Command::Detect {
             texts,
             options,
             finding,
         } => {
-            let options = options_text(alloc, options)?;
             let finding = finding_text(alloc, finding)?;
-            let v = texts.netlist;
-            let l = texts.cells;
-            let s = texts.constraints;
-            format!(in alloc; "<{v}> <{l}> <{s}> {options} {finding}")
+            line(alloc, texts, options, finding.as_str())
         }
         Command::Demo { seed, size } => format!(in alloc; "demo {seed} {size}"),
     }
@@ -95,7 +105,7 @@ fn named(alloc: Global, text: &str) -> Result<String, AllocError> {
 }
 
 // By their places: the name, the positions, then options, each value in a word of its own.
-const BY_PLACE: [(&str, &str); 13] = [
+const BY_PLACE: &[(&str, &str)] = &[
     (
         "verify|v|builtin|s|--out|c",
         "<v> <builtin> <s> plain lag 0 cycles 0 verify <c> json false depth 8 budget 20000 inv 1",
@@ -148,7 +158,7 @@ const BY_PLACE: [(&str, &str); 13] = [
 ];
 
 // Not by their places: `clap` takes these.
-const BY_CLAP: [(&str, &str); 9] = [
+const BY_CLAP: &[(&str, &str)] = &[
     (
         "verify|v|l|s|--out=c",
         "<v> <l> <s> plain lag 0 cycles 0 verify <c> json false depth 8 budget 20000 inv 1",
@@ -185,7 +195,7 @@ const BY_CLAP: [(&str, &str); 9] = [
 ];
 
 // Words that name no command, each with what is wrong with it.
-const NONE: [(&str, &str); 44] = [
+const NONE: &[(&str, &str)] = &[
     ("", "an empty word"),
     ("verify|v|l", "too few positions"),
     ("verify|v|l|s", "no certificate is named"),
@@ -259,7 +269,8 @@ const NONE: [(&str, &str); 44] = [
     ("detects|v|l|s|--out|c", "a command of another name"),
 ];
 
-fn names_all(alloc: Global, rows: &[(&str, &str)]) -> Result<Option<String>, AllocError> {
+// The first of the words that name another command, with that one.
+fn first_other(alloc: Global, rows: &[(&str, &str)]) -> Result<Option<String>, AllocError> {
     for (words, want) in rows {
         let found = named(alloc, words)?;
         if found.as_str() != *want {
@@ -270,20 +281,22 @@ fn names_all(alloc: Global, rows: &[(&str, &str)]) -> Result<Option<String>, All
 }
 
 #[test]
-fn words_in_their_places_name_a_command(rt: HostRuntime) -> Result<(), Fail> {
-    assert_eq!(rt; names_all(rt.alloc(), &BY_PLACE)?, None);
+fn words_in_their_places_name_a_command(rt: HostRuntime) -> Result<(), AllocError> {
+    let other = first_other(rt.alloc(), BY_PLACE)?;
+    assert_eq!(rt; other, None);
     Ok(())
 }
 
 #[test]
-fn words_in_another_order_name_what_clap_takes(rt: HostRuntime) -> Result<(), Fail> {
-    assert_eq!(rt; names_all(rt.alloc(), &BY_CLAP)?, None);
+fn words_in_another_order_name_what_clap_takes(rt: HostRuntime) -> Result<(), AllocError> {
+    let other = first_other(rt.alloc(), BY_CLAP)?;
+    assert_eq!(rt; other, None);
     Ok(())
 }
 
 #[test]
-fn other_words_name_no_command(rt: HostRuntime) -> Result<(), Fail> {
-    for (words, wrong) in &NONE {
+fn other_words_name_no_command(rt: HostRuntime) -> Result<(), AllocError> {
+    for (words, wrong) in NONE {
         let found = named(rt.alloc(), words)?;
         assert_eq!(rt; found.as_str(), "none", "{wrong}");
     }

@@ -1,8 +1,8 @@
 //! Groups, the gate, and comma-separated values.
 use crate::read_cases::{CLEAN, EMPTY, NOTES, NOTES_JSON, REFUTED_JSON, SAMPLER};
-use report_groups::{csv_text, gate, groups_text};
-use report_rows::read_report;
-use std::test;
+use report_groups::{Gate, csv_text, gate, groups_text};
+use report_rows::{ReportFault, read_report};
+use std::alloc::Global;
 
 const SAMPLER_GROUPS: &str =
     "u_path/a_reg[*] -> u_path/b_reg[*] 4 justified depth 0 command 1 multi 2 first 1
@@ -32,7 +32,7 @@ m[*]/a[x] -> q[]_reg 1 undecided budget base 3 command 4 multi 2 rise first 3
 ";
 
 // A report, its groups, and what of it stops a build.
-const TOLD: [(&str, &str, &str); 6] = [
+const TOLD: &[(&str, &str, &str)] = &[
     (SAMPLER, SAMPLER_GROUPS, SAMPLER_GATE),
     (NOTES, NOTES_GROUPS, NOTES_GATE),
     (NOTES_JSON, NOTES_GROUPS, NOTES_GATE),
@@ -49,14 +49,22 @@ const TOLD: [(&str, &str, &str); 6] = [
     ),
 ];
 
+fn groups(alloc: Global, report: &str) -> Result<Vec<u8>, ReportFault> {
+    let read = read_report(alloc, report.as_bytes())?;
+    Ok(groups_text(alloc, &read)?)
+}
+
+fn gate_of(alloc: Global, report: &str) -> Result<Gate, ReportFault> {
+    let read = read_report(alloc, report.as_bytes())?;
+    Ok(gate(alloc, &read)?)
+}
+
 #[test]
-fn a_report_is_told_by_groups(rt: HostRuntime) -> Result<(), test::Fail> {
-    let alloc = rt.alloc();
-    for (report, groups, stopping) in TOLD {
-        let read = read_report(alloc, report.as_bytes())?;
-        let text = groups_text(alloc, &read)?;
-        assert!(rt; text.as_slice() == groups.as_bytes(), "{groups}");
-        let gate = gate(alloc, &read)?;
+fn a_report_is_told_by_groups(rt: HostRuntime) -> Result<(), ReportFault> {
+    for (report, want, stopping) in TOLD {
+        let text = groups(rt.alloc(), report)?;
+        assert!(rt; text.as_slice() == want.as_bytes(), "{want}");
+        let gate = gate_of(rt.alloc(), report)?;
         assert!(rt; gate.text.as_slice() == stopping.as_bytes(), "{stopping}");
         assert_eq!(rt; gate.passes, stopping.is_empty(), "{stopping}");
     }
@@ -81,12 +89,17 @@ const QUOTED_CSV: &str = "command,kind,start,end,pairs,verdict,why,first
 1,false,\"a,b\",\"\"\"c\"\"\",1,justified,fixed,1
 ";
 
+const SEPARATED: &[(&str, &str)] = &[(SAMPLER, SAMPLER_CSV), (QUOTED, QUOTED_CSV)];
+
+fn csv(alloc: Global, report: &str) -> Result<Vec<u8>, ReportFault> {
+    let read = read_report(alloc, report.as_bytes())?;
+    Ok(csv_text(alloc, &read)?)
+}
+
 #[test]
-fn groups_are_told_as_comma_separated_values(rt: HostRuntime) -> Result<(), test::Fail> {
-    let alloc = rt.alloc();
-    for (report, want) in [(SAMPLER, SAMPLER_CSV), (QUOTED, QUOTED_CSV)] {
-        let read = read_report(alloc, report.as_bytes())?;
-        let text = csv_text(alloc, &read)?;
+fn groups_are_told_as_comma_separated_values(rt: HostRuntime) -> Result<(), ReportFault> {
+    for (report, want) in SEPARATED {
+        let text = csv(rt.alloc(), report)?;
         assert!(rt; text.as_slice() == want.as_bytes(), "{want}");
     }
     Ok(())

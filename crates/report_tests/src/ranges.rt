@@ -1,7 +1,6 @@
 use clap_words::{CommandRow, Form, ValueRule, rows};
 use sdcv_words::command_of;
 use std::alloc::{AllocError, Global};
-use std::test::Fail;
 
 // A text that keeps the rule.
 fn sound(alloc: Global, rule: ValueRule) -> Result<String, AllocError> {
@@ -63,12 +62,42 @@ fn is_taken(alloc: Global, row: &CommandRow, id: &str, text: &str) -> Result<boo
     Ok(command_of(alloc, &words)?.is_some())
 }
 
-// The number after this one.
-fn next(alloc: Global, number: u64) -> Result<String, AllocError> {
-    match number.checked_add(1) {
-        Some(after) => format!(in alloc; "{after}"),
-        None => "18446744073709551616".to_string(alloc),
+// Whether words in which this argument has the number name a command.
+fn takes(alloc: Global, row: &CommandRow, id: &str, number: u64) -> Result<bool, AllocError> {
+    let text = format!(in alloc; "{number}")?;
+    is_taken(alloc, row, id, text.as_str())
+}
+
+// Whether it takes the number before this one.
+fn takes_before(
+    alloc: Global,
+    row: &CommandRow,
+    id: &str,
+    number: u64,
+) -> Result<bool, AllocError> {
+    match number.checked_sub(1) {
+        Some(before) => takes(alloc, row, id, before),
+        None => Ok(false),
     }
+}
+
+// Whether it takes the number after this one.
+fn takes_after(alloc: Global, row: &CommandRow, id: &str, number: u64) -> Result<bool, AllocError> {
+    match number.checked_add(1) {
+        Some(after) => takes(alloc, row, id, after),
+        None => is_taken(alloc, row, id, "18446744073709551616"),
+    }
+}
+
+// Whether it takes a text that keeps the rule.
+fn takes_sound(
+    alloc: Global,
+    row: &CommandRow,
+    id: &str,
+    rule: ValueRule,
+) -> Result<bool, AllocError> {
+    let text = sound(alloc, rule)?;
+    is_taken(alloc, row, id, text.as_str())
 }
 
 // Whether the numbers that this argument takes are those of its rule, at both ends.
@@ -79,26 +108,15 @@ fn has_these_ends(
     rule: ValueRule,
 ) -> Result<bool, AllocError> {
     let ValueRule::Number { least, most } = rule else {
-        return is_taken(alloc, row, id, sound(alloc, rule)?.as_str());
+        return takes_sound(alloc, row, id, rule);
     };
-    let first = format!(in alloc; "{least}")?;
-    let last = format!(in alloc; "{most}")?;
-    let past = next(alloc, most)?;
-    if !is_taken(alloc, row, id, first.as_str())? || !is_taken(alloc, row, id, last.as_str())? {
-        return Ok(false);
-    }
-    if let Some(below) = least.checked_sub(1) {
-        let before = format!(in alloc; "{below}")?;
-        if is_taken(alloc, row, id, before.as_str())? {
-            return Ok(false);
-        }
-    }
-    Ok(!is_taken(alloc, row, id, past.as_str())?)
+    let ends = takes(alloc, row, id, least)? && takes(alloc, row, id, most)?;
+    Ok(ends && !takes_before(alloc, row, id, least)? && !takes_after(alloc, row, id, most)?)
 }
 
 // The ranges of the table, which help tells, are those by which words are judged.
 #[test]
-fn each_number_is_taken_within_the_range_of_its_row(rt: HostRuntime) -> Result<(), Fail> {
+fn each_number_is_taken_within_the_range_of_its_row(rt: HostRuntime) -> Result<(), AllocError> {
     for row in rows() {
         let name = row.name;
         for position in row.positions {

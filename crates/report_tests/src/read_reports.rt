@@ -2,14 +2,14 @@
 use crate::read_cases::{NOTES, SAMPLER};
 use report_rows::ReportFault::{self, Json, Line};
 use report_rows::{Said, Word, read_report};
-use std::alloc::Global;
+use std::alloc::{AllocError, Global};
 use std::process::Abort;
 use std::test;
 
 const HEAD: &str = "sdcv 1 mode plain reset 1 depth 8 budget 20000 inv 1\n";
 
 // What follows the first line, and the line at which that is no report.
-const NONE: [(&str, u64); 17] = [
+const NONE: &[(&str, u64)] = &[
     ("", 2),
     ("\n", 2),
     ("total 0 justified 0 refuted 0 undecided 0", 3),
@@ -29,19 +29,22 @@ const NONE: [(&str, u64); 17] = [
     ("refused sdc 1 Syntax 12\n", 2),
 ];
 
+fn fault_after_head(alloc: Global, rest: &str) -> Result<Option<ReportFault>, AllocError> {
+    let text = format!(in alloc; "{HEAD}{rest}")?;
+    Ok(read_report(alloc, text.as_bytes()).err())
+}
+
 #[test]
-fn the_first_line_that_is_none_of_a_report_is_told(rt: HostRuntime) -> Result<(), test::Fail> {
-    let alloc = rt.alloc();
+fn the_first_line_that_is_none_of_a_report_is_told(rt: HostRuntime) -> Result<(), AllocError> {
     for (rest, line) in NONE {
-        let text = format!(in alloc; "{HEAD}{rest}")?;
-        let fault = read_report(alloc, text.as_bytes()).err();
-        assert_eq!(rt; fault, Some(Line(line)), "{rest}");
+        let fault = fault_after_head(rt.alloc(), rest)?;
+        assert_eq!(rt; fault, Some(Line(*line)), "{rest}");
     }
     Ok(())
 }
 
 // Whole texts that are no reports: nothing, a refused run, a report of `detect`, one with CRLF, and JSON.
-const NO_REPORTS: [(&str, ReportFault); 9] = [
+const NO_REPORTS: &[(&str, ReportFault)] = &[
     ("", Line(1)),
     ("refused verilog 1 Syntax 120\n", Line(1)),
     (
@@ -69,16 +72,11 @@ const NO_REPORTS: [(&str, ReportFault); 9] = [
 ];
 
 #[test]
-fn what_is_no_report_is_refused(rt: HostRuntime) -> Result<(), test::Fail> {
-    let alloc = rt.alloc();
+fn what_is_no_report_is_refused(rt: HostRuntime) {
     for (text, want) in NO_REPORTS {
-        assert_eq!(rt;
-            read_report(alloc, text.as_bytes()).err(),
-            Some(want),
-            "{text}"
-        );
+        let fault = read_report(rt.alloc(), text.as_bytes()).err();
+        assert_eq!(rt; fault, Some(*want), "{text}");
     }
-    Ok(())
 }
 
 // No part of the text that ends before its end is a report.

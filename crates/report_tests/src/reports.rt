@@ -1,36 +1,39 @@
 //! Reports as lines and as JSON, and the stimuli that are read back.
-use crate::builders::{Bits, Found, check_rows, is_stimulus, joined, selected_of, verdicts_of};
+use crate::builders::{
+    Bits, Case, Found, Pair, check_rows, is_stimulus, joined, selected_of, verdicts_of,
+};
 use crate::cases::{CASES, EACH};
 use report_json::write_json;
 use report_text::write_report;
-use std::test;
+use std::alloc::{AllocError, Global};
+use std::process::Abort;
 use witness_replay::{StimFault, read_stim};
 
-#[test]
-fn each_report_has_its_lines(rt: HostRuntime) -> Result<(), test::Fail> {
-    let alloc = rt.alloc();
-    for case in CASES {
-        let selected = selected_of(alloc, &case)?;
-        let verdicts = verdicts_of(alloc, case.pairs)?;
-        check_rows(&rt, &selected, &verdicts);
-        let lines = write_report(alloc, &case.options, &selected, &verdicts)?;
-        assert!(rt;
-            joined(alloc, &lines)?.as_slice() == case.text.as_bytes(),
-            "{}",
-            case.text
-        );
-    }
-    Ok(())
+fn lines(rt: &impl Abort, alloc: Global, case: &Case) -> Result<Vec<Vec<u8>>, AllocError> {
+    let selected = selected_of(alloc, case)?;
+    let verdicts = verdicts_of(alloc, case.pairs)?;
+    check_rows(rt, &selected, &verdicts);
+    write_report(alloc, &case.options, &selected, &verdicts)
+}
+
+fn text(rt: &impl Abort, alloc: Global, case: &Case) -> Result<Vec<u8>, AllocError> {
+    let lines = lines(rt, alloc, case)?;
+    joined(alloc, &lines)
+}
+
+fn json(rt: &impl Abort, alloc: Global, case: &Case) -> Result<Vec<u8>, AllocError> {
+    let selected = selected_of(alloc, case)?;
+    let verdicts = verdicts_of(alloc, case.pairs)?;
+    check_rows(rt, &selected, &verdicts);
+    write_json(alloc, &case.options, &selected, &verdicts)
 }
 
 #[test]
-fn each_report_has_its_json(rt: HostRuntime) -> Result<(), test::Fail> {
-    let alloc = rt.alloc();
+fn each_report_has_its_lines_and_its_json(rt: HostRuntime) -> Result<(), AllocError> {
     for case in CASES {
-        let selected = selected_of(alloc, &case)?;
-        let verdicts = verdicts_of(alloc, case.pairs)?;
-        check_rows(&rt, &selected, &verdicts);
-        let json = write_json(alloc, &case.options, &selected, &verdicts)?;
+        let text = text(&rt, rt.alloc(), case)?;
+        assert!(rt; text.as_slice() == case.text.as_bytes(), "{}", case.text);
+        let json = json(&rt, rt.alloc(), case)?;
         assert!(rt; json.as_slice() == case.json.as_bytes(), "{}", case.json);
     }
     Ok(())
@@ -44,17 +47,21 @@ fn bits_of(found: Found) -> Option<Bits> {
     }
 }
 
-#[test]
-fn the_stimulus_of_each_refuted_pair_is_read_back(rt: HostRuntime) -> Result<(), test::Fail> {
-    let alloc = rt.alloc();
-    for (pair, number) in EACH.pairs.iter().zip(1..) {
-        let found = read_stim(alloc, EACH.text.as_bytes(), number);
-        let is_right = match (bits_of(pair.4), found) {
-            (Some(bits), Ok(stimulus)) => is_stimulus(&stimulus, bits),
-            (None, Err(fault)) => fault == StimFault::NoBlock,
-            _ => false,
-        };
-        assert!(rt; is_right, "pair {number}");
+// Whether the stimulus of a pair is the one by which it is refuted, or there is none as it is not.
+fn is_read_back(alloc: Global, pair: &Pair, number: u64) -> bool {
+    match (
+        bits_of(pair.4),
+        read_stim(alloc, EACH.text.as_bytes(), number),
+    ) {
+        (Some(bits), Ok(stimulus)) => is_stimulus(&stimulus, bits),
+        (None, Err(fault)) => fault == StimFault::NoBlock,
+        _ => false,
     }
-    Ok(())
+}
+
+#[test]
+fn the_stimulus_of_each_refuted_pair_is_read_back(rt: HostRuntime) {
+    for (pair, number) in EACH.pairs.iter().zip(1..) {
+        assert!(rt; is_read_back(rt.alloc(), pair, number), "pair {number}");
+    }
 }

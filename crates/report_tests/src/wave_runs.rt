@@ -5,6 +5,7 @@ use run_views::Violation;
 use run_waves::wave;
 use sdcv_base::{Name, Seq};
 use std::alloc::{AllocError, Global};
+use std::process::Abort;
 
 // A register in a scope and a net beside it; no clock has a name. The toggle is in cycle 1, cycle 2 is judged.
 const TEXT: &str = "$version sdcv_view $end
@@ -92,21 +93,29 @@ fn run(alloc: Global) -> Result<Seq<Cycle>, AllocError> {
     Ok(run)
 }
 
-#[test]
-fn a_run_is_shown_with_its_marks(rt: HostRuntime) -> Result<(), AllocError> {
-    let alloc = rt.alloc();
-    let linked = Linked {
+fn linked_design(alloc: Global) -> Result<Linked, AllocError> {
+    Ok(Linked {
         design: design(alloc),
         names: names(alloc)?,
-    };
+    })
+}
+
+fn shown(rt: &impl Abort, alloc: Global, violation: &Violation) -> Result<Vec<u8>, AllocError> {
+    assert!(rt; violation.toggle < violation.run.len());
+    assert!(rt; violation.judged < violation.run.len());
+    let linked = linked_design(alloc)?;
+    let top = Name::new(alloc, b"top")?;
+    wave(alloc, &top, &linked, violation)
+}
+
+#[test]
+fn a_run_is_shown_with_its_marks(rt: HostRuntime) -> Result<(), AllocError> {
     let violation = Violation {
-        run: run(alloc)?,
+        run: run(rt.alloc())?,
         toggle: 1,
         judged: 2,
     };
-    let cycles = violation.run.len();
-    assert_eq!(rt; cycles, 3);
-    let text = wave(alloc, &Name::new(alloc, b"top")?, &linked, &violation)?;
+    let text = shown(&rt, rt.alloc(), &violation)?;
     assert_eq!(rt; text.as_slice(), TEXT.as_bytes(), "{TEXT}");
     Ok(())
 }

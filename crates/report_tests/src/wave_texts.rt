@@ -139,10 +139,13 @@ fn text(alloc: Global, told: &[Bit], cycles: usize) -> Result<Vec<u8>, AllocErro
     vcd_text(alloc, &wave)
 }
 
+// Bits, how many cycles, and the text.
+const TOLD: &[(&[Bit], usize, &str)] = &[(SCOPES, 2, SCOPES_TEXT), (NAMES, 1, NAMES_TEXT)];
+
 #[test]
 fn bits_are_told_scope_by_scope_and_where_they_change(rt: HostRuntime) -> Result<(), AllocError> {
-    for (told, cycles, want) in [(SCOPES, 2, SCOPES_TEXT), (NAMES, 1, NAMES_TEXT)] {
-        let got = text(rt.alloc(), told, cycles)?;
+    for (told, cycles, want) in TOLD {
+        let got = text(rt.alloc(), told, *cycles)?;
         assert_eq!(rt; got.as_slice(), want.as_bytes(), "{want}");
     }
     Ok(())
