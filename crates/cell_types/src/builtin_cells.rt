@@ -1,6 +1,8 @@
 //! The cells that are known without a file.
-ghost use Rattle.std.specs.Prelude.{◌≡◌, ◌++◌, IfOk, OnOk};
+ghost use Rattle.std.specs.Prelude.{◌≡◌, ◌++◌, ◌∷◌, [], IfOk, OnOk};
+ghost use Rattle.net_model.specs.Form.{NotForm, AndForm, OrForm, XorForm};
 ghost use Rattle.cell_types.specs.Builtin.{plain_cells, and_cells, or_cells, complement_cells, xor_cells, mixed_cells, builtin_cells};
+ghost use Rattle.cell_types.specs.Builtin.{comb_cell, p0, p1, p2};
 ghost use Rattle.cell_types.specs.Libraries.{IsLawful};
 
 use crate::builtin_flops::{push_choosing_flops, push_flops};
@@ -42,71 +44,103 @@ fn table(alloc: Global) -> Result<Seq<Cell>, AllocError>
 fn push_plain(alloc: Global, cells: &mut Seq<Cell>) -> Result<(), AllocError>
     ensures { OnOk result (cells.new ≡ cells.old ++ plain_cells) }
 {
-    cells.push(comb(alloc, "TIE0", "", Func::zero())?)?;
-    cells.push(comb(alloc, "TIE1", "", Func::one())?)?;
-    cells.push(comb(alloc, "BUF", "A", Func::pin(0))?)?;
-    let inverter = Func::not(alloc, Func::pin(0))?;
-    cells.push(comb(alloc, "INV", "A", inverter)?)?;
-    Ok(())
+    push_comb(alloc, cells, "TIE0", "", Func::zero())?;
+    push_comb(alloc, cells, "TIE1", "", Func::one())?;
+    push_comb(alloc, cells, "BUF", "A", Func::pin(0))?;
+    push_complement(alloc, cells, "INV", "A", Func::pin(0))
 }
 
 /// Gates that are an and.
 fn push_ands(alloc: Global, cells: &mut Seq<Cell>) -> Result<(), AllocError>
     ensures { OnOk result (cells.new ≡ cells.old ++ and_cells) }
 {
-    cells.push(comb(alloc, "AND2", "AB", and2(alloc)?)?)?;
-    cells.push(comb(alloc, "AND3", "ABC", and3(alloc)?)?)?;
+    push_comb(alloc, cells, "AND2", "AB", and2(alloc)?)?;
+    push_comb(alloc, cells, "AND3", "ABC", and3(alloc)?)?;
     let and4 = Func::and(alloc, and3(alloc)?, Func::pin(3))?;
-    cells.push(comb(alloc, "AND4", "ABCD", and4)?)?;
-    Ok(())
+    push_comb(alloc, cells, "AND4", "ABCD", and4)
 }
 
 /// Gates that are an or.
 fn push_ors(alloc: Global, cells: &mut Seq<Cell>) -> Result<(), AllocError>
     ensures { OnOk result (cells.new ≡ cells.old ++ or_cells) }
 {
-    cells.push(comb(alloc, "OR2", "AB", or2(alloc)?)?)?;
-    cells.push(comb(alloc, "OR3", "ABC", or3(alloc)?)?)?;
+    push_comb(alloc, cells, "OR2", "AB", or2(alloc)?)?;
+    push_comb(alloc, cells, "OR3", "ABC", or3(alloc)?)?;
     let or4 = Func::or(alloc, or3(alloc)?, Func::pin(3))?;
-    cells.push(comb(alloc, "OR4", "ABCD", or4)?)?;
-    Ok(())
+    push_comb(alloc, cells, "OR4", "ABCD", or4)
 }
 
 /// Gates that are the complement of an and or an or.
 fn push_complements(alloc: Global, cells: &mut Seq<Cell>) -> Result<(), AllocError>
     ensures { OnOk result (cells.new ≡ cells.old ++ complement_cells) }
 {
-    let nand2 = Func::not(alloc, and2(alloc)?)?;
-    cells.push(comb(alloc, "NAND2", "AB", nand2)?)?;
-    let nand3 = Func::not(alloc, and3(alloc)?)?;
-    cells.push(comb(alloc, "NAND3", "ABC", nand3)?)?;
-    let nor2 = Func::not(alloc, or2(alloc)?)?;
-    cells.push(comb(alloc, "NOR2", "AB", nor2)?)?;
-    let nor3 = Func::not(alloc, or3(alloc)?)?;
-    cells.push(comb(alloc, "NOR3", "ABC", nor3)?)?;
-    Ok(())
+    push_complement(alloc, cells, "NAND2", "AB", and2(alloc)?)?;
+    push_complement(alloc, cells, "NAND3", "ABC", and3(alloc)?)?;
+    push_complement(alloc, cells, "NOR2", "AB", or2(alloc)?)?;
+    push_complement(alloc, cells, "NOR3", "ABC", or3(alloc)?)
 }
 
 /// Exclusive or, and its complement.
 fn push_xors(alloc: Global, cells: &mut Seq<Cell>) -> Result<(), AllocError>
     ensures { OnOk result (cells.new ≡ cells.old ++ xor_cells) }
 {
-    let xor2 = Func::xor(alloc, Func::pin(0), Func::pin(1))?;
-    cells.push(comb(alloc, "XOR2", "AB", xor2)?)?;
-    let xor2 = Func::xor(alloc, Func::pin(0), Func::pin(1))?;
-    let xnor2 = Func::not(alloc, xor2)?;
-    cells.push(comb(alloc, "XNOR2", "AB", xnor2)?)?;
-    Ok(())
+    push_comb(alloc, cells, "XOR2", "AB", xor2(alloc)?)?;
+    push_complement(alloc, cells, "XNOR2", "AB", xor2(alloc)?)
+}
+
+/// The exclusive or of the first two places.
+fn xor2(alloc: Global) -> Result<Func, AllocError>
+    ensures { IfOk result (λ f. f ≡ XorForm p0 p1) }
+{
+    Func::xor(alloc, Func::pin(0), Func::pin(1))
 }
 
 /// Gates of several operators.
 fn push_mixed(alloc: Global, cells: &mut Seq<Cell>) -> Result<(), AllocError>
     ensures { OnOk result (cells.new ≡ cells.old ++ mixed_cells) }
 {
-    cells.push(comb(alloc, "MUX2", "ABS", choose(alloc, 2, 1, 0)?)?)?;
-    let aoi21 = Func::not(alloc, Func::or(alloc, and2(alloc)?, Func::pin(2))?)?;
-    cells.push(comb(alloc, "AOI21", "ABC", aoi21)?)?;
-    let oai21 = Func::not(alloc, Func::and(alloc, or2(alloc)?, Func::pin(2))?)?;
-    cells.push(comb(alloc, "OAI21", "ABC", oai21)?)?;
+    push_comb(alloc, cells, "MUX2", "ABS", choose(alloc, 2, 1, 0)?)?;
+    push_complement(alloc, cells, "AOI21", "ABC", and_or(alloc)?)?;
+    push_complement(alloc, cells, "OAI21", "ABC", or_and(alloc)?)
+}
+
+/// The or of the third place and the and of the first two.
+fn and_or(alloc: Global) -> Result<Func, AllocError>
+    ensures { IfOk result (λ f. f ≡ OrForm (AndForm p0 p1) p2) }
+{
+    Func::or(alloc, and2(alloc)?, Func::pin(2))
+}
+
+/// The and of the third place and the or of the first two.
+fn or_and(alloc: Global) -> Result<Func, AllocError>
+    ensures { IfOk result (λ f. f ≡ AndForm (OrForm p0 p1) p2) }
+{
+    Func::and(alloc, or2(alloc)?, Func::pin(2))
+}
+
+/// Adds a combinational cell whose output is the complement of this function.
+fn push_complement(
+    alloc: Global,
+    cells: &mut Seq<Cell>,
+    name: &str,
+    inputs: &str,
+    func: Func,
+) -> Result<(), AllocError>
+    ensures { OnOk result (cells.new ≡ cells.old ++ comb_cell name.now inputs.now (NotForm func) ∷ []) }
+{
+    push_comb(alloc, cells, name, inputs, Func::not(alloc, func)?)
+}
+
+/// Adds a combinational cell whose output is this function.
+fn push_comb(
+    alloc: Global,
+    cells: &mut Seq<Cell>,
+    name: &str,
+    inputs: &str,
+    func: Func,
+) -> Result<(), AllocError>
+    ensures { OnOk result (cells.new ≡ cells.old ++ comb_cell name.now inputs.now func ∷ []) }
+{
+    cells.push(comb(alloc, name, inputs, func)?)?;
     Ok(())
 }

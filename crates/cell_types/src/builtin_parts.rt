@@ -1,6 +1,6 @@
 //! Parts of the built-in cells: functions of input places, and cells of the two shapes.
-ghost use Rattle.std.specs.Prelude.{◌≡◌, ◌∷◌, [], IfOk, codes, false};
-ghost use Rattle.net_model.specs.Form.{AndForm, OrForm};
+ghost use Rattle.std.specs.Prelude.{◌≡◌, ◌++◌, ◌∷◌, [], IfOk, OnOk, codes, false};
+ghost use Rattle.net_model.specs.Form.{PinForm, NotForm, AndForm, OrForm};
 ghost use Rattle.cell_types.specs.declared.libraries.CellKind.TheVariants as kind;
 ghost use Rattle.cell_types.specs.Builtin.{letters, comb_cell, clocked, choice, p0, p1, p2};
 
@@ -42,8 +42,15 @@ pub(crate) fn choose(alloc: Global, by: usize, x: usize, y: usize) -> Result<Fun
     ensures { IfOk result (λ f. f ≡ choice by x y) }
 {
     let chosen = Func::and(alloc, Func::pin(x), Func::pin(by))?;
-    let other = Func::and(alloc, Func::pin(y), Func::not(alloc, Func::pin(by))?)?;
+    let other = and_not(alloc, y, by)?;
     Func::or(alloc, chosen, other)
+}
+
+/// The place `y` where the place `by` is 0, and else 0.
+fn and_not(alloc: Global, y: usize, by: usize) -> Result<Func, AllocError>
+    ensures { IfOk result (λ f. f ≡ AndForm (PinForm y) (NotForm (PinForm by))) }
+{
+    Func::and(alloc, Func::pin(y), Func::not(alloc, Func::pin(by))?)
 }
 
 /// A name for each letter.
@@ -52,9 +59,17 @@ pub(crate) fn named(alloc: Global, text: &str) -> Result<Seq<Name>, AllocError>
 {
     let mut names = Seq::new(alloc);
     for letter in text.as_bytes() {
-        names.push(Name::new(alloc, &[*letter])?)?;
+        push_name(alloc, &mut names, &[*letter])?;
     }
     Ok(names)
+}
+
+/// Adds a name of this text.
+pub(crate) fn push_name(alloc: Global, names: &mut Seq<Name>, text: &[u8]) -> Result<(), AllocError>
+    ensures { OnOk result (names.new ≡ names.old ++ text.now ∷ []) }
+{
+    names.push(Name::new(alloc, text)?)?;
+    Ok(())
 }
 
 /// A cell without power pins.
