@@ -11,7 +11,7 @@ use Rattle.judgements.specs.declared.judged.Judged.{Judged}
 use Rattle.sdcv_words.specs.declared.commands.Options.{Options}
 use Rattle.sdcv_words.specs.declared.commands.Proving.{Proving}
 use Rattle.sdcv_words.specs.Commands.{Texts, Verify, Check, Replay as ReplayJob}
-use Rattle.sdcv_top.specs.declared.statuses.Ending.TheVariants as ending
+use Rattle.run_ends.specs.declared.statuses.Ending.TheVariants as ending
 use Rattle.sdcv_top.specs.Outcomes.{Outcome, prints}
 use Rattle.sdcv_top.specs.Jobs.{replayed}
 use Rattle.sdcv_top.specs.Reads.{Got, Text}

@@ -4,7 +4,7 @@ use Rattle.sdcv_base.specs.declared.hosts.HostFault.{HostFault}
 use Rattle.sdcv_base.specs.Hosts.{Files, grown, Prints}
 use Rattle.sdcv_words.specs.Commands.{Command}
 use Rattle.sdcv_top.specs.declared.rans.Ran.{Ran}
-use Rattle.sdcv_top.specs.Statuses.{status_after}
+use Rattle.run_ends.specs.Statuses.{status_after}
 use Rattle.sdcv_top.specs.Outcomes.{Outcome, usage}
 use Rattle.sdcv_top.specs.Reads.{Asked, reads_of}
 use Rattle.sdcv_top.specs.Runs.{DueByReads, Calls, HasRunFor}

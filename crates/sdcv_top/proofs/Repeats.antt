@@ -4,7 +4,7 @@ use Rattle.std.specs.List.{concat}
 use Rattle.cert_values.specs.declared.faults.CertFault.{CertFault}
 use Rattle.cert_values.specs.declared.faults.CertFault.TheVariants.{Memory}
 use Rattle.answer_lines.specs.Certs.{accepted_lines, rejected_line}
-use Rattle.sdcv_top.specs.declared.statuses.Ending.TheVariants as ending
+use Rattle.run_ends.specs.declared.statuses.Ending.TheVariants as ending
 use Rattle.sdcv_top.specs.Outcomes.{Outcome, prints}
 use Rattle.std.specs.Prelude.{Vec}
 use Rattle.std.specs.declared.alloc.Global.{Global}

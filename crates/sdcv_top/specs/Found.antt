@@ -10,7 +10,7 @@ use Rattle.mcp_detect.specs.Detections.{AreDetected}
 use Rattle.found_pairs.specs.Laws.{SelectsFound}
 use Rattle.found_pairs.specs.Lines.{found_bytes}
 use Rattle.found_pairs.specs.Tellings.{detected_lines}
-use Rattle.sdcv_top.specs.declared.statuses.Ending.TheVariants as ending
+use Rattle.run_ends.specs.declared.statuses.Ending.TheVariants as ending
 use Rattle.sdcv_top.specs.Outcomes.{Outcome}
 
 -- what is found out about the pairs of a design, or that they are too many

@@ -11,8 +11,8 @@ use Rattle.judgements.specs.Judgements.{AreJudged}
 use Rattle.judgements.specs.Certificates.{IsCertificateOf}
 use Rattle.judgements.specs.Reports.{report_bytes}
 use Rattle.design_stages.specs.declared.designs.Designed.{Designed}
-use Rattle.sdcv_top.specs.declared.statuses.Ending.{Ending}
-use Rattle.sdcv_top.specs.declared.statuses.Ending.TheVariants as ending
+use Rattle.run_ends.specs.declared.statuses.Ending.{Ending}
+use Rattle.run_ends.specs.declared.statuses.Ending.TheVariants as ending
 use Rattle.sdcv_top.specs.Outcomes.{Outcome}
 
 -- how far a proof is sought

@@ -23,8 +23,8 @@ use Rattle.answer_lines.specs.Stimuli.{no_pair_line, stimulus_line, replay_line,
 use Rattle.exception_expand.specs.declared.claims.Judging.{Judging}
 use Rattle.design_stages.specs.declared.designs.Designed.{Designed}
 use Rattle.design_stages.specs.Stages.{Found, Staged}
-use Rattle.sdcv_top.specs.declared.statuses.Ending.{Ending}
-use Rattle.sdcv_top.specs.declared.statuses.Ending.TheVariants as ending
+use Rattle.run_ends.specs.declared.statuses.Ending.{Ending}
+use Rattle.run_ends.specs.declared.statuses.Ending.TheVariants as ending
 use Rattle.sdcv_top.specs.Outcomes.{Outcome, prints}
 use Rattle.sdcv_top.specs.Headline.{IsReported}
 use Rattle.sdcv_top.specs.Monitors.{IsWatchedOut}

@@ -5,7 +5,7 @@ use Rattle.cert_defs.specs.Accepted.{justified_numbers}
 use Rattle.answer_lines.specs.Certs.{accepted_lines}
 use Rattle.report_text.specs.declared.options.RunOptions.{RunOptions}
 use Rattle.design_stages.specs.declared.designs.Designed.{Designed}
-use Rattle.sdcv_top.specs.declared.statuses.Ending.TheVariants as ending
+use Rattle.run_ends.specs.declared.statuses.Ending.TheVariants as ending
 use Rattle.sdcv_top.specs.Outcomes.{Outcome, prints}
 use Rattle.sdcv_top.specs.Headline.{IsReported}
 use Rattle.sdcv_top.specs.Jobs.{Checked}

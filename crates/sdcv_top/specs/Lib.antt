@@ -8,6 +8,5 @@ pub mod Plans
 pub mod Reads
 pub mod Runs
 pub mod Stages
-pub mod Statuses
 pub mod Texts
 pub mod Found

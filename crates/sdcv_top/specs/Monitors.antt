@@ -7,7 +7,7 @@ use Rattle.and_graphs.specs.Texts.{aiger_text}
 use Rattle.and_graphs.specs.declared.aigs.Aig.{Aig}
 use Rattle.claim_monitor.specs.Watches.{Watches}
 use Rattle.answer_lines.specs.Texts.{◌⁀◌, newline}
-use Rattle.sdcv_top.specs.declared.statuses.Ending.TheVariants as ending
+use Rattle.run_ends.specs.declared.statuses.Ending.TheVariants as ending
 use Rattle.sdcv_top.specs.Outcomes.{Outcome}
 
 -- the number of the pair, and how many inputs, latches and conjunctions its graph has

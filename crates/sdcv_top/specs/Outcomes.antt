@@ -2,8 +2,8 @@
 use Rattle.std.specs.Prelude.{ℕ, List, [], ◌++◌, ◌∷◌, codes, Option, None}
 use Rattle.judgements.specs.declared.judged.Judged.{Judged}
 use Rattle.mcp_detect.specs.declared.detections.Detected.{Detected}
-use Rattle.sdcv_top.specs.declared.statuses.Ending.{Ending}
-use Rattle.sdcv_top.specs.declared.statuses.Ending.TheVariants as ending
+use Rattle.run_ends.specs.declared.statuses.Ending.{Ending}
+use Rattle.run_ends.specs.declared.statuses.Ending.TheVariants as ending
 
 -- the words name no command
 abbrev pub usage_line : List ℕ

@@ -9,9 +9,9 @@ use Rattle.sdcv_top.specs.declared.plans.Stop.TheVariants as stop
 use Rattle.sdcv_top.specs.declared.rans.Ran.{Ran}
 use Rattle.sdcv_top.specs.declared.reads.Answer.{Answer}
 use Rattle.sdcv_top.specs.declared.reads.Answer.TheVariants as answer
-use Rattle.sdcv_top.specs.declared.statuses.Status.{Status}
-use Rattle.sdcv_top.specs.declared.statuses.Status.TheVariants as ended
-use Rattle.sdcv_top.specs.Statuses.{status_of}
+use Rattle.run_ends.specs.declared.statuses.Status.{Status}
+use Rattle.run_ends.specs.declared.statuses.Status.TheVariants as ended
+use Rattle.run_ends.specs.Statuses.{status_of}
 use Rattle.sdcv_top.specs.Outcomes.{Outcome, refused}
 use Rattle.sdcv_top.specs.Reads.{ReadOf, Got, Text, Longer, Asked, IsTold, is_builtin, text_of}
 use Rattle.netlist_types.specs.declared.sources.Source.{Source}

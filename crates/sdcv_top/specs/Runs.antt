@@ -1,10 +1,10 @@
 -- What a run did, as its host tells it.
 use Rattle.std.specs.Prelude.{◌≡◌, ◌⊎◌, ℕ, List, length, take, Option, None}
 use Rattle.sdcv_base.specs.Hosts.{Files, grown, CountsOne}
-use Rattle.sdcv_top.specs.declared.statuses.Status.{Status}
-use Rattle.sdcv_top.specs.declared.statuses.Status.TheVariants as ended
+use Rattle.run_ends.specs.declared.statuses.Status.{Status}
+use Rattle.run_ends.specs.declared.statuses.Status.TheVariants as ended
 use Rattle.sdcv_top.specs.declared.rans.Ran.{Ran}
-use Rattle.sdcv_top.specs.Statuses.{status_of}
+use Rattle.run_ends.specs.Statuses.{status_of}
 use Rattle.sdcv_words.specs.Commands.{Command}
 use Rattle.sdcv_words.specs.Words.{command}
 use Rattle.sdcv_top.specs.Outcomes.{Outcome}

@@ -7,11 +7,11 @@ ghost use Rattle.sdcv_top.specs.Plans.{StopCounts, Plans, outcome_of};
 
 use crate::plans::{Plan, Stop};
 use crate::readers::text;
-use crate::statuses::Ending;
 use answer_lines::{accepted_lines, rejected_line};
 use cert_call::check_cert;
 use design_stages::Designed;
 use fault_lines::Origin;
+use run_ends::Ending;
 use sdcv_base::Host;
 use std::alloc::{AllocError, Global};
 

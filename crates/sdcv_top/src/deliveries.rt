@@ -5,11 +5,10 @@ ghost use Rattle.judgements.specs.Reports.{joined};
 ghost use Rattle.sdcv_top.specs.Outcomes.{prints};
 ghost use Rattle.sdcv_top.specs.Plans.{saved_of, outcome_of, Delivers, Outputs};
 ghost use Rattle.sdcv_top.specs.Runs.{RunCounts};
-ghost use Rattle.sdcv_top.specs.Statuses.{status_after};
 
 use crate::plans::{Plan, SavedFile};
 use crate::rans::Ran;
-use crate::statuses::{Ending, Status};
+use run_ends::{Ending, status_after};
 use sdcv_base::{Host, HostFault};
 
 /// Saves the file of a plan, prints its lines, and hands its verdicts or found pairs out.
@@ -82,14 +81,4 @@ fn print_lines<H: Host>(host: &mut H, lines: &[Vec<u8>]) -> Result<(), HostFault
         }
     }
     Ok(())
-}
-
-// The status of a run whose last call of the host answered so.
-fn status_after(answered: Result<(), HostFault>, ending: Ending) -> Status
-    ensures { result ≡ status_after answered ending }
-{
-    match answered {
-        Ok(()) => ending.status(),
-        Err(_) => Status::HostFault,
-    }
 }

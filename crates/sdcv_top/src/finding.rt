@@ -14,12 +14,12 @@ ghost use Rattle.sdcv_top.specs.Plans.{StopCounts, Plans, outcome_of};
 
 use crate::plans::{Plan, SavedFile, Stop};
 use crate::readers::texts;
-use crate::statuses::Ending;
 use design_stages::{Refusal, Reset, linked};
 use found_pairs::{detect_line, detected_lines, found_is_selected, found_text};
 use judgements::Progress;
 use link_defs::Linked;
 use mcp_detect::{DetectOptions, Detected, detect};
+use run_ends::Ending;
 use sdcv_base::Host;
 use sdcv_words::{Finding, Options, Texts};
 use std::alloc::{AllocError, Global};

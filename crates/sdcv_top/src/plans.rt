@@ -5,10 +5,10 @@ ghost use Rattle.judgements.specs.Reports.{joined};
 ghost use Rattle.sdcv_top.specs.Outcomes.{prints};
 ghost use Rattle.sdcv_top.specs.Plans.{stop_of, outcome_of};
 
-use crate::statuses::Ending;
 use design_stages::Refusal;
 use judgements::Judged;
 use mcp_detect::Detected;
+use run_ends::Ending;
 use std::alloc::{AllocError, Global};
 
 /// The bytes of a file, and the name under which they are saved.

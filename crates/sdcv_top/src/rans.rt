@@ -1,9 +1,9 @@
 //! What a run answers.
 ghost use Rattle.std.specs.Prelude.{◌≡◌, None};
 
-use crate::statuses::Status;
 use judgements::Judged;
 use mcp_detect::Detected;
+use run_ends::Status;
 
 /// How a run ended, the verdicts that it reported, in the order of the pairs, and the multicycle pairs that it found. A run that
 /// refuses a text, checks a certificate or replays a stimulus has neither.

@@ -13,11 +13,11 @@ ghost use Rattle.sdcv_top.specs.Plans.{StopCounts, Plans, IsPlanned, outcome_of}
 
 use crate::plans::{Plan, Stop};
 use crate::readers::text;
-use crate::statuses::Ending;
 use answer_lines::{no_pair_line, replay_line, replayed_line, stimulus_line};
 use design_stages::{Designed, Refusal};
 use fault_lines::Origin;
 use net_model::{Claim, Design, Stimulus};
+use run_ends::Ending;
 use sdcv_base::Host;
 use std::alloc::{AllocError, Global};
 use witness_replay::{Replay, read_stim, replay};

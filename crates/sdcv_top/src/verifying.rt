@@ -7,10 +7,10 @@ ghost use Rattle.sdcv_top.specs.Headline.{IsReported, IsSaved, ending_by, AreInR
 ghost use Rattle.sdcv_top.specs.Plans.{outcome_of, saved_of};
 
 use crate::plans::{Plan, SavedFile};
-use crate::statuses::Ending;
 use design_stages::Designed;
 use judgements::{Judged, Progress, certificate, judge, report};
 use report_text::{RunOptions, Tally, tally_of};
+use run_ends::Ending;
 use std::alloc::{AllocError, Global};
 use verdict_types::Limits;
 

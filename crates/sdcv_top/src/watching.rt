@@ -10,10 +10,10 @@ ghost use Rattle.sdcv_top.specs.Plans.{IsPlanned, outcome_of};
 
 use crate::plans::{Plan, SavedFile};
 use crate::replaying::numbered;
-use crate::statuses::Ending;
 use answer_lines::no_pair_line;
 use claim_monitor::{AigerText, write_aiger};
 use design_stages::{Designed, Refusal};
+use run_ends::Ending;
 use std::alloc::{AllocError, Global};
 
 /// Watches the claim of a pair: the text of the graph is to be saved, and its counts are to be told.

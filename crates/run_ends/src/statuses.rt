@@ -1,6 +1,8 @@
 //! How a run ends, and the number that the program ends with.
 ghost use Rattle.std.specs.Prelude.{◌≡◌};
-ghost use Rattle.sdcv_top.specs.Statuses.{code_of, status_of};
+ghost use Rattle.run_ends.specs.Statuses.{code_of, status_of, status_after};
+
+use sdcv_base::HostFault;
 
 /// How a run ended.
 #[derive(Clone, Copy, Debug, PartialEq, Eq)]
@@ -47,6 +49,7 @@ pub enum Ending {
 }
 
 impl Ending {
+    /// The status of a run that meets no fault.
     pub fn status(&self) -> Status
         ensures { result ≡ status_of self.now }
     {
@@ -59,5 +62,15 @@ impl Ending {
             Ending::Rejected => Status::Rejected,
             Ending::Holds => Status::Holds,
         }
+    }
+}
+
+/// The status of a run whose last call of the host answered so.
+pub fn status_after(answered: Result<(), HostFault>, ending: Ending) -> Status
+    ensures { result ≡ status_after answered ending }
+{
+    match answered {
+        Ok(()) => ending.status(),
+        Err(_) => Status::HostFault,
     }
 }

@@ -1,9 +1,9 @@
 -- How a run ends.
 use Rattle.std.specs.Prelude.{ℕ, Result, Ok, Err}
-use Rattle.sdcv_top.specs.declared.statuses.Status.{Status}
-use Rattle.sdcv_top.specs.declared.statuses.Status.TheVariants as status
-use Rattle.sdcv_top.specs.declared.statuses.Ending.{Ending}
-use Rattle.sdcv_top.specs.declared.statuses.Ending.TheVariants as ending
+use Rattle.run_ends.specs.declared.statuses.Status.{Status}
+use Rattle.run_ends.specs.declared.statuses.Status.TheVariants as status
+use Rattle.run_ends.specs.declared.statuses.Ending.{Ending}
+use Rattle.run_ends.specs.declared.statuses.Ending.TheVariants as ending
 
 -- the number that the program ends with
 abbrev pub code_of : Status → ℕ
