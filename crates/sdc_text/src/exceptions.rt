@@ -12,6 +12,7 @@ use script_types::{Exception, Object, What};
 use sdc_values::{Said, SdcFault, Value, objects_of};
 use sdcv_base::{Edge, Kind, Name, Seq};
 use std::alloc::{AllocError, Global};
+use std::mem;
 
 /// What the words of an exception have said so far.
 #[derive(Drop)]
@@ -212,39 +213,33 @@ fn kind_of(alloc: Global, reading: &Reading) -> Result<Option<Kind>, SdcFault>
     kind_by(alloc, reading, text)
 }
 
-fn exception_or_hold(reading: Reading, kind: Option<Kind>) -> What
-    ensures { result ≡ spec.exception_or_hold reading kind }
+// What the exception says, whose lists leave the reading.
+fn exception_or_hold(alloc: Global, reading: &mut Reading, kind: Option<Kind>) -> What
+    ensures { result ≡ spec.exception_or_hold reading.old kind }
 {
-    let Reading {
-        from,
-        edge,
-        through,
-        to,
-        ..
-    } = reading;
     match kind {
         Some(kind) => What::Claiming(Exception {
             kind,
-            edge,
-            from,
-            through,
-            to,
+            edge: reading.edge,
+            from: reading.from.take(),
+            through: mem::replace(&mut reading.through, Seq::new(alloc)),
+            to: reading.to.take(),
         }),
         None => What::Hold,
     }
 }
 
 #[tactic(auto, unfolding(crate::specs::Exceptions::claimed))]
-fn claimed(alloc: Global, reading: Reading) -> Result<What, SdcFault>
-    ensures { Gives Fails (λ what. what) result (spec.claimed reading) }
+fn claimed(alloc: Global, reading: &mut Reading) -> Result<What, SdcFault>
+    ensures { Gives Fails (λ what. what) result (spec.claimed reading.old) }
 {
-    let kind = kind_of(alloc, &reading)?;
-    Ok(exception_or_hold(reading, kind))
+    let kind = kind_of(alloc, reading)?;
+    Ok(exception_or_hold(alloc, reading, kind))
 }
 
 #[tactic(auto, unfolding(crate::specs::Exceptions::concluded))]
-fn concluded(alloc: Global, reading: Reading) -> Result<What, SdcFault>
-    ensures { Gives Fails (λ what. what) result (spec.concluded reading) }
+fn concluded(alloc: Global, reading: &mut Reading) -> Result<What, SdcFault>
+    ensures { Gives Fails (λ what. what) result (spec.concluded reading.old) }
 {
     if let Some((_, name)) = &reading.awaited {
         return Err(reading.head.bad_option(alloc, name)?);
@@ -269,5 +264,5 @@ pub fn take_exception(
 {
     let mut reading = Reading::new(alloc, path, head);
     take_all(alloc, words, &mut reading)?;
-    concluded(alloc, reading)
+    concluded(alloc, &mut reading)
 }
