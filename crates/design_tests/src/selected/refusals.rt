@@ -1,7 +1,7 @@
 //! Texts that select nothing, each with the line of its refusal.
-use crate::netlists::{MASKED, TOGGLING};
-use crate::shown::{is_shown, judge, sure};
-use crate::stages::Texts;
+use crate::selected::netlists::{MASKED, TOGGLING};
+use crate::selected::shown::{is_shown, judge, sure};
+use crate::selected::stages::Texts;
 use std::alloc::{AllocError, Global};
 
 // Scripts over a netlist whose reset is `rst`; lines count from 1.

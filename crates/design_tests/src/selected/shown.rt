@@ -1,5 +1,5 @@
 //! Selections as lines: first each exception, then each pair.
-use crate::stages::{Texts, found};
+use crate::selected::stages::{Texts, found};
 use design_stages::{Designed, Refusal};
 use exception_expand::{CommandLine, Listing, PairLine, Selected};
 use net_model::{Claim, Edge, Kind};

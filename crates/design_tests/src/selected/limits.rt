@@ -1,7 +1,7 @@
 //! Scripts that select as much as they may, and too much.
-use crate::netlists::ALL_TO_ALL;
-use crate::shown::{is_line, sure};
-use crate::stages::{Texts, found};
+use crate::selected::netlists::ALL_TO_ALL;
+use crate::selected::shown::{is_line, sure};
+use crate::selected::stages::{Texts, found};
 use design_stages::{Designed, Refusal};
 use std::alloc::{AllocError, Global};
 

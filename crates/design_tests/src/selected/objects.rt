@@ -1,7 +1,7 @@
 //! What objects stand for as starts, ends and through sets.
-use crate::netlists::NESTED;
-use crate::shown::judge;
-use crate::stages::Texts;
+use crate::selected::netlists::NESTED;
+use crate::selected::shown::judge;
+use crate::selected::stages::Texts;
 use std::alloc::AllocError;
 
 // Objects of a false path in a script with a clock and a virtual one (SDC 2.1, object access), and all that it selects.

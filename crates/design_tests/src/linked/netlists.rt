@@ -1,9 +1,9 @@
 //! Texts linked, row by row.
 ghost use Rattle.netlist_types.specs.Lawful.{IsLawful};
 
-use crate::givens::{Given, library, options};
-use crate::netlist_rows::{ROWS, Row};
-use crate::shown::{design_text, names_text, ports_text};
+use crate::linked::givens::{Given, library, options};
+use crate::linked::netlist_rows::{ROWS, Row};
+use crate::linked::shown::{design_text, names_text, ports_text};
 use net_link::{Linked, link, top_inputs};
 use std::alloc::Global;
 use std::test::Fail;

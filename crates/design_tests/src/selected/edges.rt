@@ -1,7 +1,7 @@
 //! Exceptions with an edge, and false paths with a lag.
-use crate::netlists::{COPIED, MASKED, SHOWN_TWICE, TWO_OUTPUTS};
-use crate::shown::judge;
-use crate::stages::Texts;
+use crate::selected::netlists::{COPIED, MASKED, SHOWN_TWICE, TWO_OUTPUTS};
+use crate::selected::shown::judge;
+use crate::selected::stages::Texts;
 use std::alloc::AllocError;
 
 // Over texts with a clock `ck`, what follows in the script, and all that is selected or the line of the refusal (SDC 2.1,

@@ -3,8 +3,8 @@ ghost use Rattle.std.specs.Prelude.{◌≤◌};
 ghost use Rattle.cell_types.specs.Libraries.{IsLawful as IsLawfulLibrary};
 ghost use Rattle.netlist_types.specs.Lawful.{IsLawful};
 
-use crate::givens::{Given, library, options};
-use crate::refusal_rows::{CELLS, CHAINS, COUNTS, Counted, NETLISTS, SETTINGS};
+use crate::linked::givens::{Given, library, options};
+use crate::linked::refusal_rows::{CELLS, CHAINS, COUNTS, Counted, NETLISTS, SETTINGS};
 use cell_types::Library;
 use net_link::{LinkFault, LinkOptions, link};
 use std::alloc::Global;

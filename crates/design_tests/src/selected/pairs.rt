@@ -1,7 +1,8 @@
 //! The pairs of whole scripts.
-use crate::netlists::{CHOOSING, MASKED, NESTED, SCAN_CELLS, SCANNED, TOGGLING, TWO_WAYS};
-use crate::shown::{is_shown, judge, sure};
-use crate::stages::Texts;
+use crate::scanned::{SCAN_CELLS, SCANNED};
+use crate::selected::netlists::{CHOOSING, MASKED, NESTED, TOGGLING, TWO_WAYS};
+use crate::selected::shown::{is_shown, judge, sure};
+use crate::selected::stages::Texts;
 use std::alloc::AllocError;
 
 // Over texts with a clock, what follows in the script, and all that is selected.
