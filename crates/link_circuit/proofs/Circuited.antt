@@ -16,7 +16,7 @@ use Rattle.link_defs.specs.Flatten.{flat_of}
 use Rattle.link_defs.specs.Parts.{parts_of}
 use Rattle.link_items.proofs.Pinned.{port_bits}
 use Rattle.link_design.specs.Lawful.{IsLawfulCircuit, IsLawfulPart}
-use Rattle.link_flat.specs.Flats.{AreFine}
+use Rattle.link_circuit.specs.Flats.{AreFine}
 use Rattle.link_circuit.proofs.Lawfully.{all_flat}
 use Rattle.link_circuit.proofs.Parting.{item_lawful}
 use Rattle.link_circuit.proofs.Placing.{ArePlaced, flat_placed}

@@ -31,9 +31,9 @@ use Rattle.link_items.specs.Items.{module_at, scope_of, AreLeavesAt}
 use Rattle.link_items.proofs.Listing.{contains_at}
 use Rattle.link_items.proofs.Naming.{some_at}
 use Rattle.link_items.proofs.Pinned.{lawful_at}
-use Rattle.link_flat.specs.Flats.{AreFine}
+use Rattle.link_circuit.specs.Flats.{AreFine}
 use Rattle.link_circuit.specs.declared.circuits.FlatCircuit.{FlatCircuit}
-use Rattle.link_names.proofs.Scoped.{named_at}
+use Rattle.link_circuit.proofs.Scoped.{named_at}
 use Rattle.link_circuit.proofs.Naming.{all_named}
 use Rattle.link_circuit.specs.Names.{HasNet, HasName, IsCircuitBelow, is_there, has_net, is_clocked, is_leaf_on, HasLeafOn, IsNameOn}
 

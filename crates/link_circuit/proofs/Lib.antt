@@ -1,3 +1,16 @@
+pub mod Placed
+pub mod Ranking
+pub mod Pended
+pub mod Growing
+pub mod Sized
+pub mod Making
+pub mod Standing
+pub mod Going
+pub mod Starting
+pub mod Chosen
+pub mod Tabled
+pub mod Scoped
+pub mod Kept
 pub mod Lawfully
 pub mod Parting
 pub mod Placing

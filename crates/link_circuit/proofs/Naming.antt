@@ -42,7 +42,7 @@ use Rattle.link_defs.specs.Parts.{is_buffer_cell, is_buffer_prim, prim_gate, wir
 use Rattle.link_items.specs.Prims.{copy_parts}
 use Rattle.netlist_types.specs.declared.gates.PrimKind.{PrimKind}
 use Rattle.netlist_types.specs.declared.gates.PrimKind.TheVariants as prim
-use Rattle.link_flat.specs.Flats.{AreFine}
+use Rattle.link_circuit.specs.Flats.{AreFine}
 use Rattle.link_items.specs.Faults.{IsFaultless}
 use Rattle.link_items.proofs.Listing.{contains_at}
 use Rattle.link_items.proofs.Pinned.{port_bits}

@@ -1,2 +1,10 @@
+pub mod Orders
+pub mod Flats
+pub mod Pending
+pub mod Frames
+pub mod Steps
+pub mod UnderWay
+pub mod Tables
+pub mod Scopes
 pub mod Ports
 pub mod Names

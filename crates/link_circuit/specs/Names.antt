@@ -13,7 +13,7 @@ use Rattle.link_defs.specs.Flatten.{Scope, Flat, flat_of}
 use Rattle.link_items.specs.declared.made.Instance.{Instance}
 use Rattle.link_items.specs.declared.made.LeafPlace.{LeafPlace}
 use Rattle.link_items.specs.Items.{scope_of, AreLeavesAt}
-use Rattle.link_flat.specs.Flats.{AreScopes}
+use Rattle.link_circuit.specs.Flats.{AreScopes}
 use Rattle.link_circuit.specs.declared.circuits.FlatCircuit.{FlatCircuit}
 use Rattle.link_design.specs.declared.faults.CircuitFault.{CircuitFault}
 use Rattle.link_design.specs.declared.faults.CircuitFault.TheVariants as fault

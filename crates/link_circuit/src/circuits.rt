@@ -3,11 +3,11 @@ ghost use Rattle.std.specs.Prelude.{◌≡◌, ◌<◌, length, IfOk};
 ghost use Rattle.link_defs.specs.Circuits.{circuit_of as spec_circuit};
 ghost use Rattle.link_defs.specs.Flatten.{flat_of};
 ghost use Rattle.link_items.specs.Items.{module_at};
-ghost use Rattle.link_flat.specs.Flats.{IsFlattened};
+ghost use Rattle.link_circuit.specs.Flats.{IsFlattened};
 
+use crate::flats::Flattened;
 use crate::ports::port_nets;
 use link_defs::Circuit;
-use link_flat::Flattened;
 use link_items::{Instance, LeafPlace, Made, Netlist};
 use sdcv_base::{Name, Seq};
 use std::alloc::{AllocError, Global};

@@ -6,7 +6,7 @@ ghost use Rattle.link_design.specs.declared.faults.CircuitFault.{CircuitFault};
 ghost use Rattle.link_design.specs.Faults.{IsCause};
 ghost use Rattle.link_defs.specs.Circuits.{circuit_of};
 ghost use Rattle.link_defs.specs.Flatten.{flat_of};
-ghost use Rattle.link_flat.specs.Flats.{AreFine};
+ghost use Rattle.link_circuit.specs.Flats.{AreFine};
 ghost use Rattle.link_circuit.specs.Names.{HasName};
 
 use cell_types::Library;

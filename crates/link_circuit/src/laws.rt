@@ -6,7 +6,7 @@ ghost use Rattle.cell_types.specs.Libraries.{IsLawful as IsLawfulLibrary};
 ghost use Rattle.link_design.specs.Lawful.{IsLawfulCircuit};
 ghost use Rattle.link_defs.specs.Circuits.{circuit_of};
 ghost use Rattle.link_defs.specs.Flatten.{flat_of};
-ghost use Rattle.link_flat.specs.Flats.{AreFine};
+ghost use Rattle.link_circuit.specs.Flats.{AreFine};
 
 use cell_types::Library;
 use netlist_types::{Module, Source};

@@ -5,7 +5,7 @@ ghost use Rattle.link_defs.specs.Circuits.{clock_of as clock_pin};
 ghost use Rattle.link_defs.specs.Faults.{IsFlatCause};
 ghost use Rattle.link_defs.specs.Flatten.{flat_of, scope_names};
 ghost use Rattle.link_items.specs.Items.{module_at, scope_of};
-ghost use Rattle.link_flat.specs.Flats.{AreFine, AreScopes};
+ghost use Rattle.link_circuit.specs.Flats.{AreFine, AreScopes};
 ghost use Rattle.link_circuit.specs.Names.{HasNet, IsCircuitBelow, IsNameOn, HasLeafOn};
 
 use crate::circuits::FlatCircuit;

@@ -34,8 +34,8 @@ use Rattle.link_defs.specs.Hierarchy.{cell_of, tops}
 use Rattle.link_items.specs.declared.made.LeafPlace.{LeafPlace}
 use Rattle.link_items.specs.Faults.{IsInstFault, IsItemFault, IsFaultless as IsFaultlessItem}
 use Rattle.link_items.specs.Items.{AreLeavesAt}
-use Rattle.link_flat.specs.Flats.{AreFine, IsUnrecursive, IsCauseIn}
-use Rattle.link_settings.specs.Ports.{IsPortCause}
+use Rattle.link_circuit.specs.Flats.{AreFine, IsUnrecursive, IsCauseIn}
+use Rattle.net_link.specs.Ports.{IsPortCause}
 use Rattle.link_tops.specs.Tops.{IsTopCause}
 use Rattle.link_design.proofs.Parted.{all_in}
 use Rattle.net_link.specs.Nets.{IsOfTwoNets, IsNetCause}

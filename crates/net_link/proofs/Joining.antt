@@ -32,8 +32,8 @@ use Rattle.link_defs.specs.Hierarchy.{tops}
 use Rattle.link_defs.specs.Links.{IsLinked, IsSet}
 use Rattle.link_defs.specs.Usable.{IsUsable}
 use Rattle.link_circuit.specs.declared.circuits.FlatCircuit.{FlatCircuit}
-use Rattle.link_settings.specs.declared.ports.TopPorts.{TopPorts}
-use Rattle.link_settings.specs.Ports.{AreTopPorts}
+use Rattle.net_link.specs.declared.ports.TopPorts.{TopPorts}
+use Rattle.net_link.specs.Ports.{AreTopPorts}
 use Rattle.link_tops.specs.Tops.{IsTop}
 use Rattle.net_link.specs.Nets.{names_in, IsNetCause}
 use Rattle.net_link.specs.Stages.{AreInner, IsEnableCause, IsFlatCircuit}
@@ -41,7 +41,7 @@ use Rattle.net_link.proofs.Causing.{cause_of, net_cause, enable_cause}
 use Rattle.net_link.proofs.Linking.{ArePieces, AreSettings, inputs_below, linked_is, usable_is, parts_below, over_is}
 use Rattle.net_link.proofs.Rooms.{are_clocked, pins_cause, nets_full}
 use Rattle.net_link.proofs.Staging.{names_below}
-use Rattle.link_cells.specs.Places.{ArePlacesOf}
+use Rattle.net_link.specs.Places.{ArePlacesOf}
 
 -- a design with its names
 abbrev pub joined : Design → TopPorts → List NetName → List CellName → Option (List ℕ) → Linked

@@ -10,7 +10,7 @@ use Rattle.net_model.specs.declared.netlist.Gate.{Gate}
 use Rattle.netlist_types.specs.declared.sources.Source.{Source}
 use Rattle.netlist_types.specs.declared.sources.Module.{Module}
 use Rattle.cell_types.specs.declared.libraries.Library.{Library}
-use Rattle.link_cells.specs.Places.{ArePlacesOf}
+use Rattle.net_link.specs.Places.{ArePlacesOf}
 use Rattle.icg_rewrite.specs.Rewritten.{rewritten}
 use Rattle.icg_rewrite.specs.declared.clock_gates.Gated.{Gated}
 use Rattle.link_defs.proofs.Solving.{number_within}

@@ -28,7 +28,7 @@ use Rattle.link_defs.specs.declared.circuits.Part.TheVariants as part
 use Rattle.link_defs.specs.Circuits.{part_gates, part_gated, regs_of, all_gates, all_drivers, OnTree, Root, Buffered, Gated, IsTree}
 use Rattle.link_defs.specs.Designs.{is_on_tree, kept_gates, equations, drivers_by, number_by}
 use Rattle.link_defs.specs.Parts.{inverts}
-use Rattle.link_names.specs.Scopes.{IsNumberedBy}
+use Rattle.link_circuit.specs.Scopes.{IsNumberedBy}
 use Rattle.link_items.proofs.Listing.{contains_at}
 use Rattle.net_link.specs.Nets.{has_number, is_driven, AreMarks}
 

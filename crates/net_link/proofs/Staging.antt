@@ -22,8 +22,8 @@ use Rattle.link_defs.specs.Circuits.{circuit_of, input_bits, output_bits}
 use Rattle.link_defs.specs.Faults.{bit_names, IsBadSetting, IsFaultless}
 use Rattle.link_defs.specs.Flatten.{Scope, flat_of, full_names, scope_names}
 use Rattle.link_defs.specs.Hierarchy.{tops}
-use Rattle.link_flat.specs.declared.flats.Flattened.{Flattened}
-use Rattle.link_flat.specs.Flats.{AreFine, AreScopes, IsFlattened, IsUnrecursive}
+use Rattle.link_circuit.specs.declared.flats.Flattened.{Flattened}
+use Rattle.link_circuit.specs.Flats.{AreFine, AreScopes, IsFlattened, IsUnrecursive}
 use Rattle.link_items.specs.declared.made.Instance.{Instance}
 use Rattle.link_items.specs.declared.made.LeafPlace.{LeafPlace}
 use Rattle.link_items.specs.Items.{module_at, scope_of, AreLeavesAt}

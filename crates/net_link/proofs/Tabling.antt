@@ -18,10 +18,10 @@ use Rattle.link_defs.specs.Flatten.{scope_names}
 use Rattle.link_items.specs.declared.made.Instance.{Instance}
 use Rattle.link_items.specs.Items.{module_at, scope_of}
 use Rattle.link_items.proofs.Listing.{flat_next}
-use Rattle.link_names.specs.declared.faults.NameFault.{NameFault}
-use Rattle.link_names.specs.declared.faults.NameFault.TheVariants as fault
-use Rattle.link_names.specs.Scopes.{named, IsTableOf, IsOfTwo, IsTwice}
-use Rattle.link_names.proofs.Scoped.{apart}
+use Rattle.link_circuit.specs.declared.faults.NameFault.{NameFault}
+use Rattle.link_circuit.specs.declared.faults.NameFault.TheVariants as fault
+use Rattle.link_circuit.specs.Scopes.{named, IsTableOf, IsOfTwo, IsTwice}
+use Rattle.link_circuit.proofs.Scoped.{apart}
 use Rattle.netlist_types.specs.declared.sources.Source.{Source}
 use Rattle.net_link.specs.Nets.{AreMarks, instance_names, names_in, IsOfTwoNets}
 use Rattle.net_link.proofs.Marking.{driven_hit, hit_driven, driven_below}

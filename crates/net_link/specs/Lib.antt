@@ -1,2 +1,10 @@
+pub mod Numbers
+pub mod Places
+pub mod Data
+pub mod Given
+pub mod Ports
+pub mod GateNets
+pub mod Rows
+pub mod Made
 pub mod Nets
 pub mod Stages

@@ -28,9 +28,9 @@ use Rattle.link_defs.specs.Flatten.{Flat, flat_of, full_names}
 use Rattle.link_defs.specs.Links.{source_count}
 use Rattle.link_defs.specs.Parts.{parts_of}
 use Rattle.link_items.specs.Items.{AreLeavesAt}
-use Rattle.link_cells.specs.Places.{ArePlacesOf}
+use Rattle.net_link.specs.Places.{ArePlacesOf}
 use Rattle.link_tops.specs.Clashes.{leaf_names, IsApart}
-use Rattle.link_flat.specs.Flats.{AreFine}
+use Rattle.link_circuit.specs.Flats.{AreFine}
 use Rattle.link_circuit.specs.declared.circuits.FlatCircuit.{FlatCircuit}
 use Rattle.link_circuit.specs.Names.{IsCircuitBelow}
 use Rattle.net_link.specs.Nets.{names_in}

@@ -1,13 +1,34 @@
 //! The design of a hierarchy of modules over a library of cells, with all its names.
 //!
 //! Read `links.rt` first: `link` is the call. What a design and its names are, and why there is none, `link_defs` says;
-//! `link_flat` makes the flat netlist, `link_design` the design of its circuit, `link_cells` and `link_names` the names. Here
-//! these stages are joined, and what they refuse is told by its full name.
+//! `link_circuit` makes the flat netlist and its circuit, `link_design` the design of the circuit. Here these stages are
+//! joined, and what they refuse is told by its full name.
+//!
+//! - `ports.rt`: the ports of the top module and what is set at them: its data inputs and outputs by name, and the inputs that
+//!   are given a value, by their places (`specs/Ports.antt`, in the words of `link_defs`, also why they are refused).
+//! - `designs.rt`: from a circuit and its design to the design with its clock gates: in which order these are named, which nets
+//!   are their enables, behind which of them each register stands, and which number each net has in the rewritten design, where
+//!   the output of a clock gate has that of its enable (`specs/Made.antt`, by `IsGatedOf` of `link_defs`). A design without
+//!   clock gates is its own. What the rewritten one captures is the law of `link_gates`; how it is rewritten, `icg_rewrite`'s.
+//! - `cells.rt`: for each leaf of the flat netlist its name, its register, the nets that it drives and its pins, by the design's
+//!   numbers (`specs/Places.antt`). Whether two leaves have one name is left to `link_tops`.
 #![tactic(auto)]
 
+mod cells;
 mod circuits;
+mod designs;
+mod enables;
+mod gate_nets;
+mod given;
+mod inputs;
 mod links;
 mod nets;
+mod numbers;
+mod orders;
+mod outs;
+mod pins;
+mod ports;
+mod rows;
 
 pub use link_defs::{
     CellName, LinkFault, LinkOptions, Linked, Names, NetName, PinName, PinRole, PortName,

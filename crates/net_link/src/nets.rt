@@ -7,15 +7,14 @@ ghost use Rattle.link_design.specs.Made.{IsMade};
 ghost use Rattle.link_defs.specs.CellNames.{AreNetNames};
 ghost use Rattle.link_defs.specs.Designs.{drivers_by, number_by};
 ghost use Rattle.link_defs.specs.Flatten.{Flat, full_names};
-ghost use Rattle.link_flat.specs.Flats.{AreScopes};
-ghost use Rattle.link_names.specs.Scopes.{IsTableOf, IsTwice};
+ghost use Rattle.link_circuit.specs.Flats.{AreScopes};
+ghost use Rattle.link_circuit.specs.Scopes.{IsTableOf, IsTwice};
 ghost use Rattle.net_link.specs.Nets.{has_number as numbered, is_driven as driven, AreMarks, names_in, IsOfTwoNets, IsNetCause};
 
-use link_circuit::FlatCircuit;
+use link_circuit::{FlatCircuit, NameFault, NetTable};
 use link_defs::{LinkFault, NetName};
 use link_design::CircuitDesign;
 use link_items::{Instance, Netlist};
-use link_names::{NameFault, NetTable};
 use sdcv_base::Seq;
 use std::alloc::{AllocError, Global};
 

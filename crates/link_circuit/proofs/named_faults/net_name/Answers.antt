@@ -6,7 +6,7 @@ use Rattle.link_defs.specs.Flatten.{scope_names}
 use Rattle.link_items.specs.declared.made.Instance.{Instance}
 use Rattle.link_items.specs.Items.{scope_of}
 use Rattle.link_items.proofs.Listing.{all_at}
-use Rattle.link_flat.specs.Flats.{IsScope}
+use Rattle.link_circuit.specs.Flats.{IsScope}
 use Rattle.link_circuit.specs.Names.{has_net}
 use Rattle.link_circuit.proofs.Finding.{instance_found, net_found, place_within, name_is, module_is}
 use Rattle.link_circuit.proofs.named_faults.net_name.Goals as goal

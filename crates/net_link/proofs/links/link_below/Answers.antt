@@ -6,7 +6,7 @@ use Rattle.link_defs.specs.Flatten.{flat_of}
 use Rattle.link_items.specs.Items.{module_at}
 use Rattle.link_items.proofs.Pinned.{port_bits, lawful_at}
 use Rattle.link_circuit.proofs.Finding.{module_is}
-use Rattle.link_settings.specs.Ports.{AreTopPorts, IsPortCause}
+use Rattle.net_link.specs.Ports.{AreTopPorts, IsPortCause}
 use Rattle.net_link.specs.Stages.{IsFitting}
 use Rattle.net_link.proofs.Causing.{cause_of, port_cause}
 use Rattle.net_link.proofs.Joining.{top_within}

@@ -2,11 +2,11 @@ use Rattle.std.proofs.Common.{ℕ, ◌+◌, ◌++◌, List, length, take, ap, su
 use Rattle.std.proofs.lemmas.List.{take_all}
 use Rattle.std.proofs.lemmas.Result.{err_from_is_err_and}
 use Rattle.netlist_types.specs.declared.sources.Module.{Module}
-use Rattle.link_flat.specs.Flats.{IsScope}
+use Rattle.link_circuit.specs.Flats.{IsScope}
 use Rattle.link_items.specs.declared.made.Instance.{Instance}
 use Rattle.link_items.proofs.Listing.{all_at}
 use Rattle.link_circuit.proofs.Finding.{module_is}
-use Rattle.link_names.specs.Scopes.{named, IsTableOf, IsTwice}
+use Rattle.link_circuit.specs.Scopes.{named, IsTableOf, IsTwice}
 use Rattle.net_link.specs.Nets.{names_in}
 use Rattle.net_link.proofs.Tabling.{names_next, twice_in_all}
 use Rattle.net_link.proofs.nets.name_table.Goals as goal

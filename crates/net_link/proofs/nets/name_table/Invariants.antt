@@ -1,5 +1,5 @@
 use Rattle.std.proofs.Common.{◌≡◌, length, take}
-use Rattle.link_names.specs.Scopes.{IsTableOf}
+use Rattle.link_circuit.specs.Scopes.{IsTableOf}
 use Rattle.net_link.specs.Nets.{names_in}
 use Rattle.net_link.proofs.nets.name_table.Given as goal
 

@@ -1,6 +1,6 @@
 use Rattle.std.proofs.Common.{ℕ, List, subst, sym}
 use Rattle.link_defs.specs.Designs.{drivers_by}
-use Rattle.link_names.specs.Scopes.{IsTableOf}
+use Rattle.link_circuit.specs.Scopes.{IsTableOf}
 use Rattle.net_link.specs.Nets.{names_in}
 use Rattle.net_link.proofs.Marking.{numbered_is}
 use Rattle.net_link.proofs.Tabling.{none_of_two, two_nets}

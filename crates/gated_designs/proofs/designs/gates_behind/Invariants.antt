@@ -1,7 +1,0 @@
-use Rattle.std.proofs.Common.{◌≡◌, take}
-use Rattle.std.specs.Prelude.{flat_map}
-use Rattle.gated_designs.specs.Rows.{part_behind}
-use Rattle.gated_designs.proofs.designs.gates_behind.Given as goal
-
-abbrev pub invariant-loop-part : goal.invariant-loop-part
-invariant-loop-part l = l.list ≡ flat_map (part_behind l.above l.row) (take l.part-index l.circuit.parts)

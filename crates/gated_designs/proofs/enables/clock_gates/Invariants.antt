@@ -1,6 +1,0 @@
-use Rattle.std.proofs.Common.{◌≡◌, take, map}
-use Rattle.gated_designs.specs.Rows.{clock_gate}
-use Rattle.gated_designs.proofs.enables.clock_gates.Given as goal
-
-abbrev pub invariant-loop-gate : goal.invariant-loop-gate
-invariant-loop-gate l = l.list ≡ map (clock_gate l.numbers l.above l.row) (take l.gate-index l.gates)

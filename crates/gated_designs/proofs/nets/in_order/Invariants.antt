@@ -1,6 +1,0 @@
-use Rattle.std.proofs.Common.{◌≡◌, take, map}
-use Rattle.gated_designs.specs.Nets.{nets_at}
-use Rattle.gated_designs.proofs.nets.in_order.Given as goal
-
-abbrev pub invariant-loop-place : goal.invariant-loop-place
-invariant-loop-place l = l.list ≡ map (nets_at l.gates) (take l.place-index l.places)

@@ -1,3 +1,0 @@
-pub mod Nets
-pub mod Rows
-pub mod Made

@@ -1,0 +1,6 @@
+use Rattle.std.proofs.Common.{◌≡◌, map, take}
+use Rattle.cell_types.specs.declared.libraries.FlopOut.{FlopOut}
+use Rattle.net_link.proofs.outs.flop_names.Given as goal
+
+abbrev pub invariant-loop-k : goal.invariant-loop-k
+invariant-loop-k l = l.names ≡ map (λ (o : FlopOut). o.name) (take l.k l.outs)
