@@ -12,12 +12,12 @@ use Rattle.cert_values.specs.declared.certs.Cert.{Cert}
 use Rattle.cert_lines.specs.declared.heads.InvHead.{InvHead}
 use Rattle.cert_lines.specs.Kinds.{text_of, first_words, IsVersion, inv_words, IsInvHead, kept_words, IsKept}
 use Rattle.cert_lines.proofs.KindLemmas.{version_small, first_kind, inv_kind, kept_kind}
-use Rattle.cert_parts.specs.declared.faults.Fault.{Fault}
-use Rattle.cert_parts.specs.Texts.{IsWhole, IsFault, AreMany, many_text}
-use Rattle.cert_parts.proofs.Leading.{Tells, Leads, IsPast, past_start, past_next, leads_past, whole_later, fault_later}
-use Rattle.cert_parts.proofs.LineTexts.{line_tells, line_whole}
-use Rattle.cert_parts.proofs.ManyTexts.{many_tells, many_whole, filled}
-use Rattle.cert_parts.proofs.Shortest.{no_inv, no_inv_fits, one_state, one_state_fits}
+use Rattle.cert_lines.specs.declared.faults.Fault.{Fault}
+use Rattle.cert_lines.specs.Texts.{IsWhole, IsFault, AreMany, many_text}
+use Rattle.cert_lines.proofs.Leading.{Tells, Leads, IsPast, past_start, past_next, leads_past, whole_later, fault_later}
+use Rattle.cert_lines.proofs.LineTexts.{line_tells, line_whole}
+use Rattle.cert_lines.proofs.ManyTexts.{many_tells, many_whole, filled}
+use Rattle.cert_lines.proofs.Shortest.{no_inv, no_inv_fits, one_state, one_state_fits}
 use Rattle.cert_lines.specs.Kinds.{section_words}
 use Rattle.cert_lines.specs.declared.sections.Section.TheVariants.{End}
 use Rattle.cert_text.specs.Certs.{proof_text, IsProof, IsPair, pair_text, pairs_text, inv_head, cert_bytes, IsSpellable}

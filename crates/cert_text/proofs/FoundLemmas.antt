@@ -27,8 +27,8 @@ use Rattle.query_model.specs.declared.keys.Coding.TheVariants.{Rows, Primes}
 use Rattle.verdicts.specs.Logs.{own_coding}
 use Rattle.cert_lines.specs.Kinds.{text_of, first_words, IsVersion, inv_words, kept_words, section_words, AreKept, IsKept, IsStep}
 use Rattle.cert_lines.specs.declared.sections.Section.TheVariants.{End}
-use Rattle.cert_parts.specs.Texts.{many_text}
-use Rattle.cert_parts.specs.Derivations.{IsWritable}
+use Rattle.cert_lines.specs.Texts.{many_text}
+use Rattle.cert_lines.specs.Derivations.{IsWritable}
 use Rattle.cert_text.specs.Certs.{proof_text, IsProof, pair_text, IsPair, inv_head, IsSpellable, Spells}
 use Rattle.cert_text.specs.Found.{HasSmallHints, IsProofFound, IsProofWritable}
 

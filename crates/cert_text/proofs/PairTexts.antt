@@ -13,11 +13,11 @@ use Rattle.cert_lines.specs.declared.sections.Section.TheVariants as line
 use Rattle.cert_lines.specs.Kinds.{text_of, section_words, IsSection}
 use Rattle.cert_words.specs.Words.{spaced}
 use Rattle.cert_lines.proofs.KindLemmas.{section_kind}
-use Rattle.cert_parts.specs.declared.faults.Fault.{Fault}
-use Rattle.cert_parts.specs.Texts.{IsWhole, IsFault, many_text}
-use Rattle.cert_parts.proofs.Leading.{Tells, Leads, IsPast, past_start, past_next, leads_past, whole_later, fault_later}
-use Rattle.cert_parts.proofs.LineTexts.{line_tells, line_whole}
-use Rattle.cert_parts.proofs.ManyTexts.{many_whole}
+use Rattle.cert_lines.specs.declared.faults.Fault.{Fault}
+use Rattle.cert_lines.specs.Texts.{IsWhole, IsFault, many_text}
+use Rattle.cert_lines.proofs.Leading.{Tells, Leads, IsPast, past_start, past_next, leads_past, whole_later, fault_later}
+use Rattle.cert_lines.proofs.LineTexts.{line_tells, line_whole}
+use Rattle.cert_lines.proofs.ManyTexts.{many_whole}
 use Rattle.cert_text.specs.Certs.{proof_text, IsProof, section_of, rest_text, pair_text, HasProof, IsPair, pairs_text, next_text, IsNext}
 use Rattle.cert_text.proofs.ProofTexts.{proof_tells, proof_whole, shortest}
 

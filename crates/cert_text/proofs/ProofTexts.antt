@@ -8,14 +8,14 @@ use Rattle.net_model.specs.declared.queries.Phase.TheVariants.{Base, Step}
 use Rattle.verdict_types.specs.declared.kept.InvProof.{InvProof}
 use Rattle.cert_lines.specs.Kinds.{text_of, kept_words, IsKept}
 use Rattle.cert_lines.proofs.KindLemmas.{kept_kind}
-use Rattle.cert_parts.specs.declared.faults.Fault.{Fault}
-use Rattle.cert_parts.specs.Texts.{IsWhole, IsFault, AreMany, many_text}
-use Rattle.cert_parts.specs.Derivations.{derivation_text, IsWritable}
-use Rattle.cert_parts.proofs.Leading.{Tells, Leads, IsPast, past_start, past_next, leads_past, whole_later, fault_later}
-use Rattle.cert_parts.proofs.LineTexts.{line_tells, line_whole}
-use Rattle.cert_parts.proofs.ManyTexts.{many_tells, many_whole, many_fault, filled}
-use Rattle.cert_parts.proofs.Shortest.{one_state, one_state_fits}
-use Rattle.cert_parts.proofs.DerivationTexts.{derivation_tells, derivation_whole, no_derivation, no_derivation_fits}
+use Rattle.cert_lines.specs.declared.faults.Fault.{Fault}
+use Rattle.cert_lines.specs.Texts.{IsWhole, IsFault, AreMany, many_text}
+use Rattle.cert_lines.specs.Derivations.{derivation_text, IsWritable}
+use Rattle.cert_lines.proofs.Leading.{Tells, Leads, IsPast, past_start, past_next, leads_past, whole_later, fault_later}
+use Rattle.cert_lines.proofs.LineTexts.{line_tells, line_whole}
+use Rattle.cert_lines.proofs.ManyTexts.{many_tells, many_whole, many_fault, filled}
+use Rattle.cert_lines.proofs.Shortest.{one_state, one_state_fits}
+use Rattle.cert_lines.proofs.DerivationTexts.{derivation_tells, derivation_whole, no_derivation, no_derivation_fits}
 use Rattle.cert_text.specs.Certs.{proof_text, IsProof}
 
 -- a kept clause is missing after some

@@ -3,9 +3,9 @@ use Rattle.std.proofs.Common.{inl, ◌≡◌, ℕ, ◌+◌, ◌<◌, List, [], �
 use Rattle.std.proofs.Common.{subst, append_assoc, append-nil, length-append, arith}
 use Rattle.std.proofs.lemmas.List.{append_cancel_left}
 use Rattle.cert_values.specs.declared.certs.Cert.{Cert}
-use Rattle.cert_parts.specs.declared.faults.Fault.TheVariants.{Form}
-use Rattle.cert_parts.specs.Texts.{BeginsIn, StopsAt, IsFault}
-use Rattle.cert_parts.proofs.LineTexts.{line_of}
+use Rattle.cert_lines.specs.declared.faults.Fault.TheVariants.{Form}
+use Rattle.cert_lines.specs.Texts.{BeginsIn, StopsAt, IsFault}
+use Rattle.cert_lines.proofs.LineTexts.{line_of}
 use Rattle.cert_text.specs.Certs.{cert_bytes, IsSpellable, Spells}
 use Rattle.cert_text.specs.Causes.{IsOtherVersion, IsFormFault}
 use Rattle.cert_text.proofs.CertTexts.{cert_tells, cert_whole, one_version}

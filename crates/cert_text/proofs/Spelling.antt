@@ -13,7 +13,7 @@ use Rattle.verdict_types.specs.declared.outcomes.Verdict.TheVariants.{Justified,
 use Rattle.verdict_types.specs.Forms.{IsInForm, AreInForm, IsProofInForm, IsVerdictInForm, IsSetInForm}
 use Rattle.cert_values.specs.declared.certs.PairProof.{PairProof}
 use Rattle.cert_values.specs.Certs.{justified_from, cert_of}
-use Rattle.cert_parts.specs.Derivations.{IsWritable}
+use Rattle.cert_lines.specs.Derivations.{IsWritable}
 use Rattle.cert_text.specs.Certs.{HasProof, IsPair, IsSpellable}
 use Rattle.cert_text.specs.Found.{HaveSmallHints, HintSmall, IsProofWritable, TellsSmallHints, HasOnlySmallHints}
 use Rattle.cert_text.proofs.FoundLemmas.{found_writable, proof_fits, found_fits}

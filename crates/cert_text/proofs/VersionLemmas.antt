@@ -8,8 +8,8 @@ use Rattle.std.proofs.lemmas.List.{append_cancel_left}
 use Rattle.cert_words.proofs.Tokens.{number_token}
 use Rattle.cert_lines.specs.Kinds.{text_of, first_words, IsVersion}
 use Rattle.cert_lines.proofs.Written.{spaced_two}
-use Rattle.cert_parts.specs.Places.{IsCutAt, IsNextLine}
-use Rattle.cert_parts.proofs.LineTexts.{newline_same, no_newline, token_inline}
+use Rattle.cert_lines.specs.Places.{IsCutAt, IsNextLine}
+use Rattle.cert_lines.proofs.LineTexts.{newline_same, no_newline, token_inline}
 use Rattle.cert_text.specs.Causes.{IsOtherVersion}
 
 first_cut : (n : ℕ) (r : List ℕ) → text_of first_words n ++ r ≡ codes "sdcv-cert " ++ (decimal n ++ 10 ∷ r)

@@ -4,7 +4,7 @@ use Rattle.cert_values.specs.declared.certs.Cert.{Cert}
 use Rattle.cert_values.specs.declared.faults.CertFault.{CertFault}
 use Rattle.cert_values.specs.declared.faults.CertFault.TheVariants.{Form, Version, UnknownRegister, UnknownPair, TwicePair, NotTrivial, Invariant, Pair, Memory}
 use Rattle.cert_lines.specs.Kinds.{text_of, first_words, IsVersion}
-use Rattle.cert_parts.specs.Texts.{StopsAt}
+use Rattle.cert_lines.specs.Texts.{StopsAt}
 use Rattle.cert_text.specs.Certs.{cert_bytes, IsSpellable, Spells}
 
 -- the first line, with its newline, spells another version

@@ -12,8 +12,8 @@ use Rattle.cert_lines.specs.declared.sections.Section.{Section}
 use Rattle.cert_lines.specs.declared.sections.Section.TheVariants.{End}
 use Rattle.cert_lines.specs.declared.sections.Section.TheVariants as line
 use Rattle.cert_lines.specs.Kinds.{text_of, first_words, IsVersion, inv_words, IsInvHead, kept_words, IsKept, section_words}
-use Rattle.cert_parts.specs.Texts.{AreMany, many_text}
-use Rattle.cert_parts.specs.Derivations.{derivation_text, IsWritable}
+use Rattle.cert_lines.specs.Texts.{AreMany, many_text}
+use Rattle.cert_lines.specs.Derivations.{derivation_text, IsWritable}
 
 -- the derivations at a depth: those of the base queries in order, then that of the step query
 abbrev pub proof_text : InvProof → List ℕ

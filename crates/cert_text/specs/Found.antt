@@ -8,7 +8,7 @@ use Rattle.verdict_types.specs.declared.outcomes.Proof.{Proof}
 use Rattle.verdict_types.specs.declared.outcomes.Proof.TheVariants.{Single, Fixed, Depth}
 use Rattle.cert_values.specs.declared.certs.PairProof.{PairProof}
 use Rattle.cert_values.specs.declared.certs.Cert.{Cert}
-use Rattle.cert_parts.specs.Derivations.{IsWritable}
+use Rattle.cert_lines.specs.Derivations.{IsWritable}
 
 -- the hints are below 2^63
 abbrev pub HasSmallHints : DerivStep → Type 0

@@ -2,12 +2,11 @@
 ghost use Rattle.std.specs.Prelude.{◌≡◌, ◌+◌, ◌++◌, length, IfOk, IfErr, OnOk};
 ghost use Rattle.std.specs.List.{AllByRecursion};
 ghost use Rattle.sdcv_base.specs.Cursors.{rest, place_of};
-ghost use Rattle.cert_parts.specs.Texts.{IsFault};
+ghost use Rattle.cert_lines.specs.Texts.{IsFault};
 ghost use Rattle.cert_text.specs.Certs.{IsPair, pairs_text, next_text, IsNext};
 
 use crate::proofs_at::take_proof;
-use cert_lines::Section;
-use cert_parts::{Fault, take_section};
+use cert_lines::{Fault, Section, take_section};
 use cert_values::PairProof;
 use sdcv_base::{Cursor, Seq};
 use std::alloc::Global;

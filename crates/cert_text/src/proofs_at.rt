@@ -3,11 +3,11 @@ ghost use Rattle.std.specs.Prelude.{◌≡◌, ◌+◌, ◌++◌, length, IfOk, 
 ghost use Rattle.sdcv_base.specs.Cursors.{rest, place_of};
 ghost use Rattle.net_model.specs.declared.queries.Phase.TheVariants.{Base};
 ghost use Rattle.cert_lines.specs.Kinds.{text_of, kept_words, IsKept};
-ghost use Rattle.cert_parts.specs.Texts.{AreMany, many_text, IsFault};
-ghost use Rattle.cert_parts.specs.Derivations.{derivation_text, IsWritable};
+ghost use Rattle.cert_lines.specs.Texts.{AreMany, many_text, IsFault};
+ghost use Rattle.cert_lines.specs.Derivations.{derivation_text, IsWritable};
 ghost use Rattle.cert_text.specs.Certs.{proof_text, IsProof};
 
-use cert_parts::{Fault, take_derivation, take_kept};
+use cert_lines::{Fault, take_derivation, take_kept};
 use net_model::{InvClause, Phase};
 use proof_log::Derivation;
 use sdcv_base::{Cursor, Seq};

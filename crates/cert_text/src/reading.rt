@@ -3,13 +3,13 @@ ghost use Rattle.std.specs.Prelude.{◌≡◌, ◌↔◌, ◌+◌, ◌++◌, ℕ
 ghost use Rattle.sdcv_base.specs.Cursors.{rest, place_of};
 ghost use Rattle.cert_values.specs.declared.certs.Cert.{Cert};
 ghost use Rattle.cert_lines.specs.Kinds.{IsVersion};
-ghost use Rattle.cert_parts.specs.Texts.{IsFault};
+ghost use Rattle.cert_lines.specs.Texts.{IsFault};
 ghost use Rattle.cert_text.specs.Certs.{cert_bytes, IsSpellable, Spells};
 ghost use Rattle.cert_text.specs.Causes.{IsOtherVersion, IsReadCause, Recalls};
 
 use crate::pairs::take_pairs;
 use crate::proofs_at::{take_clauses, take_proofs};
-use cert_parts::{Fault, next_line, take_first, take_inv};
+use cert_lines::{Fault, next_line, take_first, take_inv};
 use cert_values::{Cert, CertFault};
 use cert_words::number_of;
 use sdcv_base::Cursor;

@@ -5,13 +5,14 @@ ghost use Rattle.net_model.specs.declared.queries.Phase.TheVariants.{Base, Step}
 ghost use Rattle.verdict_types.specs.Forms.{IsInForm, IsKeptClause, IsProofInForm, IsVerdictInForm, IsSetInForm};
 ghost use Rattle.cert_values.specs.Certs.{justified_from, cert_of};
 ghost use Rattle.cert_lines.specs.Kinds.{text_of, kept_words};
-ghost use Rattle.cert_parts.specs.Texts.{many_text};
-ghost use Rattle.cert_parts.specs.Derivations.{derivation_text, IsWritable};
+ghost use Rattle.cert_lines.specs.Texts.{many_text};
+ghost use Rattle.cert_lines.specs.Derivations.{derivation_text, IsWritable};
 ghost use Rattle.cert_text.specs.Certs.{proof_text, pair_text, HasProof, IsPair, Spells};
 ghost use Rattle.cert_text.specs.Found.{HasSmallHints, IsProofFound, IsProofWritable};
 
-use cert_lines::{InvHead, Section, push_first, push_inv, push_kept, push_section};
-use cert_parts::push_derivation;
+use cert_lines::{
+    InvHead, Section, push_derivation, push_first, push_inv, push_kept, push_section,
+};
 use cert_values::own_version;
 use net_model::{InvClause, Phase};
 use proof_log::{DerivStep, Derivation};

@@ -1,6 +1,5 @@
 //! Lines of certificates, and why some are none, by hand.
-use cert_lines::{Section, read_first, read_inv, read_kept, read_section};
-use cert_parts::{Fault, take_section};
+use cert_lines::{Fault, Section, read_first, read_inv, read_kept, read_section, take_section};
 use cert_words::Stop;
 use sdcv_base::Cursor;
 use std::alloc::Global;

@@ -8,7 +8,7 @@ use Rattle.net_model.specs.declared.claims.Claim.{Claim}
 use Rattle.net_model.specs.declared.invariants.InvClause.{InvClause}
 use Rattle.verdicts.specs.Verdicts.{IsJudged}
 use Rattle.verdicts.specs.Inductive.{StandOnce}
-use Rattle.reg_groups.specs.Near.{IsGroup}
+use Rattle.inv_candidates.specs.Near.{IsGroup}
 use Rattle.inv_candidates.specs.Clauses.{group_clauses}
 use Rattle.inv_candidates.specs.Listing.{AddsNew, No_more}
 use Rattle.inv_candidates.specs.Candidates.{AreGroups, No_claims, Counts, Skips, AreListed, AreCandidates, IsListedTo}

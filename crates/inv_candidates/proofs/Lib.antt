@@ -1,3 +1,8 @@
+pub mod Leading
+pub mod Marking
+pub mod Growing
+pub mod Grouping
+pub mod Owning
 pub mod ClauseNumbers
 pub mod Adding
 pub mod Standing

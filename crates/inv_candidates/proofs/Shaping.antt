@@ -10,8 +10,8 @@ use Rattle.net_model.specs.declared.claims.Claim.{Claim}
 use Rattle.net_model.specs.declared.invariants.InvClause.{InvClause}
 use Rattle.net_model.specs.Fits.{NamesRegs}
 use Rattle.verdict_types.specs.Forms.{AreOneOrTwo, IsKeptClause}
-use Rattle.reg_groups.specs.Near.{Differ}
-use Rattle.reg_groups.proofs.Grouping.{differ_in_order}
+use Rattle.inv_candidates.specs.Near.{Differ}
+use Rattle.inv_candidates.proofs.Grouping.{differ_in_order}
 use Rattle.inv_candidates.specs.Clauses.{lit, one_of, two_of, single_clauses, pair_clauses, all_pairs, group_clauses}
 use Rattle.inv_candidates.specs.Candidates.{AreGroups, No_claims, Counts, Skips, AreCandidates}
 use Rattle.inv_candidates.proofs.Adding.{adds_all}

@@ -4,7 +4,7 @@ use Rattle.net_model.specs.declared.netlist.Design.{Design}
 use Rattle.net_model.specs.declared.claims.Claim.{Claim}
 use Rattle.net_model.specs.declared.invariants.InvClause.{InvClause}
 use Rattle.verdicts.specs.Verdicts.{IsJudged}
-use Rattle.reg_groups.specs.Near.{IsGroup}
+use Rattle.inv_candidates.specs.Near.{IsGroup}
 use Rattle.inv_candidates.specs.Clauses.{group_clauses}
 use Rattle.inv_candidates.specs.Listing.{AddsNew}
 

@@ -1,6 +1,6 @@
 //! Clauses that are listed, each once.
 ghost use Rattle.std.specs.Prelude.{◌≡◌, ◌≢◌, ◌+◌, ◌<◌, [], ◌∷◌, flat_map, drop, take, length, slice_index, OnOk, IfOk};
-ghost use Rattle.reg_groups.specs.Near.{Differ};
+ghost use Rattle.inv_candidates.specs.Near.{Differ};
 ghost use Rattle.inv_candidates.specs.Clauses.{single_clauses, pair_clauses, all_pairs, group_clauses};
 ghost use Rattle.inv_candidates.specs.Listing.{AddsNew, clause_of};
 

@@ -7,9 +7,9 @@ ghost use Rattle.verdicts.specs.Inductive.{StandOnce};
 ghost use Rattle.verdict_types.specs.Forms.{IsKeptClause};
 ghost use Rattle.inv_candidates.specs.Candidates.{AddsClaim, AreCandidates};
 
+use crate::groups::group;
 use crate::listings::Listing;
 use net_model::{Claim, Design, InvClause};
-use reg_groups::group;
 use sdcv_base::Seq;
 use std::alloc::{AllocError, Global};
 use verdicts::is_judged;

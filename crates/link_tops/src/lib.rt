@@ -2,7 +2,7 @@
 //!
 //! Read `tops.rt` first: `one_top` finds the only module that none instantiates, and `top_inputs` names the bits of its input
 //! ports. `specs/Tops.antt` says why a source has no top module. `clashes.rt` refuses names of port bits, and of cells, that
-//! stand twice, as `specs/Clashes.antt` says; the names of nets are in a table of their own (`link_names`).
+//! stand twice, as `specs/Clashes.antt` says; the names of nets are in a table of their own (`link_circuit`).
 #![tactic(auto)]
 
 mod clashes;

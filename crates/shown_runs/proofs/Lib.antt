@@ -1,0 +1,4 @@
+pub mod Walking
+pub mod LateNets
+pub mod Rests
+pub mod Starting

@@ -12,7 +12,7 @@ use Rattle.link_defs.specs.declared.names.CellName.{CellName}
 use Rattle.link_defs.specs.declared.names.Names.{Names}
 use Rattle.link_defs.specs.declared.names.NetName.{NetName}
 use Rattle.link_defs.specs.declared.names.Linked.{Linked}
-use Rattle.carried_paths.specs.Carried.{IsCarried}
+use Rattle.shown_runs.specs.Carried.{IsCarried}
 use Rattle.shown_runs.specs.declared.lates.Late.{Late}
 
 -- the cell drives the net

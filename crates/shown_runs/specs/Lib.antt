@@ -1,3 +1,7 @@
+pub mod Carried
+pub mod LateLayers
+pub mod Sources
+pub mod LateCycles
 pub mod Tables
 pub mod Watches
 pub mod Lates

@@ -5,7 +5,7 @@ ghost use Rattle.net_model.specs.Fits.{Fits};
 ghost use Rattle.net_model.specs.Cycles.{IsSettled};
 ghost use Rattle.shown_runs.specs.Lates.{IsNamedPath, drives, first_name};
 
-use carried_paths::carried_path;
+use crate::paths::carried_path;
 use link_defs::{CellName, Linked, Names, NetName};
 use net_model::{Claim, Cycle};
 use sdcv_base::{Name, Seq};

@@ -1,7 +1,7 @@
 use Rattle.std.proofs.Common.{◌≡◌, ◌+◌, ◌++◌, length}
 use Rattle.std.specs.List.{AllByRecursion}
 use Rattle.sdcv_base.specs.Cursors.{rest, place_of}
-use Rattle.cert_parts.specs.Texts.{many_text}
+use Rattle.cert_lines.specs.Texts.{many_text}
 use Rattle.cert_text.specs.Certs.{pair_text, IsPair}
 use Rattle.cert_text.proofs.pairs.take_pairs.Given as goal
 

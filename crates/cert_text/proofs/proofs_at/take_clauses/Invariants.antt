@@ -2,7 +2,7 @@ use Rattle.std.proofs.Common.{◌≡◌, ◌+◌, ◌++◌, length}
 use Rattle.std.specs.List.{AllByRecursion}
 use Rattle.sdcv_base.specs.Cursors.{rest, place_of}
 use Rattle.cert_lines.specs.Kinds.{text_of, kept_words, IsKept}
-use Rattle.cert_parts.specs.Texts.{many_text}
+use Rattle.cert_lines.specs.Texts.{many_text}
 use Rattle.cert_text.proofs.proofs_at.take_clauses.Given as goal
 
 abbrev pub invariant-loop : goal.invariant-loop

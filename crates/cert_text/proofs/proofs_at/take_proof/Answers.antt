@@ -2,8 +2,8 @@ use Rattle.std.proofs.Common.{◌++◌, sym, ap, ◌∙◌, append_assoc}
 use Rattle.std.proofs.lemmas.Result.{err_from_is_err_and}
 use Rattle.sdcv_base.specs.Cursors.{rest, place_of}
 use Rattle.net_model.specs.declared.queries.Phase.TheVariants.{Base, Step}
-use Rattle.cert_parts.specs.Texts.{many_text}
-use Rattle.cert_parts.specs.Derivations.{derivation_text}
+use Rattle.cert_lines.specs.Texts.{many_text}
+use Rattle.cert_lines.specs.Derivations.{derivation_text}
 use Rattle.cert_text.proofs.ProofTexts.{bases_fault, step_fault}
 use Rattle.cert_text.proofs.proofs_at.take_proof.Goals as goal
 

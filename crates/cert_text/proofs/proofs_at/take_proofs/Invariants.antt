@@ -1,7 +1,7 @@
 use Rattle.std.proofs.Common.{◌≡◌, ◌+◌, ◌++◌, length}
 use Rattle.std.specs.List.{AllByRecursion}
 use Rattle.sdcv_base.specs.Cursors.{rest, place_of}
-use Rattle.cert_parts.specs.Texts.{many_text}
+use Rattle.cert_lines.specs.Texts.{many_text}
 use Rattle.cert_text.specs.Certs.{proof_text, IsProof}
 use Rattle.cert_text.proofs.proofs_at.take_proofs.Given as goal
 

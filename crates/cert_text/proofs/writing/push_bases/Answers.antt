@@ -2,7 +2,7 @@ use Rattle.std.proofs.Common.{subst, arith}
 use Rattle.std.proofs.lemmas.List.Elements.{All-more}
 use Rattle.proof_log.specs.declared.derivations.Derivation.{Derivation}
 use Rattle.net_model.specs.declared.queries.Phase.TheVariants.{Base}
-use Rattle.cert_parts.specs.Derivations.{derivation_text, IsWritable}
+use Rattle.cert_lines.specs.Derivations.{derivation_text, IsWritable}
 use Rattle.cert_text.proofs.FoundLemmas.{texts_more}
 use Rattle.cert_text.proofs.writing.push_bases.Goals as goal
 

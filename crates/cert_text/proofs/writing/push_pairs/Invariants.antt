@@ -1,7 +1,7 @@
 use Rattle.std.proofs.Common.{◌≡◌, ◌++◌, take}
 use Rattle.std.specs.List.{AllByRecursion}
 use Rattle.cert_values.specs.Certs.{justified_from}
-use Rattle.cert_parts.specs.Texts.{many_text}
+use Rattle.cert_lines.specs.Texts.{many_text}
 use Rattle.cert_text.specs.Certs.{pair_text, IsPair}
 use Rattle.cert_text.proofs.writing.push_pairs.Given as goal
 

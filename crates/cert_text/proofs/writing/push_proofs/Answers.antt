@@ -4,8 +4,8 @@ use Rattle.std.proofs.lemmas.List.Elements.{All-more}
 use Rattle.proof_log.specs.declared.derivations.Derivation.{Derivation}
 use Rattle.verdict_types.specs.declared.kept.InvProof.{InvProof}
 use Rattle.net_model.specs.declared.queries.Phase.TheVariants.{Base, Step}
-use Rattle.cert_parts.specs.Texts.{many_text}
-use Rattle.cert_parts.specs.Derivations.{derivation_text, IsWritable}
+use Rattle.cert_lines.specs.Texts.{many_text}
+use Rattle.cert_lines.specs.Derivations.{derivation_text, IsWritable}
 use Rattle.cert_text.specs.Certs.{proof_text}
 use Rattle.cert_text.specs.Found.{IsProofWritable}
 use Rattle.cert_text.proofs.FoundLemmas.{texts_more}

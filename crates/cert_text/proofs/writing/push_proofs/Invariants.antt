@@ -1,6 +1,6 @@
 use Rattle.std.proofs.Common.{◌≡◌, ◌++◌, take}
 use Rattle.std.specs.Prelude.{All}
-use Rattle.cert_parts.specs.Texts.{many_text}
+use Rattle.cert_lines.specs.Texts.{many_text}
 use Rattle.cert_text.specs.Certs.{proof_text}
 use Rattle.cert_text.specs.Found.{IsProofWritable}
 use Rattle.cert_text.proofs.writing.push_proofs.Given as goal

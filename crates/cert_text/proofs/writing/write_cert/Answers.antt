@@ -4,7 +4,7 @@ use Rattle.net_model.specs.declared.invariants.InvClause.{InvClause}
 use Rattle.verdict_types.specs.declared.kept.InvProof.{InvProof}
 use Rattle.cert_lines.specs.declared.heads.InvHead.{InvHead}
 use Rattle.cert_lines.specs.Kinds.{text_of, first_words, inv_words, kept_words}
-use Rattle.cert_parts.specs.Texts.{many_text}
+use Rattle.cert_lines.specs.Texts.{many_text}
 use Rattle.cert_text.specs.Certs.{proof_text}
 use Rattle.cert_text.specs.Found.{IsProofWritable}
 use Rattle.cert_text.proofs.FoundLemmas.{written_spells}

@@ -1,4 +1,0 @@
-pub mod Walking
-pub mod LateNets
-pub mod Rests
-pub mod Starting

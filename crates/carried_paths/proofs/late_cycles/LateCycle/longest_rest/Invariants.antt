@@ -1,5 +1,0 @@
-use Rattle.carried_paths.specs.LateCycles.{IsRest}
-use Rattle.carried_paths.proofs.late_cycles.LateCycle.longest_rest.Given as goal
-
-abbrev pub invariant-loop-k : goal.invariant-loop-k
-invariant-loop-k l = IsRest l.self l.source l.nets.items

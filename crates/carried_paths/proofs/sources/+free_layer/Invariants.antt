@@ -1,4 +1,0 @@
-use Rattle.carried_paths.proofs.sources.+free_layer.Given as goal
-
-abbrev pub decreases-free_layer : goal.decreases-free_layer
-decreases-free_layer l = l.layer

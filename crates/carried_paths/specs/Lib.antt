@@ -1,4 +1,0 @@
-pub mod Carried
-pub mod LateLayers
-pub mod Sources
-pub mod LateCycles

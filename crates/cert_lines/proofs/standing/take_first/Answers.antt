@@ -1,0 +1,29 @@
+use Rattle.std.proofs.Common.{inl, refl}
+use Rattle.sdcv_base.specs.Cursors.{rest, place_of}
+use Rattle.cert_lines.specs.Kinds.{first_words, IsVersion}
+use Rattle.cert_lines.proofs.KindLemmas.{first_kind}
+use Rattle.cert_lines.proofs.LineTexts.{line_read, line_fault}
+use Rattle.cert_lines.proofs.standing.take_first.Goals as goal
+
+pub skip-requires : goal.skip-requires
+skip-requires c =
+    let read =
+    line_read IsVersion first_words (rest c.args.cursor.now) c.next_line-line.result.text.now
+    (place_of c.args.cursor.now) c.next_line-line.result.at c.next_line-line.result.end c.next_line-line.result.cut c.in-Ok.value
+    c.next_line-line.ensures c.in-Ok.ensures.whole c.in-Ok.ensures.ok in
+    read.some
+
+pub returns-in-Ok-clause-ok : goal.returns-in-Ok-clause-ok
+returns-in-Ok-clause-ok c =
+    let read =
+    line_read IsVersion first_words (rest c.args.cursor.now) c.next_line-line.result.text.now
+    (place_of c.args.cursor.now) c.next_line-line.result.at c.next_line-line.result.end c.next_line-line.result.cut c.in-Ok.value
+    c.next_line-line.ensures c.in-Ok.ensures.whole c.in-Ok.ensures.ok in
+    (read.fits, rw c.skip.ensures.rest read.is)
+
+pub returns-in-Err-clause-err : goal.returns-in-Err-clause-err
+returns-in-Err-clause-err c =
+    rw c.fault_of.ensures
+    (line_fault IsVersion first_words first_kind 1 (inl refl) (rest c.args.cursor.now) c.next_line-line.result.text.now
+    (place_of c.args.cursor.now) c.next_line-line.result.at c.next_line-line.result.end c.next_line-line.result.cut c.next_line-line.ensures
+    c.in-Err.stop c.in-Err.ensures.err)

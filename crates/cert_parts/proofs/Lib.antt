@@ -1,5 +1,0 @@
-pub mod Leading
-pub mod LineTexts
-pub mod ManyTexts
-pub mod Shortest
-pub mod DerivationTexts

@@ -1,6 +1,0 @@
-use Rattle.std.proofs.Common.{take}
-use Rattle.reg_groups.specs.Leading.{AreAdded}
-use Rattle.reg_groups.proofs.sweeps.mark_all.Given as goal
-
-abbrev pub invariant-loop-k : goal.invariant-loop-k
-invariant-loop-k l = AreAdded (take l.k l.nets) l.fn.marks l.marks

@@ -1,6 +1,0 @@
-use Rattle.std.proofs.Common.{◌-◌}
-use Rattle.reg_groups.specs.Leading.{AreSwept}
-use Rattle.reg_groups.proofs.sweeps.sweep.Given as goal
-
-abbrev pub invariant-loop-seen : goal.invariant-loop-seen
-invariant-loop-seen l = AreSwept l.design (l.count - l.seen) l.fn.marks l.marks

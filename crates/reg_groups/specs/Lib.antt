@@ -1,3 +1,0 @@
-pub mod Near
-pub mod Leading
-pub mod Levels
