@@ -8,7 +8,7 @@ use Rattle.script_types.specs.declared.scripts.What.{What}
 use Rattle.script_types.specs.declared.scripts.What.TheVariants.{Clock, Case, Claiming, Hold, Aside, Passed}
 use Rattle.script_types.specs.declared.scripts.Command.{Command}
 use Rattle.script_types.specs.declared.scripts.Script.{Script}
-use Rattle.sdc_objects.specs.Places.{each_at}
+use Rattle.sdcv_base.specs.Seqs.{each_at}
 use Rattle.exception_expand.specs.declared.pairs.Pair.{Pair}
 use Rattle.exception_expand.specs.Selections.{Chosen, chosen_by, count_at, is_exception, lines_by, lines_at}
 

@@ -32,7 +32,7 @@ use Rattle.sdc_objects.specs.declared.things.Thing.{Thing}
 use Rattle.sdc_objects.specs.declared.things.Thing.TheVariants as thing
 use Rattle.sdc_objects.specs.declared.things.Place.TheVariants.{Through}
 use Rattle.sdc_objects.specs.declared.things.Side.TheVariants.{In as InSide, Out as OutSide}
-use Rattle.sdc_objects.specs.Places.{each_at, where_true}
+use Rattle.sdcv_base.specs.Seqs.{each_at, where_true}
 use Rattle.sdc_objects.specs.Things as named
 use Rattle.sdc_settings.specs.Inputs.{names_bit}
 use Rattle.std.specs.Option.{is_some}

@@ -10,7 +10,7 @@ use Rattle.net_model.specs.declared.claims.End.{End}
 use Rattle.net_model.specs.declared.claims.End.TheVariants.{Reg as RegEnd, Output as OutputEnd}
 use Rattle.net_model.proofs.Members.{In, In-cases, from_flat, from_map}
 use Rattle.net_paths.specs.Those.{AreThose}
-use Rattle.sdc_objects.specs.Places.{each_at}
+use Rattle.sdcv_base.specs.Seqs.{each_at}
 use Rattle.sdc_objects.specs.Standing.{all_reg_starts, all_reg_ends}
 use Rattle.exception_expand.specs.Points.{all_starts, all_ends, input_starts, output_ends}
 use Rattle.exception_expand.specs.Pairs.{pair, IsPairIn}

@@ -10,7 +10,7 @@ use Rattle.net_model.specs.declared.claims.End.TheVariants.{Output as OutputEnd}
 use Rattle.link_defs.specs.declared.names.Linked.{Linked}
 use Rattle.script_types.specs.declared.objects.Object.{Object}
 use Rattle.script_types.specs.declared.scripts.Script.{Script}
-use Rattle.sdc_objects.specs.Places.{each_at, where_true}
+use Rattle.sdcv_base.specs.Seqs.{each_at, where_true}
 use Rattle.sdc_objects.specs.Standing.{all_reg_starts, all_reg_ends, starts_of, ends_of}
 
 -- all inputs, and all outputs

@@ -15,7 +15,7 @@ use Rattle.script_types.specs.declared.scripts.Command.{Command}
 use Rattle.script_types.specs.declared.scripts.Script.{Script}
 use Rattle.sdc_objects.specs.declared.warnings.Warning.{Warning}
 use Rattle.sdc_objects.specs.declared.things.Place.TheVariants.{From, To, Through}
-use Rattle.sdc_objects.specs.Places.{each_at}
+use Rattle.sdcv_base.specs.Seqs.{each_at}
 use Rattle.sdc_objects.specs.Standing.{pins_of, warnings, from_column, to_column, through_column}
 use Rattle.exception_expand.specs.declared.claims.Judging.{Judging}
 use Rattle.exception_expand.specs.declared.selections.Listing.{Listing}

@@ -10,7 +10,7 @@ use Rattle.net_model.specs.Judge.{Holds}
 use Rattle.net_model.specs.declared.netlist.Design.{Design}
 use Rattle.net_model.specs.declared.claims.Claim.{Claim}
 use Rattle.link_defs.specs.declared.names.Linked.{Linked}
-use Rattle.sdc_objects.specs.Places.{where_true}
+use Rattle.sdcv_base.specs.Seqs.{where_true}
 use Rattle.sdc_objects.proofs.Joining.{item_at}
 use Rattle.exception_expand.specs.declared.selections.PairLine.{PairLine}
 use Rattle.exception_expand.specs.Selections as spec

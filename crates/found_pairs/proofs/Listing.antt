@@ -10,7 +10,7 @@ use Rattle.link_defs.specs.declared.names.CellName.{CellName}
 use Rattle.link_defs.specs.declared.names.Linked.{Linked}
 use Rattle.link_defs.specs.Usable.{IsUsable}
 use Rattle.script_types.specs.declared.scripts.Script.{Script}
-use Rattle.sdc_objects.specs.Places.{each_at}
+use Rattle.sdcv_base.specs.Seqs.{each_at}
 use Rattle.sdc_objects.specs.Standing.{cell_at_row, reg_start, reg_end, dropped_of, from_column, to_column, warning, warnings}
 use Rattle.sdc_objects.specs.declared.things.Place.TheVariants.{From, To}
 use Rattle.sdc_objects.specs.declared.things.Thing.{Thing}

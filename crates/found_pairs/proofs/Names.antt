@@ -19,7 +19,7 @@ use Rattle.script_types.specs.declared.objects.Class.TheVariants.{Cells}
 use Rattle.script_types.specs.declared.objects.Query.{Query}
 use Rattle.script_types.specs.declared.objects.Object.TheVariants.{Named}
 use Rattle.script_types.specs.declared.scripts.Script.{Script}
-use Rattle.sdc_objects.specs.Places.{each_at}
+use Rattle.sdcv_base.specs.Seqs.{each_at}
 use Rattle.sdc_objects.specs.Things.{things_of, first_some, cell_named}
 use Rattle.sdc_objects.specs.declared.things.Place.TheVariants.{From, To}
 use Rattle.sdc_objects.specs.declared.things.Thing.{Thing}

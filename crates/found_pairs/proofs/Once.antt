@@ -6,7 +6,7 @@ use Rattle.net_model.specs.declared.claims.Start.TheVariants.{Reg as RegStart, I
 use Rattle.net_model.specs.declared.claims.End.TheVariants.{Reg as RegEnd, Output as OutputEnd}
 use Rattle.net_paths.specs.Those.{AreThose, All_seen, Taken, Left_out}
 use Rattle.net_paths.proofs.Sifting.{those_append}
-use Rattle.sdc_objects.specs.Places.{each_at}
+use Rattle.sdcv_base.specs.Seqs.{each_at}
 use Rattle.exception_expand.specs.Points.{all_starts, all_ends}
 use Rattle.exception_expand.proofs.Placing.{same_or}
 

@@ -13,7 +13,7 @@ use Rattle.link_defs.specs.declared.names.Linked.{Linked}
 use Rattle.link_defs.specs.Usable.{IsUsable}
 use Rattle.script_types.specs.declared.scripts.Command.{Command}
 use Rattle.script_types.specs.declared.scripts.Script.{Script}
-use Rattle.sdc_objects.specs.Places.{each_at}
+use Rattle.sdcv_base.specs.Seqs.{each_at}
 use Rattle.exception_expand.specs.declared.claims.Judging.{Judging}
 use Rattle.exception_expand.specs.declared.pairs.Pair.{Pair}
 use Rattle.exception_expand.specs.declared.selections.PairLine.{PairLine}

@@ -7,7 +7,7 @@ use Rattle.net_paths.specs.Those.{AreThose}
 use Rattle.net_paths.proofs.Sifting.{those_same}
 use Rattle.link_defs.specs.declared.names.Linked.{Linked}
 use Rattle.link_defs.specs.Usable.{IsUsable}
-use Rattle.sdc_objects.specs.Places.{each_at}
+use Rattle.sdcv_base.specs.Seqs.{each_at}
 use Rattle.exception_expand.specs.declared.pairs.Pair.{Pair}
 use Rattle.exception_expand.specs.declared.selections.Selected.{Selected}
 use Rattle.exception_expand.specs.Selections as spec

@@ -14,7 +14,7 @@ use Rattle.net_model.specs.declared.claims.Claim.{Claim}
 use Rattle.net_paths.specs.Those.{AreThose, All_seen, Taken, Left_out}
 use Rattle.link_defs.specs.declared.names.Linked.{Linked}
 use Rattle.script_types.specs.declared.scripts.Command.{Command}
-use Rattle.sdc_objects.specs.Places.{where_true}
+use Rattle.sdcv_base.specs.Seqs.{where_true}
 use Rattle.sdc_objects.proofs.Joining.{item_at}
 use Rattle.exception_expand.specs.declared.claims.Judging.{Judging}
 use Rattle.exception_expand.specs.declared.pairs.Pair.{Pair}

@@ -8,7 +8,7 @@ use Rattle.link_defs.specs.declared.names.Linked.{Linked}
 use Rattle.sdc_text.specs.Scripts.{script_of}
 use Rattle.sdc_settings.specs.declared.faults.ExpandFault.{ExpandFault}
 use Rattle.sdc_settings.specs.declared.faults.ExpandFault.TheVariants.{Memory}
-use Rattle.sdc_objects.specs.Places.{where_true}
+use Rattle.sdcv_base.specs.Seqs.{where_true}
 use Rattle.exception_expand.specs.declared.claims.Judging.{Judging}
 use Rattle.exception_expand.specs.declared.selections.CommandLine.{CommandLine}
 use Rattle.exception_expand.specs.declared.selections.Listing.TheVariants.{Claiming as ListsClaims}

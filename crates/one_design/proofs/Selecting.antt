@@ -9,7 +9,7 @@ use Rattle.net_paths.proofs.Sifting.{those_same}
 use Rattle.link_defs.specs.declared.names.Linked.{Linked}
 use Rattle.script_types.specs.declared.scripts.Command.{Command}
 use Rattle.script_types.specs.declared.scripts.Script.{Script}
-use Rattle.sdc_objects.specs.Places.{each_at}
+use Rattle.sdcv_base.specs.Seqs.{each_at}
 use Rattle.sdc_settings.specs.declared.faults.ExpandFault.{ExpandFault}
 use Rattle.sdc_settings.specs.declared.faults.ExpandFault.TheVariants as fault
 use Rattle.exception_expand.specs.declared.claims.Judging.{Judging}

@@ -6,7 +6,7 @@ use Rattle.serde_json.specs.Written.{compact_text}
 use Rattle.sdcv_base.specs.Shown.{shown}
 use Rattle.net_model.specs.declared.claims.Claim.{Claim}
 use Rattle.net_model.specs.declared.cycles.Stimulus.{Stimulus}
-use Rattle.sdc_objects.specs.Places.{each_at}
+use Rattle.sdcv_base.specs.Seqs.{each_at}
 use Rattle.sdc_objects.specs.declared.warnings.Warning.{Warning}
 use Rattle.exception_expand.specs.declared.selections.Listing.{Listing}
 use Rattle.exception_expand.specs.declared.selections.Listing.TheVariants.{Claiming, Hold, Aside}

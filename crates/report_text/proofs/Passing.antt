@@ -14,7 +14,7 @@ use Rattle.sdcv_base.specs.declared.kinds.Edge.TheVariants.{Any, Rise, Fall}
 use Rattle.net_model.specs.declared.claims.Claim.{Claim}
 use Rattle.net_model.specs.declared.queries.Phase.{Phase}
 use Rattle.net_model.specs.declared.queries.Phase.TheVariants.{Base, Step}
-use Rattle.sdc_objects.specs.Places.{each_at}
+use Rattle.sdcv_base.specs.Seqs.{each_at}
 use Rattle.sdc_objects.specs.declared.warnings.Warning.{Warning}
 use Rattle.sdc_objects.specs.declared.warnings.Warning.TheVariants.{Nothing, Dropped}
 use Rattle.exception_expand.specs.declared.selections.Listing.{Listing}

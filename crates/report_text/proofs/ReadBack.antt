@@ -10,7 +10,7 @@ use Rattle.std.proofs.lemmas.List.{map-append}
 use Rattle.std.proofs.lemmas.List.Folds.{list_all-append}
 use Rattle.net_model.specs.declared.claims.Claim.{Claim}
 use Rattle.net_model.specs.declared.cycles.Stimulus.{Stimulus}
-use Rattle.sdc_objects.specs.Places.{each_at}
+use Rattle.sdcv_base.specs.Seqs.{each_at}
 use Rattle.exception_expand.specs.declared.selections.CommandLine.{CommandLine}
 use Rattle.exception_expand.specs.declared.selections.PairLine.{PairLine}
 use Rattle.exception_expand.specs.declared.selections.Selected.{Selected}

@@ -1,6 +1,6 @@
 //! The lines of the exceptions.
 ghost use Rattle.std.specs.Prelude.{◌≡◌, ◌+◌, ◌<◌, ◌^◌, ◌++◌, map, IfOk, OnOk, string_bytes};
-ghost use Rattle.sdc_objects.specs.Places.{each_at};
+ghost use Rattle.sdcv_base.specs.Seqs.{each_at};
 ghost use Rattle.witness_replay.specs.StimulusTexts.{line_of};
 ghost use Rattle.report_text.specs.Words.{command_text, warning_line};
 ghost use Rattle.report_text.specs.Reports.{command_lines};

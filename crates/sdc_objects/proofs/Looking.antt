@@ -12,7 +12,7 @@ use Rattle.glob.specs.declared.indexes.Look.TheVariants.{Nowhere, At}
 use Rattle.glob.specs.declared.owners.Owner.TheVariants.{Nobody, One}
 use Rattle.glob.specs.Indexes.{IsLook, IsExact}
 use Rattle.glob.specs.Owners.{IsOwner, IsOwnerAt}
-use Rattle.sdc_objects.specs.Places.{each_at, where_true}
+use Rattle.sdcv_base.specs.Seqs.{each_at, where_true}
 use Rattle.sdc_objects.proofs.Joining.{nothing_made, one_made, item_at}
 
 -- the name of an item at a place

@@ -13,7 +13,7 @@ use Rattle.link_defs.specs.declared.names.Names.{Names}
 use Rattle.link_defs.specs.declared.names.PortName.{PortName}
 use Rattle.script_types.specs.declared.objects.Query.{Query}
 use Rattle.sdc_settings.specs.Inputs.{names_bit, names_bus}
-use Rattle.sdc_objects.specs.Places.{each_at, option_list}
+use Rattle.sdcv_base.specs.Seqs.{each_at, option_list}
 use Rattle.sdc_objects.specs.Tables.{bit_names, port_names}
 use Rattle.sdc_objects.specs.Things.{names, bit_named, clock_port_named, ports_named}
 use Rattle.sdc_objects.specs.declared.things.Side.{Side}

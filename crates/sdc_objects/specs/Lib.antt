@@ -1,4 +1,3 @@
-pub mod Places
 pub mod Things
 pub mod Standing
 pub mod Tables

@@ -27,7 +27,7 @@ use Rattle.sdc_objects.specs.declared.things.Place.{Place}
 use Rattle.sdc_objects.specs.declared.things.Place.TheVariants.{From, To, Through}
 use Rattle.sdc_objects.specs.declared.warnings.Warning.{Warning}
 use Rattle.sdc_objects.specs.declared.warnings.Warning.TheVariants.{Nothing, Dropped}
-use Rattle.sdc_objects.specs.Places.{each_at}
+use Rattle.sdcv_base.specs.Seqs.{each_at}
 use Rattle.sdc_objects.specs.Things.{things_of}
 
 -- a row of the table: what a thing stands for in each place; None where it is dropped there

@@ -7,7 +7,7 @@ use Rattle.link_defs.specs.declared.names.Linked.{Linked}
 use Rattle.link_defs.specs.declared.names.CellName.{CellName}
 use Rattle.link_defs.specs.declared.names.PortName.{PortName}
 use Rattle.link_defs.specs.declared.names.NetName.{NetName}
-use Rattle.sdc_objects.specs.Places.{option_list}
+use Rattle.sdcv_base.specs.Seqs.{option_list}
 use Rattle.sdc_objects.specs.declared.tables.Tables.{Tables}
 
 -- the names of cells and of nets, in their order

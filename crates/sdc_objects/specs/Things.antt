@@ -17,7 +17,7 @@ use Rattle.script_types.specs.declared.scripts.What.TheVariants.{Clock as ClockC
 use Rattle.script_types.specs.declared.scripts.Command.{Command}
 use Rattle.script_types.specs.declared.scripts.Script.{Script}
 use Rattle.sdc_settings.specs.Inputs.{names_bit}
-use Rattle.sdc_objects.specs.Places.{each_at, where_true}
+use Rattle.sdcv_base.specs.Seqs.{each_at, where_true}
 use Rattle.sdc_objects.specs.declared.things.Thing.{Thing}
 use Rattle.sdc_objects.specs.declared.things.Thing.TheVariants as thing
 use Rattle.sdc_objects.specs.declared.things.Place.{Place}

@@ -9,7 +9,7 @@ ghost use Rattle.link_defs.specs.declared.names.Linked.{Linked as LinkedRecord};
 ghost use Rattle.sdc_objects.specs.declared.things.Thing.{Thing as ThingEnum};
 ghost use Rattle.sdc_objects.specs.declared.things.Place.{Place as PlaceEnum};
 ghost use Rattle.sdc_objects.specs.declared.things.Place.TheVariants as places;
-ghost use Rattle.sdc_objects.specs.Places.{option_list};
+ghost use Rattle.sdcv_base.specs.Seqs.{option_list};
 ghost use Rattle.sdc_objects.specs.Standing as spec;
 
 use crate::things::{Place, Thing};

@@ -4,7 +4,7 @@ ghost use Rattle.std.specs.Option.{option_copied};
 ghost use Rattle.script_types.specs.declared.objects.Class.TheVariants as class;
 ghost use Rattle.link_defs.specs.declared.names.CellName.{CellName as CellRecord};
 ghost use Rattle.link_defs.specs.declared.names.PortName.{PortName as PortRecord};
-ghost use Rattle.sdc_objects.specs.Places.{each_at};
+ghost use Rattle.sdcv_base.specs.Seqs.{each_at};
 ghost use Rattle.sdc_objects.specs.Tables.{IsTablesOf};
 ghost use Rattle.sdc_objects.specs.Things as spec;
 

@@ -1,6 +1,6 @@
 //! The pins of cells, by their full names.
 ghost use Rattle.std.specs.Prelude.{◌≡◌, ◌++◌, IfOk, OnOk};
-ghost use Rattle.sdc_objects.specs.Places.{each_at};
+ghost use Rattle.sdcv_base.specs.Seqs.{each_at};
 ghost use Rattle.sdc_objects.specs.Tables.{IsTablesOf};
 ghost use Rattle.sdc_objects.specs.Things as spec;
 

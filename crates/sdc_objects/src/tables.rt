@@ -2,7 +2,7 @@
 ghost use Rattle.std.specs.Prelude.{◌≡◌, [], IfOk, OnOk, flat_map};
 ghost use Rattle.texts.specs.Names.{with_names, each_once};
 ghost use Rattle.glob.specs.Indexes.{IsIndexOf};
-ghost use Rattle.sdc_objects.specs.Places.{option_list};
+ghost use Rattle.sdcv_base.specs.Seqs.{option_list};
 ghost use Rattle.sdc_objects.specs.Tables.{IsTablesOf, port_names, bit_names, cell_names, net_names};
 
 use glob::Index;

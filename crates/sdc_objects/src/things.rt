@@ -1,6 +1,6 @@
 //! Things that have names.
 ghost use Rattle.std.specs.Prelude.{◌≡◌, ◌++◌, OnOk};
-ghost use Rattle.sdc_objects.specs.Places.{where_true};
+ghost use Rattle.sdcv_base.specs.Seqs.{where_true};
 
 use sdcv_base::Seq;
 use std::alloc::AllocError;

@@ -1,7 +1,7 @@
 use Rattle.std.proofs.Common.{arith, ◌≡◌, ◌∙◌, sym, ap, ℕ, ◌+◌, Bool, true, false, List, [], ◌++◌, take, append-nil}
 use Rattle.std.specs.Prelude.{slice_get, Some}
 use Rattle.std.proofs.lemmas.Option.{get_or_from_slice_get}
-use Rattle.sdc_objects.specs.Places.{each_at, where_true}
+use Rattle.sdcv_base.specs.Seqs.{each_at, where_true}
 use Rattle.exception_expand.specs.Points.{has_mark}
 use Rattle.sdc_objects.proofs.Joining.{added, item_at}
 use Rattle.exception_expand.proofs.marks.marked.Goals as goal

@@ -1,5 +1,5 @@
 use Rattle.std.proofs.Common.{◌≡◌, take}
-use Rattle.sdc_objects.specs.Places.{each_at, where_true}
+use Rattle.sdcv_base.specs.Seqs.{each_at, where_true}
 use Rattle.exception_expand.specs.Points.{has_mark}
 use Rattle.exception_expand.proofs.marks.marked.Given as goal
 

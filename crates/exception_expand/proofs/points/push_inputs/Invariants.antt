@@ -1,6 +1,6 @@
 use Rattle.std.proofs.Common.{ℕ, ◌≡◌, ◌++◌, ◌∷◌, [], take}
 use Rattle.net_model.specs.declared.claims.Start.TheVariants.{Input as InputStart}
-use Rattle.sdc_objects.specs.Places.{each_at}
+use Rattle.sdcv_base.specs.Seqs.{each_at}
 use Rattle.exception_expand.proofs.points.push_inputs.Given as goal
 
 abbrev pub invariant-loop-input : goal.invariant-loop-input

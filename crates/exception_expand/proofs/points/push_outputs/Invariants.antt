@@ -1,6 +1,6 @@
 use Rattle.std.proofs.Common.{ℕ, ◌≡◌, ◌++◌, ◌∷◌, [], take}
 use Rattle.net_model.specs.declared.claims.End.TheVariants.{Output as OutputEnd}
-use Rattle.sdc_objects.specs.Places.{each_at}
+use Rattle.sdcv_base.specs.Seqs.{each_at}
 use Rattle.exception_expand.proofs.points.push_outputs.Given as goal
 
 abbrev pub invariant-loop-output : goal.invariant-loop-output

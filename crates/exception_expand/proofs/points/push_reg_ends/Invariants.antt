@@ -1,7 +1,7 @@
 use Rattle.std.proofs.Common.{◌≡◌, ◌++◌, ◌∷◌, [], take}
 use Rattle.net_model.specs.declared.netlist.Reg.{Reg}
 use Rattle.net_model.specs.declared.claims.End.TheVariants.{Reg as RegEnd}
-use Rattle.sdc_objects.specs.Places.{each_at}
+use Rattle.sdcv_base.specs.Seqs.{each_at}
 use Rattle.exception_expand.proofs.points.push_reg_ends.Given as goal
 
 abbrev pub invariant-loop-reg : goal.invariant-loop-reg

@@ -1,5 +1,5 @@
 use Rattle.std.proofs.Common.{◌≡◌, ◌++◌, take}
-use Rattle.sdc_objects.specs.Places.{each_at}
+use Rattle.sdcv_base.specs.Seqs.{each_at}
 use Rattle.report_text.specs.Reports.{command_lines}
 use Rattle.report_text.proofs.commands.add_commands.Given as goal
 

@@ -2,7 +2,7 @@ use Rattle.std.proofs.Common.{◌∙◌, ap, sym, ◌++◌}
 use Rattle.link_defs.specs.declared.names.CellName.{CellName}
 use Rattle.sdc_objects.specs.declared.things.Thing.TheVariants as thing
 use Rattle.sdc_objects.specs.Things.{cell_named}
-use Rattle.sdc_objects.specs.Places.{each_at}
+use Rattle.sdcv_base.specs.Seqs.{each_at}
 use Rattle.sdc_objects.specs.Tables.{cell_names}
 use Rattle.sdc_objects.proofs.Joining.{added_nothing}
 use Rattle.sdc_objects.proofs.Looking.{nothing_matched, one_matched, look_item}

@@ -1,6 +1,6 @@
 use Rattle.std.proofs.Common.{◌≡◌, take}
 use Rattle.link_defs.specs.declared.names.CellName.{CellName}
-use Rattle.sdc_objects.specs.Places.{each_at}
+use Rattle.sdcv_base.specs.Seqs.{each_at}
 use Rattle.sdc_objects.specs.Things.{cell_of_reg}
 use Rattle.sdc_objects.proofs.found.all_registers.Given as goal
 

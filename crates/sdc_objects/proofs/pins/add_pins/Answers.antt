@@ -5,7 +5,7 @@ use Rattle.link_defs.specs.declared.names.PinName.{PinName}
 use Rattle.sdc_objects.specs.declared.things.Thing.{Thing}
 use Rattle.sdc_objects.specs.declared.things.Thing.TheVariants as thing
 use Rattle.sdc_objects.specs.Things.{pins_named}
-use Rattle.sdc_objects.specs.Places.{each_at}
+use Rattle.sdcv_base.specs.Seqs.{each_at}
 use Rattle.glob.specs.Owners.{IsOwner}
 use Rattle.sdc_objects.specs.Tables.{cell_names}
 use Rattle.sdc_objects.proofs.Joining.{added_nothing}
