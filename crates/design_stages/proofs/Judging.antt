@@ -1,11 +1,11 @@
 -- What those rely on who judge the pairs of a selection.
 use Rattle.std.proofs.Common.{◌≡◌, length, ap, sym, ◌∙◌}
 use Rattle.std.proofs.lemmas.List.{length-map}
-use Rattle.link_defs.specs.declared.names.Linked.{Linked}
-use Rattle.link_defs.specs.Usable.{IsUsable}
+use Rattle.linked_types.specs.declared.names.Linked.{Linked}
+use Rattle.linked_types.specs.Usable.{IsUsable}
 use Rattle.script_types.specs.declared.scripts.Script.{Script}
-use Rattle.exception_expand.specs.declared.claims.Judging.{Judging}
-use Rattle.exception_expand.specs.declared.selections.Selected.{Selected}
+use Rattle.run_options.specs.declared.judging.Judging.{Judging}
+use Rattle.selected_types.specs.declared.selections.Selected.{Selected}
 use Rattle.exception_expand.specs.Selections.{IsSelectionOf}
 use Rattle.design_stages.specs.Designs.{CanBeJudged}
 

@@ -8,28 +8,28 @@ use Rattle.netlist_types.specs.declared.sources.Module.{Module}
 use Rattle.netlist_types.specs.Lawful.{IsLawful}
 use Rattle.cell_types.specs.declared.libraries.Library.{Library}
 use Rattle.cell_types.specs.Libraries.{IsLawful as IsLawfulLibrary}
-use Rattle.link_defs.specs.declared.names.Linked.{Linked}
-use Rattle.link_defs.specs.declared.names.PortName.{PortName}
-use Rattle.link_defs.specs.declared.options.LinkOptions.{LinkOptions}
-use Rattle.link_defs.specs.declared.faults.LinkFault.{LinkFault}
+use Rattle.linked_types.specs.declared.names.Linked.{Linked}
+use Rattle.linked_types.specs.declared.names.PortName.{PortName}
+use Rattle.linked_types.specs.declared.options.LinkOptions.{LinkOptions}
+use Rattle.linked_types.specs.declared.faults.LinkFault.{LinkFault}
 use Rattle.link_defs.specs.Circuits.{input_bits}
 use Rattle.link_defs.specs.Faults.{IsCause, IsFaultless}
 use Rattle.link_defs.specs.Hierarchy.{tops}
 use Rattle.link_defs.specs.Links.{IsLinked, ports_of}
-use Rattle.link_defs.specs.Usable.{IsUsable}
+use Rattle.linked_types.specs.Usable.{IsUsable}
 use Rattle.link_tops.specs.Tops.{IsTopCause}
 use Rattle.script_types.specs.declared.scripts.Script.{Script}
 use Rattle.sdc_settings.specs.declared.values.Settings.{Settings}
-use Rattle.sdc_settings.specs.declared.faults.ExpandFault.{ExpandFault}
+use Rattle.selected_types.specs.declared.faults.ExpandFault.{ExpandFault}
 use Rattle.sdc_settings.specs.Settings.{AreSettings}
 use Rattle.sdc_settings.specs.Causes.{IsSettingsCause}
-use Rattle.exception_expand.specs.declared.claims.Judging.{Judging}
-use Rattle.exception_expand.specs.declared.selections.Selected.{Selected}
+use Rattle.run_options.specs.declared.judging.Judging.{Judging}
+use Rattle.selected_types.specs.declared.selections.Selected.{Selected}
 use Rattle.exception_expand.specs.Selections.{IsSelectionOf, HasMultipliers}
 use Rattle.exception_expand.specs.Causes.{IsExpandCause}
 use Rattle.fault_lines.specs.Designs.{link_line, expand_line}
 use Rattle.design_stages.specs.declared.designs.ReadTexts.{ReadTexts}
-use Rattle.design_stages.specs.declared.designs.Reset.{Reset}
+use Rattle.run_options.specs.declared.resets.Reset.{Reset}
 use Rattle.design_stages.specs.declared.designs.Designed.{Designed}
 use Rattle.design_stages.specs.Stages.{Found, Staged, ◌>>=◌}
 

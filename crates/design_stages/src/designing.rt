@@ -3,21 +3,23 @@ ghost use Rattle.std.specs.Prelude.{◌≡◌, ◌≤◌, IfOk};
 ghost use Rattle.netlist_types.specs.Lawful.{IsLawful};
 ghost use Rattle.cell_types.specs.Libraries.{IsLawful as IsLawfulLibrary};
 ghost use Rattle.exception_expand.specs.Selections.{HasMultipliers};
-ghost use Rattle.link_defs.specs.Usable.{IsUsable};
+ghost use Rattle.linked_types.specs.Usable.{IsUsable};
 ghost use Rattle.fault_lines.specs.Designs.{link_line, expand_line};
 ghost use Rattle.design_stages.specs.Stages.{Finds, Staged};
 ghost use Rattle.design_stages.specs.Designs.{HasInputs, HasSettings, Links, Selects, LinksTo, Designs, AreLawful, CanBeJudged, options_of};
 
-use crate::designs::{Designed, ReadTexts, Reset};
+use crate::designs::{Designed, ReadTexts};
 use crate::refusals::Refusal;
 use cell_types::Library;
-use exception_expand::{Judging, Selected, expand};
+use exception_expand::expand;
 use fault_lines::{expand_line, link_line};
 use net_link::{LinkOptions, Linked, PortName, link, top_inputs};
 use netlist_types::Source;
+use run_options::{Judging, Reset};
 use script_types::Script;
 use sdc_settings::{Settings, settings};
 use sdcv_base::{Seq, Setting};
+use selected_types::Selected;
 use std::alloc::Global;
 
 /// Links the netlist with its cells, as the constraints and the reset set its inputs, and selects the pairs that the constraints

@@ -11,6 +11,6 @@ mod readers;
 mod refusals;
 
 pub use designing::{designed, linked};
-pub use designs::{Designed, ReadTexts, Reset};
+pub use designs::{Designed, ReadTexts};
 pub use readers::{cells, constraints, netlist};
 pub use refusals::Refusal;

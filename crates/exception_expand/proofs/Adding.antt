@@ -7,21 +7,21 @@ use Rattle.sdcv_base.specs.declared.limits.LimitName.TheVariants as limit
 use Rattle.net_model.specs.declared.claims.Claim.{Claim}
 use Rattle.net_model.specs.declared.claims.PinRef.{PinRef}
 use Rattle.net_paths.proofs.Sifting.{those_none}
-use Rattle.link_defs.specs.declared.names.Linked.{Linked}
-use Rattle.sdc_settings.specs.declared.faults.ExpandFault.{ExpandFault}
-use Rattle.sdc_settings.specs.declared.faults.ExpandFault.TheVariants.{TwoClocks, ClockNotPort, CaseTwice, CaseOnReset, CaseOnPin, Limit, Memory}
+use Rattle.linked_types.specs.declared.names.Linked.{Linked}
+use Rattle.selected_types.specs.declared.faults.ExpandFault.{ExpandFault}
+use Rattle.selected_types.specs.declared.faults.ExpandFault.TheVariants.{TwoClocks, ClockNotPort, CaseTwice, CaseOnReset, CaseOnPin, Limit, Memory}
 use Rattle.script_types.specs.declared.scripts.Exception.{Exception}
 use Rattle.script_types.specs.declared.scripts.What.{What}
 use Rattle.script_types.specs.declared.scripts.What.TheVariants.{Clock, Case, Claiming, Hold, Aside, Passed}
 use Rattle.script_types.specs.declared.scripts.Command.{Command}
 use Rattle.script_types.specs.declared.scripts.Script.{Script}
-use Rattle.sdc_objects.specs.declared.warnings.Warning.{Warning}
-use Rattle.exception_expand.specs.declared.claims.Judging.{Judging}
+use Rattle.selected_types.specs.declared.warnings.Warning.{Warning}
+use Rattle.run_options.specs.declared.judging.Judging.{Judging}
 use Rattle.exception_expand.specs.declared.pairs.Pair.{Pair}
 use Rattle.exception_expand.specs.declared.choices.Choice.{Choice}
-use Rattle.exception_expand.specs.declared.selections.Listing.TheVariants.{Claiming as ListsClaims}
-use Rattle.exception_expand.specs.declared.selections.CommandLine.{CommandLine}
-use Rattle.exception_expand.specs.declared.selections.Selected.{Selected}
+use Rattle.selected_types.specs.declared.selections.Listing.TheVariants.{Claiming as ListsClaims}
+use Rattle.selected_types.specs.declared.selections.CommandLine.{CommandLine}
+use Rattle.selected_types.specs.declared.selections.Selected.{Selected}
 use Rattle.exception_expand.specs.Pairs.{claim_with}
 use Rattle.exception_expand.specs.Selections as spec
 use Rattle.exception_expand.specs.Causes.{IsExpandCause}

@@ -1,6 +1,6 @@
 -- What one exception selects, from the pairs of its lists that are connected.
 use Rattle.std.proofs.Common.{◌≡◌, ◌∙◌, ℕ, ◌<◌, ◌≤◌, List, ◌++◌, length, sym, ap, subst, append-nil}
-use Rattle.link_defs.specs.declared.names.Linked.{Linked}
+use Rattle.linked_types.specs.declared.names.Linked.{Linked}
 use Rattle.net_model.specs.declared.claims.PinRef.{PinRef}
 use Rattle.net_paths.specs.Those.{AreThose}
 use Rattle.net_paths.proofs.Sifting.{those_within}

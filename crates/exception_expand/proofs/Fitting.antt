@@ -11,14 +11,14 @@ use Rattle.net_model.specs.declared.claims.PinRef.{PinRef}
 use Rattle.net_model.specs.declared.claims.PinRef.TheVariants.{Net as NetPin, OutPort}
 use Rattle.net_model.proofs.Members.{In, In-cases, from_flat, from_map, Contains-from_In}
 use Rattle.net_model.proofs.Settling.{All-at}
-use Rattle.link_defs.specs.declared.names.Linked.{Linked}
-use Rattle.link_defs.specs.declared.names.CellName.{CellName}
-use Rattle.link_defs.specs.declared.names.PinName.{PinName}
-use Rattle.link_defs.specs.declared.names.PinRole.{PinRole}
-use Rattle.link_defs.specs.declared.names.PinRole.TheVariants.{Clock as ClockRole, Load, Drive}
-use Rattle.link_defs.specs.declared.names.PortName.{PortName}
-use Rattle.link_defs.specs.declared.names.NetName.{NetName}
-use Rattle.link_defs.specs.Usable.{IsUsable, IsCellOf, IsRoleOf}
+use Rattle.linked_types.specs.declared.names.Linked.{Linked}
+use Rattle.linked_types.specs.declared.names.CellName.{CellName}
+use Rattle.linked_types.specs.declared.names.PinName.{PinName}
+use Rattle.linked_types.specs.declared.names.PinRole.{PinRole}
+use Rattle.linked_types.specs.declared.names.PinRole.TheVariants.{Clock as ClockRole, Load, Drive}
+use Rattle.linked_types.specs.declared.names.PortName.{PortName}
+use Rattle.linked_types.specs.declared.names.NetName.{NetName}
+use Rattle.linked_types.specs.Usable.{IsUsable, IsCellOf, IsRoleOf}
 use Rattle.script_types.specs.declared.objects.Class.{Class}
 use Rattle.script_types.specs.declared.objects.Class.TheVariants as class
 use Rattle.script_types.specs.declared.objects.Query.{Query}

@@ -8,7 +8,7 @@ use Rattle.std.proofs.lemmas.Option.{slice_get_within, same_Some}
 use Rattle.net_model.specs.declared.claims.Claim.{Claim}
 use Rattle.net_paths.specs.Those.{AreThose, All_seen}
 use Rattle.net_paths.proofs.Sifting.{those_append, those_map}
-use Rattle.link_defs.specs.declared.names.Linked.{Linked}
+use Rattle.linked_types.specs.declared.names.Linked.{Linked}
 use Rattle.script_types.specs.declared.scripts.Exception.{Exception}
 use Rattle.script_types.specs.declared.scripts.What.{What}
 use Rattle.script_types.specs.declared.scripts.What.TheVariants.{Claiming}
@@ -16,17 +16,17 @@ use Rattle.script_types.specs.declared.scripts.Command.{Command}
 use Rattle.script_types.specs.declared.scripts.Script.{Script}
 use Rattle.sdcv_base.specs.Seqs.{each_at}
 use Rattle.sdc_objects.proofs.Joining.{each_at_more, each_at-append, take_next}
-use Rattle.exception_expand.specs.declared.claims.Judging.{Judging}
+use Rattle.run_options.specs.declared.judging.Judging.{Judging}
 use Rattle.exception_expand.specs.declared.pairs.Pair.{Pair}
-use Rattle.exception_expand.specs.declared.selections.Selected.{Selected}
-use Rattle.exception_expand.specs.declared.selections.CommandLine.{CommandLine}
-use Rattle.exception_expand.specs.declared.selections.PairLine.{PairLine}
+use Rattle.selected_types.specs.declared.selections.Selected.{Selected}
+use Rattle.selected_types.specs.declared.selections.CommandLine.{CommandLine}
+use Rattle.selected_types.specs.declared.selections.PairLine.{PairLine}
 use Rattle.exception_expand.specs.Selections as spec
 use Rattle.exception_expand.specs.Selections.{Chosen}
 use Rattle.exception_expand.specs.Causes.{HasMore}
 use Rattle.exception_expand.specs.Pairs.{is_judged}
 use Rattle.exception_expand.specs.Progress.{IsUpTo, Adds}
-use Rattle.link_defs.specs.Usable.{IsUsable}
+use Rattle.linked_types.specs.Usable.{IsUsable}
 use Rattle.exception_expand.proofs.Claiming.{claims_fit}
 use Rattle.exception_expand.proofs.Counting.{count_append, count_own, count_other, each_at_same, lines_count, map_map}
 

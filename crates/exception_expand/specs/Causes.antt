@@ -4,14 +4,14 @@ use Rattle.sdcv_base.specs.declared.limits.LimitName.{LimitName}
 use Rattle.sdcv_base.specs.declared.limits.LimitName.TheVariants as limit
 use Rattle.net_model.specs.declared.claims.Claim.{Claim}
 use Rattle.net_paths.specs.Those.{AreThose}
-use Rattle.link_defs.specs.declared.names.Linked.{Linked}
+use Rattle.linked_types.specs.declared.names.Linked.{Linked}
 use Rattle.script_types.specs.declared.scripts.Exception.{Exception}
 use Rattle.script_types.specs.declared.scripts.What.TheVariants.{Claiming}
 use Rattle.script_types.specs.declared.scripts.Command.{Command}
 use Rattle.script_types.specs.declared.scripts.Script.{Script}
-use Rattle.sdc_settings.specs.declared.faults.ExpandFault.{ExpandFault}
-use Rattle.sdc_settings.specs.declared.faults.ExpandFault.TheVariants.{Limit, Memory}
-use Rattle.exception_expand.specs.declared.claims.Judging.{Judging}
+use Rattle.selected_types.specs.declared.faults.ExpandFault.{ExpandFault}
+use Rattle.selected_types.specs.declared.faults.ExpandFault.TheVariants.{Limit, Memory}
+use Rattle.run_options.specs.declared.judging.Judging.{Judging}
 use Rattle.exception_expand.specs.Selections.{Chosen, IsSelected, script_pairs, claim_of}
 use Rattle.exception_expand.specs.Pairs.{is_judged}
 

@@ -4,11 +4,11 @@ use Rattle.sdcv_base.specs.declared.limits.LimitName.{LimitName}
 use Rattle.sdcv_base.specs.declared.limits.LimitName.TheVariants as limit
 use Rattle.net_paths.specs.Those.{AreThose}
 use Rattle.net_model.specs.declared.netlist.Design.{Design}
-use Rattle.link_defs.specs.declared.names.Linked.{Linked}
+use Rattle.linked_types.specs.declared.names.Linked.{Linked}
 use Rattle.script_types.specs.declared.scripts.Exception.{Exception}
 use Rattle.script_types.specs.declared.scripts.Script.{Script}
-use Rattle.sdc_settings.specs.declared.faults.ExpandFault.{ExpandFault}
-use Rattle.sdc_settings.specs.declared.faults.ExpandFault.TheVariants.{Limit, Memory}
+use Rattle.selected_types.specs.declared.faults.ExpandFault.{ExpandFault}
+use Rattle.selected_types.specs.declared.faults.ExpandFault.TheVariants.{Limit, Memory}
 use Rattle.exception_expand.specs.declared.choices.Choice.{Choice}
 use Rattle.exception_expand.specs.declared.lists.Lists.{Lists}
 use Rattle.exception_expand.specs.declared.points.Points.{Points}

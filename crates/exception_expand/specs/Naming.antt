@@ -4,10 +4,10 @@ use Rattle.net_model.specs.declared.claims.Start.{Start}
 use Rattle.net_model.specs.declared.claims.Start.TheVariants.{Reg as RegStart, Input as InputStart}
 use Rattle.net_model.specs.declared.claims.End.{End}
 use Rattle.net_model.specs.declared.claims.End.TheVariants.{Reg as RegEnd, Output as OutputEnd}
-use Rattle.link_defs.specs.declared.names.Linked.{Linked}
-use Rattle.link_defs.specs.declared.names.CellName.{CellName}
-use Rattle.link_defs.specs.declared.names.PortName.{PortName}
-use Rattle.link_defs.specs.Usable.{is_reg}
+use Rattle.linked_types.specs.declared.names.Linked.{Linked}
+use Rattle.linked_types.specs.declared.names.CellName.{CellName}
+use Rattle.linked_types.specs.declared.names.PortName.{PortName}
+use Rattle.linked_types.specs.Usable.{is_reg}
 
 -- the name of the cell that has a register
 abbrev pub reg_name : List CellName → ℕ → List ℕ

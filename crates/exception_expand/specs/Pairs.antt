@@ -14,7 +14,7 @@ use Rattle.net_model.specs.declared.claims.Start.TheVariants.{Reg as RegStart, I
 use Rattle.net_model.specs.declared.claims.End.{End}
 use Rattle.net_model.specs.declared.claims.PinRef.{PinRef}
 use Rattle.net_model.specs.declared.claims.Claim.{Claim}
-use Rattle.exception_expand.specs.declared.claims.Judging.{Judging}
+use Rattle.run_options.specs.declared.judging.Judging.{Judging}
 use Rattle.exception_expand.specs.declared.pairs.Pair.{Pair}
 
 abbrev pub pair : Start → End → Pair

@@ -2,18 +2,18 @@
 use Rattle.std.specs.Prelude.{◌≡◌, ℕ, ◌-◌, ◌≤◌, ◌++◌, List, map, take, length, All, Some}
 use Rattle.net_model.specs.Netlist.{IsSound}
 use Rattle.net_paths.specs.Those.{AreThose}
-use Rattle.link_defs.specs.declared.names.Linked.{Linked}
-use Rattle.sdc_settings.specs.declared.faults.ExpandFault.{ExpandFault}
-use Rattle.sdc_settings.specs.declared.faults.ExpandFault.TheVariants.{Memory}
+use Rattle.linked_types.specs.declared.names.Linked.{Linked}
+use Rattle.selected_types.specs.declared.faults.ExpandFault.{ExpandFault}
+use Rattle.selected_types.specs.declared.faults.ExpandFault.TheVariants.{Memory}
 use Rattle.script_types.specs.declared.scripts.What.{What}
 use Rattle.script_types.specs.declared.scripts.What.TheVariants.{Claiming}
 use Rattle.script_types.specs.declared.scripts.Command.{Command}
 use Rattle.script_types.specs.declared.scripts.Script.{Script}
 use Rattle.sdcv_base.specs.Seqs.{each_at}
 use Rattle.sdc_objects.specs.Tables.{IsTablesOf}
-use Rattle.exception_expand.specs.declared.claims.Judging.{Judging}
+use Rattle.run_options.specs.declared.judging.Judging.{Judging}
 use Rattle.exception_expand.specs.declared.pairs.Pair.{Pair}
-use Rattle.exception_expand.specs.declared.selections.Selected.{Selected}
+use Rattle.selected_types.specs.declared.selections.Selected.{Selected}
 use Rattle.exception_expand.specs.declared.tasks.Task.{Task}
 use Rattle.exception_expand.specs.Naming.{AreRegCells}
 use Rattle.exception_expand.specs.Choices.{ArePointsOf, IsChoiceCause}

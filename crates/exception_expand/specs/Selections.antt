@@ -7,22 +7,22 @@ use Rattle.net_model.specs.declared.netlist.Design.{Design}
 use Rattle.net_model.specs.declared.claims.PinRef.{PinRef}
 use Rattle.net_model.specs.declared.claims.Claim.{Claim}
 use Rattle.net_paths.specs.Those.{AreThose}
-use Rattle.link_defs.specs.declared.names.Linked.{Linked}
+use Rattle.linked_types.specs.declared.names.Linked.{Linked}
 use Rattle.script_types.specs.declared.scripts.Exception.{Exception}
 use Rattle.script_types.specs.declared.scripts.What.{What}
 use Rattle.script_types.specs.declared.scripts.What.TheVariants.{Claiming, Hold, Aside}
 use Rattle.script_types.specs.declared.scripts.Command.{Command}
 use Rattle.script_types.specs.declared.scripts.Script.{Script}
-use Rattle.sdc_objects.specs.declared.warnings.Warning.{Warning}
+use Rattle.selected_types.specs.declared.warnings.Warning.{Warning}
 use Rattle.sdc_objects.specs.declared.things.Place.TheVariants.{From, To, Through}
 use Rattle.sdcv_base.specs.Seqs.{each_at}
 use Rattle.sdc_objects.specs.Standing.{pins_of, warnings, from_column, to_column, through_column}
-use Rattle.exception_expand.specs.declared.claims.Judging.{Judging}
-use Rattle.exception_expand.specs.declared.selections.Listing.{Listing}
-use Rattle.exception_expand.specs.declared.selections.Listing.TheVariants.{Claiming as ListsClaims, Hold as ListsHold, Aside as ListsAside}
-use Rattle.exception_expand.specs.declared.selections.CommandLine.{CommandLine}
-use Rattle.exception_expand.specs.declared.selections.PairLine.{PairLine}
-use Rattle.exception_expand.specs.declared.selections.Selected.{Selected}
+use Rattle.run_options.specs.declared.judging.Judging.{Judging}
+use Rattle.selected_types.specs.declared.selections.Listing.{Listing}
+use Rattle.selected_types.specs.declared.selections.Listing.TheVariants.{Claiming as ListsClaims, Hold as ListsHold, Aside as ListsAside}
+use Rattle.selected_types.specs.declared.selections.CommandLine.{CommandLine}
+use Rattle.selected_types.specs.declared.selections.PairLine.{PairLine}
+use Rattle.selected_types.specs.declared.selections.Selected.{Selected}
 use Rattle.exception_expand.specs.declared.pairs.Pair.{Pair}
 use Rattle.exception_expand.specs.Pairs.{pairs_between, claim_with, is_judged}
 use Rattle.exception_expand.specs.Points.{all_starts, all_ends, IsFrom, IsTo, given}

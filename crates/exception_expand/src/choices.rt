@@ -11,9 +11,9 @@ use crate::points::Points;
 use net_model::{MOST_SETS, PinSet};
 use net_paths::Search;
 use script_types::Exception;
-use sdc_objects::{Scope, Warning};
-use sdc_settings::ExpandFault;
+use sdc_objects::Scope;
 use sdcv_base::{LimitName, Seq};
+use selected_types::{ExpandFault, Warning};
 use std::alloc::Global;
 
 /// The pairs of an exception, in the order of the design, the through sets of their claims, and its warnings.

@@ -1,20 +1,13 @@
-//! How claims are judged, and the claims of an exception.
+//! The claims of an exception.
 ghost use Rattle.std.specs.Prelude.{◌≡◌, ◌++◌, IfOk, OnOk, map};
 ghost use Rattle.exception_expand.specs.Pairs.{claim_with};
 ghost use Rattle.exception_expand.specs.Pairs as spec;
 
 use crate::pairs::Pair;
 use net_model::{Claim, Edge, Kind, PinSet};
+use run_options::Judging;
 use sdcv_base::Seq;
 use std::alloc::{AllocError, Global};
-
-/// How the claims of a script are judged: whether they allow no glitch either, and for how many captures, 0 to 8, each
-/// false path is judged after the first.
-#[derive(Clone, Copy, PartialEq, Eq)]
-pub struct Judging {
-    pub hazard: bool,
-    pub lag: u8,
-}
 
 /// What the claims of one exception have in common.
 #[derive(Clone, Copy)]

@@ -6,20 +6,19 @@ ghost use Rattle.exception_expand.specs.Progress.{IsTask, IsUpTo, Adds, IsWhatCa
 ghost use Rattle.exception_expand.specs.Causes.{IsExpandCause};
 ghost use Rattle.exception_expand.specs.Pairs.{IsPairIn, claim_with};
 ghost use Rattle.exception_expand.specs.Selections as spec;
-ghost use Rattle.exception_expand.specs.declared.selections.Listing.TheVariants as listings;
+ghost use Rattle.selected_types.specs.declared.selections.Listing.TheVariants as listings;
 ghost use Rattle.script_types.specs.declared.scripts.What.TheVariants as whats;
 
 use crate::choices::{Choice, choose};
 use crate::claims::{Terms, push_claims};
 use crate::limits::MOST_PAIRS;
 use crate::lines::{Names, push_lines};
-use crate::selections::{CommandLine, Listing, Selected};
 use crate::tasks::Task;
 use net_model::Design;
 use net_paths::Search;
 use script_types::{Command, Exception, What};
-use sdc_settings::ExpandFault;
 use sdcv_base::Seq;
+use selected_types::{CommandLine, ExpandFault, Listing, Selected};
 use std::alloc::{AllocError, Global};
 
 /// What the commands before a place select, and room for the next search.
@@ -96,10 +95,10 @@ impl Progress {
     {
         match what {
             What::Claiming(exception) => self.add_exception(alloc, task, line, exception),
-            What::Hold => Ok(self.selected.add_line(alloc, line, Listing::Hold)?),
+            What::Hold => Ok(add_line(alloc, &mut self.selected, line, Listing::Hold)?),
             What::Aside(option) => {
                 let listing = Listing::Aside(option.copy(alloc)?);
-                Ok(self.selected.add_line(alloc, line, listing)?)
+                Ok(add_line(alloc, &mut self.selected, line, listing)?)
             }
             What::Clock { name: _, source: _ }
             | What::Case {
@@ -135,71 +134,71 @@ impl Progress {
             &mut self.search,
             most,
         )?;
-        Ok(
-            self.selected
-                .add_choice(alloc, task, line, exception, choice)?,
-        )
+        Ok(add_choice(alloc, &mut self.selected, task, line, exception, choice)?)
     }
 }
 
-impl Selected {
-    // Adds an exception that claims nothing.
-    fn add_line(&mut self, alloc: Global, line: u64, listing: Listing) -> Result<(), AllocError>
-        ensures commands { OnOk result (self.new.commands ≡ self.old.commands ++ spec.command_line line listing [] ∷ []) }
-        ensures pairs { self.new.pairs ≡ self.old.pairs }
-        ensures claims { self.new.claims ≡ self.old.claims }
-    {
-        let warnings = Seq::new(alloc);
-        self.commands.push(CommandLine {
-            line,
-            listing,
-            warnings,
-        })?;
-        Ok(())
-    }
+// Adds an exception that claims nothing.
+fn add_line(
+    alloc: Global,
+    selected: &mut Selected,
+    line: u64,
+    listing: Listing,
+) -> Result<(), AllocError>
+    ensures commands { OnOk result (selected.new.commands ≡ selected.old.commands ++ spec.command_line line listing [] ∷ []) }
+    ensures pairs { selected.new.pairs ≡ selected.old.pairs }
+    ensures claims { selected.new.claims ≡ selected.old.claims }
+{
+    let warnings = Seq::new(alloc);
+    selected.commands.push(CommandLine {
+        line,
+        listing,
+        warnings,
+    })?;
+    Ok(())
+}
 
-    // Adds what an exception selects.
-    fn add_choice(
-        &mut self,
-        alloc: Global,
-        task: &Task,
-        line: u64,
-        exception: &Exception,
-        choice: Choice,
-    ) -> Result<(), AllocError>
-        requires task { IsTask task.now }
-        requires pairs { All (IsPairIn task.now.scope.linked.now.design) choice.pairs }
-        ensures commands { OnOk result (self.new.commands ≡ self.old.commands
-            ++ spec.command_line line (listings.Claiming exception.now.kind exception.now.edge (length choice.pairs)) choice.warnings ∷ []) }
-        ensures pairs { OnOk result (self.new.pairs ≡ self.old.pairs
-            ++ map (spec.pair_line task.now.scope.linked.now (length self.new.commands)) choice.pairs) }
-        ensures claims { OnOk result (self.new.claims ≡ self.old.claims
-            ++ map (claim_with exception.now.kind exception.now.edge task.now.judging choice.sets) choice.pairs) }
-    {
-        let Choice {
-            pairs,
-            sets,
-            warnings,
-        } = choice;
-        let (kind, edge) = (exception.kind, exception.edge);
-        let listing = Listing::Claiming(kind, edge, pairs.len() as u64);
-        self.commands.push(CommandLine {
-            line,
-            listing,
-            warnings,
-        })?;
-        let number = self.commands.len() as u64;
-        let names = Names {
-            linked: task.scope.linked,
-            cells: task.cells,
-        };
-        push_lines(alloc, &names, number, &pairs, &mut self.pairs)?;
-        let terms = Terms {
-            kind,
-            edge,
-            judging: task.judging,
-            sets: &sets,
-        };
-        push_claims(alloc, &terms, &pairs, &mut self.claims)
-    }
+// Adds what an exception selects.
+fn add_choice(
+    alloc: Global,
+    selected: &mut Selected,
+    task: &Task,
+    line: u64,
+    exception: &Exception,
+    choice: Choice,
+) -> Result<(), AllocError>
+    requires task { IsTask task.now }
+    requires pairs { All (IsPairIn task.now.scope.linked.now.design) choice.pairs }
+    ensures commands { OnOk result (selected.new.commands ≡ selected.old.commands
+        ++ spec.command_line line (listings.Claiming exception.now.kind exception.now.edge (length choice.pairs)) choice.warnings ∷ []) }
+    ensures pairs { OnOk result (selected.new.pairs ≡ selected.old.pairs
+        ++ map (spec.pair_line task.now.scope.linked.now (length selected.new.commands)) choice.pairs) }
+    ensures claims { OnOk result (selected.new.claims ≡ selected.old.claims
+        ++ map (claim_with exception.now.kind exception.now.edge task.now.judging choice.sets) choice.pairs) }
+{
+    let Choice {
+        pairs,
+        sets,
+        warnings,
+    } = choice;
+    let (kind, edge) = (exception.kind, exception.edge);
+    let listing = Listing::Claiming(kind, edge, pairs.len() as u64);
+    selected.commands.push(CommandLine {
+        line,
+        listing,
+        warnings,
+    })?;
+    let number = selected.commands.len() as u64;
+    let names = Names {
+        linked: task.scope.linked,
+        cells: task.cells,
+    };
+    push_lines(alloc, &names, number, &pairs, &mut selected.pairs)?;
+    let terms = Terms {
+        kind,
+        edge,
+        judging: task.judging,
+        sets: &sets,
+    };
+    push_claims(alloc, &terms, &pairs, &mut selected.claims)
 }

@@ -19,15 +19,12 @@ mod names;
 mod pairs;
 mod points;
 mod scripts;
-mod selections;
 mod sets;
 mod tasks;
 
 pub use choices::{Choice, choose};
-pub use claims::Judging;
 pub use limits::{MOST_JUDGED, MOST_PAIRS};
 pub use lists::{Lists, lists_of};
 pub use pairs::Pair;
 pub use points::{Listed, Points};
 pub use scripts::expand;
-pub use selections::{CommandLine, Listing, PairLine, Selected};

@@ -6,9 +6,9 @@ ghost use Rattle.exception_expand.specs.Pairs.{IsPairIn};
 
 use crate::names::{end_name, start_name};
 use crate::pairs::Pair;
-use crate::selections::PairLine;
-use link_defs::Linked;
+use linked_types::Linked;
 use sdcv_base::Seq;
+use selected_types::PairLine;
 use std::alloc::{AllocError, Global};
 
 /// Names for what is listed: a linked design, and the places of the cells of its registers.

@@ -10,8 +10,9 @@ use crate::points::Points;
 use crate::sets::pin_sets;
 use net_model::{Edge, End, PinSet, Start};
 use script_types::Exception;
-use sdc_objects::{Scope, Warning};
+use sdc_objects::Scope;
 use sdcv_base::Seq;
+use selected_types::Warning;
 use std::alloc::{AllocError, Global};
 
 /// The starts and the ends of an exception, in the order of the design, and its through sets in their own.

@@ -9,8 +9,9 @@ ghost use Rattle.exception_expand.specs.Points as spec;
 use crate::points::Listed;
 use net_model::{Design, Edge};
 use script_types::Object;
-use sdc_objects::{Scope, Warning, meant};
+use sdc_objects::{Scope, meant};
 use sdcv_base::Seq;
+use selected_types::Warning;
 use std::alloc::{AllocError, Global};
 
 /// Those of all starts or ends, in the order of the design, that these objects stand for after an option of this edge; all of them where no objects are

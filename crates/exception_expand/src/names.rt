@@ -3,7 +3,7 @@ ghost use Rattle.std.specs.Prelude.{◌≡◌, ◌+◌, ◌<◌, IfOk, length, s
 ghost use Rattle.net_model.specs.Fits.{IsStartIn, IsEndIn};
 ghost use Rattle.exception_expand.specs.Naming as spec;
 
-use link_defs::{CellName, Linked, PortName};
+use linked_types::{CellName, Linked, PortName};
 use net_model::{End, Start};
 use sdcv_base::{Name, Seq};
 use std::alloc::{AllocError, Global};

@@ -1,22 +1,21 @@
 //! The call that finds all that a script selects.
 ghost use Rattle.std.specs.Prelude.{◌≤◌, IfOk, IfErr};
-ghost use Rattle.link_defs.specs.Usable.{IsUsable};
+ghost use Rattle.linked_types.specs.Usable.{IsUsable};
 ghost use Rattle.exception_expand.specs.Selections.{IsSelectionOf, HasMultipliers};
 ghost use Rattle.exception_expand.specs.Pairs.{judging_by};
 ghost use Rattle.exception_expand.specs.Causes.{IsExpandCause};
 
-use crate::claims::Judging;
 use crate::commands::all_selected;
 use crate::judged::has_many_judged;
 use crate::names::reg_cells;
 use crate::points::Points;
-use crate::selections::Selected;
 use crate::tasks::Task;
-use link_defs::Linked;
+use linked_types::Linked;
+use run_options::Judging;
 use script_types::Script;
 use sdc_objects::{Scope, Tables};
-use sdc_settings::ExpandFault;
 use sdcv_base::LimitName;
+use selected_types::{ExpandFault, Selected};
 use std::alloc::Global;
 
 /// The pairs that the exceptions of a script select in a linked design, each with its claim, and the exceptions with their

@@ -6,8 +6,9 @@ ghost use Rattle.sdc_objects.specs.declared.things.Place.TheVariants as places;
 
 use net_model::{Edge, PinRef, PinSet};
 use script_types::Object;
-use sdc_objects::{Scope, Warning, meant};
+use sdc_objects::{Scope, meant};
 use sdcv_base::Seq;
+use selected_types::Warning;
 use std::alloc::{AllocError, Global};
 
 /// A set of pins for each list of objects, in their order. Adds the warnings of the objects.

@@ -1,6 +1,6 @@
 //! Where exceptions are looked up.
-use crate::claims::Judging;
 use crate::points::Points;
+use run_options::Judging;
 use sdc_objects::Scope;
 use sdcv_base::Seq;
 

@@ -3,8 +3,8 @@ ghost use Rattle.std.specs.Prelude.{◌≡◌, IfOk, Some};
 ghost use Rattle.fault_lines.specs.Designs.{expand_line, link_line};
 
 use crate::shapes::{limit_line, name_line, number_line, numbered_line, two_numbers_line};
-use link_defs::LinkFault;
-use sdc_settings::ExpandFault;
+use linked_types::LinkFault;
+use selected_types::ExpandFault;
 use std::alloc::{AllocError, Global};
 
 /// The line of a netlist that can't be linked with its cells.

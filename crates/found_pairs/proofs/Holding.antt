@@ -9,10 +9,10 @@ use Rattle.std.proofs.lemmas.Option.{slice_get_within}
 use Rattle.net_model.specs.Judge.{Holds}
 use Rattle.net_model.specs.declared.netlist.Design.{Design}
 use Rattle.net_model.specs.declared.claims.Claim.{Claim}
-use Rattle.link_defs.specs.declared.names.Linked.{Linked}
+use Rattle.linked_types.specs.declared.names.Linked.{Linked}
 use Rattle.sdcv_base.specs.Seqs.{where_true}
 use Rattle.sdc_objects.proofs.Joining.{item_at}
-use Rattle.exception_expand.specs.declared.selections.PairLine.{PairLine}
+use Rattle.selected_types.specs.declared.selections.PairLine.{PairLine}
 use Rattle.exception_expand.specs.Selections as spec
 use Rattle.mcp_detect.specs.declared.options.DetectOptions.{DetectOptions}
 use Rattle.mcp_detect.specs.declared.detections.Tried.{Tried}

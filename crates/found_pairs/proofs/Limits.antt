@@ -9,14 +9,14 @@ use Rattle.net_model.specs.declared.claims.Claim.{Claim}
 use Rattle.net_model.proofs.Members.{In, In-from_Contains}
 use Rattle.net_paths.specs.Those.{AreThose, All_seen, Taken, Left_out}
 use Rattle.net_paths.proofs.Sifting.{those_same}
-use Rattle.link_defs.specs.declared.names.Linked.{Linked}
+use Rattle.linked_types.specs.declared.names.Linked.{Linked}
 use Rattle.script_types.specs.declared.scripts.Exception.{Exception}
 use Rattle.script_types.specs.declared.scripts.What.TheVariants.{Claiming}
 use Rattle.script_types.specs.declared.scripts.Command.{Command}
 use Rattle.script_types.specs.declared.scripts.Script.{Script}
-use Rattle.sdc_settings.specs.declared.faults.ExpandFault.{ExpandFault}
-use Rattle.sdc_settings.specs.declared.faults.ExpandFault.TheVariants as fault
-use Rattle.exception_expand.specs.declared.claims.Judging.{Judging}
+use Rattle.selected_types.specs.declared.faults.ExpandFault.{ExpandFault}
+use Rattle.selected_types.specs.declared.faults.ExpandFault.TheVariants as fault
+use Rattle.run_options.specs.declared.judging.Judging.{Judging}
 use Rattle.exception_expand.specs.Causes.{HasMore, HasMoreJudged, HasManySets, IsOverLimit, IsExpandCause}
 use Rattle.exception_expand.specs.Pairs.{is_judged}
 use Rattle.exception_expand.specs.Selections as spec

@@ -6,19 +6,19 @@ use Rattle.sdcv_base.specs.declared.kinds.Kind.TheVariants.{Multi}
 use Rattle.sdcv_base.specs.declared.kinds.Edge.TheVariants.{Any}
 use Rattle.net_model.specs.declared.claims.Start.TheVariants.{Reg as RegStart}
 use Rattle.net_model.specs.declared.claims.End.TheVariants.{Reg as RegEnd}
-use Rattle.link_defs.specs.declared.names.CellName.{CellName}
-use Rattle.link_defs.specs.declared.names.Linked.{Linked}
-use Rattle.link_defs.specs.Usable.{IsUsable}
+use Rattle.linked_types.specs.declared.names.CellName.{CellName}
+use Rattle.linked_types.specs.declared.names.Linked.{Linked}
+use Rattle.linked_types.specs.Usable.{IsUsable}
 use Rattle.script_types.specs.declared.scripts.Script.{Script}
 use Rattle.sdcv_base.specs.Seqs.{each_at}
 use Rattle.sdc_objects.specs.Standing.{cell_at_row, reg_start, reg_end, dropped_of, from_column, to_column, warning, warnings}
 use Rattle.sdc_objects.specs.declared.things.Place.TheVariants.{From, To}
 use Rattle.sdc_objects.specs.declared.things.Thing.{Thing}
 use Rattle.sdc_objects.specs.declared.things.Thing.TheVariants as thing
-use Rattle.sdc_objects.specs.declared.warnings.Warning.{Warning}
+use Rattle.selected_types.specs.declared.warnings.Warning.{Warning}
 use Rattle.exception_expand.specs.declared.pairs.Pair.{Pair}
-use Rattle.exception_expand.specs.declared.selections.CommandLine.{CommandLine}
-use Rattle.exception_expand.specs.declared.selections.Listing.TheVariants.{Claiming as ListsClaims}
+use Rattle.selected_types.specs.declared.selections.CommandLine.{CommandLine}
+use Rattle.selected_types.specs.declared.selections.Listing.TheVariants.{Claiming as ListsClaims}
 use Rattle.exception_expand.specs.Selections as spec
 use Rattle.exception_expand.specs.Selections.{Chosen, chosen_by, count_at}
 use Rattle.exception_expand.proofs.Counting.{count_append, count_own, count_other}

@@ -12,9 +12,9 @@ use Rattle.glob.specs.Match.{matches_whole}
 use Rattle.glob.specs.Plain.{is_wild}
 use Rattle.glob.specs.declared.indexes.Look.TheVariants.{At}
 use Rattle.glob.proofs.Plain.{matches_itself_alone}
-use Rattle.link_defs.specs.declared.names.CellName.{CellName}
-use Rattle.link_defs.specs.declared.names.Linked.{Linked}
-use Rattle.link_defs.specs.Usable.{IsUsable}
+use Rattle.linked_types.specs.declared.names.CellName.{CellName}
+use Rattle.linked_types.specs.declared.names.Linked.{Linked}
+use Rattle.linked_types.specs.Usable.{IsUsable}
 use Rattle.script_types.specs.declared.objects.Class.TheVariants.{Cells}
 use Rattle.script_types.specs.declared.objects.Query.{Query}
 use Rattle.script_types.specs.declared.objects.Object.TheVariants.{Named}

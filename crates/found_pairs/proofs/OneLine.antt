@@ -8,9 +8,9 @@ use Rattle.net_model.specs.declared.claims.End.TheVariants.{Reg as RegEnd}
 use Rattle.net_model.proofs.Members.{In-from_Contains, Contains-from_In}
 use Rattle.net_paths.specs.Those.{AreThose, All_seen, Taken}
 use Rattle.net_paths.proofs.Sifting.{those_alike, those_within}
-use Rattle.link_defs.specs.declared.names.CellName.{CellName}
-use Rattle.link_defs.specs.declared.names.Linked.{Linked}
-use Rattle.link_defs.specs.Usable.{IsUsable}
+use Rattle.linked_types.specs.declared.names.CellName.{CellName}
+use Rattle.linked_types.specs.declared.names.Linked.{Linked}
+use Rattle.linked_types.specs.Usable.{IsUsable}
 use Rattle.script_types.specs.declared.objects.Object.{Object}
 use Rattle.script_types.specs.declared.scripts.Script.{Script}
 use Rattle.sdcv_base.specs.declared.kinds.Edge.TheVariants.{Any}

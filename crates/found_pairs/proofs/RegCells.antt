@@ -12,9 +12,9 @@ use Rattle.net_model.specs.declared.claims.End.{End}
 use Rattle.net_model.specs.declared.claims.End.TheVariants.{Reg as RegEnd}
 use Rattle.net_model.proofs.Members.{In, In-from_Contains, In-cases, from_flat}
 use Rattle.net_model.proofs.Settling.{All-at}
-use Rattle.link_defs.specs.declared.names.CellName.{CellName}
-use Rattle.link_defs.specs.declared.names.Linked.{Linked}
-use Rattle.link_defs.specs.Usable.{IsUsable, IsCellOf, IsRegOf, is_reg}
+use Rattle.linked_types.specs.declared.names.CellName.{CellName}
+use Rattle.linked_types.specs.declared.names.Linked.{Linked}
+use Rattle.linked_types.specs.Usable.{IsUsable, IsCellOf, IsRegOf, is_reg}
 use Rattle.script_types.specs.declared.objects.Object.TheVariants.{AllRegisters}
 use Rattle.script_types.specs.declared.scripts.Script.{Script}
 use Rattle.sdcv_base.specs.declared.kinds.Edge.TheVariants.{Any}

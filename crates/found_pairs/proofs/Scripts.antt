@@ -9,14 +9,14 @@ use Rattle.sdcv_base.specs.declared.kinds.Edge.TheVariants.{Any}
 use Rattle.net_model.specs.declared.claims.Claim.{Claim}
 use Rattle.net_paths.specs.Those.{AreThose, All_seen}
 use Rattle.net_paths.proofs.Sifting.{those_append, those_map}
-use Rattle.link_defs.specs.declared.names.Linked.{Linked}
-use Rattle.link_defs.specs.Usable.{IsUsable}
+use Rattle.linked_types.specs.declared.names.Linked.{Linked}
+use Rattle.linked_types.specs.Usable.{IsUsable}
 use Rattle.script_types.specs.declared.scripts.Command.{Command}
 use Rattle.script_types.specs.declared.scripts.Script.{Script}
 use Rattle.sdcv_base.specs.Seqs.{each_at}
-use Rattle.exception_expand.specs.declared.claims.Judging.{Judging}
+use Rattle.run_options.specs.declared.judging.Judging.{Judging}
 use Rattle.exception_expand.specs.declared.pairs.Pair.{Pair}
-use Rattle.exception_expand.specs.declared.selections.PairLine.{PairLine}
+use Rattle.selected_types.specs.declared.selections.PairLine.{PairLine}
 use Rattle.exception_expand.specs.Naming.{start_name, end_name}
 use Rattle.exception_expand.specs.Pairs.{claim_with}
 use Rattle.exception_expand.specs.Selections as spec

@@ -12,14 +12,14 @@ use Rattle.sdcv_base.specs.declared.kinds.Kind.TheVariants.{Multi}
 use Rattle.sdcv_base.specs.declared.kinds.Edge.TheVariants.{Any}
 use Rattle.net_model.specs.declared.claims.Claim.{Claim}
 use Rattle.net_paths.specs.Those.{AreThose, All_seen, Taken, Left_out}
-use Rattle.link_defs.specs.declared.names.Linked.{Linked}
+use Rattle.linked_types.specs.declared.names.Linked.{Linked}
 use Rattle.script_types.specs.declared.scripts.Command.{Command}
 use Rattle.sdcv_base.specs.Seqs.{where_true}
 use Rattle.sdc_objects.proofs.Joining.{item_at}
-use Rattle.exception_expand.specs.declared.claims.Judging.{Judging}
+use Rattle.run_options.specs.declared.judging.Judging.{Judging}
 use Rattle.exception_expand.specs.declared.pairs.Pair.{Pair}
-use Rattle.exception_expand.specs.declared.selections.PairLine.{PairLine}
-use Rattle.exception_expand.specs.declared.selections.Selected.{Selected}
+use Rattle.selected_types.specs.declared.selections.PairLine.{PairLine}
+use Rattle.selected_types.specs.declared.selections.Selected.{Selected}
 use Rattle.exception_expand.specs.Naming.{start_name, end_name}
 use Rattle.exception_expand.specs.Pairs.{claim_with}
 use Rattle.exception_expand.specs.Selections as spec

@@ -4,16 +4,16 @@ use Rattle.sdcv_base.specs.declared.kinds.Kind.TheVariants.{Multi}
 use Rattle.sdcv_base.specs.declared.kinds.Edge.TheVariants.{Any}
 use Rattle.net_model.specs.Judge.{Holds}
 use Rattle.net_model.specs.declared.claims.Claim.{Claim}
-use Rattle.link_defs.specs.declared.names.Linked.{Linked}
+use Rattle.linked_types.specs.declared.names.Linked.{Linked}
 use Rattle.sdc_text.specs.Scripts.{script_of}
-use Rattle.sdc_settings.specs.declared.faults.ExpandFault.{ExpandFault}
-use Rattle.sdc_settings.specs.declared.faults.ExpandFault.TheVariants.{Memory}
+use Rattle.selected_types.specs.declared.faults.ExpandFault.{ExpandFault}
+use Rattle.selected_types.specs.declared.faults.ExpandFault.TheVariants.{Memory}
 use Rattle.sdcv_base.specs.Seqs.{where_true}
-use Rattle.exception_expand.specs.declared.claims.Judging.{Judging}
-use Rattle.exception_expand.specs.declared.selections.CommandLine.{CommandLine}
-use Rattle.exception_expand.specs.declared.selections.Listing.TheVariants.{Claiming as ListsClaims}
-use Rattle.exception_expand.specs.declared.selections.PairLine.{PairLine}
-use Rattle.exception_expand.specs.declared.selections.Selected.{Selected}
+use Rattle.run_options.specs.declared.judging.Judging.{Judging}
+use Rattle.selected_types.specs.declared.selections.CommandLine.{CommandLine}
+use Rattle.selected_types.specs.declared.selections.Listing.TheVariants.{Claiming as ListsClaims}
+use Rattle.selected_types.specs.declared.selections.PairLine.{PairLine}
+use Rattle.selected_types.specs.declared.selections.Selected.{Selected}
 use Rattle.exception_expand.specs.Causes.{IsExpandCause}
 use Rattle.exception_expand.specs.Pairs.{judging_by}
 use Rattle.exception_expand.specs.Selections.{IsSelectionOf, command_line}

@@ -1,10 +1,10 @@
 //! What is written selects what was found. The law is the contract of a call that does nothing, for callers that cite it.
-ghost use Rattle.link_defs.specs.Usable.{IsUsable};
+ghost use Rattle.linked_types.specs.Usable.{IsUsable};
 ghost use Rattle.mcp_detect.specs.Options.{AreInRange};
 ghost use Rattle.mcp_detect.specs.Detections.{AreDetected};
 ghost use Rattle.found_pairs.specs.Laws.{SelectsFound};
 
-use link_defs::Linked;
+use linked_types::Linked;
 use mcp_detect::{DetectOptions, Detected};
 
 /// The text of what was found in a design, read as a script of the same design, selects exactly the pairs that are written, with

@@ -5,9 +5,10 @@ ghost use Rattle.report_text.specs.Rows.{HasRows};
 ghost use Rattle.report_json.specs.Reports.{json_text};
 ghost use Rattle.judgements.specs.Reports.{joined, report_bytes};
 
-use exception_expand::Selected;
 use report_json::write_json;
-use report_text::{RunOptions, write_report};
+use report_text::write_report;
+use run_options::RunOptions;
+use selected_types::Selected;
 use std::alloc::{AllocError, Global};
 use verdicts::Verdict;
 

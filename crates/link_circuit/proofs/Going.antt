@@ -7,7 +7,7 @@ use Rattle.std.proofs.lemmas.Option.{slice_get_within}
 use Rattle.netlist_types.specs.declared.sources.Source.{Source}
 use Rattle.netlist_types.specs.declared.sources.Item.{Item}
 use Rattle.cell_types.specs.declared.libraries.Library.{Library}
-use Rattle.link_defs.specs.declared.faults.LinkFault.{LinkFault}
+use Rattle.linked_types.specs.declared.faults.LinkFault.{LinkFault}
 use Rattle.link_defs.specs.Faults.{is_counted, IsFlatCause, IsAboveLimit}
 use Rattle.link_defs.specs.Flatten.{Located, Flat, instance_of, with_item, with_scope}
 use Rattle.link_items.specs.declared.made.Instance.{Instance}

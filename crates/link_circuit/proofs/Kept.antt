@@ -13,7 +13,7 @@ use Rattle.std.proofs.lemmas.Option.{slice_get-map, slice_get-get_or}
 use Rattle.net_model.proofs.Members.{In, In-from_Contains, Contains-from_In, In-flat, from_flat}
 use Rattle.graph_order.proofs.Marked.{at_contains}
 use Rattle.texts.specs.Names.{is_among, are_distinct}
-use Rattle.link_defs.specs.declared.names.NetName.{NetName}
+use Rattle.linked_types.specs.declared.names.NetName.{NetName}
 use Rattle.link_defs.specs.CellNames.{AreNetNames}
 use Rattle.link_defs.specs.Designs.{number_by}
 use Rattle.link_defs.specs.Flatten.{Flat, full_names}

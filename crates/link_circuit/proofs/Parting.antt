@@ -30,8 +30,8 @@ use Rattle.cell_types.specs.declared.libraries.GateCell.{GateCell}
 use Rattle.cell_types.specs.Libraries.{IsLawful as IsLawfulLibrary, IsLawfulKind, IsLawfulCell, IsLawfulFlop}
 use Rattle.link_defs.specs.declared.circuits.Part.{Part}
 use Rattle.link_defs.specs.declared.circuits.Part.TheVariants as part
-use Rattle.link_defs.specs.declared.faults.LinkFault.{LinkFault}
-use Rattle.link_defs.specs.declared.faults.LinkFault.TheVariants as fault
+use Rattle.linked_types.specs.declared.faults.LinkFault.{LinkFault}
+use Rattle.linked_types.specs.declared.faults.LinkFault.TheVariants as fault
 use Rattle.link_defs.specs.Hierarchy.{cell_of, is_modelled, wires_of}
 use Rattle.link_defs.specs.Flatten.{Scope, other_pins, own_nets, inst_nets}
 use Rattle.link_defs.specs.Faults.{most_pins}

@@ -26,8 +26,8 @@ use Rattle.cell_types.specs.declared.libraries.Flop.{Flop}
 use Rattle.cell_types.specs.declared.libraries.GateCell.{GateCell}
 use Rattle.link_defs.specs.declared.circuits.Part.{Part}
 use Rattle.link_defs.specs.declared.circuits.Part.TheVariants as part
-use Rattle.link_defs.specs.declared.faults.LinkFault.{LinkFault}
-use Rattle.link_defs.specs.declared.faults.LinkFault.TheVariants as fault
+use Rattle.linked_types.specs.declared.faults.LinkFault.{LinkFault}
+use Rattle.linked_types.specs.declared.faults.LinkFault.TheVariants as fault
 use Rattle.link_defs.specs.CellNames.{clock_pins}
 use Rattle.link_defs.specs.Circuits.{part_reads, part_gates}
 use Rattle.link_defs.specs.Faults.{in_pins, pin_of}

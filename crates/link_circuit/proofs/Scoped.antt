@@ -11,7 +11,7 @@ use Rattle.sdcv_base.specs.Seqs.{is_marked}
 use Rattle.texts.specs.Names.{are_distinct}
 use Rattle.texts.proofs.NameLemmas.{are_distinct-push}
 use Rattle.graph_order.proofs.Marked.{place_cases, at_contains}
-use Rattle.link_defs.specs.declared.names.NetName.{NetName}
+use Rattle.linked_types.specs.declared.names.NetName.{NetName}
 use Rattle.link_items.proofs.Listing.{kept_at, last_at, take_next, contains_at}
 use Rattle.link_circuit.specs.declared.faults.NameFault.{NameFault}
 use Rattle.link_circuit.specs.declared.faults.NameFault.TheVariants as fault

@@ -4,8 +4,8 @@ use Rattle.netlist_types.specs.declared.sources.Source.{Source}
 use Rattle.netlist_types.specs.declared.sources.Module.{Module}
 use Rattle.cell_types.specs.declared.libraries.Library.{Library}
 use Rattle.link_defs.specs.declared.circuits.Circuit.{Circuit}
-use Rattle.link_defs.specs.declared.options.LinkOptions.{LinkOptions}
-use Rattle.link_defs.specs.declared.faults.LinkFault.{LinkFault}
+use Rattle.linked_types.specs.declared.options.LinkOptions.{LinkOptions}
+use Rattle.linked_types.specs.declared.faults.LinkFault.{LinkFault}
 use Rattle.link_defs.specs.CellNames.{leaves}
 use Rattle.link_defs.specs.Faults.{IsFlatCause, is_counted}
 use Rattle.link_defs.specs.Flatten.{Flat, Located, flat_of, numbers}

@@ -3,7 +3,7 @@ use Rattle.std.specs.Prelude.{◌≡◌, ◌≢◌, ℕ, Bool, true, false, if�
 use Rattle.std.specs.Prelude.{slice_index_or}
 use Rattle.sdcv_base.specs.Seqs.{is_marked}
 use Rattle.texts.specs.Names.{are_distinct, each_once}
-use Rattle.link_defs.specs.declared.names.NetName.{NetName}
+use Rattle.linked_types.specs.declared.names.NetName.{NetName}
 use Rattle.link_defs.specs.Designs.{number_by}
 use Rattle.link_circuit.specs.declared.faults.NameFault.{NameFault}
 use Rattle.link_circuit.specs.declared.faults.NameFault.TheVariants as fault

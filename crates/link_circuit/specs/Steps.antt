@@ -4,8 +4,8 @@ use Rattle.sdcv_base.specs.declared.limits.LimitName.TheVariants as what
 use Rattle.netlist_types.specs.declared.sources.Source.{Source}
 use Rattle.netlist_types.specs.declared.sources.Item.{Item}
 use Rattle.cell_types.specs.declared.libraries.Library.{Library}
-use Rattle.link_defs.specs.declared.faults.LinkFault.{LinkFault}
-use Rattle.link_defs.specs.declared.faults.LinkFault.TheVariants as fault
+use Rattle.linked_types.specs.declared.faults.LinkFault.{LinkFault}
+use Rattle.linked_types.specs.declared.faults.LinkFault.TheVariants as fault
 use Rattle.link_defs.specs.Faults.{is_instance}
 use Rattle.link_defs.specs.Flatten.{Scope}
 use Rattle.link_items.specs.declared.made.Instance.{Instance}

@@ -1,7 +1,7 @@
 -- Tables of full names with their nets.
 use Rattle.std.specs.Prelude.{◌≡◌, ◌≢◌, ◌⊎◌, ℕ, false, List, [], ◌∷◌, ◌++◌, Some, slice_get}
 use Rattle.texts.specs.Names.{is_among}
-use Rattle.link_defs.specs.declared.names.NetName.{NetName}
+use Rattle.linked_types.specs.declared.names.NetName.{NetName}
 use Rattle.link_circuit.specs.declared.faults.NameFault.{NameFault}
 use Rattle.link_circuit.specs.declared.faults.NameFault.TheVariants as fault
 

@@ -2,7 +2,7 @@
 use Rattle.std.specs.Prelude.{◌≡◌, ℕ, ◌<◌, ◌≤◌, List, ◌∷◌, length, All}
 use Rattle.netlist_types.specs.declared.sources.Source.{Source}
 use Rattle.cell_types.specs.declared.libraries.Library.{Library}
-use Rattle.link_defs.specs.declared.faults.LinkFault.{LinkFault}
+use Rattle.linked_types.specs.declared.faults.LinkFault.{LinkFault}
 use Rattle.link_defs.specs.Flatten.{Flat}
 use Rattle.link_circuit.specs.declared.flats.Flattened.{Flattened}
 use Rattle.link_circuit.specs.declared.frames.Frame.{Frame}

@@ -9,8 +9,8 @@ use crate::frames::Frame;
 use crate::orders::module_order;
 use crate::steps::step;
 use graph_order::Stack;
-use link_defs::LinkFault;
 use link_items::{Instance, Made, Netlist};
+use linked_types::LinkFault;
 use sdcv_base::{Name, Seq};
 use std::alloc::{AllocError, Global};
 

@@ -10,9 +10,10 @@ ghost use Rattle.link_circuit.specs.Names.{HasNet, IsCircuitBelow, IsNameOn, Has
 
 use crate::circuits::FlatCircuit;
 use crate::finds::{instance_with, leaf_on, place_in};
-use link_defs::{LinkFault, LinkOptions, Part};
+use link_defs::Part;
 use link_design::CircuitFault;
 use link_items::{Instance, LeafPlace, Netlist, full_name};
+use linked_types::{LinkFault, LinkOptions};
 use sdcv_base::{Name, Seq};
 use std::alloc::{AllocError, Global};
 

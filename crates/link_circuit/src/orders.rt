@@ -6,8 +6,8 @@ ghost use Rattle.netlist_types.specs.declared.sources.Module.{Module as ModuleRe
 ghost use Rattle.link_circuit.specs.Orders.{needs_in, IsOrderCause};
 
 use graph_order::{OrderFault, order_of};
-use link_defs::LinkFault;
 use link_items::Netlist;
+use linked_types::LinkFault;
 use netlist_types::{Item, Module};
 use sdcv_base::{Name, Seq};
 use std::alloc::{AllocError, Global};

@@ -9,8 +9,8 @@ ghost use Rattle.sdcv_base.specs.Seqs.{is_marked as marked};
 
 use crate::faults::NameFault;
 use crate::tables::{NetTable, add_name};
-use link_defs::NetName;
 use link_items::full_name;
+use linked_types::NetName;
 use sdcv_base::{Name, Seq};
 use std::alloc::{AllocError, Global};
 use texts::NameTable;

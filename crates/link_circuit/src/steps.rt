@@ -3,7 +3,7 @@ ghost use Rattle.std.specs.Prelude.{◌≡◌, ◌<◌, ◌≤◌, ◌+◌, leng
 ghost use Rattle.std.specs.Option.{option_copied};
 ghost use Rattle.sdcv_base.specs.declared.limits.LimitName.TheVariants as what;
 ghost use Rattle.netlist_types.specs.Lawful.{IsLawfulItem};
-ghost use Rattle.link_defs.specs.declared.faults.LinkFault.TheVariants as fault;
+ghost use Rattle.linked_types.specs.declared.faults.LinkFault.TheVariants as fault;
 ghost use Rattle.link_defs.specs.Faults.{is_instance as counts};
 ghost use Rattle.link_items.specs.Items.{module_at};
 ghost use Rattle.link_circuit.specs.Flats.{AreScopes};
@@ -14,8 +14,8 @@ ghost use Rattle.link_circuit.specs.UnderWay.{Goes, Breaks};
 use crate::flats::Flattened;
 use crate::frames::Frame;
 use graph_order::Stack;
-use link_defs::LinkFault;
 use link_items::{Instance, Netlist, add_item};
+use linked_types::LinkFault;
 use netlist_types::Item;
 use sdcv_base::LimitName;
 use std::alloc::{AllocError, Global};

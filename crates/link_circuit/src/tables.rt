@@ -3,7 +3,7 @@ ghost use Rattle.std.specs.Prelude.{◌≡◌, length, IfErr, OnOk};
 ghost use Rattle.link_circuit.specs.Tables.{IsAdded, IsOther};
 
 use crate::faults::NameFault;
-use link_defs::NetName;
+use linked_types::NetName;
 use sdcv_base::Seq;
 use std::alloc::Global;
 use texts::NameTable;

@@ -20,8 +20,8 @@ use Rattle.net_model.specs.declared.netlist.Reg.{Reg}
 use Rattle.net_model.specs.declared.claims.PinRef.TheVariants.{GateIn, RegIn}
 use Rattle.link_defs.specs.declared.circuits.Part.TheVariants as part
 use Rattle.link_defs.specs.declared.circuits.Circuit.{Circuit}
-use Rattle.link_defs.specs.declared.names.PinName.{PinName}
-use Rattle.link_defs.specs.declared.names.PinRole.TheVariants as role
+use Rattle.linked_types.specs.declared.names.PinName.{PinName}
+use Rattle.linked_types.specs.declared.names.PinRole.TheVariants as role
 use Rattle.link_defs.specs.Hierarchy.{cell_of, wires_of, module_needs, tops}
 use Rattle.netlist_types.specs.Lawful.{module_of}
 use Rattle.link_defs.specs.Flatten.{flat_of, full_names, add_scope, add_item, inst_nets, inner_nets, join_bits}

@@ -11,9 +11,9 @@ use Rattle.net_model.specs.Form.{PinForm}
 use Rattle.net_model.specs.declared.netlist.Gate.{Gate}
 use Rattle.cell_types.specs.Builtin.{builtin_cells}
 use Rattle.link_defs.specs.declared.circuits.Part.TheVariants as part
-use Rattle.link_defs.specs.declared.faults.LinkFault.TheVariants as fault
-use Rattle.link_defs.specs.declared.options.LinkOptions.{LinkOptions}
-use Rattle.link_defs.specs.declared.names.PortName.{PortName}
+use Rattle.linked_types.specs.declared.faults.LinkFault.TheVariants as fault
+use Rattle.linked_types.specs.declared.options.LinkOptions.{LinkOptions}
+use Rattle.linked_types.specs.declared.names.PortName.{PortName}
 use Rattle.graph_order.specs.Needs.{Stay}
 use Rattle.link_defs.specs.Hierarchy.{cell_of, wires_of, tops}
 use Rattle.netlist_types.specs.Lawful.{module_of}

@@ -9,7 +9,7 @@ use Rattle.netlist_types.specs.declared.sources.Conn.{Conn}
 use Rattle.netlist_types.specs.declared.sources.Dir.TheVariants as dir
 use Rattle.net_model.specs.Form.{NotForm, AndForm}
 use Rattle.net_model.specs.declared.netlist.Gate.{Gate}
-use Rattle.link_defs.specs.declared.faults.LinkFault.TheVariants as fault
+use Rattle.linked_types.specs.declared.faults.LinkFault.TheVariants as fault
 use Rattle.link_defs.specs.Hierarchy.{cell_of, wires_of}
 use Rattle.netlist_types.specs.Lawful.{module_of}
 use Rattle.link_defs.specs.Flatten.{add_scope, add_item, inst_nets, inner_nets, join_bits, top_scope}

@@ -11,9 +11,9 @@ use Rattle.netlist_types.specs.declared.sources.Module.{Module}
 use Rattle.cell_types.specs.declared.libraries.Library.{Library}
 use Rattle.link_defs.specs.declared.circuits.Circuit.{Circuit}
 use Rattle.link_defs.specs.declared.circuits.Part.{Part}
-use Rattle.link_defs.specs.declared.names.Linked.{Linked}
-use Rattle.link_defs.specs.declared.names.PortName.{PortName}
-use Rattle.link_defs.specs.declared.options.LinkOptions.{LinkOptions}
+use Rattle.linked_types.specs.declared.names.Linked.{Linked}
+use Rattle.linked_types.specs.declared.names.PortName.{PortName}
+use Rattle.linked_types.specs.declared.options.LinkOptions.{LinkOptions}
 use Rattle.sdcv_base.specs.declared.settings.Setting.{Setting}
 use Rattle.link_defs.specs.Hierarchy.{tops}
 use Rattle.link_defs.specs.Flatten.{flat_of}

@@ -8,13 +8,7 @@
 #![tactic(auto)]
 
 mod circuits;
-mod faults;
 mod laws;
-mod names;
-mod options;
 
 pub use circuits::{Circuit, Part};
-pub use faults::LinkFault;
 pub use laws::{equations_are, solutions_are};
-pub use names::{CellName, Linked, Names, NetName, PinName, PinRole, PortName};
-pub use options::LinkOptions;

@@ -19,7 +19,7 @@ use Rattle.cell_types.specs.declared.libraries.Cell.{Cell}
 use Rattle.cell_types.specs.declared.libraries.CellKind.{CellKind}
 use Rattle.cell_types.specs.declared.libraries.CellKind.TheVariants as kind
 use Rattle.link_defs.specs.declared.circuits.Part.{Part}
-use Rattle.link_defs.specs.declared.faults.LinkFault.{LinkFault}
+use Rattle.linked_types.specs.declared.faults.LinkFault.{LinkFault}
 use Rattle.link_defs.specs.Hierarchy.{cell_of, is_modelled, wires_of, place_of_module}
 use Rattle.link_defs.specs.Flatten.{Scope, inst_nets, inner_scope, inner_nets, instance_of, with_slash, other_pins}
 use Rattle.link_defs.specs.Parts.{inst_parts, bit_ties, cell_ties, cell_part, ties, wire_nets}

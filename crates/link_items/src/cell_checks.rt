@@ -12,7 +12,7 @@ ghost use Rattle.link_items.specs.Pins.{is_open, is_tied, is_unknown};
 use crate::conns::{is_open, is_tied};
 use crate::names::pin_name;
 use cell_types::{Cell, CellKind, CombOut, FlopOut};
-use link_defs::LinkFault;
+use linked_types::LinkFault;
 use net_model::MOST_PINS;
 use netlist_types::Conn;
 use sdcv_base::{LimitName, Name, Seq};

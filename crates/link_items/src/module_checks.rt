@@ -10,7 +10,7 @@ ghost use Rattle.link_items.specs.Pins.{port_names, is_unknown};
 
 use crate::conn_tables::ConnTable;
 use crate::names::pin_name;
-use link_defs::LinkFault;
+use linked_types::LinkFault;
 use netlist_types::{Conn, Dir, Module, Port};
 use sdcv_base::Name;
 use std::alloc::{AllocError, Global};

@@ -9,8 +9,8 @@ use Rattle.std.proofs.lemmas.List.{take_all}
 use Rattle.std.proofs.lemmas.Option.{slice_get_within}
 use Rattle.texts.specs.Names.{is_among, are_distinct}
 use Rattle.texts.proofs.NameLemmas.{are_distinct-push}
-use Rattle.link_defs.specs.declared.faults.LinkFault.{LinkFault}
-use Rattle.link_defs.specs.declared.faults.LinkFault.TheVariants as fault
+use Rattle.linked_types.specs.declared.faults.LinkFault.{LinkFault}
+use Rattle.linked_types.specs.declared.faults.LinkFault.TheVariants as fault
 use Rattle.link_defs.specs.CellNames.{Leaf}
 use Rattle.link_defs.specs.Faults.{StandsTwice}
 use Rattle.link_defs.specs.declared.circuits.Part.{Part}

@@ -4,7 +4,7 @@ use Rattle.std.specs.Prelude.{flat_map, filter}
 use Rattle.std.proofs.lemmas.List.{map-append}
 use Rattle.netlist_types.specs.declared.sources.Module.{Module}
 use Rattle.netlist_types.specs.declared.sources.Port.{Port}
-use Rattle.link_defs.specs.declared.names.PortName.{PortName}
+use Rattle.linked_types.specs.declared.names.PortName.{PortName}
 use Rattle.link_defs.specs.Circuits.{PortBit, port_bit, bits_of}
 use Rattle.link_defs.specs.Links.{ports_of}
 use Rattle.link_tops.specs.Ports.{bit_name, bit_names_if}

@@ -1,8 +1,8 @@
 -- Names that stand twice in a list.
 use Rattle.std.specs.Prelude.{ℕ, List, map}
-use Rattle.link_defs.specs.declared.names.PortName.{PortName}
-use Rattle.link_defs.specs.declared.faults.LinkFault.{LinkFault}
-use Rattle.link_defs.specs.declared.faults.LinkFault.TheVariants as fault
+use Rattle.linked_types.specs.declared.names.PortName.{PortName}
+use Rattle.linked_types.specs.declared.faults.LinkFault.{LinkFault}
+use Rattle.linked_types.specs.declared.faults.LinkFault.TheVariants as fault
 use Rattle.link_defs.specs.Faults.{StandsTwice}
 use Rattle.link_items.specs.declared.made.LeafPlace.{LeafPlace}
 

@@ -2,7 +2,7 @@
 use Rattle.std.specs.Prelude.{ℕ, Bool, List, [], map, if◌then◌else◌, Some, None, slice_index_or}
 use Rattle.netlist_types.specs.declared.sources.Module.{Module}
 use Rattle.netlist_types.specs.declared.sources.Port.{Port}
-use Rattle.link_defs.specs.declared.names.PortName.{PortName}
+use Rattle.linked_types.specs.declared.names.PortName.{PortName}
 
 -- the name of a bit of a port, with the port's where that is a bus
 abbrev pub bit_name : Module → Port → ℕ → PortName

@@ -5,8 +5,8 @@ ghost use Rattle.std.specs.Str.{bytes_eq};
 ghost use Rattle.texts.specs.Names.{is_among, are_distinct};
 ghost use Rattle.link_tops.specs.Clashes.{port_names, leaf_names, IsApart, IsClash};
 
-use link_defs::{LinkFault, PortName};
 use link_items::LeafPlace;
+use linked_types::{LinkFault, PortName};
 use sdcv_base::{Name, Seq};
 use std::alloc::Global;
 use texts::NameTable;

@@ -6,7 +6,7 @@ ghost use Rattle.link_defs.specs.Circuits.{is_input as reads, input_bits, output
 ghost use Rattle.link_defs.specs.Links.{ports_of};
 ghost use Rattle.link_tops.specs.Ports.{bit_name, bit_names_if};
 
-use link_defs::PortName;
+use linked_types::PortName;
 use netlist_types::{Dir, Module, Port};
 use sdcv_base::{Name, Seq};
 use std::alloc::{AllocError, Global};

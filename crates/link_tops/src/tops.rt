@@ -9,7 +9,7 @@ ghost use Rattle.link_defs.specs.Links.{ports_of};
 ghost use Rattle.link_tops.specs.Tops.{refs_of, all_refs, is_unused, AreAt, IsTop, IsTopCause};
 
 use crate::ports::input_names;
-use link_defs::{LinkFault, PortName};
+use linked_types::{LinkFault, PortName};
 use netlist_types::{Item, Module, Source};
 use sdcv_base::Seq;
 use std::alloc::{AllocError, Global};

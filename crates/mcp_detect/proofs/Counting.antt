@@ -6,14 +6,14 @@ use Rattle.std.proofs.lemmas.List.Sums.{count_by-le-length, sum_by-append}
 use Rattle.net_model.specs.declared.claims.Claim.{Claim}
 use Rattle.net_model.proofs.Members.{In}
 use Rattle.net_paths.specs.Those.{AreThose, All_seen, Taken, Left_out}
-use Rattle.link_defs.specs.declared.names.Linked.{Linked}
-use Rattle.exception_expand.specs.declared.claims.Judging.{Judging}
-use Rattle.exception_expand.specs.declared.selections.PairLine.{PairLine}
-use Rattle.exception_expand.specs.declared.selections.Selected.{Selected}
+use Rattle.linked_types.specs.declared.names.Linked.{Linked}
+use Rattle.run_options.specs.declared.judging.Judging.{Judging}
+use Rattle.selected_types.specs.declared.selections.PairLine.{PairLine}
+use Rattle.selected_types.specs.declared.selections.Selected.{Selected}
 use Rattle.sdcv_base.specs.declared.limits.LimitName.{LimitName}
 use Rattle.sdcv_base.specs.declared.limits.LimitName.TheVariants as limit
-use Rattle.sdc_settings.specs.declared.faults.ExpandFault.{ExpandFault}
-use Rattle.sdc_settings.specs.declared.faults.ExpandFault.TheVariants as fault
+use Rattle.selected_types.specs.declared.faults.ExpandFault.{ExpandFault}
+use Rattle.selected_types.specs.declared.faults.ExpandFault.TheVariants as fault
 use Rattle.exception_expand.specs.Causes as expand
 use Rattle.exception_expand.specs.Causes.{HasMore, HasMoreJudged}
 use Rattle.exception_expand.specs.Pairs.{is_judged}

@@ -8,8 +8,8 @@ use Rattle.net_model.specs.declared.claims.Start.{Start}
 use Rattle.net_model.specs.declared.claims.Claim.{Claim}
 use Rattle.net_model.proofs.Members.{In, In-map, from_map, from_flat, In-from_Contains, In-cases}
 use Rattle.net_paths.specs.Those.{AreThose, All_seen, Taken, Left_out}
-use Rattle.link_defs.specs.declared.names.Linked.{Linked}
-use Rattle.link_defs.specs.declared.names.CellName.{CellName}
+use Rattle.linked_types.specs.declared.names.Linked.{Linked}
+use Rattle.linked_types.specs.declared.names.CellName.{CellName}
 use Rattle.script_types.specs.declared.objects.Object.TheVariants.{AllRegisters}
 use Rattle.script_types.specs.declared.scripts.Exception.{Exception}
 use Rattle.script_types.specs.declared.scripts.What.TheVariants.{Claiming}
@@ -20,9 +20,9 @@ use Rattle.sdc_objects.specs.declared.things.Thing.TheVariants as thing
 use Rattle.sdc_objects.specs.declared.things.Place.TheVariants.{From}
 use Rattle.sdc_objects.specs.Standing.{cell_at_row, reg_start, meant_by, meant_of, from_column}
 use Rattle.sdc_objects.specs.Things.{cell_of_reg, things_of}
-use Rattle.exception_expand.specs.declared.claims.Judging.{Judging}
+use Rattle.run_options.specs.declared.judging.Judging.{Judging}
 use Rattle.exception_expand.specs.declared.pairs.Pair.{Pair}
-use Rattle.exception_expand.specs.declared.selections.Selected.{Selected}
+use Rattle.selected_types.specs.declared.selections.Selected.{Selected}
 use Rattle.exception_expand.specs.Causes.{HasManySets}
 use Rattle.exception_expand.specs.Pairs.{is_free, is_judged}
 use Rattle.exception_expand.specs.Selections as spec

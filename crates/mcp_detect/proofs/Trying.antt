@@ -8,8 +8,8 @@ use Rattle.net_model.specs.declared.netlist.Design.{Design}
 use Rattle.net_model.specs.declared.claims.Claim.{Claim}
 use Rattle.net_model.specs.declared.invariants.InvClause.{InvClause}
 use Rattle.graph_order.proofs.Marked.{place_cases}
-use Rattle.exception_expand.specs.declared.selections.PairLine.{PairLine}
-use Rattle.exception_expand.specs.declared.selections.Selected.{Selected}
+use Rattle.selected_types.specs.declared.selections.PairLine.{PairLine}
+use Rattle.selected_types.specs.declared.selections.Selected.{Selected}
 use Rattle.verdict_types.specs.declared.outcomes.Verdict.{Verdict}
 use Rattle.verdicts.specs.Verdicts.{IsRight}
 use Rattle.pair_prove.specs.Proving.{HoldsWhereJustified}

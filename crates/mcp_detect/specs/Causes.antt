@@ -2,9 +2,9 @@
 use Rattle.std.specs.Prelude.{◌≡◌, ℕ}
 use Rattle.sdcv_base.specs.declared.limits.LimitName.{LimitName}
 use Rattle.sdcv_base.specs.declared.limits.LimitName.TheVariants.{Pairs}
-use Rattle.link_defs.specs.declared.names.Linked.{Linked}
-use Rattle.sdc_settings.specs.declared.faults.ExpandFault.{ExpandFault}
-use Rattle.sdc_settings.specs.declared.faults.ExpandFault.TheVariants as expand
+use Rattle.linked_types.specs.declared.names.Linked.{Linked}
+use Rattle.selected_types.specs.declared.faults.ExpandFault.{ExpandFault}
+use Rattle.selected_types.specs.declared.faults.ExpandFault.TheVariants as expand
 use Rattle.exception_expand.specs.Selections.{IsSelected, script_pairs}
 use Rattle.exception_expand.specs.Causes.{HasMore}
 use Rattle.mcp_detect.specs.declared.faults.DetectFault.{DetectFault}

@@ -5,11 +5,11 @@ use Rattle.net_model.specs.Judge.{Holds}
 use Rattle.net_model.specs.declared.netlist.Design.{Design}
 use Rattle.net_model.specs.declared.claims.Claim.{Claim}
 use Rattle.net_model.specs.declared.invariants.InvClause.{InvClause}
-use Rattle.link_defs.specs.declared.names.Linked.{Linked}
+use Rattle.linked_types.specs.declared.names.Linked.{Linked}
 use Rattle.exception_expand.specs.Pairs.{judging_by}
 use Rattle.exception_expand.specs.Selections.{IsSelectionOf}
-use Rattle.exception_expand.specs.declared.selections.PairLine.{PairLine}
-use Rattle.exception_expand.specs.declared.selections.Selected.{Selected}
+use Rattle.selected_types.specs.declared.selections.PairLine.{PairLine}
+use Rattle.selected_types.specs.declared.selections.Selected.{Selected}
 use Rattle.verdict_types.specs.declared.outcomes.Proof.{Proof}
 use Rattle.verdict_types.specs.declared.outcomes.Verdict.{Verdict}
 use Rattle.verdict_types.specs.declared.outcomes.Verdict.TheVariants.{Justified}

@@ -1,6 +1,6 @@
 //! The pairs that are tried.
 ghost use Rattle.std.specs.Prelude.{◌≡◌, IfOk, IfErr, OnOk};
-ghost use Rattle.link_defs.specs.Usable.{IsUsable};
+ghost use Rattle.linked_types.specs.Usable.{IsUsable};
 ghost use Rattle.exception_expand.specs.Pairs.{judging_by};
 ghost use Rattle.exception_expand.specs.Selections.{IsSelectionOf};
 ghost use Rattle.mcp_detect.specs.Scripts as spec;
@@ -9,10 +9,10 @@ ghost use Rattle.mcp_detect.specs.Causes as causes;
 
 use crate::faults::DetectFault;
 use crate::scripts::registers_script;
-use exception_expand::{Selected, expand};
-use link_defs::Linked;
-use sdc_settings::ExpandFault;
+use exception_expand::expand;
+use linked_types::Linked;
 use sdcv_base::LimitName;
+use selected_types::{ExpandFault, Selected};
 use std::alloc::Global;
 
 /// The pairs of registers between which a path leads, each with its claim of multiplier 2.

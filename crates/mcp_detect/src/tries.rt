@@ -9,11 +9,11 @@ ghost use Rattle.mcp_detect.specs.Detections as spec;
 
 use crate::detections::Tried;
 use crate::options::DetectOptions;
-use exception_expand::PairLine;
 use net_model::{Claim, Kind};
 use pair_prove::prove;
 use query_asks::Prepared;
 use sdcv_base::Seq;
+use selected_types::PairLine;
 use std::alloc::{AllocError, Global};
 use verdicts::{InvSet, Verdict};
 

@@ -2,9 +2,9 @@
 use Rattle.std.specs.Prelude.{ℕ, ◌+◌, List, [], ◌∷◌, ◌++◌, flat_map, Option, Some, None, codes}
 use Rattle.std.specs.Fmt.{decimal}
 use Rattle.sdcv_base.specs.Shown.{shown}
-use Rattle.link_defs.specs.declared.names.CellName.{CellName}
-use Rattle.link_defs.specs.declared.names.PortName.{PortName}
-use Rattle.link_defs.specs.declared.names.Linked.{Linked}
+use Rattle.linked_types.specs.declared.names.CellName.{CellName}
+use Rattle.linked_types.specs.declared.names.PortName.{PortName}
+use Rattle.linked_types.specs.declared.names.Linked.{Linked}
 use Rattle.wave_signals.specs.Numbered.{numbered}
 
 -- a word, a number and a name

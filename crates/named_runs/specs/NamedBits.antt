@@ -2,10 +2,10 @@
 use Rattle.std.specs.Prelude.{ℕ, Bool, List, [], ◌∷◌, ◌++◌, map, flat_map, Option, Some, None}
 use Rattle.net_model.specs.Cycles.{bit_at}
 use Rattle.net_model.specs.declared.cycles.Cycle.{Cycle}
-use Rattle.link_defs.specs.declared.names.CellName.{CellName}
-use Rattle.link_defs.specs.declared.names.NetName.{NetName}
-use Rattle.link_defs.specs.declared.names.PortName.{PortName}
-use Rattle.link_defs.specs.declared.names.Linked.{Linked}
+use Rattle.linked_types.specs.declared.names.CellName.{CellName}
+use Rattle.linked_types.specs.declared.names.NetName.{NetName}
+use Rattle.linked_types.specs.declared.names.PortName.{PortName}
+use Rattle.linked_types.specs.declared.names.Linked.{Linked}
 use Rattle.wave_signals.specs.declared.bits.BitKind.{BitKind}
 use Rattle.wave_signals.specs.declared.bits.BitKind.TheVariants.{Wire, Reg}
 use Rattle.wave_signals.specs.declared.bits.NamedBit.{NamedBit}

@@ -4,7 +4,7 @@ ghost use Rattle.wave_signals.specs.declared.bits.NamedBit.{NamedBit as Bit};
 ghost use Rattle.named_runs.specs.NamedBits as spec;
 
 use crate::places::{Place, values_of};
-use link_defs::{CellName, NetName, PortName};
+use linked_types::{CellName, NetName, PortName};
 use net_model::Cycle;
 use sdcv_base::{Name, Seq};
 use std::alloc::{AllocError, Global};

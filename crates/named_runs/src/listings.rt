@@ -3,7 +3,7 @@ ghost use Rattle.std.specs.Prelude.{◌≡◌, ◌+◌, ◌++◌, flat_map, IfOk
 ghost use Rattle.wave_signals.specs.Numbered.{numbered};
 ghost use Rattle.named_runs.specs.BitTexts as spec;
 
-use link_defs::{CellName, Linked, PortName};
+use linked_types::{CellName, Linked, PortName};
 use sdcv_base::{Name, Seq};
 use std::alloc::{AllocError, Global};
 

@@ -4,7 +4,7 @@ ghost use Rattle.wave_signals.specs.Signals.{bits_of};
 ghost use Rattle.named_runs.specs.NamedBits as spec;
 
 use crate::bits::{add_nets, add_regs, input_bits};
-use link_defs::Linked;
+use linked_types::Linked;
 use net_model::Cycle;
 use std::alloc::{AllocError, Global};
 use wave_signals::{Signal, grouped, ordered};

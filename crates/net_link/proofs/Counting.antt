@@ -14,14 +14,14 @@ use Rattle.cell_types.specs.declared.libraries.Cell.{Cell}
 use Rattle.link_defs.specs.declared.circuits.Circuit.{Circuit}
 use Rattle.link_defs.specs.declared.circuits.Part.{Part}
 use Rattle.link_defs.specs.declared.circuits.Part.TheVariants as part
-use Rattle.link_defs.specs.declared.names.CellName.{CellName}
+use Rattle.linked_types.specs.declared.names.CellName.{CellName}
 use Rattle.link_defs.specs.CellNames.{Leaf, cell_name, cell_names}
 use Rattle.link_defs.specs.Circuits.{regs_of, part_regs}
 use Rattle.link_defs.specs.Designs.{number_by, drivers_by, moved_reg}
 use Rattle.link_defs.specs.GateOrders.{ClockPart}
 use Rattle.link_defs.specs.GatedDesigns.{enabled_drivers}
 use Rattle.link_defs.specs.Links.{source_count}
-use Rattle.link_defs.specs.Usable.{IsCellOf, is_reg}
+use Rattle.linked_types.specs.Usable.{IsCellOf, is_reg}
 use Rattle.link_circuit.proofs.Lawfully.{all_none}
 use Rattle.net_link.specs.Places.{ArePlacesOf}
 use Rattle.net_link.proofs.Leafing.{IsShaped, leaf_regs, HasPart}

@@ -14,8 +14,8 @@ use Rattle.net_model.specs.declared.netlist.Fixed.{Fixed}
 use Rattle.sdcv_base.specs.declared.settings.Setting.{Setting}
 use Rattle.texts.specs.Names.{is_among, place_of, are_distinct}
 use Rattle.texts.proofs.NameLemmas.{slice_get-place_of}
-use Rattle.link_defs.specs.declared.faults.LinkFault.{LinkFault}
-use Rattle.link_defs.specs.declared.faults.LinkFault.TheVariants as fault
+use Rattle.linked_types.specs.declared.faults.LinkFault.{LinkFault}
+use Rattle.linked_types.specs.declared.faults.LinkFault.TheVariants as fault
 use Rattle.link_defs.specs.Circuits.{PortBit}
 use Rattle.link_defs.specs.Faults.{bit_names}
 use Rattle.link_defs.specs.Links.{IsSet}

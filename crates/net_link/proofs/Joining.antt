@@ -18,11 +18,11 @@ use Rattle.link_design.specs.declared.designs.Held.{Held}
 use Rattle.link_design.specs.Lawful.{IsLawfulCircuit}
 use Rattle.link_design.specs.Made.{IsHeldBy, IsMade}
 use Rattle.link_defs.specs.declared.circuits.Circuit.{Circuit}
-use Rattle.link_defs.specs.declared.faults.LinkFault.{LinkFault}
-use Rattle.link_defs.specs.declared.names.CellName.{CellName}
-use Rattle.link_defs.specs.declared.names.Linked.{Linked}
-use Rattle.link_defs.specs.declared.names.NetName.{NetName}
-use Rattle.link_defs.specs.declared.options.LinkOptions.{LinkOptions}
+use Rattle.linked_types.specs.declared.faults.LinkFault.{LinkFault}
+use Rattle.linked_types.specs.declared.names.CellName.{CellName}
+use Rattle.linked_types.specs.declared.names.Linked.{Linked}
+use Rattle.linked_types.specs.declared.names.NetName.{NetName}
+use Rattle.linked_types.specs.declared.options.LinkOptions.{LinkOptions}
 use Rattle.link_defs.specs.CellNames.{leaves}
 use Rattle.link_defs.specs.Circuits.{data_bits}
 use Rattle.link_defs.specs.Faults.{IsFlatCause, IsCause}
@@ -30,7 +30,7 @@ use Rattle.link_defs.specs.Flatten.{flat_of}
 use Rattle.link_defs.specs.GatedDesigns.{AreGatedSolutions}
 use Rattle.link_defs.specs.Hierarchy.{tops}
 use Rattle.link_defs.specs.Links.{IsLinked, IsSet}
-use Rattle.link_defs.specs.Usable.{IsUsable}
+use Rattle.linked_types.specs.Usable.{IsUsable}
 use Rattle.link_circuit.specs.declared.circuits.FlatCircuit.{FlatCircuit}
 use Rattle.net_link.specs.declared.ports.TopPorts.{TopPorts}
 use Rattle.net_link.specs.Ports.{AreTopPorts}

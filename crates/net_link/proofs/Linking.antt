@@ -15,11 +15,11 @@ use Rattle.icg_rewrite.specs.Rewritten.{rewritten}
 use Rattle.icg_rewrite.specs.declared.clock_gates.Gated.{Gated}
 use Rattle.link_defs.proofs.Solving.{number_within}
 use Rattle.link_defs.specs.declared.circuits.Circuit.{Circuit}
-use Rattle.link_defs.specs.declared.names.CellName.{CellName}
-use Rattle.link_defs.specs.declared.names.Linked.{Linked}
-use Rattle.link_defs.specs.declared.names.NetName.{NetName}
-use Rattle.link_defs.specs.declared.names.PortName.{PortName}
-use Rattle.link_defs.specs.declared.options.LinkOptions.{LinkOptions}
+use Rattle.linked_types.specs.declared.names.CellName.{CellName}
+use Rattle.linked_types.specs.declared.names.Linked.{Linked}
+use Rattle.linked_types.specs.declared.names.NetName.{NetName}
+use Rattle.linked_types.specs.declared.names.PortName.{PortName}
+use Rattle.linked_types.specs.declared.options.LinkOptions.{LinkOptions}
 use Rattle.link_defs.specs.CellNames.{leaves, cell_names, AreNetNames}
 use Rattle.link_defs.specs.Circuits.{PortBit, circuit_of, data_bits, output_bits, bit_nets}
 use Rattle.link_defs.specs.Designs.{IsDesignOf, drivers_by, number_by}
@@ -29,7 +29,7 @@ use Rattle.link_defs.specs.GatedDesigns.{IsGatedOf, AreGatedSolutions, enabled_d
 use Rattle.link_defs.specs.Hierarchy.{tops}
 use Rattle.link_defs.specs.Links.{IsLinked, IsSet, ports_of, source_count}
 use Rattle.link_defs.specs.Parts.{parts_of}
-use Rattle.link_defs.specs.Usable.{IsUsable}
+use Rattle.linked_types.specs.Usable.{IsUsable}
 use Rattle.link_gates.proofs.OneGated.{AreClocked}
 use Rattle.link_items.proofs.Listing.{all_by, contains_at}
 use Rattle.net_link.proofs.Tabling.{once_distinct}

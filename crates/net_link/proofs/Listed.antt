@@ -4,8 +4,8 @@ use Rattle.std.specs.Prelude.{Option, slice_get, zip}
 use Rattle.net_model.specs.declared.netlist.Gate.{Gate}
 use Rattle.icg_rewrite.specs.Rewritten.{rewritten}
 use Rattle.link_defs.specs.declared.circuits.Part.{Part}
-use Rattle.link_defs.specs.declared.names.CellName.{CellName}
-use Rattle.link_defs.specs.declared.names.PinName.{PinName}
+use Rattle.linked_types.specs.declared.names.CellName.{CellName}
+use Rattle.linked_types.specs.declared.names.PinName.{PinName}
 use Rattle.link_defs.specs.CellNames.{Leaf, output_role, cell_name, cell_names}
 use Rattle.link_defs.specs.declared.circuits.Circuit.{Circuit}
 use Rattle.link_defs.specs.Circuits.{part_regs}

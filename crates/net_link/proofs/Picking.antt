@@ -4,7 +4,7 @@ use Rattle.std.specs.Prelude.{Option, Some, None, filter}
 use Rattle.std.specs.Str.{bytes_eq}
 use Rattle.std.proofs.lemmas.Bool.{and_parts, or_parts, not-true}
 use Rattle.texts.specs.Names.{is_among, are_distinct}
-use Rattle.link_defs.specs.declared.names.PortName.{PortName}
+use Rattle.linked_types.specs.declared.names.PortName.{PortName}
 use Rattle.link_defs.specs.Circuits.{PortBit, is_clock as is_clock_bit}
 use Rattle.link_defs.specs.Faults.{bit_names}
 use Rattle.link_defs.specs.Links.{ports_of}

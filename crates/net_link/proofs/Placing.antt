@@ -11,10 +11,10 @@ use Rattle.netlist_types.specs.declared.sources.Module.{Module}
 use Rattle.texts.proofs.NameLemmas.{distinct_by_test}
 use Rattle.link_design.specs.declared.designs.Held.{Held}
 use Rattle.link_design.specs.Made.{IsHeldBy}
-use Rattle.link_defs.specs.declared.faults.LinkFault.{LinkFault}
-use Rattle.link_defs.specs.declared.faults.LinkFault.TheVariants as fault
-use Rattle.link_defs.specs.declared.names.PortName.{PortName}
-use Rattle.link_defs.specs.declared.options.LinkOptions.{LinkOptions}
+use Rattle.linked_types.specs.declared.faults.LinkFault.{LinkFault}
+use Rattle.linked_types.specs.declared.faults.LinkFault.TheVariants as fault
+use Rattle.linked_types.specs.declared.names.PortName.{PortName}
+use Rattle.linked_types.specs.declared.options.LinkOptions.{LinkOptions}
 use Rattle.link_defs.specs.Circuits.{PortBit, input_bits, output_bits, data_bits, clock_bits, bit_nets, is_clock as is_clock_bit}
 use Rattle.link_defs.specs.Faults.{StandsTwice, bit_names, set_names, IsBadSetting, No_clock, No_input, Twice}
 use Rattle.link_defs.specs.Links.{ports_of}

@@ -16,14 +16,14 @@ use Rattle.cell_types.specs.declared.libraries.Cell.{Cell}
 use Rattle.link_defs.specs.declared.circuits.Circuit.{Circuit}
 use Rattle.link_defs.specs.declared.circuits.Part.{Part}
 use Rattle.link_defs.specs.declared.circuits.Part.TheVariants as part
-use Rattle.link_defs.specs.declared.names.PinName.{PinName}
+use Rattle.linked_types.specs.declared.names.PinName.{PinName}
 use Rattle.link_defs.specs.CellNames.{loads, input_roles, clock_role, tree_pins, out_pins, output_role, pins_if_any, cell_name}
 use Rattle.link_defs.specs.Circuits.{regs_of, part_drives}
 use Rattle.link_defs.specs.Designs.{moved, number_by, drivers_by, is_on_tree}
 use Rattle.link_defs.specs.GateOrders.{ClockPart}
 use Rattle.link_defs.specs.GatedDesigns.{enabled_drivers}
 use Rattle.link_defs.specs.Links.{source_count}
-use Rattle.link_defs.specs.Usable.{IsPinOf, IsRoleOf, IsCellOf}
+use Rattle.linked_types.specs.Usable.{IsPinOf, IsRoleOf, IsCellOf}
 use Rattle.link_design.specs.Lawful.{IsLawfulPart, IsLawfulGate}
 use Rattle.link_design.proofs.Parted.{all_in, all_from_in}
 use Rattle.link_circuit.proofs.Lawfully.{all_none}

@@ -16,7 +16,7 @@ use Rattle.link_circuit.specs.declared.circuits.FlatCircuit.{FlatCircuit}
 use Rattle.link_tops.specs.Clashes.{leaf_names, IsApart}
 use Rattle.link_defs.specs.declared.circuits.Circuit.{Circuit}
 use Rattle.link_defs.specs.declared.circuits.Part.{Part}
-use Rattle.link_defs.specs.declared.options.LinkOptions.{LinkOptions}
+use Rattle.linked_types.specs.declared.options.LinkOptions.{LinkOptions}
 use Rattle.link_defs.specs.CellNames.{Leaf, leaves}
 use Rattle.link_defs.specs.Circuits.{circuit_of, input_bits, output_bits}
 use Rattle.link_defs.specs.Faults.{bit_names, IsBadSetting, IsFaultless}

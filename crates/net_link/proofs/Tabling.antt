@@ -12,7 +12,7 @@ use Rattle.link_design.specs.declared.designs.Held.{Held}
 use Rattle.link_design.specs.Lawful.{IsLawfulCircuit}
 use Rattle.link_design.specs.Made.{IsMade}
 use Rattle.link_defs.specs.declared.circuits.Circuit.{Circuit}
-use Rattle.link_defs.specs.declared.names.NetName.{NetName}
+use Rattle.linked_types.specs.declared.names.NetName.{NetName}
 use Rattle.link_defs.specs.Circuits.{all_drivers}
 use Rattle.link_defs.specs.Flatten.{scope_names}
 use Rattle.link_items.specs.declared.made.Instance.{Instance}

@@ -1,7 +1,7 @@
 -- The bits of input ports without the clock's.
 use Rattle.std.specs.Prelude.{ℕ, Bool, false, List, [], ◌∷◌, flat_map, if◌then◌else◌, Option, Some, None}
 use Rattle.std.specs.Str.{bytes_eq}
-use Rattle.link_defs.specs.declared.names.PortName.{PortName}
+use Rattle.linked_types.specs.declared.names.PortName.{PortName}
 
 -- the name is the clock's
 abbrev pub is_clock : Option (List ℕ) → List ℕ → Bool

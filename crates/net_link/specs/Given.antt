@@ -3,9 +3,9 @@ use Rattle.std.specs.Prelude.{◌≡◌, ◌⊎◌, ℕ, List, map, Contains, So
 use Rattle.std.specs.List.{AllZip}
 use Rattle.sdcv_base.specs.declared.settings.Setting.{Setting}
 use Rattle.net_model.specs.declared.netlist.Fixed.{Fixed}
-use Rattle.link_defs.specs.declared.options.LinkOptions.{LinkOptions}
-use Rattle.link_defs.specs.declared.faults.LinkFault.{LinkFault}
-use Rattle.link_defs.specs.declared.faults.LinkFault.TheVariants as fault
+use Rattle.linked_types.specs.declared.options.LinkOptions.{LinkOptions}
+use Rattle.linked_types.specs.declared.faults.LinkFault.{LinkFault}
+use Rattle.linked_types.specs.declared.faults.LinkFault.TheVariants as fault
 use Rattle.link_defs.specs.Faults.{StandsTwice}
 use Rattle.link_design.specs.declared.designs.Held.{Held}
 

@@ -4,8 +4,8 @@ use Rattle.sdcv_base.specs.Seqs.{is_marked}
 use Rattle.netlist_types.specs.declared.sources.Source.{Source}
 use Rattle.link_design.specs.declared.designs.CircuitDesign.{CircuitDesign}
 use Rattle.link_defs.specs.declared.circuits.Circuit.{Circuit}
-use Rattle.link_defs.specs.declared.faults.LinkFault.{LinkFault}
-use Rattle.link_defs.specs.declared.faults.LinkFault.TheVariants as fault
+use Rattle.linked_types.specs.declared.faults.LinkFault.{LinkFault}
+use Rattle.linked_types.specs.declared.faults.LinkFault.TheVariants as fault
 use Rattle.link_defs.specs.Circuits.{all_drivers}
 use Rattle.link_defs.specs.Flatten.{scope_names}
 use Rattle.link_items.specs.declared.made.Instance.{Instance}

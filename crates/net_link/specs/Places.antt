@@ -5,12 +5,12 @@ use Rattle.cell_types.specs.declared.libraries.Library.{Library}
 use Rattle.cell_types.specs.declared.libraries.Cell.{Cell}
 use Rattle.link_defs.specs.declared.circuits.Part.{Part}
 use Rattle.link_defs.specs.declared.circuits.Part.TheVariants as part
-use Rattle.link_defs.specs.declared.names.CellName.{CellName}
-use Rattle.link_defs.specs.declared.names.PinName.{PinName}
-use Rattle.link_defs.specs.declared.names.PinRole.TheVariants as role
+use Rattle.linked_types.specs.declared.names.CellName.{CellName}
+use Rattle.linked_types.specs.declared.names.PinName.{PinName}
+use Rattle.linked_types.specs.declared.names.PinRole.TheVariants as role
 use Rattle.link_defs.specs.CellNames.{Leaf, input_roles, clock_role, tree_pins, out_pins, output_role}
 use Rattle.link_defs.specs.Circuits.{part_drives}
-use Rattle.link_defs.specs.Usable.{IsCellOf, is_reg}
+use Rattle.linked_types.specs.Usable.{IsCellOf, is_reg}
 use Rattle.link_items.specs.declared.made.LeafPlace.{LeafPlace}
 
 -- the cell at a place of a library

@@ -3,7 +3,7 @@ ghost use Rattle.std.specs.Prelude.{◌≡◌, ◌+◌, ◌<◌, ◌^◌, ◌++�
 ghost use Rattle.net_model.specs.declared.netlist.Gate.{Gate};
 ghost use Rattle.icg_rewrite.specs.Rewritten.{rewritten};
 ghost use Rattle.netlist_types.specs.declared.sources.Source.{Source as SourceRecord};
-ghost use Rattle.link_defs.specs.declared.names.CellName.{CellName as CellNameRecord};
+ghost use Rattle.linked_types.specs.declared.names.CellName.{CellName as CellNameRecord};
 ghost use Rattle.link_defs.specs.CellNames.{Leaf, leaves as leaves_of_flat, cell_names as spec_names, cell_name as spec_name, reg_of as spec_reg};
 ghost use Rattle.link_defs.specs.Circuits.{part_regs};
 ghost use Rattle.link_defs.specs.Designs.{number_by};
@@ -26,8 +26,9 @@ use crate::pins::leaf_pins;
 use cell_types::Library;
 use icg_rewrite::Gated;
 use link_circuit::FlatCircuit;
-use link_defs::{CellName, Part};
+use link_defs::Part;
 use link_items::LeafPlace;
+use linked_types::CellName;
 use sdcv_base::Seq;
 use std::alloc::{AllocError, Global};
 

@@ -5,8 +5,8 @@ ghost use Rattle.texts.specs.Names.{is_among, are_distinct};
 ghost use Rattle.link_defs.specs.Faults.{set_names};
 ghost use Rattle.net_link.specs.Given.{setting_names, IsGiven, IsHeldAt, IsUnfit};
 
-use link_defs::{LinkFault, LinkOptions};
 use link_design::Held;
+use linked_types::{LinkFault, LinkOptions};
 use net_model::Fixed;
 use sdcv_base::{Name, Seq, Setting};
 use std::alloc::Global;

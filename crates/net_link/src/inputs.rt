@@ -4,7 +4,7 @@ ghost use Rattle.texts.specs.Names.{with_names};
 ghost use Rattle.link_tops.specs.Clashes.{port_names};
 ghost use Rattle.net_link.specs.Data.{is_clock as has_clock, data_ports, data_port};
 
-use link_defs::PortName;
+use linked_types::PortName;
 use sdcv_base::{Name, Seq};
 use std::alloc::{AllocError, Global};
 use texts::NameTable;

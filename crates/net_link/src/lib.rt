@@ -30,8 +30,8 @@ mod pins;
 mod ports;
 mod rows;
 
-pub use link_defs::{
+pub use link_tops::top_inputs;
+pub use linked_types::{
     CellName, LinkFault, LinkOptions, Linked, Names, NetName, PinName, PinRole, PortName,
 };
-pub use link_tops::top_inputs;
 pub use links::link;

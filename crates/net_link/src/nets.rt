@@ -12,9 +12,9 @@ ghost use Rattle.link_circuit.specs.Scopes.{IsTableOf, IsTwice};
 ghost use Rattle.net_link.specs.Nets.{has_number as numbered, is_driven as driven, AreMarks, names_in, IsOfTwoNets, IsNetCause};
 
 use link_circuit::{FlatCircuit, NameFault, NetTable};
-use link_defs::{LinkFault, NetName};
 use link_design::CircuitDesign;
 use link_items::{Instance, Netlist};
+use linked_types::{LinkFault, NetName};
 use sdcv_base::Seq;
 use std::alloc::{AllocError, Global};
 

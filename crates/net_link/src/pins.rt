@@ -10,7 +10,8 @@ ghost use Rattle.net_link.specs.Places.{cell_at as spec_cell, drive_role, data_r
 use crate::numbers::Numbering;
 use crate::outs::{drive_numbers, out_names};
 use cell_types::{Cell, CellKind, Library};
-use link_defs::{Part, PinName, PinRole};
+use link_defs::Part;
+use linked_types::{PinName, PinRole};
 use net_model::{Gate, PinRef};
 use sdcv_base::{Name, Seq};
 use std::alloc::{AllocError, Global};

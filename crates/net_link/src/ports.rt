@@ -11,9 +11,9 @@ ghost use Rattle.net_link.specs.Ports.{AreTopPorts, IsPortCause, IsNameFault, Is
 
 use crate::given::held_of;
 use crate::inputs::{data_names, data_table};
-use link_defs::{LinkFault, LinkOptions, PortName};
 use link_design::Held;
 use link_tops::{add_ports, input_names, output_names};
+use linked_types::{LinkFault, LinkOptions, PortName};
 use netlist_types::Module;
 use sdcv_base::{Name, Seq};
 use std::alloc::Global;

@@ -6,9 +6,9 @@ use Rattle.std.proofs.lemmas.Option.{slice_get-map}
 use Rattle.netlist_types.specs.declared.sources.Source.{Source}
 use Rattle.netlist_types.specs.declared.sources.Module.{Module}
 use Rattle.cell_types.specs.declared.libraries.Library.{Library}
-use Rattle.link_defs.specs.declared.faults.LinkFault.{LinkFault}
-use Rattle.link_defs.specs.declared.faults.LinkFault.TheVariants as fault
-use Rattle.link_defs.specs.declared.options.LinkOptions.{LinkOptions}
+use Rattle.linked_types.specs.declared.faults.LinkFault.{LinkFault}
+use Rattle.linked_types.specs.declared.faults.LinkFault.TheVariants as fault
+use Rattle.linked_types.specs.declared.options.LinkOptions.{LinkOptions}
 use Rattle.link_defs.specs.Circuits.{PortBit, data_bits, input_bits, output_bits}
 use Rattle.link_defs.specs.Faults.{Ports, StandsTwice, bit_names, IsCause, IsFaultless}
 use Rattle.link_defs.specs.Hierarchy.{tops}

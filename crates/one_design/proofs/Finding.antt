@@ -3,21 +3,21 @@ use Rattle.std.proofs.Common.{◌≡◌, ◌∙◌, ℕ, List, [], ◌∷◌, le
 use Rattle.netlist_types.specs.declared.sources.Source.{Source}
 use Rattle.netlist_types.specs.declared.sources.Module.{Module}
 use Rattle.cell_types.specs.declared.libraries.Library.{Library}
-use Rattle.link_defs.specs.declared.faults.LinkFault.{LinkFault}
-use Rattle.link_defs.specs.declared.faults.LinkFault.TheVariants as link
-use Rattle.link_defs.specs.declared.names.Linked.{Linked}
-use Rattle.link_defs.specs.declared.names.PortName.{PortName}
-use Rattle.link_defs.specs.declared.options.LinkOptions.{LinkOptions}
+use Rattle.linked_types.specs.declared.faults.LinkFault.{LinkFault}
+use Rattle.linked_types.specs.declared.faults.LinkFault.TheVariants as link
+use Rattle.linked_types.specs.declared.names.Linked.{Linked}
+use Rattle.linked_types.specs.declared.names.PortName.{PortName}
+use Rattle.linked_types.specs.declared.options.LinkOptions.{LinkOptions}
 use Rattle.link_defs.specs.Circuits.{input_bits}
 use Rattle.link_defs.specs.Links.{ports_of}
 use Rattle.link_tops.specs.Tops.{IsTopCause}
-use Rattle.sdc_settings.specs.declared.faults.ExpandFault.TheVariants as expand
-use Rattle.exception_expand.specs.declared.claims.Judging.{Judging}
-use Rattle.exception_expand.specs.declared.selections.Selected.{Selected}
+use Rattle.selected_types.specs.declared.faults.ExpandFault.TheVariants as expand
+use Rattle.run_options.specs.declared.judging.Judging.{Judging}
+use Rattle.selected_types.specs.declared.selections.Selected.{Selected}
 use Rattle.fault_lines.specs.Designs.{link_line, expand_line}
 use Rattle.design_stages.specs.declared.designs.Designed.{Designed}
 use Rattle.design_stages.specs.declared.designs.ReadTexts.{ReadTexts}
-use Rattle.design_stages.specs.declared.designs.Reset.{Reset}
+use Rattle.run_options.specs.declared.resets.Reset.{Reset}
 use Rattle.design_stages.specs.Designs.{HasInputs, HasSettings, Links, Selects, LinksTo, Designs, options_of}
 use Rattle.design_stages.specs.Stages.{Found, Staged, Then}
 use Rattle.one_design.specs.Answers.{IsOneAnswer}

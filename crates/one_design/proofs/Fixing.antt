@@ -6,13 +6,13 @@ use Rattle.std.proofs.lemmas.Option.{same_Some, slice_get-map}
 use Rattle.sdcv_base.specs.declared.settings.Setting.{Setting}
 use Rattle.texts.specs.Names.{are_distinct}
 use Rattle.glob.proofs.Placing.{place_once}
-use Rattle.link_defs.specs.declared.names.PortName.{PortName}
+use Rattle.linked_types.specs.declared.names.PortName.{PortName}
 use Rattle.script_types.specs.declared.scripts.Command.{Command}
 use Rattle.script_types.specs.declared.scripts.Script.{Script}
 use Rattle.sdc_settings.specs.declared.values.Settings.{Settings}
 use Rattle.sdc_settings.specs.declared.cases.Given.{Given}
-use Rattle.sdc_settings.specs.declared.faults.ExpandFault.{ExpandFault}
-use Rattle.sdc_settings.specs.declared.faults.ExpandFault.TheVariants as fault
+use Rattle.selected_types.specs.declared.faults.ExpandFault.{ExpandFault}
+use Rattle.selected_types.specs.declared.faults.ExpandFault.TheVariants as fault
 use Rattle.sdc_settings.specs.Inputs.{name_at, port_places}
 use Rattle.sdc_settings.specs.Settings.{sourced, source_of, HasClock, IsSourceOf, IsCaseObject, case_objects, all_given, setting_names, setting_of}
 use Rattle.sdc_settings.specs.Settings.{AreFixed, AreSettings}

@@ -18,10 +18,10 @@ use Rattle.cell_types.specs.declared.libraries.Library.{Library}
 use Rattle.link_defs.specs.declared.circuits.Circuit.{Circuit}
 use Rattle.link_defs.specs.declared.circuits.Part.{Part}
 use Rattle.link_defs.specs.declared.circuits.Part.TheVariants as part
-use Rattle.link_defs.specs.declared.names.Linked.{Linked}
-use Rattle.link_defs.specs.declared.names.NetName.{NetName}
-use Rattle.link_defs.specs.declared.faults.LinkFault.TheVariants.{Memory}
-use Rattle.link_defs.specs.declared.options.LinkOptions.{LinkOptions}
+use Rattle.linked_types.specs.declared.names.Linked.{Linked}
+use Rattle.linked_types.specs.declared.names.NetName.{NetName}
+use Rattle.linked_types.specs.declared.faults.LinkFault.TheVariants.{Memory}
+use Rattle.linked_types.specs.declared.options.LinkOptions.{LinkOptions}
 use Rattle.link_defs.specs.CellNames.{Leaf, AreNetNames, cell_name, cell_names, pins_if_any, clock_role, output_role, input_roles, tree_pins, out_pins, reg_of}
 use Rattle.link_defs.specs.Circuits.{PortBit, IsTree, all_gates, circuit_of, data_bits, part_outs, part_drives, part_regs}
 use Rattle.link_defs.specs.Designs.{IsOrderOf, gate_at, gates_at, is_on_tree, tree_marks}

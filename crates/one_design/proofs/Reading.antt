@@ -8,8 +8,8 @@ use Rattle.cell_lib.specs.declared.faults.LibFault.TheVariants as fault
 use Rattle.cell_lib.specs.Texts.{library_of, Refuses, Reads}
 use Rattle.sdc_text.specs.Scripts.{script_of}
 use Rattle.fault_lines.specs.Sources.{verilog_line, liberty_line, sdc_line}
-use Rattle.exception_expand.specs.declared.claims.Judging.{Judging}
-use Rattle.design_stages.specs.declared.designs.Reset.{Reset}
+use Rattle.run_options.specs.declared.judging.Judging.{Judging}
+use Rattle.run_options.specs.declared.resets.Reset.{Reset}
 use Rattle.design_stages.specs.Stages.{Staged}
 use Rattle.design_stages.specs.Texts.{Netlist, Cells, Constraints}
 use Rattle.one_design.specs.Designs.{FindsOne, DesignsOf}

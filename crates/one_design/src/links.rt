@@ -1,11 +1,11 @@
 //! A netlist has one design. The law is the contract of a call that does nothing.
-ghost use Rattle.link_defs.specs.declared.faults.LinkFault.TheVariants.{Memory};
+ghost use Rattle.linked_types.specs.declared.faults.LinkFault.TheVariants.{Memory};
 ghost use Rattle.link_defs.specs.Faults.{IsCause, IsFaultless};
 ghost use Rattle.link_defs.specs.Links.{IsLinked};
 ghost use Rattle.one_design.specs.Answers.{IsOneAnswer};
 
 use cell_types::Library;
-use link_defs::LinkOptions;
+use linked_types::LinkOptions;
 use netlist_types::Source;
 
 /// A netlist without a fault has at most one design with its names, and nothing but want of memory is a cause beside it.

@@ -2,8 +2,7 @@
 ghost use Rattle.design_stages.specs.Texts.{Netlist, Cells, Constraints};
 ghost use Rattle.one_design.specs.Designs.{FindsOne, OneDesignOf};
 
-use design_stages::Reset;
-use exception_expand::Judging;
+use run_options::{Judging, Reset};
 
 /// A text is at most one netlist, one library and one script, and where it is one, it is not refused as such.
 pub fn one_text(text: &[u8])

@@ -1,10 +1,10 @@
 //! A script has one clock and one list of fixed inputs. The law is the contract of a call that does nothing.
-ghost use Rattle.sdc_settings.specs.declared.faults.ExpandFault.TheVariants.{Memory};
+ghost use Rattle.selected_types.specs.declared.faults.ExpandFault.TheVariants.{Memory};
 ghost use Rattle.sdc_settings.specs.Settings.{AreSettings};
 ghost use Rattle.sdc_settings.specs.Causes.{IsSettingsCause};
 ghost use Rattle.one_design.specs.Answers.{IsOneAnswer};
 
-use link_defs::PortName;
+use linked_types::PortName;
 use script_types::Script;
 use sdcv_base::{Seq, Setting};
 

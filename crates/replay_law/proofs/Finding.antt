@@ -1,9 +1,9 @@
 -- What is known of a design that is found of texts.
 use Rattle.std.proofs.Common.{◌≡◌, ◌≤◌, ℕ, length, Ok, Err, ap, sym, ◌∙◌, subst, arith}
 use Rattle.std.proofs.lemmas.List.{length-map}
-use Rattle.exception_expand.specs.declared.claims.Judging.{Judging}
+use Rattle.run_options.specs.declared.judging.Judging.{Judging}
 use Rattle.design_stages.specs.declared.designs.ReadTexts.{ReadTexts}
-use Rattle.design_stages.specs.declared.designs.Reset.{Reset}
+use Rattle.run_options.specs.declared.resets.Reset.{Reset}
 use Rattle.design_stages.specs.declared.designs.Designed.{Designed}
 use Rattle.design_stages.specs.Stages.{Found, Then}
 use Rattle.design_stages.specs.Designs.{LinksTo, Designs, CanBeJudged}

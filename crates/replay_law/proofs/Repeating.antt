@@ -12,7 +12,7 @@ use Rattle.design_stages.specs.declared.designs.ReadTexts.{ReadTexts}
 use Rattle.design_stages.specs.declared.designs.Designed.{Designed}
 use Rattle.design_stages.specs.Designs.{Designs}
 use Rattle.sdcv_words.specs.declared.commands.Options.{Options}
-use Rattle.sdcv_words.specs.declared.commands.Proving.{Proving}
+use Rattle.run_options.specs.declared.proving.Proving.{Proving}
 use Rattle.sdcv_words.specs.Commands.{Texts as TextNames, Job, Verify, Check, Replay as ReplayJob}
 use Rattle.run_ends.specs.declared.statuses.Ending.TheVariants as ending
 use Rattle.sdcv_top.specs.Outcomes.{Outcome, prints}

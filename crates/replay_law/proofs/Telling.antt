@@ -17,11 +17,11 @@ use Rattle.verdict_types.specs.declared.outcomes.Verdict.{Verdict}
 use Rattle.verdict_types.specs.declared.outcomes.Verdict.TheVariants.{Refuted}
 use Rattle.pair_prove.specs.Proving.{IsLeastWitness}
 use Rattle.cert_defs.specs.Listed.{item_numbered}
-use Rattle.report_text.specs.declared.options.RunOptions.{RunOptions}
+use Rattle.run_options.specs.declared.options.RunOptions.{RunOptions}
 use Rattle.report_text.specs.Rows.{HasRows}
 use Rattle.report_text.specs.Reports as text
 use Rattle.judgements.specs.Reports.{report_bytes}
-use Rattle.exception_expand.specs.declared.selections.Selected.{Selected}
+use Rattle.selected_types.specs.declared.selections.Selected.{Selected}
 use Rattle.report_text.proofs.ReadBack.{stimulus_written, read_back}
 use Rattle.answer_lines.specs.Stimuli.{stimulus_line, replay_line}
 use Rattle.design_stages.specs.Stages.{Staged}
@@ -29,7 +29,7 @@ use Rattle.design_stages.specs.declared.designs.ReadTexts.{ReadTexts}
 use Rattle.design_stages.specs.declared.designs.Designed.{Designed}
 use Rattle.design_stages.specs.Designs.{Designs}
 use Rattle.sdcv_words.specs.declared.commands.Options.{Options}
-use Rattle.sdcv_words.specs.declared.commands.Proving.{Proving}
+use Rattle.run_options.specs.declared.proving.Proving.{Proving}
 use Rattle.sdcv_top.specs.Outcomes.{Outcome}
 use Rattle.sdcv_top.specs.Headline.{IsReported}
 use Rattle.sdcv_top.specs.Jobs.{HasPair, ReadsStimulus, Replays, RunAgain, Replayed, replayed, run_options}

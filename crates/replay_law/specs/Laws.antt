@@ -9,7 +9,7 @@ use Rattle.cert_defs.specs.Listed.{item_numbered}
 use Rattle.answer_lines.specs.Certs.{accepted_lines}
 use Rattle.judgements.specs.declared.judged.Judged.{Judged}
 use Rattle.sdcv_words.specs.declared.commands.Options.{Options}
-use Rattle.sdcv_words.specs.declared.commands.Proving.{Proving}
+use Rattle.run_options.specs.declared.proving.Proving.{Proving}
 use Rattle.sdcv_words.specs.Commands.{Texts, Verify, Check, Replay as ReplayJob}
 use Rattle.run_ends.specs.declared.statuses.Ending.TheVariants as ending
 use Rattle.sdcv_top.specs.Outcomes.{Outcome, prints}

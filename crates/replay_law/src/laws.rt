@@ -1,5 +1,5 @@
 //! What follows for those who use what a verification left behind. Each law is the contract of a call that does nothing.
-ghost use Rattle.sdcv_words.specs.declared.commands.Proving.{Proving};
+ghost use Rattle.run_options.specs.declared.proving.Proving.{Proving};
 ghost use Rattle.sdcv_words.specs.Commands.{Texts};
 ghost use Rattle.replay_law.specs.Laws.{CheckRepeats, ReplayIsDue, ReportReplays};
 

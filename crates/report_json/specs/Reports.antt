@@ -7,16 +7,16 @@ use Rattle.sdcv_base.specs.Shown.{shown}
 use Rattle.net_model.specs.declared.claims.Claim.{Claim}
 use Rattle.net_model.specs.declared.cycles.Stimulus.{Stimulus}
 use Rattle.sdcv_base.specs.Seqs.{each_at}
-use Rattle.sdc_objects.specs.declared.warnings.Warning.{Warning}
-use Rattle.exception_expand.specs.declared.selections.Listing.{Listing}
-use Rattle.exception_expand.specs.declared.selections.Listing.TheVariants.{Claiming, Hold, Aside}
-use Rattle.exception_expand.specs.declared.selections.CommandLine.{CommandLine}
-use Rattle.exception_expand.specs.declared.selections.PairLine.{PairLine}
-use Rattle.exception_expand.specs.declared.selections.Selected.{Selected}
+use Rattle.selected_types.specs.declared.warnings.Warning.{Warning}
+use Rattle.selected_types.specs.declared.selections.Listing.{Listing}
+use Rattle.selected_types.specs.declared.selections.Listing.TheVariants.{Claiming, Hold, Aside}
+use Rattle.selected_types.specs.declared.selections.CommandLine.{CommandLine}
+use Rattle.selected_types.specs.declared.selections.PairLine.{PairLine}
+use Rattle.selected_types.specs.declared.selections.Selected.{Selected}
 use Rattle.verdict_types.specs.declared.outcomes.Verdict.{Verdict}
 use Rattle.verdict_types.specs.declared.outcomes.Verdict.TheVariants.{Justified, Refuted, Undecided}
 use Rattle.witness_replay.specs.StimulusTexts.{digits_of}
-use Rattle.report_text.specs.declared.options.RunOptions.{RunOptions}
+use Rattle.run_options.specs.declared.options.RunOptions.{RunOptions}
 use Rattle.report_text.specs.Rows.{each_pair}
 use Rattle.report_text.specs.Words.{mode_text, claim_text, what_text, warning_text, verdict_word, why_text, tally_of}
 

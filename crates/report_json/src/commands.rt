@@ -8,10 +8,9 @@ ghost use Rattle.report_json.specs.Objects.{made};
 ghost use Rattle.report_json.specs.Reports.{pairs_of, warnings_data, command_data, commands_data};
 
 use crate::objects::{Object, array_of};
-use exception_expand::{CommandLine, Listing};
 use report_text::{warning_text, what_text};
-use sdc_objects::Warning;
 use sdcv_base::Seq;
+use selected_types::{CommandLine, Listing, Warning};
 use serde_json::Value;
 use std::alloc::{AllocError, Global};
 

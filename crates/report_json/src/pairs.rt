@@ -11,10 +11,10 @@ ghost use Rattle.report_json.specs.Reports.{evidence_data, pair_data, pairs_data
 
 use crate::objects::{Object, array_of};
 use crate::stimuli::evidence_value;
-use exception_expand::Selected;
 use net_model::Claim;
 use report_text::{PairRow, claim_text, row_at, verdict_word, why_text};
 use sdcv_base::Name;
+use selected_types::Selected;
 use serde_json::Value;
 use std::alloc::{AllocError, Global};
 use verdict_types::Verdict;

@@ -9,8 +9,9 @@ ghost use Rattle.report_json.specs.Reports.{commands_data, pairs_data, total_dat
 use crate::commands::commands_value;
 use crate::objects::Object;
 use crate::pairs::pairs_value;
-use exception_expand::Selected;
-use report_text::{RunOptions, mode_text, tally_of};
+use report_text::{mode_text, tally_of};
+use run_options::RunOptions;
+use selected_types::Selected;
 use serde_json::Value;
 use std::alloc::{AllocError, Global};
 use verdict_types::Verdict;

@@ -1,12 +1,11 @@
 //! Selections and verdicts from tables.
 ghost use Rattle.report_text.specs.Rows.{HasRows};
 
-use exception_expand::{CommandLine, Listing, PairLine, Selected};
 use net_model::{Claim, Edge, End, Phase, Start, Stimulus};
 use proof_log::Derivation;
-use report_text::RunOptions;
-use sdc_objects::Warning;
+use run_options::RunOptions;
 use sdcv_base::{Kind, Name, Seq};
+use selected_types::{CommandLine, Listing, PairLine, Selected, Warning};
 use std::alloc::{AllocError, Global};
 use std::process::Abort;
 use verdict_types::{Cause, Proof, Verdict};

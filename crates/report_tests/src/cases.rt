@@ -4,7 +4,7 @@ use crate::builders::Found::{Depth, Fixed, Refuted, Single, Spent, Stays};
 use crate::builders::Warns::{Dropped, Nothing};
 use crate::builders::{Bits, Case, Exception, Pair};
 use net_model::Phase::{Base, Step};
-use report_text::RunOptions;
+use run_options::RunOptions;
 use sdcv_base::Edge::{Any, Fall, Rise};
 use sdcv_base::Kind::{False, Multi};
 

@@ -1,5 +1,5 @@
 //! The wave of a run, cycle by cycle.
-use link_defs::{CellName, Linked, Names, NetName};
+use linked_types::{CellName, Linked, Names, NetName};
 use net_model::{Cycle, Design};
 use run_views::Violation;
 use run_waves::wave;

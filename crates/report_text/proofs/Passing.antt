@@ -15,12 +15,12 @@ use Rattle.net_model.specs.declared.claims.Claim.{Claim}
 use Rattle.net_model.specs.declared.queries.Phase.{Phase}
 use Rattle.net_model.specs.declared.queries.Phase.TheVariants.{Base, Step}
 use Rattle.sdcv_base.specs.Seqs.{each_at}
-use Rattle.sdc_objects.specs.declared.warnings.Warning.{Warning}
-use Rattle.sdc_objects.specs.declared.warnings.Warning.TheVariants.{Nothing, Dropped}
-use Rattle.exception_expand.specs.declared.selections.Listing.{Listing}
-use Rattle.exception_expand.specs.declared.selections.Listing.TheVariants.{Claiming, Hold, Aside}
-use Rattle.exception_expand.specs.declared.selections.CommandLine.{CommandLine}
-use Rattle.exception_expand.specs.declared.selections.PairLine.{PairLine}
+use Rattle.selected_types.specs.declared.warnings.Warning.{Warning}
+use Rattle.selected_types.specs.declared.warnings.Warning.TheVariants.{Nothing, Dropped}
+use Rattle.selected_types.specs.declared.selections.Listing.{Listing}
+use Rattle.selected_types.specs.declared.selections.Listing.TheVariants.{Claiming, Hold, Aside}
+use Rattle.selected_types.specs.declared.selections.CommandLine.{CommandLine}
+use Rattle.selected_types.specs.declared.selections.PairLine.{PairLine}
 use Rattle.verdict_types.specs.declared.outcomes.Proof.{Proof}
 use Rattle.verdict_types.specs.declared.outcomes.Proof.TheVariants.{Single, Fixed, Depth}
 use Rattle.verdict_types.specs.declared.outcomes.Cause.{Cause}
@@ -31,7 +31,7 @@ use Rattle.witness_replay.specs.StimulusTexts.{title_of}
 use Rattle.witness_replay.proofs.LineLemmas.{is_inline}
 use Rattle.witness_replay.proofs.WrittenLemmas.{inline_decimal}
 use Rattle.witness_replay.proofs.PassedLemmas.{passes, passes_block}
-use Rattle.report_text.specs.declared.options.RunOptions.{RunOptions}
+use Rattle.run_options.specs.declared.options.RunOptions.{RunOptions}
 use Rattle.report_text.specs.Words.{mode_text, lag_text, header_text, kind_text, edge_text, claim_text, what_text, count_text, command_text, warning_text, warning_line}
 use Rattle.report_text.specs.Words.{verdict_word, proof_text, phase_text, cause_text, why_text, pair_text}
 use Rattle.report_text.specs.Reports.{command_texts, pair_texts, stimulus_texts}

@@ -11,9 +11,9 @@ use Rattle.std.proofs.lemmas.List.Folds.{list_all-append}
 use Rattle.net_model.specs.declared.claims.Claim.{Claim}
 use Rattle.net_model.specs.declared.cycles.Stimulus.{Stimulus}
 use Rattle.sdcv_base.specs.Seqs.{each_at}
-use Rattle.exception_expand.specs.declared.selections.CommandLine.{CommandLine}
-use Rattle.exception_expand.specs.declared.selections.PairLine.{PairLine}
-use Rattle.exception_expand.specs.declared.selections.Selected.{Selected}
+use Rattle.selected_types.specs.declared.selections.CommandLine.{CommandLine}
+use Rattle.selected_types.specs.declared.selections.PairLine.{PairLine}
+use Rattle.selected_types.specs.declared.selections.Selected.{Selected}
 use Rattle.verdict_types.specs.declared.outcomes.Verdict.{Verdict}
 use Rattle.verdict_types.specs.declared.outcomes.Verdict.TheVariants.{Refuted}
 use Rattle.witness_replay.specs.StimulusTexts.{line_of, title_of, block_lines, block_text}
@@ -21,7 +21,7 @@ use Rattle.witness_replay.specs.Blocks.{HasFirstBlock, IsWritten}
 use Rattle.witness_replay.specs.declared.faults.StimFault.TheVariants.{NoBlock, Form, Memory}
 use Rattle.witness_replay.proofs.BlockLemmas.{fits_in, one_stimulus}
 use Rattle.witness_replay.proofs.PassedLemmas.{passes, written_after}
-use Rattle.report_text.specs.declared.options.RunOptions.{RunOptions}
+use Rattle.run_options.specs.declared.options.RunOptions.{RunOptions}
 use Rattle.report_text.specs.Rows.{HasRows, each_pair}
 use Rattle.report_text.specs.Words.{header_text, pair_text, total_text}
 use Rattle.report_text.specs.Reports.{ReadsBack, bytes_of_lines, command_texts, stimulus_texts, pair_texts, report_lines, report_bytes}

@@ -7,9 +7,8 @@ ghost use Rattle.report_text.specs.Reports.{command_lines};
 
 use crate::lines::ReportLines;
 use crate::words::{count_text, warning_text, what_text};
-use exception_expand::CommandLine;
-use sdc_objects::Warning;
 use sdcv_base::Seq;
+use selected_types::{CommandLine, Warning};
 use std::alloc::{AllocError, Global};
 
 fn command_text(alloc: Global, number: u64, command: &CommandLine) -> Result<String, AllocError>

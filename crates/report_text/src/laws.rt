@@ -3,8 +3,8 @@ ghost use Rattle.witness_replay.specs.Blocks.{HasFirstBlock, IsWritten};
 ghost use Rattle.report_text.specs.Reports.{EachStimulus, ReadsBack, report_bytes};
 ghost use Rattle.report_text.specs.Rows.{HasRows};
 
-use crate::options::RunOptions;
-use exception_expand::Selected;
+use run_options::RunOptions;
+use selected_types::Selected;
 use verdict_types::Verdict;
 
 /// The stimulus of each refuted pair is the first block of the pair's number in the report, so a reader of stimuli gives it

@@ -9,7 +9,6 @@ mod blocks;
 mod commands;
 mod laws;
 mod lines;
-mod options;
 mod outcomes;
 mod pairs;
 mod reports;
@@ -19,7 +18,6 @@ mod words;
 
 pub use blocks::bits_text;
 pub use laws::report_reads_back;
-pub use options::RunOptions;
 pub use outcomes::{verdict_word, why_text};
 pub use reports::write_report;
 pub use rows::{PairRow, row_at};

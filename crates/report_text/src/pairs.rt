@@ -9,7 +9,7 @@ use crate::lines::ReportLines;
 use crate::outcomes::{verdict_word, why_text};
 use crate::rows::{PairRow, row_at};
 use crate::words::claim_text;
-use exception_expand::{PairLine, Selected};
+use selected_types::{PairLine, Selected};
 use std::alloc::{AllocError, Global};
 use verdict_types::Verdict;
 

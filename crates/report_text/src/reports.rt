@@ -6,11 +6,11 @@ ghost use Rattle.report_text.specs.Rows.{HasRows};
 
 use crate::commands::add_commands;
 use crate::lines::ReportLines;
-use crate::options::RunOptions;
 use crate::pairs::add_pairs;
 use crate::tallies::total_text;
 use crate::words::{lag_text, mode_text};
-use exception_expand::Selected;
+use run_options::RunOptions;
+use selected_types::Selected;
 use std::alloc::{AllocError, Global};
 use verdict_types::Verdict;
 

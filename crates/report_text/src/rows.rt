@@ -2,8 +2,8 @@
 ghost use Rattle.std.specs.Prelude.{◌≡◌, ◌+◌, ◌<◌, length, slice_get, Some};
 ghost use Rattle.report_text.specs.Rows.{HasRows};
 
-use exception_expand::{PairLine, Selected};
 use net_model::Claim;
+use selected_types::{PairLine, Selected};
 use verdict_types::Verdict;
 
 /// A selected pair, its number from 1, what is claimed of it, and what is found out about that.

@@ -2,9 +2,8 @@
 ghost use Rattle.std.specs.Prelude.{◌≡◌, IfOk, string_bytes};
 ghost use Rattle.report_text.specs.Words.{mode_text, lag_text, kind_text, edge_text, claim_text, what_text, count_text, warning_text};
 
-use exception_expand::Listing;
-use sdc_objects::Warning;
 use sdcv_base::{Edge, Kind};
+use selected_types::{Listing, Warning};
 use std::alloc::{AllocError, Global};
 
 /// Whether glitches count.

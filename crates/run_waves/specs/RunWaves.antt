@@ -1,6 +1,6 @@
 -- The wave of a run that violates a claim.
 use Rattle.std.specs.Prelude.{◌≡◌, ℕ, List, [], ◌∷◌, length, flat_map, IsPermutation, Option, Some, None, codes}
-use Rattle.link_defs.specs.declared.names.Linked.{Linked}
+use Rattle.linked_types.specs.declared.names.Linked.{Linked}
 use Rattle.wave_signals.specs.Signals.{bits_of}
 use Rattle.wave_signals.specs.declared.signals.Signal.{Signal}
 use Rattle.named_runs.specs.NamedBits.{named_bits}

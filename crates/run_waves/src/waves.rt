@@ -2,7 +2,7 @@
 ghost use Rattle.std.specs.Prelude.{◌≡◌, ◌<◌, length, IfOk};
 ghost use Rattle.run_waves.specs.RunWaves as spec;
 
-use link_defs::Linked;
+use linked_types::Linked;
 use named_runs::run_signals;
 use run_views::Violation;
 use sdcv_base::{Name, Seq};

@@ -9,8 +9,8 @@ use Rattle.std.proofs.lemmas.Slice.Eq.{bytes_eq-Decides}
 use Rattle.texts.specs.Names.{is_among, each_once}
 use Rattle.texts.proofs.NameLemmas.{is_among-with_names}
 use Rattle.glob.specs.Indexes.{IsExact}
-use Rattle.link_defs.specs.declared.names.Names.{Names}
-use Rattle.link_defs.specs.declared.names.PortName.{PortName}
+use Rattle.linked_types.specs.declared.names.Names.{Names}
+use Rattle.linked_types.specs.declared.names.PortName.{PortName}
 use Rattle.script_types.specs.declared.objects.Query.{Query}
 use Rattle.sdc_settings.specs.Inputs.{names_bit, names_bus}
 use Rattle.sdcv_base.specs.Seqs.{each_at, option_list}

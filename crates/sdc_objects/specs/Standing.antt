@@ -13,11 +13,11 @@ use Rattle.net_model.specs.declared.claims.End.{End}
 use Rattle.net_model.specs.declared.claims.End.TheVariants.{Reg as RegEnd, Output as OutputEnd}
 use Rattle.net_model.specs.declared.claims.PinRef.{PinRef}
 use Rattle.net_model.specs.declared.claims.PinRef.TheVariants.{Net as NetPin, OutPort}
-use Rattle.link_defs.specs.declared.names.Linked.{Linked}
-use Rattle.link_defs.specs.declared.names.CellName.{CellName}
-use Rattle.link_defs.specs.declared.names.PinName.{PinName}
-use Rattle.link_defs.specs.declared.names.PinRole.{PinRole}
-use Rattle.link_defs.specs.declared.names.PinRole.TheVariants.{Clock as ClockRole, Load, Drive}
+use Rattle.linked_types.specs.declared.names.Linked.{Linked}
+use Rattle.linked_types.specs.declared.names.CellName.{CellName}
+use Rattle.linked_types.specs.declared.names.PinName.{PinName}
+use Rattle.linked_types.specs.declared.names.PinRole.{PinRole}
+use Rattle.linked_types.specs.declared.names.PinRole.TheVariants.{Clock as ClockRole, Load, Drive}
 use Rattle.script_types.specs.declared.objects.Object.{Object}
 use Rattle.script_types.specs.declared.scripts.Script.{Script}
 use Rattle.sdc_settings.specs.Inputs.{object_text}
@@ -25,8 +25,8 @@ use Rattle.sdc_objects.specs.declared.things.Thing.{Thing}
 use Rattle.sdc_objects.specs.declared.things.Thing.TheVariants as thing
 use Rattle.sdc_objects.specs.declared.things.Place.{Place}
 use Rattle.sdc_objects.specs.declared.things.Place.TheVariants.{From, To, Through}
-use Rattle.sdc_objects.specs.declared.warnings.Warning.{Warning}
-use Rattle.sdc_objects.specs.declared.warnings.Warning.TheVariants.{Nothing, Dropped}
+use Rattle.selected_types.specs.declared.warnings.Warning.{Warning}
+use Rattle.selected_types.specs.declared.warnings.Warning.TheVariants.{Nothing, Dropped}
 use Rattle.sdcv_base.specs.Seqs.{each_at}
 use Rattle.sdc_objects.specs.Things.{things_of}
 

@@ -2,11 +2,11 @@
 use Rattle.std.specs.Prelude.{◌≡◌, ℕ, List, ◌∷◌, ◌++◌, map, flat_map}
 use Rattle.texts.specs.Names.{each_once}
 use Rattle.glob.specs.Indexes.{IsIndexOf}
-use Rattle.link_defs.specs.declared.names.Names.{Names}
-use Rattle.link_defs.specs.declared.names.Linked.{Linked}
-use Rattle.link_defs.specs.declared.names.CellName.{CellName}
-use Rattle.link_defs.specs.declared.names.PortName.{PortName}
-use Rattle.link_defs.specs.declared.names.NetName.{NetName}
+use Rattle.linked_types.specs.declared.names.Names.{Names}
+use Rattle.linked_types.specs.declared.names.Linked.{Linked}
+use Rattle.linked_types.specs.declared.names.CellName.{CellName}
+use Rattle.linked_types.specs.declared.names.PortName.{PortName}
+use Rattle.linked_types.specs.declared.names.NetName.{NetName}
 use Rattle.sdcv_base.specs.Seqs.{option_list}
 use Rattle.sdc_objects.specs.declared.tables.Tables.{Tables}
 

@@ -1,11 +1,11 @@
 //! The table of what things stand for, a column for each place of an exception.
 ghost use Rattle.std.specs.Prelude.{◌≡◌, ◌++◌, ◌∷◌, [], true, not, if◌then◌else◌, map, ℕ, List, Option, None, IfOk, OnOk, slice_get, slice_index};
 ghost use Rattle.std.specs.List.{list_all};
-ghost use Rattle.link_defs.specs.declared.names.PinName.{PinName as PinRecord};
+ghost use Rattle.linked_types.specs.declared.names.PinName.{PinName as PinRecord};
 ghost use Rattle.std.specs.Option.{is_some};
 ghost use Rattle.net_model.specs.declared.claims.PinRef.TheVariants.{Net as NetPin};
 ghost use Rattle.sdcv_base.specs.declared.kinds.Edge.{Edge as EdgeEnum};
-ghost use Rattle.link_defs.specs.declared.names.Linked.{Linked as LinkedRecord};
+ghost use Rattle.linked_types.specs.declared.names.Linked.{Linked as LinkedRecord};
 ghost use Rattle.sdc_objects.specs.declared.things.Thing.{Thing as ThingEnum};
 ghost use Rattle.sdc_objects.specs.declared.things.Place.{Place as PlaceEnum};
 ghost use Rattle.sdc_objects.specs.declared.things.Place.TheVariants as places;
@@ -13,7 +13,7 @@ ghost use Rattle.sdcv_base.specs.Seqs.{option_list};
 ghost use Rattle.sdc_objects.specs.Standing as spec;
 
 use crate::things::{Place, Thing};
-use link_defs::{CellName, Linked, PinName, PinRole};
+use linked_types::{CellName, Linked, PinName, PinRole};
 use net_model::{Design, Edge, End, PinRef, RegOut, Start};
 use sdcv_base::Seq;
 use std::alloc::{AllocError, Global};

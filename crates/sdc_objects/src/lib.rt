@@ -20,4 +20,3 @@ pub use lists::meant;
 pub use scopes::Scope;
 pub use tables::Tables;
 pub use things::{Place, Thing};
-pub use warnings::Warning;

@@ -8,11 +8,12 @@ use crate::columns::Column;
 use crate::found::things_of;
 use crate::scopes::Scope;
 use crate::things::Thing;
-use crate::warnings::{Warning, warn};
-use link_defs::Linked;
+use crate::warnings::warn;
+use linked_types::Linked;
 use net_model::Edge;
 use script_types::Object;
 use sdcv_base::Seq;
+use selected_types::Warning;
 use std::alloc::{AllocError, Global};
 
 /// What the objects of a list stand for in the place of `T`, in their order, some maybe several times, after an option of

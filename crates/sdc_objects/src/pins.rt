@@ -7,7 +7,7 @@ ghost use Rattle.sdc_objects.specs.Things as spec;
 use crate::scopes::Scope;
 use crate::things::{Thing, add_where};
 use glob::{Owner, matches};
-use link_defs::CellName;
+use linked_types::CellName;
 use script_types::Query;
 use sdcv_base::{Name, Seq};
 use std::alloc::{AllocError, Global};

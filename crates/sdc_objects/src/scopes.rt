@@ -1,6 +1,6 @@
 //! Where the objects of a script are looked up.
 use crate::tables::Tables;
-use link_defs::Linked;
+use linked_types::Linked;
 use script_types::Script;
 
 /// A linked design, tables of its names, and the script, whose clocks have names too.

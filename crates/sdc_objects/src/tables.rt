@@ -6,7 +6,7 @@ ghost use Rattle.sdcv_base.specs.Seqs.{option_list};
 ghost use Rattle.sdc_objects.specs.Tables.{IsTablesOf, port_names, bit_names, cell_names, net_names};
 
 use glob::Index;
-use link_defs::{CellName, Linked, Names, NetName, PortName};
+use linked_types::{CellName, Linked, Names, NetName, PortName};
 use sdcv_base::{Name, Seq};
 use std::alloc::{AllocError, Global};
 use texts::NameTable;

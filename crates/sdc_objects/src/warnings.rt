@@ -6,15 +6,9 @@ ghost use Rattle.sdc_objects.specs.Standing as spec;
 use crate::things::Thing;
 use script_types::Object;
 use sdc_settings::object_text;
-use sdcv_base::{Name, Seq};
+use sdcv_base::Seq;
+use selected_types::Warning;
 use std::alloc::{AllocError, Global};
-
-/// Nothing goes by this pattern, or so many of the things that it names can't stand in its place.
-#[derive(Drop)]
-pub enum Warning {
-    Nothing(Name),
-    Dropped(Name, u64),
-}
 
 /// Adds the warning of an object, if there is one: it names these things, and so many of them are dropped.
 pub(crate) fn warn(

@@ -14,7 +14,7 @@ use Rattle.std.proofs.lemmas.List.Elements.{Contains-append_cases, Contains-appe
 use Rattle.std.proofs.lemmas.Option.{slice_get_within, get_or_from_slice_get, slice_get-get_or, slice_get-map}
 use Rattle.std.proofs.lemmas.Map.Keys.{any_passes_from_place}
 use Rattle.std.proofs.lemmas.Slice.Eq.{bytes_eq-Decides}
-use Rattle.link_defs.specs.declared.names.PortName.{PortName}
+use Rattle.linked_types.specs.declared.names.PortName.{PortName}
 use Rattle.sdcv_base.specs.declared.settings.Setting.{Setting}
 use Rattle.sdc_settings.specs.declared.cases.Given.{Given}
 use Rattle.sdc_settings.specs.declared.fixed.Fixed.{Fixed}

@@ -2,7 +2,7 @@
 use Rattle.std.specs.Prelude.{ℕ, Bool, true, false, ◌||◌, List, [], length, filter, Option, Some, None, slice_get, codes}
 use Rattle.std.specs.List.{range_with_len}
 use Rattle.glob.specs.Match.{matches}
-use Rattle.link_defs.specs.declared.names.PortName.{PortName}
+use Rattle.linked_types.specs.declared.names.PortName.{PortName}
 use Rattle.script_types.specs.declared.objects.Class.{Class}
 use Rattle.script_types.specs.declared.objects.Class.TheVariants as class
 use Rattle.script_types.specs.declared.objects.Query.{Query}

@@ -6,11 +6,11 @@ ghost use Rattle.sdc_settings.specs.Settings.{case_places, case_objects, IsCaseO
 ghost use Rattle.sdc_settings.specs.Causes.{IsObjectCause, IsCaseCause};
 ghost use Rattle.sdc_settings.specs.declared.cases.Given.{Given as GivenRecord};
 
-use crate::faults::ExpandFault;
 use crate::inputs::{add_port_places, is_port_object, object_text};
-use link_defs::PortName;
+use linked_types::PortName;
 use script_types::{Command, Object, Script, What};
 use sdcv_base::{Name, Seq};
+use selected_types::ExpandFault;
 use std::alloc::{AllocError, Global};
 
 /// An input bit, by its place, is given a value by a command on this line.

@@ -5,11 +5,11 @@ ghost use Rattle.sdc_settings.specs.Settings.{HasClock, IsSourceOf, is_sourced a
 ghost use Rattle.sdc_settings.specs.Causes.{IsClockCause};
 ghost use Rattle.sdc_settings.specs.Stages.{IsNextSourced};
 
-use crate::faults::ExpandFault;
 use crate::inputs::{add_port_places, is_port_object};
-use link_defs::PortName;
+use linked_types::PortName;
 use script_types::{Command, Object, Script, What};
 use sdcv_base::{Name, Seq};
+use selected_types::ExpandFault;
 use std::alloc::{AllocError, Global};
 
 /// The name of the clock's port bit. `None` where no clock has a source.

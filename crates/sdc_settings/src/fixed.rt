@@ -6,9 +6,9 @@ ghost use Rattle.sdc_settings.specs.Stages.{AreFixedSoFar, IsPushed};
 ghost use Rattle.sdc_settings.specs.declared.cases.Given.{Given as GivenRecord};
 
 use crate::cases::Given;
-use crate::faults::ExpandFault;
-use link_defs::PortName;
+use linked_types::PortName;
 use sdcv_base::{Name, Seq, Setting};
+use selected_types::ExpandFault;
 use std::alloc::Global;
 use texts::NameTable;
 

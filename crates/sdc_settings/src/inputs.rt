@@ -3,7 +3,7 @@ ghost use Rattle.std.specs.Prelude.{◌≡◌, ◌++◌, OnOk, IfOk};
 ghost use Rattle.sdc_settings.specs.Inputs as spec;
 
 use glob::matches;
-use link_defs::PortName;
+use linked_types::PortName;
 use script_types::{Class, Object, Query};
 use sdcv_base::{Name, Seq};
 use std::alloc::{AllocError, Global};

@@ -8,13 +8,11 @@
 
 mod cases;
 mod clocks;
-mod faults;
 mod fixed;
 mod inputs;
 mod scripts;
 mod values;
 
-pub use faults::ExpandFault;
 pub use inputs::{names_bit, object_text};
 pub use scripts::settings;
 pub use values::Settings;

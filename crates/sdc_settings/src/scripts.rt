@@ -5,12 +5,12 @@ ghost use Rattle.sdc_settings.specs.Causes.{IsSettingsCause};
 
 use crate::cases::all_given;
 use crate::clocks::clock;
-use crate::faults::ExpandFault;
 use crate::fixed::fixed_inputs;
 use crate::values::Settings;
-use link_defs::PortName;
+use linked_types::PortName;
 use script_types::Script;
 use sdcv_base::{Seq, Setting};
+use selected_types::ExpandFault;
 use std::alloc::Global;
 
 /// The settings of a script. `inputs` are the input port bits of the design's top, the clock's among them, in port order;

@@ -1,5 +1,5 @@
 use crate::expects::same;
-use link_defs::PortName;
+use linked_types::PortName;
 use sdc_settings::{Settings, settings};
 use sdc_text::{Class, Command, Object, Query, Script, What};
 use sdcv_base::{Name, Seq, Setting};

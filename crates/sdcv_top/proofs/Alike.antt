@@ -5,19 +5,19 @@ use Rattle.std.proofs.lemmas.Option.{same_Some}
 use Rattle.net_model.specs.declared.claims.Claim.{Claim}
 use Rattle.net_model.proofs.Members.{In, In-map, from_map}
 use Rattle.net_model.proofs.Settling.{All-at}
-use Rattle.link_defs.specs.declared.names.Linked.{Linked}
+use Rattle.linked_types.specs.declared.names.Linked.{Linked}
 use Rattle.script_types.specs.declared.scripts.What.{What}
 use Rattle.script_types.specs.declared.scripts.What.TheVariants.{Clock, Case, Claiming, Hold, Aside, Passed}
 use Rattle.script_types.specs.declared.scripts.Command.{Command}
 use Rattle.script_types.specs.declared.scripts.Script.{Script}
-use Rattle.exception_expand.specs.declared.claims.Judging.{Judging}
+use Rattle.run_options.specs.declared.judging.Judging.{Judging}
 use Rattle.exception_expand.specs.declared.pairs.Pair.{Pair}
-use Rattle.exception_expand.specs.declared.selections.Selected.{Selected}
+use Rattle.selected_types.specs.declared.selections.Selected.{Selected}
 use Rattle.exception_expand.specs.Selections as spec
 use Rattle.exception_expand.specs.Selections.{IsSelectionOf}
 use Rattle.exception_expand.proofs.Ranging.{all_from_in}
 use Rattle.design_stages.specs.declared.designs.ReadTexts.{ReadTexts}
-use Rattle.design_stages.specs.declared.designs.Reset.{Reset}
+use Rattle.run_options.specs.declared.resets.Reset.{Reset}
 use Rattle.design_stages.specs.declared.designs.Designed.{Designed}
 use Rattle.design_stages.specs.Designs.{Designs}
 use Rattle.design_stages.specs.Stages.{Then}

@@ -15,7 +15,7 @@ use Rattle.report_text.proofs.ReadBack.{bytes_joined}
 use Rattle.judgements.specs.Reports.{joined}
 use Rattle.cert_defs.specs.Accepted.{justified_numbers}
 use Rattle.cert_call.specs.Texts.{IsAcceptedText}
-use Rattle.report_text.specs.declared.options.RunOptions.{RunOptions}
+use Rattle.run_options.specs.declared.options.RunOptions.{RunOptions}
 use Rattle.design_stages.specs.declared.designs.Designed.{Designed}
 use Rattle.sdcv_top.specs.Stages.{After, AfterText}
 use Rattle.sdcv_top.specs.Laws.{CheckRepeats}

@@ -6,9 +6,9 @@ use Rattle.design_stages.specs.declared.refusals.Refusal.{Refusal}
 use Rattle.design_stages.specs.declared.refusals.Refusal.TheVariants as refusal
 use Rattle.netlist_types.specs.declared.sources.Source.{Source}
 use Rattle.script_types.specs.declared.scripts.Script.{Script}
-use Rattle.exception_expand.specs.declared.claims.Judging.{Judging}
+use Rattle.run_options.specs.declared.judging.Judging.{Judging}
 use Rattle.design_stages.specs.declared.designs.ReadTexts.{ReadTexts}
-use Rattle.design_stages.specs.declared.designs.Reset.{Reset}
+use Rattle.run_options.specs.declared.resets.Reset.{Reset}
 use Rattle.design_stages.specs.declared.designs.Designed.{Designed}
 use Rattle.design_stages.specs.Designs.{Designs}
 use Rattle.design_stages.specs.Stages.{Found, Finds}

@@ -4,9 +4,9 @@ use Rattle.sdcv_words.specs.declared.commands.Options.{Options}
 use Rattle.sdcv_words.specs.Commands.{Texts, Job, Finding, Command, Over, Detect, Demo}
 use Rattle.sdcv_gen.specs.Draws.{drawn}
 use Rattle.sdcv_gen.specs.Texts.{verilog_text, sdc_text}
-use Rattle.report_text.specs.declared.options.RunOptions.{RunOptions}
-use Rattle.exception_expand.specs.declared.claims.Judging.{Judging}
-use Rattle.design_stages.specs.declared.designs.Reset.{Reset}
+use Rattle.run_options.specs.declared.options.RunOptions.{RunOptions}
+use Rattle.run_options.specs.declared.judging.Judging.{Judging}
+use Rattle.run_options.specs.declared.resets.Reset.{Reset}
 use Rattle.mcp_detect.specs.declared.options.DetectOptions.{DetectOptions}
 use Rattle.found_pairs.specs.Tellings.{detect_line}
 use Rattle.design_stages.specs.Designs.{LinksTo, Designs}

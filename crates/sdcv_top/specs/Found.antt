@@ -1,7 +1,7 @@
 -- What is saved and told of the multicycle pairs of a design.
 use Rattle.std.specs.Prelude.{◌≡◌, ℕ, List, [], ◌∷◌, Option, None, Some, Result, Ok, Err}
 use Rattle.std.specs.List.{concat}
-use Rattle.link_defs.specs.declared.names.Linked.{Linked}
+use Rattle.linked_types.specs.declared.names.Linked.{Linked}
 use Rattle.mcp_detect.specs.declared.detections.Detected.{Detected}
 use Rattle.mcp_detect.specs.declared.faults.DetectFault.{DetectFault}
 use Rattle.mcp_detect.specs.declared.options.DetectOptions.{DetectOptions}

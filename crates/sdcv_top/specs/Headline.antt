@@ -3,7 +3,7 @@ use Rattle.std.specs.Prelude.{◌≡◌, ℕ, ◌≤◌, ◌<◌, nat_lt, Bool, 
 use Rattle.net_model.specs.declared.netlist.Design.{Design}
 use Rattle.net_model.specs.declared.claims.Claim.{Claim}
 use Rattle.verdict_types.specs.declared.outcomes.Limits.{Limits}
-use Rattle.report_text.specs.declared.options.RunOptions.{RunOptions}
+use Rattle.run_options.specs.declared.options.RunOptions.{RunOptions}
 use Rattle.report_text.specs.declared.tallies.Tally.{Tally}
 use Rattle.report_text.specs.Words.{tally_of}
 use Rattle.judgements.specs.declared.judged.Judged.{Judged}

@@ -15,12 +15,12 @@ use Rattle.cert_defs.specs.Listed.{item_numbered}
 use Rattle.cert_defs.specs.Accepted.{HoldEach}
 use Rattle.cert_check.specs.Checking.{IsAnswerFor}
 use Rattle.cert_call.specs.Texts.{IsAcceptedText, IsTextCause}
-use Rattle.report_text.specs.declared.options.RunOptions.{RunOptions}
-use Rattle.sdcv_words.specs.declared.commands.Proving.{Proving}
+use Rattle.run_options.specs.declared.options.RunOptions.{RunOptions}
+use Rattle.run_options.specs.declared.proving.Proving.{Proving}
 use Rattle.sdcv_words.specs.Commands.{Job, Verify, Check, Replay as ReplayJob, Aiger}
 use Rattle.answer_lines.specs.Certs.{accepted_lines, rejected_line}
 use Rattle.answer_lines.specs.Stimuli.{no_pair_line, stimulus_line, replay_line, replayed_line}
-use Rattle.exception_expand.specs.declared.claims.Judging.{Judging}
+use Rattle.run_options.specs.declared.judging.Judging.{Judging}
 use Rattle.design_stages.specs.declared.designs.Designed.{Designed}
 use Rattle.design_stages.specs.Stages.{Found, Staged}
 use Rattle.run_ends.specs.declared.statuses.Ending.{Ending}

@@ -1,6 +1,6 @@
 //! A search for the multicycle pairs of a netlist.
 ghost use Rattle.std.specs.Prelude.{◌≡◌, IfOk, Some};
-ghost use Rattle.link_defs.specs.Usable.{IsUsable};
+ghost use Rattle.linked_types.specs.Usable.{IsUsable};
 ghost use Rattle.sdcv_words.specs.Commands.{seen_texts, seen_finding, Detect};
 ghost use Rattle.sdcv_words.specs.Ranges.{AreOptionsInRange, IsFindingInRange};
 ghost use Rattle.mcp_detect.specs.Options.{AreInRange};
@@ -14,12 +14,13 @@ ghost use Rattle.sdcv_top.specs.Plans.{StopCounts, Plans, outcome_of};
 
 use crate::plans::{Plan, SavedFile, Stop};
 use crate::readers::texts;
-use design_stages::{Refusal, Reset, linked};
+use design_stages::{Refusal, linked};
 use found_pairs::{detect_line, detected_lines, found_is_selected, found_text};
 use judgements::Progress;
-use link_defs::Linked;
+use linked_types::Linked;
 use mcp_detect::{DetectOptions, Detected, detect};
 use run_ends::Ending;
+use run_options::Reset;
 use sdcv_base::Host;
 use sdcv_words::{Finding, Options, Texts};
 use std::alloc::{AllocError, Global};

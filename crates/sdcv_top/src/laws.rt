@@ -2,7 +2,7 @@
 ghost use Rattle.sdcv_top.specs.Laws.{CheckRepeats};
 
 use design_stages::Designed;
-use report_text::RunOptions;
+use run_options::RunOptions;
 
 /// A check of the certificate that was saved, over the same texts and options, accepts exactly the pairs that are justified.
 pub fn check_repeats(designed: &Designed, options: &RunOptions)

@@ -9,8 +9,9 @@ ghost use Rattle.sdcv_top.specs.Plans.{outcome_of, saved_of};
 use crate::plans::{Plan, SavedFile};
 use design_stages::Designed;
 use judgements::{Judged, Progress, certificate, judge, report};
-use report_text::{RunOptions, Tally, tally_of};
+use report_text::{Tally, tally_of};
 use run_ends::Ending;
+use run_options::RunOptions;
 use std::alloc::{AllocError, Global};
 use verdict_types::Limits;
 

@@ -4,7 +4,7 @@ ghost use Rattle.std.specs.Prelude.{◌≤◌};
 use crate::commands::{Asked, DesignWords, RunWords};
 use crate::ends::{Ended, or_ended};
 use crate::reads::{bytes_of, run_texts, texts_of};
-use design_stages::Reset;
+use run_options::Reset;
 use sdcv_base::Host;
 use std::alloc::Global;
 use view_commands::{Gate, Stop, bits, gate, groups, reset_of, shown, waved};

@@ -9,7 +9,7 @@ use Rattle.texts.specs.Lookups.{in_table}
 use Rattle.texts.proofs.ReadLemmas.{bind_gave}
 use Rattle.clap_words.specs.Readings.{Given, Reading, clap_reading}
 use Rattle.sdcv_words.specs.declared.commands.Options.{Options}
-use Rattle.sdcv_words.specs.declared.commands.Proving.{Proving}
+use Rattle.run_options.specs.declared.proving.Proving.{Proving}
 use Rattle.sdcv_words.specs.Commands.{Aiger, Command, Demo, Detect, Finding, Job, Check, Over, Replay, Text, Verify}
 use Rattle.sdcv_words.specs.Givens.{stands}
 use Rattle.sdcv_words.specs.Numbers.{are_digits, number_in, number_or}

@@ -2,7 +2,7 @@
 use Rattle.std.specs.Prelude.{ℕ, Bool, List}
 use Rattle.sdcv_words.specs.declared.commands.Texts.{Texts as TheTexts}
 use Rattle.sdcv_words.specs.declared.commands.Options.{Options}
-use Rattle.sdcv_words.specs.declared.commands.Proving.{Proving}
+use Rattle.run_options.specs.declared.proving.Proving.{Proving}
 use Rattle.sdcv_words.specs.declared.commands.Finding.{Finding as TheFinding}
 use Rattle.sdcv_words.specs.declared.commands.Job.{Job as TheJob}
 use Rattle.sdcv_words.specs.declared.commands.Job.TheVariants as the_job

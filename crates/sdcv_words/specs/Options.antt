@@ -5,7 +5,7 @@ use Rattle.texts.specs.Reads.{◌>>=◌}
 use Rattle.sdcv_base.specs.declared.settings.Setting.{Setting}
 use Rattle.clap_words.specs.Readings.{Given}
 use Rattle.sdcv_words.specs.declared.commands.Options.{Options}
-use Rattle.sdcv_words.specs.declared.commands.Proving.{Proving}
+use Rattle.run_options.specs.declared.proving.Proving.{Proving}
 use Rattle.sdcv_words.specs.Givens.{stands}
 use Rattle.sdcv_words.specs.Numbers.{number_or}
 use Rattle.sdcv_words.specs.Settings.{settings_of}

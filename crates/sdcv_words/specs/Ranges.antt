@@ -1,7 +1,7 @@
 -- The ranges in which the numbers of a command lie.
 use Rattle.std.specs.Prelude.{◌≡◌, ◌≤◌, Bool, false}
 use Rattle.sdcv_words.specs.declared.commands.Options.{Options}
-use Rattle.sdcv_words.specs.declared.commands.Proving.{Proving}
+use Rattle.run_options.specs.declared.proving.Proving.{Proving}
 use Rattle.sdcv_words.specs.Commands.{Aiger, Command, Demo, Detect, Finding, Job, Check, Over, Replay, Verify}
 
 -- claims are proved up to a depth of 64, with at least one and at most ten million clauses for a query; kept clauses up to a depth of 8

@@ -1,5 +1,6 @@
 //! The commands, as the program carries them out.
 
+use run_options::Proving;
 use sdcv_base::{Seq, Setting};
 
 /// The names of the files that a command reads.
@@ -20,14 +21,6 @@ pub struct Options {
     /// The values of the reset ports. The names of no two are equal, and none is empty.
     pub resets: Seq<Setting>,
     pub reset_len: usize,
-}
-
-/// How far a proof is sought.
-#[derive(Clone, Copy)]
-pub struct Proving {
-    pub depth: usize,
-    pub budget: u64,
-    pub inv_depth: usize,
 }
 
 /// Where the found pairs are saved, how far their proofs are sought, and the largest multiplier that is tried.

@@ -4,11 +4,12 @@ ghost use Rattle.std.specs.Option.{option_map};
 ghost use Rattle.clap_words.specs.Readings.{seen_given};
 ghost use Rattle.sdcv_words.specs.Options.{lag_of, options_of, proving_of, resets_of};
 
-use crate::commands::{Options, Proving};
+use crate::commands::Options;
 use crate::givens::{stands, text_of};
 use crate::numbers::number_or;
 use crate::settings::settings_of;
 use clap_words::Given;
+use run_options::Proving;
 use sdcv_base::{Seq, Setting};
 use std::alloc::{AllocError, Global};
 

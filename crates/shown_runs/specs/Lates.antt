@@ -8,10 +8,10 @@ use Rattle.net_model.specs.declared.netlist.Design.{Design}
 use Rattle.net_model.specs.declared.cycles.Cycle.{Cycle}
 use Rattle.net_model.specs.declared.claims.Claim.{Claim}
 use Rattle.net_model.specs.declared.terns.Tern.{Tern}
-use Rattle.link_defs.specs.declared.names.CellName.{CellName}
-use Rattle.link_defs.specs.declared.names.Names.{Names}
-use Rattle.link_defs.specs.declared.names.NetName.{NetName}
-use Rattle.link_defs.specs.declared.names.Linked.{Linked}
+use Rattle.linked_types.specs.declared.names.CellName.{CellName}
+use Rattle.linked_types.specs.declared.names.Names.{Names}
+use Rattle.linked_types.specs.declared.names.NetName.{NetName}
+use Rattle.linked_types.specs.declared.names.Linked.{Linked}
 use Rattle.shown_runs.specs.Carried.{IsCarried}
 use Rattle.shown_runs.specs.declared.lates.Late.{Late}
 

@@ -5,7 +5,7 @@ use Rattle.net_model.specs.declared.cycles.Cycle.{Cycle}
 use Rattle.net_model.specs.declared.claims.Claim.{Claim}
 use Rattle.net_model.specs.declared.claims.End.{End}
 use Rattle.net_model.specs.declared.claims.End.TheVariants.{Reg as RegEnd, Output as OutputEnd}
-use Rattle.link_defs.specs.declared.names.Linked.{Linked}
+use Rattle.linked_types.specs.declared.names.Linked.{Linked}
 use Rattle.wave_signals.specs.Signals.{bits_of}
 use Rattle.named_runs.specs.NamedBits.{input_bits, reg_bits}
 use Rattle.run_views.specs.declared.outcomes.Violation.{Violation}

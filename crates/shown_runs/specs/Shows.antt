@@ -1,7 +1,7 @@
 -- The text of a run that violates the claim of a pair.
 use Rattle.std.specs.Prelude.{◌≡◌, ℕ, List, [], ◌∷◌, ◌++◌, flat_map}
 use Rattle.net_model.specs.declared.claims.Claim.{Claim}
-use Rattle.link_defs.specs.declared.names.Linked.{Linked}
+use Rattle.linked_types.specs.declared.names.Linked.{Linked}
 use Rattle.witness_replay.specs.StimulusTexts.{line_of}
 use Rattle.run_views.specs.declared.outcomes.Violation.{Violation}
 use Rattle.shown_runs.specs.Tables.{table}

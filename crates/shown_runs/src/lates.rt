@@ -7,7 +7,7 @@ ghost use Rattle.net_model.specs.Layers.{IsLateCapture};
 ghost use Rattle.shown_runs.specs.Lates.{IsLateIn, IsTernaryIf};
 
 use crate::named_paths::named_path;
-use link_defs::Linked;
+use linked_types::Linked;
 use net_model::{Claim, Cycle, Design, Tern};
 use net_sim::{Layers, layer_capture};
 use sdcv_base::{Name, Seq};

@@ -6,7 +6,7 @@ ghost use Rattle.net_model.specs.Cycles.{IsSettled};
 ghost use Rattle.shown_runs.specs.Lates.{IsNamedPath, drives, first_name};
 
 use crate::paths::carried_path;
-use link_defs::{CellName, Linked, Names, NetName};
+use linked_types::{CellName, Linked, Names, NetName};
 use net_model::{Claim, Cycle};
 use sdcv_base::{Name, Seq};
 use std::alloc::{AllocError, Global};

@@ -8,7 +8,7 @@ ghost use Rattle.shown_runs.specs.Shown.{IsShown, AreEndStates};
 
 use crate::lates::{Late, late_of};
 use crate::watches::{Watched, watched_bits};
-use link_defs::Linked;
+use linked_types::Linked;
 use named_runs::{input_signals, reg_signals};
 use net_model::{Claim, Cycle, Design, End};
 use run_views::Violation;

@@ -13,7 +13,7 @@ use crate::rows::rows_of;
 use crate::runs::{ShownRun, shown_run};
 use crate::states::add_states;
 use crate::tables::add_table;
-use link_defs::Linked;
+use linked_types::Linked;
 use net_model::Claim;
 use run_views::Violation;
 use sdcv_base::{Name, Seq};

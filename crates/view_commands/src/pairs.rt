@@ -6,9 +6,9 @@ use crate::lines::stimulus_line;
 use crate::reports::report_in;
 use crate::stops::Stop;
 use crate::words::PairWords;
-use exception_expand::Judging;
 use net_model::Stimulus;
 use report_rows::{PairRow, Report, Word, stimulus_of};
+use run_options::Judging;
 use sdcv_base::Seq;
 use std::alloc::Global;
 

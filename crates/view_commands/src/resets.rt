@@ -3,7 +3,7 @@ ghost use Rattle.std.specs.Prelude.{◌≤◌, IfOk};
 
 use crate::stops::Stop;
 use crate::words::ResetWords;
-use design_stages::Reset;
+use run_options::Reset;
 use sdcv_base::{Seq, Setting, read_decimal};
 use sdcv_words::settings_of;
 use std::alloc::Global;

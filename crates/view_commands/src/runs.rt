@@ -11,11 +11,11 @@ use crate::pairs::RefutedPair;
 use crate::stops::Stop;
 use crate::words::PairWords;
 use design_stages::Designed;
-use exception_expand::{PairLine, Selected};
 use net_model::{Claim, Design, Stimulus};
 use report_rows::PairRow;
 use report_text::claim_text;
 use run_views::{Violation, violation};
+use selected_types::{PairLine, Selected};
 use std::alloc::{AllocError, Global};
 
 /// The run of a refuted pair in a design.

@@ -1,9 +1,8 @@
 //! Selections as lines: first each exception, then each pair.
 use crate::selected::stages::{Texts, found};
 use design_stages::{Designed, Refusal};
-use exception_expand::{CommandLine, Listing, PairLine, Selected};
 use net_model::{Claim, Edge, Kind};
-use sdc_objects::Warning;
+use selected_types::{CommandLine, Listing, PairLine, Selected, Warning};
 use std::alloc::{AllocError, Global};
 use std::process::Abort;
 

@@ -4,8 +4,8 @@ ghost use Rattle.cell_types.specs.Libraries.{IsLawful as IsLawfulLibrary};
 ghost use Rattle.design_stages.specs.Designs.{AreLawful};
 
 use cell_types::{Library, builtin};
-use design_stages::{Designed, ReadTexts, Refusal, Reset, cells, constraints, designed, netlist};
-use exception_expand::Judging;
+use design_stages::{Designed, ReadTexts, Refusal, cells, constraints, designed, netlist};
+use run_options::{Judging, Reset};
 use sdcv_base::{Name, Seq, Setting};
 use std::alloc::{AllocError, Global};
 

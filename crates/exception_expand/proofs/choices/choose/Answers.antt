@@ -1,5 +1,5 @@
 use Rattle.std.proofs.Common.{arith, ◌∙◌, ◌<◌, ◌≤◌, ◌++◌, List, length, refl, ap}
-use Rattle.sdc_objects.specs.declared.warnings.Warning.{Warning}
+use Rattle.selected_types.specs.declared.warnings.Warning.{Warning}
 use Rattle.exception_expand.specs.Points.{IsFrom, IsTo}
 use Rattle.exception_expand.specs.Selections.{exception_warnings}
 use Rattle.exception_expand.proofs.Ranging.{starts_in, ends_in}

@@ -1,7 +1,7 @@
 use Rattle.std.proofs.Common.{◌≡◌, true, List, ℕ, subst, sym, ◌∙◌, ap, arith}
 use Rattle.std.proofs.lemmas.Result.{err_from_is_err_and}
 use Rattle.texts.specs.Names.{are_distinct}
-use Rattle.link_defs.specs.declared.names.PortName.{PortName}
+use Rattle.linked_types.specs.declared.names.PortName.{PortName}
 use Rattle.link_items.proofs.Listing.{with_none}
 use Rattle.link_tops.proofs.Clashing.{clash_of_all, distinct_more, names_next, names_all}
 use Rattle.link_tops.proofs.clashes.add_ports.Goals as goal

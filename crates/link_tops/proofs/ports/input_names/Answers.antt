@@ -3,7 +3,7 @@ use Rattle.std.specs.Prelude.{flat_map}
 use Rattle.std.proofs.lemmas.List.{take_all}
 use Rattle.net_model.specs.Netlist.{AllBelow}
 use Rattle.netlist_types.specs.declared.sources.Port.{Port}
-use Rattle.link_defs.specs.declared.names.PortName.{PortName}
+use Rattle.linked_types.specs.declared.names.PortName.{PortName}
 use Rattle.link_defs.specs.Circuits.{is_input}
 use Rattle.link_items.proofs.Listing.{all_at, flat_next}
 use Rattle.link_tops.specs.Ports.{bit_names_if}

@@ -1,6 +1,6 @@
 use Rattle.std.proofs.Common.{List, ◌++◌, ap, sym, ◌∙◌, arith}
 use Rattle.std.proofs.lemmas.List.{take_all}
-use Rattle.link_defs.specs.declared.names.PortName.{PortName}
+use Rattle.linked_types.specs.declared.names.PortName.{PortName}
 use Rattle.link_items.proofs.Listing.{flat_next}
 use Rattle.net_link.specs.Data.{data_port, data_ports}
 use Rattle.net_link.proofs.inputs.data_names.Goals as goal

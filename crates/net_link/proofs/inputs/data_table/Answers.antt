@@ -2,7 +2,7 @@ use Rattle.std.proofs.Common.{ℕ, List, [], take, ap, sym, ◌∙◌, arith}
 use Rattle.std.proofs.lemmas.List.{take_all}
 use Rattle.texts.specs.Names.{with_name, with_names}
 use Rattle.texts.proofs.NameLemmas.{with_names-push}
-use Rattle.link_defs.specs.declared.names.PortName.{PortName}
+use Rattle.linked_types.specs.declared.names.PortName.{PortName}
 use Rattle.link_items.proofs.Listing.{map_next}
 use Rattle.link_tops.specs.Clashes.{port_names}
 use Rattle.net_link.proofs.inputs.data_table.Goals as goal

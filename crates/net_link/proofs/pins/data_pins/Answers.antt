@@ -1,6 +1,6 @@
 use Rattle.std.proofs.Common.{ℕ, List, ◌++◌, map, ap, ◌∙◌}
 use Rattle.std.specs.Prelude.{zip}
-use Rattle.link_defs.specs.declared.names.PinName.{PinName}
+use Rattle.linked_types.specs.declared.names.PinName.{PinName}
 use Rattle.link_defs.specs.CellNames.{clock_role, tree_pins, input_roles, out_pins}
 use Rattle.link_defs.specs.Circuits.{part_drives}
 use Rattle.net_link.specs.Numbers.{number_in}

@@ -1,6 +1,6 @@
 use Rattle.std.proofs.Common.{ℕ, List, [], ◌∷◌, ◌++◌, ap, ◌∙◌, arith}
-use Rattle.link_defs.specs.declared.names.PinName.{PinName}
-use Rattle.link_defs.specs.declared.names.PinRole.TheVariants as role
+use Rattle.linked_types.specs.declared.names.PinName.{PinName}
+use Rattle.linked_types.specs.declared.names.PinRole.TheVariants as role
 use Rattle.net_model.specs.declared.claims.PinRef.{PinRef}
 use Rattle.link_defs.specs.CellNames.{input_roles}
 use Rattle.link_items.proofs.Listing.{drop_next, drop_past}

@@ -1,6 +1,6 @@
 use Rattle.std.proofs.Common.{ℕ, List, ◌++◌, map, ap, sym, ◌∙◌}
 use Rattle.std.proofs.lemmas.List.{map-append}
-use Rattle.link_defs.specs.declared.names.PinName.{PinName}
+use Rattle.linked_types.specs.declared.names.PinName.{PinName}
 use Rattle.link_defs.specs.CellNames.{clock_role, out_pins}
 use Rattle.net_link.proofs.pins.tree_pins.Goals as goal
 

@@ -2,7 +2,7 @@ use Rattle.std.proofs.Common.{◌≡◌, true, List, ℕ, ◌++◌, ap, subst, s
 use Rattle.std.proofs.lemmas.Result.{err_from_is_err_and}
 use Rattle.texts.specs.Names.{are_distinct}
 use Rattle.texts.proofs.NameLemmas.{are_distinct_front}
-use Rattle.link_defs.specs.declared.names.PortName.{PortName}
+use Rattle.linked_types.specs.declared.names.PortName.{PortName}
 use Rattle.link_defs.specs.Circuits.{input_bits}
 use Rattle.link_tops.specs.Clashes.{port_names, IsApart}
 use Rattle.link_tops.proofs.Clashing.{apart}

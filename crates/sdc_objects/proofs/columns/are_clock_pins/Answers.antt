@@ -1,7 +1,7 @@
 use Rattle.std.proofs.Common.{refl, ◌≡◌, ◌∙◌, Bool, true, sym, ap}
 use Rattle.std.proofs.lemmas.List.Folds.{list_all_more, list_all_at}
 use Rattle.std.proofs.lemmas.Option.{slice_get_within, get_or_from_slice_get}
-use Rattle.link_defs.specs.declared.names.PinName.{PinName}
+use Rattle.linked_types.specs.declared.names.PinName.{PinName}
 use Rattle.sdc_objects.specs.Standing.{is_clock_role}
 use Rattle.sdc_objects.proofs.columns.are_clock_pins.Goals as goal
 

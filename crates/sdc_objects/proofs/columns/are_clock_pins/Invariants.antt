@@ -1,6 +1,6 @@
 use Rattle.std.proofs.Common.{◌≡◌, true, take}
 use Rattle.std.specs.List.{list_all}
-use Rattle.link_defs.specs.declared.names.PinName.{PinName}
+use Rattle.linked_types.specs.declared.names.PinName.{PinName}
 use Rattle.sdc_objects.specs.Standing.{is_clock_role}
 use Rattle.sdc_objects.proofs.columns.are_clock_pins.Given as goal
 

@@ -1,5 +1,5 @@
 use Rattle.std.proofs.Common.{◌∙◌, ap, sym, ◌++◌}
-use Rattle.link_defs.specs.declared.names.NetName.{NetName}
+use Rattle.linked_types.specs.declared.names.NetName.{NetName}
 use Rattle.sdc_objects.specs.declared.things.Thing.TheVariants as thing
 use Rattle.sdc_objects.specs.Things.{net_named}
 use Rattle.sdcv_base.specs.Seqs.{each_at}

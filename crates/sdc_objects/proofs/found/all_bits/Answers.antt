@@ -1,5 +1,5 @@
 use Rattle.std.proofs.Common.{refl, arith, ◌<◌, length, ap, ◌∙◌, [], ◌∷◌, ◌++◌}
-use Rattle.link_defs.specs.declared.names.PortName.{PortName}
+use Rattle.linked_types.specs.declared.names.PortName.{PortName}
 use Rattle.sdc_objects.specs.Things.{bit_of}
 use Rattle.sdc_objects.specs.declared.things.Thing.{Thing}
 use Rattle.sdc_objects.proofs.Joining.{added_any}

@@ -1,5 +1,5 @@
 use Rattle.std.proofs.Common.{refl, []}
-use Rattle.link_defs.specs.declared.names.CellName.{CellName}
+use Rattle.linked_types.specs.declared.names.CellName.{CellName}
 use Rattle.sdc_objects.specs.declared.things.Thing.TheVariants as thing
 use Rattle.sdc_objects.specs.Things.{cell_of_reg}
 use Rattle.sdc_objects.proofs.Joining.{added, turned}

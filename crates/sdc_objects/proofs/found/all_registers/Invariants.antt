@@ -1,5 +1,5 @@
 use Rattle.std.proofs.Common.{◌≡◌, take}
-use Rattle.link_defs.specs.declared.names.CellName.{CellName}
+use Rattle.linked_types.specs.declared.names.CellName.{CellName}
 use Rattle.sdcv_base.specs.Seqs.{each_at}
 use Rattle.sdc_objects.specs.Things.{cell_of_reg}
 use Rattle.sdc_objects.proofs.found.all_registers.Given as goal

@@ -15,5 +15,5 @@ returns-clause-ok c =
     let old = c.args.self.now.selected in
     let room : 100000 - c.len-most.result ≡ 100000 - length old.claims = omega (arith, c.len-most.ensures) in
     adds_choice t.scope.linked.now t.scope.script.now t.judging c.args.line c.args.exception.now (100000 - c.len-most.result) c.in_ok-choice.choice old
-    c.add_choice.new.self c.in_ok-choice.ensures.ok room c.requires.few c.in_ok-add_choice.ensures.commands c.in_ok-add_choice.ensures.pairs
+    c.add_choice.new.selected c.in_ok-choice.ensures.ok room c.requires.few c.in_ok-add_choice.ensures.commands c.in_ok-add_choice.ensures.pairs
     c.in_ok-add_choice.ensures.claims

@@ -1,7 +1,7 @@
 use Rattle.std.proofs.Common.{◌≡◌, ◌∙◌, ℕ, [], ◌∷◌, ◌++◌, List, refl, sym, ap, subst, inl, inr}
 use Rattle.script_types.specs.declared.scripts.What.{What}
 use Rattle.script_types.specs.declared.scripts.What.TheVariants.{Clock, Case, Hold, Aside, Passed}
-use Rattle.exception_expand.specs.declared.selections.Listing.TheVariants.{Aside as ListsAside}
+use Rattle.selected_types.specs.declared.selections.Listing.TheVariants.{Aside as ListsAside}
 use Rattle.exception_expand.specs.Selections.{command_line}
 use Rattle.exception_expand.specs.Progress.{Adds}
 use Rattle.exception_expand.proofs.Adding.{adds_none, adds_nothing}
@@ -11,7 +11,7 @@ pub returns-in_ok-add_line-in-Hold-clause-ok : goal.returns-in_ok-add_line-in-Ho
 returns-in_ok-add_line-in-Hold-clause-ok c =
     let t = c.args.task.now in
     let old = c.args.self.now.selected in
-    let new = c.add_line.new.self in
+    let new = c.add_line.new.selected in
     subst (λ (w : What). Adds t.scope.linked.now t.scope.script.now t.judging c.args.line w old new) (sym c.in-Hold.is)
     (adds_none t.scope.linked.now t.scope.script.now t.judging c.args.line Hold old new (λ p sel. sel) tt c.requires.few
     c.in_ok-add_line-in-Hold.ensures.commands c.in_ok-add_line-in-Hold.ensures.pairs c.in_ok-add_line-in-Hold.ensures.claims)
@@ -20,7 +20,7 @@ pub returns-in_ok-add_line-in-Aside-clause-ok : goal.returns-in_ok-add_line-in-A
 returns-in_ok-add_line-in-Aside-clause-ok c =
     let t = c.args.task.now in
     let old = c.args.self.now.selected in
-    let new = c.add_line-in-Aside.new.self in
+    let new = c.add_line-in-Aside.new.selected in
     let option = c.in-Aside.option in
     let name = c.in_ok-copy-in-Aside.field-0 in
     let commands : new.commands ≡ old.commands ++ command_line c.args.line (ListsAside option) [] ∷ [] =

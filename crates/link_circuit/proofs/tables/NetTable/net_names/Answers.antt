@@ -1,7 +1,7 @@
 use Rattle.std.proofs.Common.{◌∙◌, List, sym, subst, ap, arith}
 use Rattle.std.specs.Prelude.{flat_map, zip}
 use Rattle.std.proofs.lemmas.List.{take_all}
-use Rattle.link_defs.specs.declared.names.NetName.{NetName}
+use Rattle.linked_types.specs.declared.names.NetName.{NetName}
 use Rattle.link_defs.specs.CellNames.{AreNetNames}
 use Rattle.link_defs.specs.Designs.{number_by}
 use Rattle.link_circuit.specs.Scopes.{kept}

@@ -1,6 +1,6 @@
 //! Why a source gives no design.
 ghost use Rattle.std.specs.Prelude.{◌≡◌};
-ghost use Rattle.link_defs.specs.declared.faults.LinkFault.TheVariants as fault;
+ghost use Rattle.linked_types.specs.declared.faults.LinkFault.TheVariants as fault;
 
 use sdcv_base::{LimitName, Name};
 use std::alloc::{AllocError, AllocFailed};

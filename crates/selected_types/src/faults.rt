@@ -1,6 +1,6 @@
 //! Why a script selects nothing.
 ghost use Rattle.std.specs.Prelude.{◌≡◌};
-ghost use Rattle.sdc_settings.specs.declared.faults.ExpandFault.TheVariants as fault;
+ghost use Rattle.selected_types.specs.declared.faults.ExpandFault.TheVariants as fault;
 
 use sdcv_base::{LimitName, Name};
 use std::alloc::{AllocError, AllocFailed};

@@ -1,6 +1,6 @@
 //! Selections as callers see them.
+use crate::warnings::Warning;
 use net_model::Claim;
-use sdc_objects::Warning;
 use sdcv_base::{Edge, Kind, Name, Seq};
 
 /// What an exception does: it claims something of so many pairs, at these changes of their starts, or it is a `-hold` command, or this option, which it has,

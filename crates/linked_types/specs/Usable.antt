@@ -8,13 +8,13 @@ use Rattle.net_model.specs.declared.netlist.Gate.{Gate}
 use Rattle.net_model.specs.declared.netlist.Reg.{Reg}
 use Rattle.net_model.specs.declared.claims.PinRef.{PinRef}
 use Rattle.net_model.specs.declared.claims.PinRef.TheVariants.{Net, GateIn, RegIn, OutPort}
-use Rattle.link_defs.specs.declared.names.CellName.{CellName}
-use Rattle.link_defs.specs.declared.names.PinName.{PinName}
-use Rattle.link_defs.specs.declared.names.PinRole.{PinRole}
-use Rattle.link_defs.specs.declared.names.PinRole.TheVariants as role
-use Rattle.link_defs.specs.declared.names.NetName.{NetName}
-use Rattle.link_defs.specs.declared.names.PortName.{PortName}
-use Rattle.link_defs.specs.declared.names.Linked.{Linked}
+use Rattle.linked_types.specs.declared.names.CellName.{CellName}
+use Rattle.linked_types.specs.declared.names.PinName.{PinName}
+use Rattle.linked_types.specs.declared.names.PinRole.{PinRole}
+use Rattle.linked_types.specs.declared.names.PinRole.TheVariants as role
+use Rattle.linked_types.specs.declared.names.NetName.{NetName}
+use Rattle.linked_types.specs.declared.names.PortName.{PortName}
+use Rattle.linked_types.specs.declared.names.Linked.{Linked}
 
 -- the pin is one of the design
 abbrev pub IsPinOf : Design → PinRef → Type 0

@@ -1,0 +1,13 @@
+//! What the words of a run set: how claims are judged, how runs begin, how far a proof is sought, and the options that a
+//! report's header tells.
+#![tactic(auto)]
+
+mod judging;
+mod options;
+mod proving;
+mod resets;
+
+pub use judging::Judging;
+pub use options::RunOptions;
+pub use proving::Proving;
+pub use resets::Reset;
