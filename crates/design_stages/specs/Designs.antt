@@ -1,5 +1,5 @@
 -- What is found of texts that were read: their design, and the pairs that are selected in it.
-use Rattle.std.specs.Prelude.{◌≡◌, List, [], ◌∷◌, length, All, Result, Ok, Err}
+use Rattle.std.specs.Prelude.{◌≡◌, false, List, [], ◌∷◌, length, All, None, Result, Ok, Err}
 use Rattle.net_model.specs.Netlist.{IsSound}
 use Rattle.net_model.specs.Fits.{Fits}
 use Rattle.sdcv_base.specs.declared.settings.Setting.{Setting}
@@ -61,7 +61,16 @@ Selects l script judging (Err fault) = IsExpandCause l script judging fault
 
 -- what is set from outside
 abbrev pub options_of : Settings → Reset → LinkOptions
-options_of s reset = record { clock = s.clock; fixed = s.fixed; resets = reset.ports; reset_len = reset.len }
+options_of s reset = record {
+  clock = s.clock;
+  fixed = s.fixed;
+  resets = reset.ports;
+  reset_len = reset.len;
+  wide = false;
+  top = None;
+  free = [];
+  cut_clocks = false;
+}
 
 -- the design with its names, or the line of the first fault
 unfoldable pub LinksTo : ReadTexts → Reset → Found Linked → Type 0

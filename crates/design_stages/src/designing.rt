@@ -3,6 +3,7 @@ ghost use Rattle.std.specs.Prelude.{◌≡◌, ◌≤◌, IfOk};
 ghost use Rattle.netlist_types.specs.Lawful.{IsLawful};
 ghost use Rattle.cell_types.specs.Libraries.{IsLawful as IsLawfulLibrary};
 ghost use Rattle.exception_expand.specs.Selections.{HasMultipliers};
+ghost use Rattle.linked_types.specs.Narrow.{IsNarrow};
 ghost use Rattle.linked_types.specs.Usable.{IsUsable};
 ghost use Rattle.fault_lines.specs.Designs.{link_line, expand_line};
 ghost use Rattle.design_stages.specs.Stages.{Finds, Staged};
@@ -50,12 +51,12 @@ pub fn linked(alloc: Global, texts: &ReadTexts, reset: Reset) -> Result<Linked, 
 {
     let inputs = inputs(alloc, &texts.source)?;
     let settings = settings_of(alloc, &texts.script, &inputs, &reset.ports)?;
-    let options = options_of(settings, reset);
+    let options = options_of(alloc, settings, reset);
     linked_under(alloc, &texts.source, &texts.library, &options)
 }
 
 /// What is set from outside.
-fn options_of(settings: Settings, reset: Reset) -> LinkOptions
+fn options_of(alloc: Global, settings: Settings, reset: Reset) -> LinkOptions
     ensures { result ≡ options_of settings reset }
 {
     let Settings { clock, fixed } = settings;
@@ -65,6 +66,10 @@ fn options_of(settings: Settings, reset: Reset) -> LinkOptions
         fixed,
         resets: ports,
         reset_len: len,
+        wide: false,
+        top: None,
+        free: Seq::new(alloc),
+        cut_clocks: false,
     }
 }
 
@@ -104,6 +109,7 @@ fn linked_under(
     requires source { IsLawful source.now }
     requires library { IsLawfulLibrary library.now.cells }
     requires resets { options.now.reset_len ≤ 64 }
+    requires narrow { IsNarrow options.now }
     ensures found { Finds (Staged (Links source.now library.now options.now) link_line) result }
     ensures usable { IfOk result IsUsable }
 {

@@ -4,6 +4,7 @@ use Rattle.std.proofs.Common.{map, refl, subst, inl, inr, ◌⊎◌}
 use Rattle.std.specs.Prelude.{Option, Some, None, slice_get, slice_index, All, if◌then◌else◌}
 use Rattle.std.proofs.lemmas.List.Elements.{All-contains}
 use Rattle.std.proofs.lemmas.Option.{slice_get_within}
+use Rattle.net_model.specs.Netlist.{IsSound}
 use Rattle.net_model.specs.Netlist.{AllBelow}
 use Rattle.net_model.specs.Fits.{IsPinIn}
 use Rattle.net_model.specs.declared.netlist.Design.{Design}
@@ -15,7 +16,8 @@ use Rattle.linked_types.specs.declared.names.Linked.{Linked}
 use Rattle.linked_types.specs.declared.names.CellName.{CellName}
 use Rattle.linked_types.specs.declared.names.PinName.{PinName}
 use Rattle.linked_types.specs.declared.names.PinRole.{PinRole}
-use Rattle.linked_types.specs.declared.names.PinRole.TheVariants.{Clock as ClockRole, Load, Drive}
+use Rattle.linked_types.proofs.Ports.{within_inputs, within_outputs}
+use Rattle.linked_types.specs.declared.names.PinRole.TheVariants.{Clock as ClockRole, Load, Drive, Source, Sink}
 use Rattle.linked_types.specs.declared.names.PortName.{PortName}
 use Rattle.linked_types.specs.declared.names.NetName.{NetName}
 use Rattle.linked_types.specs.Usable.{IsUsable, IsCellOf, IsRoleOf}
@@ -70,32 +72,34 @@ outs_in d c (Some r) on_tree pin is same has = nets_in d c.outs pin is.outs has
 outs_in d c None true pin is same has = absurd (subst (λ (b : Bool). In pin (spec.meant_by (tree_outs c b))) same has)
 outs_in d c None false pin is same has = nets_in d c.outs pin is.outs (subst (λ (b : Bool). In pin (spec.meant_by (tree_outs c b))) same has)
 
-role_in : (d : Design) (reg : Option ℕ) (role : PinRole) (pin : PinRef) → IsRoleOf d role → In pin (spec.meant_by (spec.pin_row reg role).through)
-    → IsPinIn d pin
-role_in d reg ClockRole pin is has = absurd has
-role_in d reg (Drive net) pin is has = one_in d (NetPin net) pin is has
-role_in d reg (Load pins) pin is has = all_in (IsPinIn d) pins pin is has
+role_in : (d : Design) (reg : Option ℕ) (role : PinRole) (pin : PinRef) → IsSound d → IsRoleOf d role
+    → In pin (spec.meant_by (spec.pin_row d reg role).through) → IsPinIn d pin
+role_in d reg ClockRole pin sound is has = absurd has
+role_in d reg (Drive net) pin sound is has = one_in d (NetPin net) pin is has
+role_in d reg (Load pins) pin sound is has = all_in (IsPinIn d) pins pin is has
+role_in d reg (Source i) pin sound is has = one_in d (NetPin (slice_index d.inputs i)) pin (sound.in_range.inputs i 0 is) has
+role_in d reg (Sink o) pin sound is has = one_in d (OutPort o) pin is has
 
 cell_in : (d : Design) (cells : List CellName) (k : ℕ) (c : Option CellName) (pin : PinRef) → All (IsCellOf d) cells → slice_get cells k ≡ c
     → In pin (spec.meant_by (spec.cell_at_row c).through) → IsPinIn d pin
 cell_in d cells k None pin all is has = absurd has
 cell_in d cells k (Some c) pin all is has = outs_in d c c.reg (spec.is_on_tree c) pin (All-at (IsCellOf d) cells k c is all) refl has
 
-place_in : (d : Design) (c : CellName) (place : ℕ) (p : Option PinName) (pin : PinRef) → IsCellOf d c → slice_get c.pins place ≡ p
-    → In pin (spec.meant_by (spec.role_row c.reg p).through) → IsPinIn d pin
-place_in d c place None pin is here has = absurd has
-place_in d c place (Some p) pin is here has = role_in d c.reg p.role pin (All-at (λ (q : PinName). IsRoleOf d q.role) c.pins place p here is.pins) has
+place_in : (d : Design) (c : CellName) (place : ℕ) (p : Option PinName) (pin : PinRef) → IsSound d → IsCellOf d c → slice_get c.pins place ≡ p
+    → In pin (spec.meant_by (spec.role_row d c.reg p).through) → IsPinIn d pin
+place_in d c place None pin sound is here has = absurd has
+place_in d c place (Some p) pin sound is here has = role_in d c.reg p.role pin sound (All-at (λ (q : PinName). IsRoleOf d q.role) c.pins place p here is.pins) has
 
-pin_at_in : (d : Design) (cells : List CellName) (k place : ℕ) (c : Option CellName) (pin : PinRef) → All (IsCellOf d) cells → slice_get cells k ≡ c
-    → In pin (spec.meant_by (spec.pin_at_row c place).through) → IsPinIn d pin
-pin_at_in d cells k place None pin all is has = absurd has
-pin_at_in d cells k place (Some c) pin all is has =
-    place_in d c place (slice_get c.pins place) pin (All-at (IsCellOf d) cells k c is all) refl has
+pin_at_in : (d : Design) (cells : List CellName) (k place : ℕ) (c : Option CellName) (pin : PinRef) → IsSound d → All (IsCellOf d) cells
+    → slice_get cells k ≡ c → In pin (spec.meant_by (spec.pin_at_row d c place).through) → IsPinIn d pin
+pin_at_in d cells k place None pin sound all is has = absurd has
+pin_at_in d cells k place (Some c) pin sound all is has =
+    place_in d c place (slice_get c.pins place) pin sound (All-at (IsCellOf d) cells k c is all) refl has
 
 -- the pins that a thing stands for
 pin_in : (l : Linked) (t : Thing) (pin : PinRef) → IsUsable l → IsThingIn l t → In pin (spec.meant_by (spec.through_column l t)) → IsPinIn l.design pin
 pin_in l (thing.Cell k) pin usable is has = cell_in l.design l.names.cells k (slice_get l.names.cells k) pin usable.cells refl has
-pin_in l (thing.Pin k place) pin usable is has = pin_at_in l.design l.names.cells k place (slice_get l.names.cells k) pin usable.cells refl has
+pin_in l (thing.Pin k place) pin usable is has = pin_at_in l.design l.names.cells k place (slice_get l.names.cells k) pin usable.sound usable.cells refl has
 pin_in l (thing.In i) pin usable is has =
     one_in l.design (NetPin (slice_index l.design.inputs i)) pin (usable.sound.in_range.inputs i 0 is) has
 pin_in l (thing.Out o) pin usable is has = one_in l.design (OutPort o) pin is has
@@ -200,12 +204,12 @@ ports_in l q t usable has =
       | inl before ↦ elim (In-cases t ins port before) [
         | inl input ↦
             let is = from_each (named.bit_named q InSide) 0 l.names.ins t input in
-            bit_thing l q (0 + is.place) is.item t (omega (arith, slice_get_within l.names.ins is.place is.item is.here, usable.ins)) is.of
+            bit_thing l q (0 + is.place) is.item t (within_inputs l (0 + is.place) usable (omega (arith, slice_get_within l.names.ins is.place is.item is.here))) is.of
         | inr clock ↦ clock_port_thing l q l.names.clock t clock
       ]
       | inr output ↦
           let is = from_each (named.bit_named q OutSide) 0 l.names.outs t output in
-          out_thing l q (0 + is.place) is.item t (omega (arith, slice_get_within l.names.outs is.place is.item is.here, usable.outs)) is.of
+          out_thing l q (0 + is.place) is.item t (within_outputs l (0 + is.place) usable (omega (arith, slice_get_within l.names.outs is.place is.item is.here))) is.of
     ]
 
 cell_thing : (l : Linked) (q : Query) (k : ℕ) (c : CellName) (t : Thing) → In t (named.cell_named q k c) → IsThingIn l t
@@ -244,11 +248,11 @@ things_in l script (Named q) t usable has =
     found_in l script q first.0 t usable first.1
 things_in l script AllInputs t usable has =
     let is = from_each (λ i (p : PortName). thing.In i ∷ []) 0 l.names.ins t has in
-    let low : 0 + is.place < length l.design.inputs = omega (arith, slice_get_within l.names.ins is.place is.item is.here, usable.ins) in
+    let low : 0 + is.place < length l.design.inputs = within_inputs l (0 + is.place) usable (omega (arith, slice_get_within l.names.ins is.place is.item is.here)) in
     subst (IsThingIn l) (single_is (thing.In (0 + is.place)) t is.of) low
 things_in l script AllOutputs t usable has =
     let is = from_each (λ o (p : PortName). thing.Out o ∷ []) 0 l.names.outs t has in
-    let low : 0 + is.place < length l.design.outputs = omega (arith, slice_get_within l.names.outs is.place is.item is.here, usable.outs) in
+    let low : 0 + is.place < length l.design.outputs = within_outputs l (0 + is.place) usable (omega (arith, slice_get_within l.names.outs is.place is.item is.here)) in
     subst (IsThingIn l) (single_is (thing.Out (0 + is.place)) t is.of) low
 things_in l script AllRegisters t usable has =
     let is = from_each (λ k (c : CellName). named.cell_of_reg k c.reg) 0 l.names.cells t has in

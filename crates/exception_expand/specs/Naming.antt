@@ -6,7 +6,7 @@ use Rattle.net_model.specs.declared.claims.End.{End}
 use Rattle.net_model.specs.declared.claims.End.TheVariants.{Reg as RegEnd, Output as OutputEnd}
 use Rattle.linked_types.specs.declared.names.Linked.{Linked}
 use Rattle.linked_types.specs.declared.names.CellName.{CellName}
-use Rattle.linked_types.specs.declared.names.PortName.{PortName}
+use Rattle.linked_types.specs.Inputs.{input_names, output_names}
 use Rattle.linked_types.specs.Usable.{is_reg}
 
 -- the name of the cell that has a register
@@ -14,19 +14,19 @@ abbrev pub reg_name : List CellName → ℕ → List ℕ
 reg_name [] r = []
 reg_name (c ∷ cs) r = elim (is_reg r c) as (λ b. List ℕ) [ true ↦ c.name | false ↦ reg_name cs r ]
 
--- the name of the port bit at a place
-abbrev pub port_name : Option PortName → List ℕ
-port_name None = []
-port_name (Some p) = p.name
+-- the name at a place, if there is one
+abbrev pub name_there : Option (List ℕ) → List ℕ
+name_there None = []
+name_there (Some name) = name
 
--- a register goes by its cell, an input or an output by its port bit
+-- a register goes by its cell, an input or an output by its number
 abbrev pub start_name : Linked → Start → List ℕ
 start_name l (RegStart r) = reg_name l.names.cells r
-start_name l (InputStart i) = port_name (slice_get l.names.ins i)
+start_name l (InputStart i) = name_there (slice_get (input_names l.names) i)
 
 abbrev pub end_name : Linked → End → List ℕ
 end_name l (RegEnd r) = reg_name l.names.cells r
-end_name l (OutputEnd o) = port_name (slice_get l.names.outs o)
+end_name l (OutputEnd o) = name_there (slice_get (output_names l.names) o)
 
 -- the name of a cell, if there is one
 abbrev pub cell_name : Option CellName → List ℕ

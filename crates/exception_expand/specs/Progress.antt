@@ -2,6 +2,7 @@
 use Rattle.std.specs.Prelude.{◌≡◌, ℕ, ◌-◌, ◌≤◌, ◌++◌, List, map, take, length, All, Some}
 use Rattle.net_model.specs.Netlist.{IsSound}
 use Rattle.net_paths.specs.Those.{AreThose}
+use Rattle.linked_types.specs.Usable.{IsUsable}
 use Rattle.linked_types.specs.declared.names.Linked.{Linked}
 use Rattle.selected_types.specs.declared.faults.ExpandFault.{ExpandFault}
 use Rattle.selected_types.specs.declared.faults.ExpandFault.TheVariants.{Memory}
@@ -21,6 +22,7 @@ use Rattle.exception_expand.specs.Selections as spec
 
 -- the design is sound, and the tables, the points and the places of cells are its own
 pub record IsTask (t : Task) : Type 0 where
+  pub usable : IsUsable t.scope.linked.now
   pub sound : IsSound t.scope.linked.now.design
   pub tables : IsTablesOf t.scope.linked.now t.scope.tables.now
   pub points : ArePointsOf t.scope.linked.now.design t.points.now

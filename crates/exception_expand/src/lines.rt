@@ -1,5 +1,6 @@
 //! Selected pairs as they are listed.
 ghost use Rattle.std.specs.Prelude.{◌≡◌, ◌++◌, All, IfOk, OnOk, map};
+ghost use Rattle.linked_types.specs.Usable.{IsUsable};
 ghost use Rattle.exception_expand.specs.Naming.{AreRegCells};
 ghost use Rattle.exception_expand.specs.Selections.{pair_line as line};
 ghost use Rattle.exception_expand.specs.Pairs.{IsPairIn};
@@ -26,6 +27,7 @@ pub(crate) fn push_lines(
     pairs: &Seq<Pair>,
     lines: &mut Seq<PairLine>,
 ) -> Result<(), AllocError>
+    requires usable { IsUsable names.now.linked.now }
     requires cells { AreRegCells names.now.linked.now names.now.cells.now }
     requires pairs { All (IsPairIn names.now.linked.now.design) pairs.now }
     ensures { OnOk result (lines.new ≡ lines.old ++ map (line names.now.linked.now number) pairs.now) }
@@ -37,6 +39,7 @@ pub(crate) fn push_lines(
 }
 
 fn pair_line(alloc: Global, names: &Names, number: u64, pair: Pair) -> Result<PairLine, AllocError>
+    requires usable { IsUsable names.now.linked.now }
     requires cells { AreRegCells names.now.linked.now names.now.cells.now }
     requires pair { IsPairIn names.now.linked.now.design pair }
     ensures { IfOk result (λ made. made ≡ line names.now.linked.now number pair) }

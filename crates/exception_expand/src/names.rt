@@ -1,9 +1,11 @@
 //! The names of starts and ends.
 ghost use Rattle.std.specs.Prelude.{◌≡◌, ◌+◌, ◌<◌, IfOk, length, slice_get};
 ghost use Rattle.net_model.specs.Fits.{IsStartIn, IsEndIn};
+ghost use Rattle.linked_types.specs.Inputs.{input_names, output_names};
+ghost use Rattle.linked_types.specs.Usable.{IsUsable};
 ghost use Rattle.exception_expand.specs.Naming as spec;
 
-use linked_types::{CellName, Linked, PortName};
+use linked_types::{CellName, Linked, Names};
 use net_model::{End, Start};
 use sdcv_base::{Name, Seq};
 use std::alloc::{AllocError, Global};
@@ -43,13 +45,14 @@ pub(crate) fn start_name(
     cells: &Seq<Option<usize>>,
     start: Start,
 ) -> Result<Name, AllocError>
+    requires usable { IsUsable linked.now }
     requires start { IsStartIn linked.now.design start }
     requires cells { spec.AreRegCells linked.now cells.now }
     ensures { IfOk result (λ name. name ≡ spec.start_name linked.now start) }
 {
     match start {
         Start::Reg(reg) => reg_name(alloc, linked, cells, reg),
-        Start::Input(input) => port_name(alloc, &linked.names.ins, input),
+        Start::Input(input) => input_name(alloc, &linked.names, input),
     }
 }
 
@@ -60,13 +63,14 @@ pub(crate) fn end_name(
     cells: &Seq<Option<usize>>,
     end: End,
 ) -> Result<Name, AllocError>
+    requires usable { IsUsable linked.now }
     requires end { IsEndIn linked.now.design end }
     requires cells { spec.AreRegCells linked.now cells.now }
     ensures { IfOk result (λ name. name ≡ spec.end_name linked.now end) }
 {
     match end {
         End::Reg(reg) => reg_name(alloc, linked, cells, reg),
-        End::Output(output) => port_name(alloc, &linked.names.outs, output),
+        End::Output(output) => output_name(alloc, &linked.names, output),
     }
 }
 
@@ -101,11 +105,16 @@ fn name_at(alloc: Global, cells: &Seq<CellName>, place: usize) -> Result<Name, A
     }
 }
 
-fn port_name(alloc: Global, ports: &Seq<PortName>, place: usize) -> Result<Name, AllocError>
-    ensures { IfOk result (λ name. name ≡ spec.port_name (slice_get ports.now place)) }
+fn input_name(alloc: Global, names: &Names, input: usize) -> Result<Name, AllocError>
+    requires { input < length (input_names names.now) }
+    ensures { IfOk result (λ name. name ≡ spec.name_there (slice_get (input_names names.now) input)) }
 {
-    match ports.as_slice().get(place) {
-        Some(port) => port.name.copy(alloc),
-        None => Name::new(alloc, &[]),
-    }
+    names.input(input).copy(alloc)
+}
+
+fn output_name(alloc: Global, names: &Names, output: usize) -> Result<Name, AllocError>
+    requires { output < length (output_names names.now) }
+    ensures { IfOk result (λ name. name ≡ spec.name_there (slice_get (output_names names.now) output)) }
+{
+    names.output(output).copy(alloc)
 }

@@ -14,6 +14,7 @@ use Rattle.link_defs.specs.declared.circuits.Part.{Part}
 use Rattle.linked_types.specs.declared.names.Linked.{Linked}
 use Rattle.linked_types.specs.declared.names.PortName.{PortName}
 use Rattle.linked_types.specs.declared.options.LinkOptions.{LinkOptions}
+use Rattle.linked_types.specs.Narrow.{IsWhole}
 use Rattle.sdcv_base.specs.declared.settings.Setting.{Setting}
 use Rattle.link_defs.specs.Hierarchy.{tops}
 use Rattle.link_defs.specs.Flatten.{flat_of}
@@ -46,6 +47,7 @@ pub record AreNames (s : Source) (lib : Library) (o : LinkOptions) (top : Module
   pub ins : l.names.ins ≡ ports_of (data_bits o.clock top)
   pub outs : l.names.outs ≡ ports_of (output_bits top)
   pub clock : l.names.clock ≡ o.clock
+  pub whole : IsWhole l.names
   pub nets : AreNetNames (flat_of s lib top) (drivers_by (circuit_of s lib top o.clock) order)
       (number_by (drivers_by (circuit_of s lib top o.clock) order)) l.names.nets
 

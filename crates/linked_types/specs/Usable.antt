@@ -15,6 +15,7 @@ use Rattle.linked_types.specs.declared.names.PinRole.TheVariants as role
 use Rattle.linked_types.specs.declared.names.NetName.{NetName}
 use Rattle.linked_types.specs.declared.names.PortName.{PortName}
 use Rattle.linked_types.specs.declared.names.Linked.{Linked}
+use Rattle.linked_types.specs.Inputs.{input_names, output_names}
 
 -- the pin is one of the design
 abbrev pub IsPinOf : Design → PinRef → Type 0
@@ -28,6 +29,8 @@ abbrev pub IsRoleOf : Design → PinRole → Type 0
 IsRoleOf d role.Clock = Unit {0}
 IsRoleOf d (role.Load pins) = All (IsPinOf d) pins
 IsRoleOf d (role.Drive net) = net < d.nets
+IsRoleOf d (role.Source input) = input < length d.inputs
+IsRoleOf d (role.Sink output) = output < length d.outputs
 
 -- so is the register of a cell, if it has one
 abbrev pub IsRegOf : Design → Option ℕ → Type 0
@@ -50,8 +53,8 @@ pub record IsUsable (l : Linked) : Type 0 where
   pub cells : All (IsCellOf l.design) l.names.cells
   pub nets : All (λ (n : NetName). n.net < l.design.nets) l.names.nets
   pub each_reg : (r : ℕ) → r < length l.design.regs → count_by (is_reg r) l.names.cells ≡ 1
-  pub ins : length l.names.ins ≡ length l.design.inputs
-  pub outs : length l.names.outs ≡ length l.design.outputs
+  pub ins : length (input_names l.names) ≡ length l.design.inputs
+  pub outs : length (output_names l.names) ≡ length l.design.outputs
   pub cells_differ : IsDistinct bytes_eq (map (λ (c : CellName). c.name) l.names.cells)
   pub ports_differ : IsDistinct bytes_eq (map (λ (p : PortName). p.name) (l.names.ins ++ l.names.outs))
   pub nets_differ : IsDistinct bytes_eq (map (λ (n : NetName). n.name) l.names.nets)

@@ -11,5 +11,5 @@ mod names;
 mod options;
 
 pub use faults::LinkFault;
-pub use names::{CellName, Linked, Names, NetName, PinName, PinRole, PortName};
+pub use names::{CellName, CutName, Linked, Names, NetName, PinName, PinRole, PortName};
 pub use options::LinkOptions;

@@ -3,8 +3,8 @@ use Rattle.std.specs.Prelude.{ℕ, ◌+◌, List, [], ◌∷◌, ◌++◌, flat_
 use Rattle.std.specs.Fmt.{decimal}
 use Rattle.sdcv_base.specs.Shown.{shown}
 use Rattle.linked_types.specs.declared.names.CellName.{CellName}
-use Rattle.linked_types.specs.declared.names.PortName.{PortName}
 use Rattle.linked_types.specs.declared.names.Linked.{Linked}
+use Rattle.linked_types.specs.Inputs.{input_names}
 use Rattle.wave_signals.specs.Numbered.{numbered}
 
 -- a word, a number and a name
@@ -24,9 +24,9 @@ abbrev pub state_rows : CellName → List ℕ
 state_rows c = state_rows_if_any c.name c.reg
 
 -- an input, given its place
-abbrev pub input_row : ℕ → PortName → List ℕ
-input_row place p = row (codes "input") place p.name
+abbrev pub input_row : ℕ → List ℕ → List ℕ
+input_row place name = row (codes "input") place name
 
--- the registers by their cells, and then the inputs in port order
+-- the registers by their cells, and then the inputs
 abbrev pub bits_text : Linked → List ℕ
-bits_text l = flat_map state_rows l.names.cells ++ numbered input_row 0 l.names.ins
+bits_text l = flat_map state_rows l.names.cells ++ numbered input_row 0 (input_names l.names)

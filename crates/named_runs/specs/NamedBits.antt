@@ -4,7 +4,6 @@ use Rattle.net_model.specs.Cycles.{bit_at}
 use Rattle.net_model.specs.declared.cycles.Cycle.{Cycle}
 use Rattle.linked_types.specs.declared.names.CellName.{CellName}
 use Rattle.linked_types.specs.declared.names.NetName.{NetName}
-use Rattle.linked_types.specs.declared.names.PortName.{PortName}
 use Rattle.linked_types.specs.declared.names.Linked.{Linked}
 use Rattle.wave_signals.specs.declared.bits.BitKind.{BitKind}
 use Rattle.wave_signals.specs.declared.bits.BitKind.TheVariants.{Wire, Reg}
@@ -44,9 +43,9 @@ abbrev pub named_bits : Linked → List Cycle → List NamedBit
 named_bits l run = map (net_bit run) l.names.nets ++ reg_bits l.names.cells run
 
 -- an input, given its number
-abbrev pub input_bit : List Cycle → ℕ → PortName → List NamedBit
-input_bit run number p = named_bit Wire p.name run (place.Input number) ∷ []
+abbrev pub input_bit : List Cycle → ℕ → List ℕ → List NamedBit
+input_bit run number name = named_bit Wire name run (place.Input number) ∷ []
 
--- the inputs in port order
-abbrev pub input_bits : List PortName → List Cycle → List NamedBit
-input_bits ins run = numbered (input_bit run) 0 ins
+-- the inputs by their names
+abbrev pub input_bits : List (List ℕ) → List Cycle → List NamedBit
+input_bits names run = numbered (input_bit run) 0 names

@@ -1,12 +1,13 @@
 //! Bits of a run with their names.
 ghost use Rattle.std.specs.Prelude.{◌≡◌, ◌++◌, ◌∷◌, [], map, flat_map, IfOk, OnOk};
 ghost use Rattle.wave_signals.specs.declared.bits.NamedBit.{NamedBit as Bit};
+ghost use Rattle.linked_types.specs.Inputs.{input_names};
 ghost use Rattle.named_runs.specs.NamedBits as spec;
 
 use crate::places::{Place, values_of};
-use linked_types::{CellName, NetName, PortName};
+use linked_types::{CellName, Names, NetName};
 use net_model::Cycle;
-use sdcv_base::{Name, Seq};
+use sdcv_base::Name;
 use std::alloc::{AllocError, Global};
 use wave_signals::{BitKind, NamedBit};
 
@@ -77,16 +78,15 @@ pub(crate) fn add_regs(
 /// The bits of inputs.
 pub(crate) fn input_bits(
     alloc: Global,
-    ins: &Seq<PortName>,
+    names: &Names,
     run: &[Cycle],
 ) -> Result<Vec<NamedBit>, AllocError>
-    ensures { IfOk result (λ bits. bits.items ≡ spec.input_bits ins.now run.now) }
+    ensures { IfOk result (λ bits. bits.items ≡ spec.input_bits (input_names names.now) run.now) }
 {
     let mut bits = Vec::new(alloc);
-    for place in 0..ins.len() {
-        let port = ins.item(place);
+    for place in 0..names.input_count()? {
         let input = Place::Input(place);
-        bits.push(named_bit(alloc, BitKind::Wire, &port.name, run, input)?)?;
+        bits.push(named_bit(alloc, BitKind::Wire, names.input(place), run, input)?)?;
     }
     Ok(bits)
 }

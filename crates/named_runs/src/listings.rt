@@ -1,10 +1,11 @@
 //! The order of a stimulus's bits.
 ghost use Rattle.std.specs.Prelude.{◌≡◌, ◌+◌, ◌++◌, flat_map, IfOk, OnOk, string_bytes};
 ghost use Rattle.wave_signals.specs.Numbered.{numbered};
+ghost use Rattle.linked_types.specs.Inputs.{input_names};
 ghost use Rattle.named_runs.specs.BitTexts as spec;
 
-use linked_types::{CellName, Linked, PortName};
-use sdcv_base::{Name, Seq};
+use linked_types::{CellName, Linked, Names};
+use sdcv_base::Name;
 use std::alloc::{AllocError, Global};
 
 /// Appends the line of a bit, given its place from 0.
@@ -47,12 +48,11 @@ fn push_states(alloc: Global, text: &mut Vec<u8>, cells: &[CellName]) -> Result<
     Ok(())
 }
 
-fn push_inputs(alloc: Global, text: &mut Vec<u8>, ins: &Seq<PortName>) -> Result<(), AllocError>
-    ensures { OnOk result (text.new.items ≡ text.old.items ++ numbered spec.input_row 0 ins.now) }
+fn push_inputs(alloc: Global, text: &mut Vec<u8>, names: &Names) -> Result<(), AllocError>
+    ensures { OnOk result (text.new.items ≡ text.old.items ++ numbered spec.input_row 0 (input_names names.now)) }
 {
-    for place in 0..ins.len() {
-        let port = ins.item(place);
-        push_row(alloc, text, "input", place, &port.name)?;
+    for place in 0..names.input_count()? {
+        push_row(alloc, text, "input", place, names.input(place))?;
     }
     Ok(())
 }
@@ -64,6 +64,6 @@ pub fn bits_text(alloc: Global, linked: &Linked) -> Result<Vec<u8>, AllocError>
 {
     let mut text = Vec::new(alloc);
     push_states(alloc, &mut text, linked.names.cells.as_slice())?;
-    push_inputs(alloc, &mut text, &linked.names.ins)?;
+    push_inputs(alloc, &mut text, &linked.names)?;
     Ok(text)
 }

@@ -1,6 +1,7 @@
 //! The signals of a run.
 ghost use Rattle.std.specs.Prelude.{◌≡◌, flat_map, IfOk, IsPermutation};
 ghost use Rattle.wave_signals.specs.Signals.{bits_of};
+ghost use Rattle.linked_types.specs.Inputs.{input_names};
 ghost use Rattle.named_runs.specs.NamedBits as spec;
 
 use crate::bits::{add_nets, add_regs, input_bits};
@@ -28,14 +29,14 @@ pub fn reg_signals(alloc: Global, linked: &Linked, run: &[Cycle]) -> Result<Vec<
     ordered(alloc, bits)
 }
 
-/// The data inputs of a design, with their bits in a run, in port order.
+/// The data inputs of a design, with their bits in a run, by their numbers.
 pub fn input_signals(
     alloc: Global,
     linked: &Linked,
     run: &[Cycle],
 ) -> Result<Vec<Signal>, AllocError>
-    ensures { IfOk result (λ signals. flat_map bits_of signals.items ≡ spec.input_bits linked.now.names.ins run.now) }
+    ensures { IfOk result (λ signals. flat_map bits_of signals.items ≡ spec.input_bits (input_names linked.now.names) run.now) }
 {
-    let bits = input_bits(alloc, &linked.names.ins, run)?;
+    let bits = input_bits(alloc, &linked.names, run)?;
     grouped(alloc, bits)
 }

@@ -18,6 +18,7 @@ use Rattle.link_design.specs.declared.designs.Held.{Held}
 use Rattle.link_design.specs.Lawful.{IsLawfulCircuit}
 use Rattle.link_design.specs.Made.{IsHeldBy, IsMade}
 use Rattle.link_defs.specs.declared.circuits.Circuit.{Circuit}
+use Rattle.linked_types.specs.Inputs.{whole_names}
 use Rattle.linked_types.specs.declared.faults.LinkFault.{LinkFault}
 use Rattle.linked_types.specs.declared.names.CellName.{CellName}
 use Rattle.linked_types.specs.declared.names.Linked.{Linked}
@@ -46,7 +47,7 @@ use Rattle.net_link.specs.Places.{ArePlacesOf}
 -- a design with its names
 abbrev pub joined : Design → TopPorts → List NetName → List CellName → Option (List ℕ) → Linked
 joined d ports nets cells clock =
-    record { design = d; names = record { cells = cells; ins = ports.ins; outs = ports.outs; nets = nets; clock = clock } }
+    record { design = d; names = whole_names cells ports.ins ports.outs nets clock }
 
 settings_of : (o : LinkOptions) (top : Module) (ports : TopPorts) (c : FlatCircuit) (made : CircuitDesign) (g : Gated) (d : Design) (nets : List NetName)
     (cells : List CellName) (clock : Option (List ℕ)) → AreTopPorts top o ports → IsMade c.circuit ports.held made → g.design ≡ made.design
@@ -62,6 +63,7 @@ settings_of o top ports c made g d nets cells clock set m base is same =
       ins = set.ins;
       outs = set.outs;
       clock = same;
+      whole = record { free = refl; sinks = refl; cuts = refl; assumed = refl };
     }
 
 -- what is held is held among the inputs of the circuit

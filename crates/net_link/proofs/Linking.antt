@@ -15,6 +15,8 @@ use Rattle.icg_rewrite.specs.Rewritten.{rewritten}
 use Rattle.icg_rewrite.specs.declared.clock_gates.Gated.{Gated}
 use Rattle.link_defs.proofs.Solving.{number_within}
 use Rattle.link_defs.specs.declared.circuits.Circuit.{Circuit}
+use Rattle.linked_types.specs.Narrow.{IsWhole}
+use Rattle.linked_types.proofs.Ports.{input_count, output_count}
 use Rattle.linked_types.specs.declared.names.CellName.{CellName}
 use Rattle.linked_types.specs.declared.names.Linked.{Linked}
 use Rattle.linked_types.specs.declared.names.NetName.{NetName}
@@ -56,6 +58,7 @@ pub record AreSettings (o : LinkOptions) (top : Module) (l : Linked) : Type 0 wh
   pub ins : l.names.ins ≡ ports_of (data_bits o.clock top)
   pub outs : l.names.outs ≡ ports_of (output_bits top)
   pub clock : l.names.clock ≡ o.clock
+  pub whole : IsWhole l.names
 
 pieces_linked : (s : Source) (lib : Library) (o : LinkOptions) (top : Module) (l : Linked) → tops s ≡ top ∷ []
     → ArePieces s lib top (circuit_of s lib top o.clock) l → AreSettings o top l → IsLinked s lib o l
@@ -74,7 +77,7 @@ pieces_linked s lib o top l one p set = record {
   fixed = set.fixed;
   resets = set.resets;
   reset_len = set.reset_len;
-  names = record { cells = p.cells; ins = set.ins; outs = set.outs; clock = set.clock; nets = p.nets };
+  names = record { cells = p.cells; ins = set.ins; outs = set.outs; clock = set.clock; whole = set.whole; nets = p.nets };
 }
 
 -- the design and names of a source
@@ -143,8 +146,8 @@ usable_is s lib o top k l is pieces set places cells_differ ports_differ =
           let (net, named, has, number) = p.nets.only x (contains_at l.names.nets j x at) in
           net_below drivers l.design.nets (length p.gated.gates) x net (over.nets ∙ ap (λ (n : ℕ). n + length p.gated.gates) base.nets) has number);
       each_reg = places.each_reg;
-      ins = inputs_len s lib o top p.tree p.order p.gated l base over.inputs set.ins;
-      outs = outputs_len s lib o top p.tree p.order p.gated l base over.outputs set.outs;
+      ins = input_count l.names set.whole ∙ inputs_len s lib o top p.tree p.order p.gated l base over.inputs set.ins;
+      outs = output_count l.names set.whole ∙ outputs_len s lib o top p.tree p.order p.gated l base over.outputs set.outs;
       cells_differ = cells_differ;
       ports_differ = ports_differ;
       nets_differ = once_distinct l.names.nets p.nets.once;

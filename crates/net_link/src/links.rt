@@ -4,6 +4,7 @@ ghost use Rattle.netlist_types.specs.Lawful.{IsLawful};
 ghost use Rattle.cell_types.specs.Libraries.{IsLawful as IsLawfulLibrary};
 ghost use Rattle.link_defs.specs.Faults.{IsCause, IsFaultless};
 ghost use Rattle.link_defs.specs.Links.{IsLinked};
+ghost use Rattle.linked_types.specs.Narrow.{IsNarrow};
 ghost use Rattle.linked_types.specs.Usable.{IsUsable};
 ghost use Rattle.link_tops.specs.Tops.{IsTop};
 ghost use Rattle.link_design.specs.declared.designs.Held.{Held as HeldRecord};
@@ -34,7 +35,7 @@ use sdcv_base::{Name, Seq};
 use std::alloc::{AllocError, Global};
 
 /// The design of a source below its only top module, with all its names. A module may be instantiated many times; a net is
-/// named at each instance.
+/// named at each instance. No cell is cut out.
 pub fn link(
     alloc: Global,
     source: &Source,
@@ -44,6 +45,7 @@ pub fn link(
     requires source { IsLawful source.now }
     requires library { IsLawfulLibrary library.now.cells }
     requires resets { options.now.reset_len ≤ 64 }
+    requires narrow { IsNarrow options.now }
     ensures ok { IfOk result (IsLinked source.now library.now options.now) }
     ensures usable { IfOk result IsUsable }
     ensures err { IfErr result (IsCause source.now library.now options.now) }
@@ -135,13 +137,7 @@ fn named_design(
     } = inner;
     gated_solutions_are(&c.circuit, &gated);
     let design = enabled_design(alloc, gated)?;
-    let names = Names {
-        cells,
-        ins,
-        outs,
-        nets,
-        clock,
-    };
+    let names = Names::whole(alloc, cells, ins, outs, nets, clock);
     Ok(Linked { design, names })
 }
 

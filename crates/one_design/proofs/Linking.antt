@@ -206,7 +206,21 @@ names_same s lib o top x y order gates a b first_tree second_tree first second =
     let outs = second.outs ∙ sym first.outs in
     let called = nets_same _ _ _ a.names.nets b.names.nets first.nets second.nets in
     let clock = second.clock ∙ sym first.clock in
-    λ i. record { cells = named i; ins = ins i; outs = outs i; nets = called i; clock = clock i }
+    let free = second.whole.free ∙ sym first.whole.free in
+    let sinks = second.whole.sinks ∙ sym first.whole.sinks in
+    let cuts = second.whole.cuts ∙ sym first.whole.cuts in
+    let assumed = second.whole.assumed ∙ sym first.whole.assumed in
+    λ i. record {
+      cells = named i;
+      ins = ins i;
+      outs = outs i;
+      nets = called i;
+      clock = clock i;
+      free = free i;
+      sinks = sinks i;
+      cuts = cuts i;
+      assumed = assumed i;
+    }
 
 -- of one top module and one order of gates there is one design with its names
 at_same : (s : Source) (lib : Library) (o : LinkOptions) (top : Module) (x y : List Bool) (order : List Gate) (gates others : List ClockPart)

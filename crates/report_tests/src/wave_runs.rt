@@ -72,13 +72,10 @@ fn names(alloc: Global) -> Result<Names, AllocError> {
         name: Name::new(alloc, b"d")?,
         net: 0,
     };
-    Ok(Names {
-        cells: Seq::one(alloc, cell)?,
-        ins: Seq::new(alloc),
-        outs: Seq::new(alloc),
-        nets: Seq::one(alloc, net)?,
-        clock: None,
-    })
+    let (ins, outs) = (Seq::new(alloc), Seq::new(alloc));
+    let cells = Seq::one(alloc, cell)?;
+    let nets = Seq::one(alloc, net)?;
+    Ok(Names::whole(alloc, cells, ins, outs, nets, None))
 }
 
 fn run(alloc: Global) -> Result<Seq<Cycle>, AllocError> {

@@ -17,7 +17,7 @@ use Rattle.linked_types.specs.declared.names.Linked.{Linked}
 use Rattle.linked_types.specs.declared.names.CellName.{CellName}
 use Rattle.linked_types.specs.declared.names.PinName.{PinName}
 use Rattle.linked_types.specs.declared.names.PinRole.{PinRole}
-use Rattle.linked_types.specs.declared.names.PinRole.TheVariants.{Clock as ClockRole, Load, Drive}
+use Rattle.linked_types.specs.declared.names.PinRole.TheVariants.{Clock as ClockRole, Load, Drive, Source, Sink}
 use Rattle.script_types.specs.declared.objects.Object.{Object}
 use Rattle.script_types.specs.declared.scripts.Script.{Script}
 use Rattle.sdc_settings.specs.Inputs.{object_text}
@@ -65,6 +65,8 @@ abbrev pub is_clock_role : PinRole → Bool
 is_clock_role ClockRole = true
 is_clock_role (Load pins) = false
 is_clock_role (Drive net) = false
+is_clock_role (Source input) = false
+is_clock_role (Sink output) = false
 
 -- it has no output net and no pin but clock pins: where it is no register, a buffer of the clock tree
 abbrev pub is_on_tree : CellName → Bool
@@ -79,26 +81,29 @@ cell_outs c None = if is_on_tree c then dropped else Some (map NetPin c.outs)
 abbrev pub cell_row : CellName → Stands
 cell_row c = row (reg_start c.reg) (reg_end c.reg) (cell_outs c c.reg)
 
-abbrev pub pin_row : Option ℕ → PinRole → Stands
-pin_row reg ClockRole = row (reg_start reg) dropped dropped
-pin_row reg (Drive net) = row (reg_start reg) dropped (one (NetPin net))
-pin_row reg (Load pins) = row dropped (reg_end reg) (Some pins)
+-- a source stands for the input that it drives, a sink for the output that it reads for
+abbrev pub pin_row : Design → Option ℕ → PinRole → Stands
+pin_row d reg ClockRole = row (reg_start reg) dropped dropped
+pin_row d reg (Drive net) = row (reg_start reg) dropped (one (NetPin net))
+pin_row d reg (Load pins) = row dropped (reg_end reg) (Some pins)
+pin_row d reg (Source input) = row (one (InputStart input)) dropped (one (NetPin (slice_index d.inputs input)))
+pin_row d reg (Sink output) = row dropped (one (OutputEnd output)) (one (OutPort output))
 
 abbrev pub cell_at_row : Option CellName → Stands
 cell_at_row None = row dropped dropped dropped
 cell_at_row (Some c) = cell_row c
 
-abbrev pub role_row : Option ℕ → Option PinName → Stands
-role_row reg None = row dropped dropped dropped
-role_row reg (Some p) = pin_row reg p.role
+abbrev pub role_row : Design → Option ℕ → Option PinName → Stands
+role_row d reg None = row dropped dropped dropped
+role_row d reg (Some p) = pin_row d reg p.role
 
-abbrev pub pin_at_row : Option CellName → ℕ → Stands
-pin_at_row None place = row dropped dropped dropped
-pin_at_row (Some c) place = role_row c.reg (slice_get c.pins place)
+abbrev pub pin_at_row : Design → Option CellName → ℕ → Stands
+pin_at_row d None place = row dropped dropped dropped
+pin_at_row d (Some c) place = role_row d c.reg (slice_get c.pins place)
 
 abbrev pub stands : Linked → Thing → Stands
 stands l (thing.Cell k) = cell_at_row (slice_get l.names.cells k)
-stands l (thing.Pin k place) = pin_at_row (slice_get l.names.cells k) place
+stands l (thing.Pin k place) = pin_at_row l.design (slice_get l.names.cells k) place
 stands l (thing.In i) = row (one (InputStart i)) dropped (one (NetPin (slice_index l.design.inputs i)))
 stands l (thing.Out o) = row dropped (one (OutputEnd o)) (one (OutPort o))
 stands l thing.ClockPort = row dropped dropped dropped
@@ -125,6 +130,8 @@ abbrev pub edge_pin : Design → Option ℕ → PinRole → Option (List Start)
 edge_pin d reg ClockRole = dropped
 edge_pin d reg (Drive net) = if is_inverted d reg net then dropped else reg_start reg
 edge_pin d reg (Load pins) = dropped
+edge_pin d reg (Source input) = one (InputStart input)
+edge_pin d reg (Sink output) = dropped
 
 abbrev pub edge_role : Design → Option ℕ → Option PinName → Option (List Start)
 edge_role d reg None = dropped
@@ -199,23 +206,7 @@ abbrev pub one_of : {A : Type 0} → Option A → Option (List A)
 one_of None = dropped
 one_of (Some x) = one x
 
--- the register of a cell, that of which a pin is the clock or an output, and that of which it is another input
+-- the register of a cell
 abbrev pub reg_of : Option CellName → Option ℕ
 reg_of None = None
 reg_of (Some c) = c.reg
-
-abbrev pub launch_by : Option ℕ → Option PinName → Option ℕ
-launch_by reg None = None
-launch_by reg (Some p) = elim p.role [ ClockRole ↦ reg | Drive net ↦ reg | Load pins ↦ None ]
-
-abbrev pub launch_reg : Option CellName → ℕ → Option ℕ
-launch_reg None place = None
-launch_reg (Some c) place = launch_by c.reg (slice_get c.pins place)
-
-abbrev pub capture_by : Option ℕ → Option PinName → Option ℕ
-capture_by reg None = None
-capture_by reg (Some p) = elim p.role [ ClockRole ↦ None | Drive net ↦ None | Load pins ↦ reg ]
-
-abbrev pub capture_reg : Option CellName → ℕ → Option ℕ
-capture_reg None place = None
-capture_reg (Some c) place = capture_by c.reg (slice_get c.pins place)

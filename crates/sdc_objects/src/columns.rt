@@ -79,7 +79,7 @@ impl Column for End {
         let cells = &linked.names.cells;
         match thing {
             Thing::Cell(k) => add_one(reg_end(cell_reg(cells, k)), found),
-            Thing::Pin(k, place) => add_one(reg_end(capture_reg(cells, k, place)), found),
+            Thing::Pin(k, place) => add_one(pin_end(linked, k, place), found),
             Thing::Out(output) => add_one(Some(End::Output(output)), found),
             Thing::In(_) | Thing::ClockPort | Thing::Net(_) => Ok(false),
             Thing::Clock(sourced) => add_reg_ends(&linked.design, sourced, found),
@@ -105,7 +105,7 @@ impl Column for PinRef {
         let cells = &linked.names.cells;
         match thing {
             Thing::Cell(k) => add_cell_pins(cells, k, found),
-            Thing::Pin(k, place) => add_pin(cells, k, place, found),
+            Thing::Pin(k, place) => add_pin(linked, k, place, found),
             Thing::In(input) => add_one(Some(PinRef::Net(input_net(&linked.design, input))), found),
             Thing::Out(output) => add_one(Some(PinRef::OutPort(output)), found),
             Thing::Net(net) => add_one(Some(PinRef::Net(net)), found),
@@ -123,7 +123,7 @@ fn add_start(linked: &Linked, thing: Thing, found: &mut Seq<Start>) -> Result<bo
     let cells = &linked.names.cells;
     match thing {
         Thing::Cell(k) => add_one(reg_start(cell_reg(cells, k)), found),
-        Thing::Pin(k, place) => add_one(reg_start(launch_reg(cells, k, place)), found),
+        Thing::Pin(k, place) => add_one(pin_start(linked, k, place), found),
         Thing::In(input) => add_one(Some(Start::Input(input)), found),
         Thing::Out(_) | Thing::ClockPort | Thing::Net(_) => Ok(false),
         Thing::Clock(sourced) => add_reg_starts(&linked.design, sourced, found),
@@ -136,7 +136,7 @@ fn add_edge_start(linked: &Linked, thing: Thing, found: &mut Seq<Start>) -> Resu
     ensures added { OnOk result (found.new ≡ found.old ++ spec.meant_by (spec.edge_column linked.now thing)) }
 {
     match thing {
-        Thing::Pin(k, place) => add_one(reg_start(edge_reg(linked, k, place)), found),
+        Thing::Pin(k, place) => add_one(edge_start(linked, k, place), found),
         Thing::Clock(true) => Ok(false),
         _ => add_start(linked, thing, found),
     }
@@ -184,27 +184,29 @@ fn cell_reg(cells: &Seq<CellName>, k: usize) -> Option<usize>
     }
 }
 
-// The register whose clock or output pin it is.
-fn launch_reg(cells: &Seq<CellName>, k: usize, place: usize) -> Option<usize>
-    ensures { result ≡ spec.launch_reg (slice_get cells.now k) place }
-{
-    let cell = cells.as_slice().get(k)?;
-    let pin = cell.pins.as_slice().get(place)?;
-    match &pin.role {
-        PinRole::Clock | PinRole::Drive(_) => cell.reg,
-        PinRole::Load(_) => None,
-    }
-}
-
-// The register whose output pin it is, and whose bit the pin shows as it is.
-fn edge_reg(linked: &Linked, k: usize, place: usize) -> Option<usize>
-    ensures { spec.reg_start result ≡ spec.edge_pin_at linked.now.design (slice_get linked.now.names.cells k) place }
+// The register whose clock or output pin it is, or the input that the pin drives.
+fn pin_start(linked: &Linked, k: usize, place: usize) -> Option<Start>
+    ensures { spec.one_of result ≡ (spec.pin_at_row linked.now.design (slice_get linked.now.names.cells k) place).from }
 {
     let cell = linked.names.cells.as_slice().get(k)?;
     let pin = cell.pins.as_slice().get(place)?;
     match &pin.role {
-        PinRole::Drive(net) => upright_reg(&linked.design, cell.reg, *net),
-        PinRole::Clock | PinRole::Load(_) => None,
+        PinRole::Clock | PinRole::Drive(_) => reg_start(cell.reg),
+        PinRole::Source(input) => Some(Start::Input(*input)),
+        PinRole::Load(_) | PinRole::Sink(_) => None,
+    }
+}
+
+// The register whose output pin it is, and whose bit the pin shows as it is, or the input that the pin drives.
+fn edge_start(linked: &Linked, k: usize, place: usize) -> Option<Start>
+    ensures { spec.one_of result ≡ spec.edge_pin_at linked.now.design (slice_get linked.now.names.cells k) place }
+{
+    let cell = linked.names.cells.as_slice().get(k)?;
+    let pin = cell.pins.as_slice().get(place)?;
+    match &pin.role {
+        PinRole::Drive(net) => reg_start(upright_reg(&linked.design, cell.reg, *net)),
+        PinRole::Source(input) => Some(Start::Input(*input)),
+        PinRole::Clock | PinRole::Load(_) | PinRole::Sink(_) => None,
     }
 }
 
@@ -239,15 +241,16 @@ fn has_inverted(outs: &Seq<RegOut>, net: usize) -> bool
         .any(|out| out.net == net && out.inverted)
 }
 
-// The register whose other input pin it is.
-fn capture_reg(cells: &Seq<CellName>, k: usize, place: usize) -> Option<usize>
-    ensures { result ≡ spec.capture_reg (slice_get cells.now k) place }
+// The register whose other input pin it is, or the output that the pin reads for.
+fn pin_end(linked: &Linked, k: usize, place: usize) -> Option<End>
+    ensures { spec.one_of result ≡ (spec.pin_at_row linked.now.design (slice_get linked.now.names.cells k) place).to }
 {
-    let cell = cells.as_slice().get(k)?;
+    let cell = linked.names.cells.as_slice().get(k)?;
     let pin = cell.pins.as_slice().get(place)?;
     match &pin.role {
-        PinRole::Clock | PinRole::Drive(_) => None,
-        PinRole::Load(_) => cell.reg,
+        PinRole::Load(_) => reg_end(cell.reg),
+        PinRole::Sink(output) => Some(End::Output(*output)),
+        PinRole::Clock | PinRole::Drive(_) | PinRole::Source(_) => None,
     }
 }
 
@@ -366,7 +369,7 @@ fn is_clock_role(role: &PinRole) -> bool
 {
     match role {
         PinRole::Clock => true,
-        PinRole::Load(_) | PinRole::Drive(_) => false,
+        PinRole::Load(_) | PinRole::Drive(_) | PinRole::Source(_) | PinRole::Sink(_) => false,
     }
 }
 
@@ -380,37 +383,46 @@ fn add_nets(nets: &Seq<usize>, found: &mut Seq<PinRef>) -> Result<(), AllocError
 }
 
 fn add_pin(
-    cells: &Seq<CellName>,
+    linked: &Linked,
     k: usize,
     place: usize,
     found: &mut Seq<PinRef>,
 ) -> Result<bool, AllocError>
-    ensures kept { IfOk result (λ kept. kept ≡ not (spec.is_dropped (spec.pin_at_row (slice_get cells.now k) place).through)) }
-    ensures added { OnOk result (found.new ≡ found.old ++ spec.meant_by (spec.pin_at_row (slice_get cells.now k) place).through) }
+    ensures kept { IfOk result (λ kept.
+        kept ≡ not (spec.is_dropped (spec.pin_at_row linked.now.design (slice_get linked.now.names.cells k) place).through)) }
+    ensures added { OnOk result
+        (found.new ≡ found.old ++ spec.meant_by (spec.pin_at_row linked.now.design (slice_get linked.now.names.cells k) place).through) }
 {
-    match cells.as_slice().get(k) {
-        Some(cell) => add_pin_of(cell, place, found),
+    match linked.names.cells.as_slice().get(k) {
+        Some(cell) => add_pin_of(&linked.design, cell, place, found),
         None => Ok(false),
     }
 }
 
-fn add_pin_of(cell: &CellName, place: usize, found: &mut Seq<PinRef>) -> Result<bool, AllocError>
-    ensures kept { IfOk result (λ kept. kept ≡ not (spec.is_dropped (spec.role_row cell.now.reg (slice_get cell.now.pins place)).through)) }
-    ensures added { OnOk result (found.new ≡ found.old ++ spec.meant_by (spec.role_row cell.now.reg (slice_get cell.now.pins place)).through) }
+fn add_pin_of(
+    design: &Design,
+    cell: &CellName,
+    place: usize,
+    found: &mut Seq<PinRef>,
+) -> Result<bool, AllocError>
+    ensures kept { IfOk result (λ kept. kept ≡ not (spec.is_dropped (spec.role_row design.now cell.now.reg (slice_get cell.now.pins place)).through)) }
+    ensures added { OnOk result (found.new ≡ found.old ++ spec.meant_by (spec.role_row design.now cell.now.reg (slice_get cell.now.pins place)).through) }
 {
     match cell.pins.as_slice().get(place) {
-        Some(pin) => add_role(&pin.role, found),
+        Some(pin) => add_role(design, &pin.role, found),
         None => Ok(false),
     }
 }
 
-fn add_role(role: &PinRole, found: &mut Seq<PinRef>) -> Result<bool, AllocError>
-    ensures kept { (reg : Option ℕ) → IfOk result (λ kept. kept ≡ not (spec.is_dropped (spec.pin_row reg role.now).through)) }
-    ensures added { (reg : Option ℕ) → OnOk result (found.new ≡ found.old ++ spec.meant_by (spec.pin_row reg role.now).through) }
+fn add_role(design: &Design, role: &PinRole, found: &mut Seq<PinRef>) -> Result<bool, AllocError>
+    ensures kept { (reg : Option ℕ) → IfOk result (λ kept. kept ≡ not (spec.is_dropped (spec.pin_row design.now reg role.now).through)) }
+    ensures added { (reg : Option ℕ) → OnOk result (found.new ≡ found.old ++ spec.meant_by (spec.pin_row design.now reg role.now).through) }
 {
     match role {
         PinRole::Clock => Ok(false),
         PinRole::Drive(net) => add_one(Some(PinRef::Net(*net)), found),
+        PinRole::Source(input) => add_one(Some(PinRef::Net(input_net(design, *input))), found),
+        PinRole::Sink(output) => add_one(Some(PinRef::OutPort(*output)), found),
         PinRole::Load(pins) => {
             add_loads(pins, found)?;
             Ok(true)

@@ -7,6 +7,7 @@ use Rattle.net_model.specs.declared.claims.End.{End}
 use Rattle.net_model.specs.declared.claims.End.TheVariants.{Reg as RegEnd, Output as OutputEnd}
 use Rattle.linked_types.specs.declared.names.Linked.{Linked}
 use Rattle.wave_signals.specs.Signals.{bits_of}
+use Rattle.linked_types.specs.Inputs.{input_names}
 use Rattle.named_runs.specs.NamedBits.{input_bits, reg_bits}
 use Rattle.run_views.specs.declared.outcomes.Violation.{Violation}
 use Rattle.shown_runs.specs.Watches.{watched_bits}
@@ -33,7 +34,7 @@ pub record IsShown (l : Linked) (claim : Claim) (v : Violation) (s : ShownRun) :
   pub count : s.cycles ≡ length v.run
   pub toggle_is : s.toggle ≡ v.toggle
   pub judged_is : s.judged ≡ v.judged
-  pub ins : flat_map bits_of s.inputs ≡ input_bits l.names.ins v.run
+  pub ins : flat_map bits_of s.inputs ≡ input_bits (input_names l.names) v.run
   pub starts : s.start ≡ watched_bits l.design (Start claim.start) v.run
   pub ends : AreEndStates l.design v.run claim.end s.end
   pub captures : s.captured ≡ watched_bits l.design (Capture claim.end) v.run

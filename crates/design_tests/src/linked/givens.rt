@@ -1,6 +1,7 @@
 //! What a row gives beside its netlist.
 ghost use Rattle.std.specs.Prelude.{◌≡◌, IfOk};
 ghost use Rattle.cell_types.specs.Libraries.{IsLawful as IsLawfulLibrary};
+ghost use Rattle.linked_types.specs.Narrow.{IsNarrow};
 
 use cell_lib::read_lib;
 use cell_types::{Library, builtin};
@@ -43,7 +44,8 @@ fn at_zero(alloc: Global, name: &str) -> Result<Seq<Setting>, AllocError> {
 }
 
 pub fn options(alloc: Global, given: &Given) -> Result<LinkOptions, AllocError>
-    ensures { IfOk result (λ made. made.reset_len ≡ 1) }
+    ensures resets { IfOk result (λ made. made.reset_len ≡ 1) }
+    ensures narrow { IfOk result IsNarrow }
 {
     let clock = name_if_any(alloc, given.clock)?;
     let fixed = at_zero(alloc, given.fixed)?;
@@ -53,5 +55,9 @@ pub fn options(alloc: Global, given: &Given) -> Result<LinkOptions, AllocError>
         fixed,
         resets,
         reset_len: 1,
+        wide: false,
+        top: None,
+        free: Seq::new(alloc),
+        cut_clocks: false,
     })
 }

@@ -1,4 +1,5 @@
 //! Texts linked, row by row.
+ghost use Rattle.linked_types.specs.Narrow.{IsNarrow};
 ghost use Rattle.std.specs.Prelude.{◌≤◌};
 ghost use Rattle.cell_types.specs.Libraries.{IsLawful as IsLawfulLibrary};
 ghost use Rattle.netlist_types.specs.Lawful.{IsLawful};
@@ -21,6 +22,7 @@ fn fault_of(
     requires source { IsLawful source.now }
     requires library { IsLawfulLibrary library.now.cells }
     requires resets { options.now.reset_len ≤ 64 }
+    requires narrow { IsNarrow options.now }
 {
     link(alloc, source, library, options).err()
 }

@@ -1,4 +1,8 @@
 use Rattle.std.proofs.lemmas.Result.{err_from_is_err_and}
+use Rattle.std.proofs.Common.{subst, sym}
+use Rattle.linked_types.specs.declared.names.Names.{Names}
+use Rattle.linked_types.specs.Usable.{IsUsable}
+use Rattle.link_defs.specs.Links.{IsLinked}
 use Rattle.link_defs.specs.CellNames.{leaves}
 use Rattle.link_defs.specs.Flatten.{flat_of}
 use Rattle.link_items.specs.Items.{module_at}
@@ -72,7 +76,8 @@ returns-clause-ok c =
     let lib = c.args.netlist.now.library.now in
     let inner = c.in_ok-inner.inner in
     let made = c.in_ok-made.ensures.ok in
-    joined_linked s lib c.args.options.now (module_at s c.args.top) c.args.ports c.args.c.now c.in_ok-made.made inner.gated c.in_ok-design.design
+    subst (λ (n : Names). IsLinked s lib c.args.options.now (record { design = c.in_ok-design.design; names = n })) (sym c.whole.ensures)
+    (joined_linked s lib c.args.options.now (module_at s c.args.top) c.args.ports c.args.c.now c.in_ok-made.made inner.gated c.in_ok-design.design
     inner.nets inner.cells inner.clock (top_is s c.args.top c.requires.top) c.requires.circuit
     (lawful_below s lib c.args.top c.args.options.now.clock c.args.c.now c.args.netlist.now.lawful_source c.args.netlist.now.lawful_library
     (top_within s c.args.top c.requires.top) c.requires.circuit) c.requires.ports (record {
@@ -82,7 +87,7 @@ returns-clause-ok c =
       design = c.in_ok-design.ensures.ok;
       sound = c.in_ok-design.ensures.sound;
       solved = (let i = c.in_ok-inner.ensures.ok c.args.ports.held made in c.gated_solutions_are.ensures i.tree made.order i.gates i.gated_is);
-    }) c.in_ok-inner.ensures.clock
+    }) c.in_ok-inner.ensures.clock)
 
 pub returns-clause-usable : goal.returns-clause-usable
 returns-clause-usable c =
@@ -90,7 +95,8 @@ returns-clause-usable c =
     let lib = c.args.netlist.now.library.now in
     let inner = c.in_ok-inner.inner in
     let made = c.in_ok-made.ensures.ok in
-    joined_usable s lib c.args.options.now (module_at s c.args.top) c.args.ports c.args.c.now c.in_ok-made.made inner.gated c.in_ok-design.design
+    subst (λ (n : Names). IsUsable (record { design = c.in_ok-design.design; names = n })) (sym c.whole.ensures)
+    (joined_usable s lib c.args.options.now (module_at s c.args.top) c.args.ports c.args.c.now c.in_ok-made.made inner.gated c.in_ok-design.design
     inner.nets inner.cells inner.clock c.requires.circuit
     (lawful_below s lib c.args.top c.args.options.now.clock c.args.c.now c.args.netlist.now.lawful_source c.args.netlist.now.lawful_library
     (top_within s c.args.top c.requires.top) c.requires.circuit) c.requires.ports (record {
@@ -100,7 +106,7 @@ returns-clause-usable c =
       design = c.in_ok-design.ensures.ok;
       sound = c.in_ok-design.ensures.sound;
       solved = (let i = c.in_ok-inner.ensures.ok c.args.ports.held made in c.gated_solutions_are.ensures i.tree made.order i.gates i.gated_is);
-    }) c.in_ok-inner.ensures.clock
+    }) c.in_ok-inner.ensures.clock)
 
 pub returns-clause-none : goal.returns-clause-none
 returns-clause-none c =
