@@ -90,7 +90,7 @@ fn show_kind(out: &mut String, kind: &CellKind) -> Result<(), AllocError> {
         CellKind::Comb(outs) => show_combs(out, outs.as_slice()),
         CellKind::Flop(flop) => show_flop(out, flop),
         CellKind::Gate(gate) => show_clock_gate(out, gate),
-        CellKind::Other => out.push_str(" other"),
+        CellKind::Other(_) => out.push_str(" other"),
     }
 }
 
