@@ -25,7 +25,7 @@ use Rattle.cell_lib.specs.Values.{expr_of}
 use Rattle.cell_lib.specs.Combs.{comb_out, comb_outs}
 use Rattle.cell_lib.specs.Flops.{data_inputs, states_of, clock_of, next_of, reset_of, resets_of, both_of, flop_outs, flop_on, flop_of}
 use Rattle.cell_lib.specs.Pins.{names_of, outs_of}
-use Rattle.cell_lib.specs.Cells.{comb_kind, flop_shape, shape_by, plain_shape, shape_with, shape_of, is_modelled, first_ff, cell_of}
+use Rattle.cell_lib.specs.Cells.{comb_shape, flop_shape, shape_by, plain_shape, shape_with, shape_of, is_modelled, first_ff, cell_of}
 use Rattle.cell_lib.specs.Gates.{gate_of}
 use Rattle.texts.proofs.ReadLemmas.{bind_gave}
 use Rattle.texts.proofs.EachLemmas.{each_holds}
@@ -75,16 +75,6 @@ comb_out_over inputs o x e =
     let (t, ts, e1) = bind_gave o.func _ x e in
     let (f, fs, e2) = map_gave (λ (f : Form). record { name = o.name; func = f }) (resolved (meaning inputs None) t) x e1 in
     subst (λ (y : CombOut). IsOver (length inputs) y.func) e2 (resolved_over inputs None t f fs)
-
-comb_kind_over : (inputs : List (List ℕ)) (o : Option (List CombOut))
-    → ((ys : List CombOut) → o ≡ Some ys → All (λ (y : CombOut). IsOver (length inputs) y.func) ys) → IsLawfulKind inputs (comb_kind o)
-comb_kind_over inputs None all = tt
-comb_kind_over inputs (Some ys) all = all ys refl
-
-comb_lawful : (inputs : List (List ℕ)) (outs : List OutPin) → IsLawfulKind inputs (comb_kind (comb_outs inputs outs))
-comb_lawful inputs outs =
-    let P : CombOut → Type 0 = λ (y : CombOut). IsOver (length inputs) y.func in
-    comb_kind_over inputs (comb_outs inputs outs) (λ ys e. each_holds P (comb_out inputs) (comb_out_over inputs) outs ys e)
 
 reset_over : (inputs : List (List ℕ)) (t : Option Tree) (r : Option Form) → reset_of inputs t ≡ Some r → IsOptionOver (length inputs) r
 reset_over inputs None r e = let same : None ≡ r = cc in subst (IsOptionOver (length inputs)) same tt
@@ -143,20 +133,28 @@ flop_over inputs outs ff flop e =
 IsLawfulShape : Shape → Type 0
 IsLawfulShape s = IsLawfulKind s.inputs s.kind
 
-flop_lawful : (inputs : List (List ℕ)) (o : Option Flop) → ((flop : Flop) → o ≡ Some flop → IsLawfulFlop (length (data_inputs flop.clock inputs))
-    flop) → IsLawfulShape (flop_shape inputs o)
+comb_lawful : (parts : List Part) (inputs : List (List ℕ)) (o : Option (List CombOut))
+    → ((ys : List CombOut) → o ≡ Some ys → All (λ (y : CombOut). IsOver (length inputs) y.func) ys) → IsLawfulShape (comb_shape parts inputs o)
 unfolding IsLawfulShape
-flop_lawful inputs None over = tt
-flop_lawful inputs (Some flop) over = over flop refl
+comb_lawful parts inputs None all = tt
+comb_lawful parts inputs (Some ys) all = all ys refl
 
-by_lawful : (inputs : List (List ℕ)) (outs : List OutPin) (ff : Option Part) → IsLawfulShape (shape_by inputs outs ff)
+flop_lawful : (parts : List Part) (inputs : List (List ℕ)) (o : Option Flop)
+    → ((flop : Flop) → o ≡ Some flop → IsLawfulFlop (length (data_inputs flop.clock inputs)) flop) → IsLawfulShape (flop_shape parts inputs o)
 unfolding IsLawfulShape
-by_lawful inputs outs None = comb_lawful (each_once inputs) outs
-by_lawful inputs outs (Some ff) = flop_lawful inputs (flop_of inputs outs ff) (flop_over inputs outs ff)
+flop_lawful parts inputs None over = tt
+flop_lawful parts inputs (Some flop) over = over flop refl
+
+by_lawful : (parts : List Part) (inputs : List (List ℕ)) (outs : List OutPin) (ff : Option Part) → IsLawfulShape (shape_by parts inputs outs ff)
+by_lawful parts inputs outs None =
+    let once = each_once inputs in
+    let P : CombOut → Type 0 = λ (y : CombOut). IsOver (length once) y.func in
+    comb_lawful parts once (comb_outs once outs) (λ ys e. each_holds P (comb_out once) (comb_out_over once) outs ys e)
+by_lawful parts inputs outs (Some ff) = flop_lawful parts inputs (flop_of inputs outs ff) (flop_over inputs outs ff)
 
 plain_cases : (g : CellGroup) (b : Bool) → is_modelled g ≡ b → IsLawfulShape (plain_shape g)
 unfolding plain_shape IsLawfulShape
-plain_cases g true e = rw e (by_lawful (names_of role.Input g.parts) (outs_of g.parts) (first_ff g.parts))
+plain_cases g true e = rw e (by_lawful g.parts (names_of role.Input g.parts) (outs_of g.parts) (first_ff g.parts))
 plain_cases g false e = rw e tt
 
 -- the inputs of a clock gate are its enables

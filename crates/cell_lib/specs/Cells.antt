@@ -5,7 +5,6 @@ use Rattle.texts.specs.Names.{each_once}
 use Rattle.lib_words.specs.declared.groups.Part.{Part}
 use Rattle.lib_words.specs.declared.groups.CellGroup.{CellGroup}
 use Rattle.cell_types.specs.declared.libraries.Cell.{Cell}
-use Rattle.cell_types.specs.declared.libraries.CellKind.{CellKind}
 use Rattle.cell_types.specs.declared.libraries.CellKind.TheVariants as kind
 use Rattle.cell_types.specs.declared.libraries.CombOut.{CombOut}
 use Rattle.cell_types.specs.declared.libraries.Flop.{Flop}
@@ -17,23 +16,21 @@ use Rattle.cell_lib.specs.Pins.{is_ff, is_directed, can_be_modelled, names_diffe
 use Rattle.cell_lib.specs.Combs.{comb_outs}
 use Rattle.cell_lib.specs.Flops.{flop_of, data_inputs}
 use Rattle.cell_lib.specs.Gates.{gate_of}
+use Rattle.cell_lib.specs.Others.{other_of}
 
--- the input pins of a cell that is not modelled
-abbrev pub other_shape : List (List ℕ) → Shape
-other_shape inputs = record { inputs = each_once inputs; kind = kind.Other }
+-- a cell that is not modelled: its input pins, buses and bundles, and what is known of it
+abbrev pub other_shape : List Part → Shape
+other_shape parts = record { inputs = each_once (names_of role.WideInput parts); kind = kind.Other (other_of parts) }
 
 -- a cell without `ff`, by its output pins where each has a function
-abbrev pub comb_kind : Option (List CombOut) → CellKind
-comb_kind (Some outs) = kind.Comb outs
-comb_kind None = kind.Other
-
-abbrev pub comb_shape : List (List ℕ) → List OutPin → Shape
-comb_shape inputs outs = record { inputs = each_once inputs; kind = comb_kind (comb_outs (each_once inputs) outs) }
+abbrev pub comb_shape : List Part → List (List ℕ) → Option (List CombOut) → Shape
+comb_shape parts inputs (Some outs) = record { inputs = inputs; kind = kind.Comb outs }
+comb_shape parts inputs None = other_shape parts
 
 -- a cell with an `ff`, by the flop that it is: the clock is no longer among the inputs
-abbrev pub flop_shape : List (List ℕ) → Option Flop → Shape
-flop_shape inputs (Some flop) = record { inputs = data_inputs flop.clock inputs; kind = kind.Flop flop }
-flop_shape inputs None = other_shape inputs
+abbrev pub flop_shape : List Part → List (List ℕ) → Option Flop → Shape
+flop_shape parts inputs (Some flop) = record { inputs = data_inputs flop.clock inputs; kind = kind.Flop flop }
+flop_shape parts inputs None = other_shape parts
 
 -- how many groups `ff` there are, and the first
 abbrev pub ff_count : List Part → ℕ
@@ -47,15 +44,14 @@ unfoldable pub is_modelled : CellGroup → Bool
 is_modelled g = can_be_modelled g && (list_all is_directed g.parts && (nat_le (ff_count g.parts) 1 && names_differ role.Any g.parts))
 
 -- what pins, and an `ff` where there is one, make of a cell
-abbrev pub shape_by : List (List ℕ) → List OutPin → Option Part → Shape
-shape_by inputs outs None = comb_shape inputs outs
-shape_by inputs outs (Some ff) = flop_shape inputs (flop_of inputs outs ff)
+abbrev pub shape_by : List Part → List (List ℕ) → List OutPin → Option Part → Shape
+shape_by parts inputs outs None = comb_shape parts (each_once inputs) (comb_outs (each_once inputs) outs)
+shape_by parts inputs outs (Some ff) = flop_shape parts inputs (flop_of inputs outs ff)
 
 -- a cell that is no clock gate
 unfoldable pub plain_shape : CellGroup → Shape
 plain_shape g =
-    let inputs = names_of role.Input g.parts in
-    if is_modelled g then shape_by inputs (outs_of g.parts) (first_ff g.parts) else other_shape inputs
+    if is_modelled g then shape_by g.parts (names_of role.Input g.parts) (outs_of g.parts) (first_ff g.parts) else other_shape g.parts
 
 -- a cell by the clock gate that it is, if it is one: the clock is not among the inputs
 abbrev pub shape_with : CellGroup → Option GateCell → Shape

@@ -3,8 +3,8 @@ pub mod Combs
 pub mod Fails
 pub mod Flops
 pub mod Gates
+pub mod Others
 pub mod Pins
 pub mod Scopes
 pub mod Texts
-pub mod Told
 pub mod Values

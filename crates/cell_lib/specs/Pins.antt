@@ -27,6 +27,17 @@ abbrev pub is_ff : PartKind → Bool
 is_ff part.Ff = true
 is_ff _ = false
 
+abbrev pub is_memory : PartKind → Bool
+is_memory part.Memory = true
+is_memory _ = false
+
+-- the groups that name pins, or several at once
+abbrev pub is_wide_pin : PartKind → Bool
+is_wide_pin part.Pin = true
+is_wide_pin part.Bus = true
+is_wide_pin part.Bundle = true
+is_wide_pin _ = false
+
 -- a group with which a cell is not modelled, and in whose cell no function is read
 abbrev pub is_unmodelled_group : PartKind → Bool
 is_unmodelled_group part.FfBank = true
@@ -56,6 +67,10 @@ is_input p = is_pin p.kind && says attribute.Direction (codes "input") p.attribu
 abbrev pub is_output : Part → Bool
 is_output p = is_pin p.kind && says attribute.Direction (codes "output") p.attributes
 
+-- the group is of pins, buses or bundles of this direction
+abbrev pub is_wide : List ℕ → Part → Bool
+is_wide direction p = is_wide_pin p.kind && says attribute.Direction direction p.attributes
+
 -- the attribute is given, quoted or not, as true
 abbrev pub has_true : AttributeKind → Part → Bool
 has_true kind p = says kind (codes "true") p.attributes
@@ -69,7 +84,7 @@ abbrev pub is_gate_data : Part → Bool
 is_gate_data p = is_input p && not (has_true attribute.ClockGateClockPin p)
 
 -- the group names what is asked for: input pins, or of a clock gate the clock pin or the other input pins; output pins; power pins; pins and
--- power pins; or whatever has a name of its own in a cell
+-- power pins; whatever has a name of its own in a cell; or input or output pins, with buses and bundles of them
 abbrev pub has_role : Role → Part → Bool
 has_role role.Input p = is_input p
 has_role role.GateClock p = is_gate_clock p
@@ -78,6 +93,8 @@ has_role role.Output p = is_output p
 has_role role.Power p = is_power p.kind
 has_role role.Pin p = is_pin p.kind || is_power p.kind
 has_role role.Any p = is_pin p.kind || (is_power p.kind || is_ff p.kind)
+has_role role.WideInput p = is_wide (codes "input") p
+has_role role.WideOutput p = is_wide (codes "output") p
 
 abbrev pub names_in : Role → Part → List (List ℕ)
 names_in role p = if has_role role p then p.names else []
@@ -96,8 +113,12 @@ outs_of parts = flat_map outs_in parts
 abbrev pub is_directed : Part → Bool
 is_directed p = not (is_pin p.kind) || (is_input p || is_output p)
 
+-- an attribute with which a cell is not modelled stands in the group; none that stands in a memory counts
+abbrev pub is_unmodelled_part : Part → Bool
+is_unmodelled_part p = not (is_memory p.kind) && has_unmodelled_attribute p.attributes
+
 abbrev pub has_unmodelled_part : List Part → Bool
-has_unmodelled_part parts = list_any (λ (p : Part). has_unmodelled_attribute p.attributes) parts
+has_unmodelled_part parts = list_any is_unmodelled_part parts
 
 -- each group and attribute of the cell can be modelled
 abbrev pub can_be_modelled : CellGroup → Bool

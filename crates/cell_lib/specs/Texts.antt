@@ -17,8 +17,8 @@ use Rattle.cell_types.specs.declared.libraries.Cell.{Cell}
 use Rattle.cell_types.specs.declared.libraries.Library.{Library}
 use Rattle.cell_lib.specs.declared.flaws.Flaw.{Flaw}
 use Rattle.cell_lib.specs.declared.flaws.Flaw.TheVariants as flaws
-use Rattle.cell_lib.specs.declared.faults.LibFault.{LibFault}
-use Rattle.cell_lib.specs.declared.faults.LibFault.TheVariants as fault
+use Rattle.cell_types.specs.declared.faults.LibFault.{LibFault}
+use Rattle.cell_types.specs.declared.faults.LibFault.TheVariants as fault
 use Rattle.cell_lib.specs.Pins.{has_unmodelled_group}
 use Rattle.cell_lib.specs.Gates.{gate_of}
 use Rattle.cell_lib.specs.Cells.{cell_of}

@@ -7,17 +7,18 @@
 
 mod cells;
 mod combs;
-mod faults;
 mod flaws;
 mod flops;
 mod gates;
 mod misfits;
+mod others;
 mod pins;
 mod readers;
 mod scopes;
 mod shapes;
 mod values;
 
-pub use cell_types::{Cell, CellKind, CombOut, Flop, FlopOut, GateCell, Library, builtin};
-pub use faults::LibFault;
+pub use cell_types::{
+    Cell, CellKind, CombOut, Flop, FlopOut, GateCell, Keeps, LibFault, Library, OtherCell, builtin,
+};
 pub use readers::read_lib;

@@ -1,6 +1,7 @@
 //! The pins of a cell.
 ghost use Rattle.std.specs.Prelude.{◌≡◌, ◌++◌, IfOk, OnOk};
 ghost use Rattle.std.specs.List.{list_all, list_any};
+ghost use Rattle.texts.specs.Names.{each_once};
 ghost use Rattle.cell_lib.specs.Pins as spec;
 
 use crate::values::{expr_of, says};
@@ -24,6 +25,10 @@ pub enum Role {
     Pin,
     /// Whatever has a name of its own in a cell: pins, power pins, and the state and its complement.
     Any,
+    /// Input pins, and buses and bundles of them.
+    WideInput,
+    /// Output pins, and buses and bundles of them.
+    WideOutput,
 }
 
 /// An output pin and its function, where one is given.
@@ -54,6 +59,25 @@ pub fn is_output(part: &Part) -> bool
             part.attributes.as_slice(),
             AttributeKind::Direction,
             "output",
+        )
+}
+
+/// Whether the group is of pins, or of several at once.
+fn is_wide_pin(kind: PartKind) -> bool
+    ensures { result ≡ spec.is_wide_pin kind }
+{
+    matches!(kind, PartKind::Pin | PartKind::Bus | PartKind::Bundle)
+}
+
+/// Whether the group is of pins, buses or bundles of this direction.
+fn is_wide(part: &Part, direction: &str) -> bool
+    ensures { result ≡ spec.is_wide direction.now part.now }
+{
+    is_wide_pin(part.kind)
+        && says(
+            part.attributes.as_slice(),
+            AttributeKind::Direction,
+            direction,
         )
 }
 
@@ -112,11 +136,18 @@ fn has_unmodelled_attribute(attributes: &[Attribute]) -> bool
     attributes.iter().any(|a| is_unmodelled_attribute(a.kind))
 }
 
+/// Whether such an attribute stands in the group, which is of no memory.
+fn is_unmodelled_part(part: &Part) -> bool
+    ensures { result ≡ spec.is_unmodelled_part part.now }
+{
+    !matches!(part.kind, PartKind::Memory) && has_unmodelled_attribute(part.attributes.as_slice())
+}
+
 /// Whether such an attribute stands in one of the groups.
 fn has_unmodelled_part(parts: &[Part]) -> bool
     ensures { result ≡ spec.has_unmodelled_part parts.now }
 {
-    parts.iter().any(|part| has_unmodelled_attribute(part.attributes.as_slice()))
+    parts.iter().any(is_unmodelled_part)
 }
 
 /// Whether each group and attribute of the cell can be modelled.
@@ -161,6 +192,8 @@ fn has_role(role: Role, part: &Part) -> bool
         Role::Power => matches!(part.kind, PartKind::PgPin),
         Role::Pin => matches!(part.kind, PartKind::Pin | PartKind::PgPin),
         Role::Any => matches!(part.kind, PartKind::Pin | PartKind::PgPin | PartKind::Ff),
+        Role::WideInput => is_wide(part, "input"),
+        Role::WideOutput => is_wide(part, "output"),
     }
 }
 
@@ -185,6 +218,16 @@ pub fn names_of(alloc: Global, parts: &[Part], role: Role) -> Result<Seq<Name>, 
         }
     }
     Ok(found)
+}
+
+/// The same names, each once.
+pub fn names_once(alloc: Global, parts: &[Part], role: Role) -> Result<Seq<Name>, AllocError>
+    ensures { IfOk result (λ names. names ≡ each_once (spec.names_of role parts.now)) }
+{
+    let names = names_of(alloc, parts, role)?;
+    let mut table = NameTable::new(alloc);
+    table.add_all(alloc, names.as_slice())?;
+    Ok(Seq::from_vec(table.names(alloc)?))
 }
 
 /// Appends the output pins that a group names.

@@ -1,19 +1,22 @@
 //! What the pins of a cell, and an `ff`, make of it.
-ghost use Rattle.std.specs.Prelude.{◌≡◌, IfOk, Some};
+ghost use Rattle.std.specs.Prelude.{◌≡◌, IfOk};
 ghost use Rattle.std.specs.Option.{option_copied};
 ghost use Rattle.texts.specs.Names.{each_once};
 ghost use Rattle.cell_lib.specs.Pins as pins_spec;
 ghost use Rattle.cell_lib.specs.Flops as flops_spec;
 ghost use Rattle.cell_lib.specs.Combs.{comb_outs};
 ghost use Rattle.cell_lib.specs.Cells as spec;
+ghost use Rattle.cell_lib.specs.declared.pins.Role.TheVariants as role;
 ghost use Rattle.cell_types.specs.declared.libraries.CellKind.TheVariants as kinds;
 
 use crate::combs::comb_outs;
 use crate::flops::{data_inputs, flop_of};
 use crate::gates::gate_of;
 use crate::misfits::Misfit;
+use crate::others::other_of;
 use crate::pins::{
-    OutPin, Role, are_directed, can_be_modelled, names_differ, names_of, outs_of, push_names,
+    OutPin, Role, are_directed, can_be_modelled, names_differ, names_of, names_once, outs_of,
+    push_names,
 };
 use crate::{CellKind, Flop, GateCell};
 use lib_words::{CellGroup, Part, PartKind};
@@ -46,36 +49,37 @@ fn shape_with(alloc: Global, inputs: &NameTable, kind: CellKind) -> Result<Shape
 }
 
 /// A cell that is not modelled.
-fn other_shape(alloc: Global, inputs: &[Name]) -> Result<Shape, AllocError>
-    ensures { IfOk result (λ s. s ≡ spec.other_shape inputs.now) }
+fn other_shape(alloc: Global, parts: &[Part]) -> Result<Shape, AllocError>
+    ensures { IfOk result (λ s. s ≡ spec.other_shape parts.now) }
 {
-    let inputs = table(alloc, inputs)?;
-    shape_with(alloc, &inputs, CellKind::Other)
+    let inputs = names_once(alloc, parts, Role::WideInput)?;
+    let other = other_of(alloc, parts)?;
+    Ok(Shape {
+        inputs,
+        kind: CellKind::Other(other),
+    })
 }
 
-/// What a cell without an `ff` is.
-fn comb_kind(alloc: Global, inputs: &NameTable, outs: &[OutPin]) -> Result<CellKind, AllocError>
-    ensures { IfOk result (λ k. k ≡ spec.comb_kind (comb_outs inputs.now outs.now)) }
+/// A cell without an `ff`.
+fn comb_shape(
+    alloc: Global,
+    parts: &[Part],
+    inputs: &[Name],
+    outs: &[OutPin],
+) -> Result<Shape, AllocError>
+    ensures { IfOk result (λ s. s ≡ spec.comb_shape parts.now (each_once inputs.now) (comb_outs (each_once inputs.now) outs.now)) }
 {
-    match comb_outs(alloc, inputs, outs) {
-        Ok(outs) => Ok(CellKind::Comb(outs)),
-        Err(Misfit::Other) => Ok(CellKind::Other),
+    let inputs = table(alloc, inputs)?;
+    match comb_outs(alloc, &inputs, outs) {
+        Ok(outs) => shape_with(alloc, &inputs, CellKind::Comb(outs)),
+        Err(Misfit::Other) => other_shape(alloc, parts),
         Err(Misfit::Memory) => Err(AllocError),
     }
 }
 
-/// A cell without an `ff`.
-fn comb_shape(alloc: Global, inputs: &[Name], outs: &[OutPin]) -> Result<Shape, AllocError>
-    ensures { IfOk result (λ s. s ≡ spec.comb_shape inputs.now outs.now) }
-{
-    let inputs = table(alloc, inputs)?;
-    let kind = comb_kind(alloc, &inputs, outs)?;
-    shape_with(alloc, &inputs, kind)
-}
-
 /// A cell that is this flop: its clock is not among the inputs.
 fn clocked_shape(alloc: Global, inputs: &[Name], flop: Flop) -> Result<Shape, AllocError>
-    ensures { IfOk result (λ s. s ≡ spec.flop_shape inputs.now (Some flop)) }
+    ensures { IfOk result (λ s. s ≡ record { inputs = flops_spec.data_inputs flop.clock inputs.now; kind = kinds.Flop flop }) }
 {
     let inputs = data_inputs(alloc, &flop.clock, inputs)?;
     shape_with(alloc, &inputs, CellKind::Flop(flop))
@@ -84,15 +88,16 @@ fn clocked_shape(alloc: Global, inputs: &[Name], flop: Flop) -> Result<Shape, Al
 /// A cell with an `ff`.
 fn flop_shape(
     alloc: Global,
+    parts: &[Part],
     inputs: &[Name],
     outs: &[OutPin],
     ff: &Part,
 ) -> Result<Shape, AllocError>
-    ensures { IfOk result (λ s. s ≡ spec.flop_shape inputs.now (flops_spec.flop_of inputs.now outs.now ff.now)) }
+    ensures { IfOk result (λ s. s ≡ spec.flop_shape parts.now inputs.now (flops_spec.flop_of inputs.now outs.now ff.now)) }
 {
     match flop_of(alloc, inputs, outs, ff) {
         Ok(flop) => clocked_shape(alloc, inputs, flop),
-        Err(Misfit::Other) => other_shape(alloc, inputs),
+        Err(Misfit::Other) => other_shape(alloc, parts),
         Err(Misfit::Memory) => Err(AllocError),
     }
 }
@@ -134,13 +139,14 @@ fn is_modelled(alloc: Global, group: &CellGroup) -> Result<bool, AllocError>
 }
 
 /// What pins, and an `ff` where there is one, make of a cell that is modelled.
-fn modelled_shape(alloc: Global, parts: &[Part], inputs: &[Name]) -> Result<Shape, AllocError>
-    ensures { IfOk result (λ s. s ≡ spec.shape_by inputs.now (pins_spec.outs_of parts.now) (spec.first_ff parts.now)) }
+fn modelled_shape(alloc: Global, parts: &[Part]) -> Result<Shape, AllocError>
+    ensures { IfOk result (λ s. s ≡ spec.shape_by parts.now (pins_spec.names_of role.Input parts.now) (pins_spec.outs_of parts.now) (spec.first_ff parts.now)) }
 {
+    let inputs = names_of(alloc, parts, Role::Input)?;
     let outs = outs_of(alloc, parts)?;
     match first_ff(parts) {
-        None => comb_shape(alloc, inputs, outs.as_slice()),
-        Some(ff) => flop_shape(alloc, inputs, outs.as_slice(), ff),
+        None => comb_shape(alloc, parts, inputs.as_slice(), outs.as_slice()),
+        Some(ff) => flop_shape(alloc, parts, inputs.as_slice(), outs.as_slice(), ff),
     }
 }
 
@@ -172,10 +178,9 @@ fn plain_shape(alloc: Global, group: &CellGroup) -> Result<Shape, AllocError>
     ensures { IfOk result (λ s. s ≡ spec.plain_shape group.now) }
 {
     let parts = group.parts.as_slice();
-    let inputs = names_of(alloc, parts, Role::Input)?;
     if is_modelled(alloc, group)? {
-        modelled_shape(alloc, parts, inputs.as_slice())
+        modelled_shape(alloc, parts)
     } else {
-        other_shape(alloc, inputs.as_slice())
+        other_shape(alloc, parts)
     }
 }

@@ -52,7 +52,7 @@ is_lawful_kind : ℕ → CellKind → Bool
 is_lawful_kind n (kind.Comb outs) = list_all (λ (o : CombOut). is_over n o.func) outs
 is_lawful_kind n (kind.Flop flop) = is_over (n + 1) flop.next && (is_option_over n flop.clear && is_option_over n flop.preset)
 is_lawful_kind n (kind.Gate gate) = false
-is_lawful_kind n kind.Other = true
+is_lawful_kind n (kind.Other o) = true
 
 outs_from_test : (n : ℕ) (outs : List CombOut) → list_all (λ (o : CombOut). is_over n o.func) outs ≡ true → All (λ (o : CombOut). IsOver n o.func) outs
 outs_from_test n [] e = All-nil (λ (o : CombOut). IsOver n o.func)
@@ -69,7 +69,7 @@ kind_from_test inputs (kind.Flop flop) e =
     let q = and_parts (is_option_over n flop.clear) (is_option_over n flop.preset) p.1 in
     record { next = over_from_test (n + 1) flop.next p.0; clear = option_from_test n flop.clear q.0; preset = option_from_test n flop.preset q.1 }
 kind_from_test inputs (kind.Gate gate) e = absurd cc
-kind_from_test inputs kind.Other e = tt
+kind_from_test inputs (kind.Other o) e = tt
 
 is_lawful_cell : Cell → Bool
 is_lawful_cell cell = is_lawful_kind (length cell.inputs) cell.kind

@@ -25,7 +25,7 @@ abbrev pub IsLawfulKind : List (List ℕ) → CellKind → Type 0
 IsLawfulKind inputs (kind.Comb outs) = All (λ (o : CombOut). IsOver (length inputs) o.func) outs
 IsLawfulKind inputs (kind.Flop flop) = IsLawfulFlop (length inputs) flop
 IsLawfulKind inputs (kind.Gate gate) = gate.enables ≡ inputs
-IsLawfulKind inputs kind.Other = Unit {0}
+IsLawfulKind inputs (kind.Other o) = Unit {0}
 
 abbrev pub IsLawfulCell : Cell → Type 0
 IsLawfulCell cell = IsLawfulKind cell.inputs cell.kind

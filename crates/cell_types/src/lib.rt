@@ -9,7 +9,9 @@ mod builtin_cells;
 mod builtin_flops;
 mod builtin_gates;
 mod builtin_parts;
+mod faults;
 mod libraries;
 
 pub use builtin_cells::builtin;
-pub use libraries::{Cell, CellKind, CombOut, Flop, FlopOut, GateCell, Library};
+pub use faults::LibFault;
+pub use libraries::{Cell, CellKind, CombOut, Flop, FlopOut, GateCell, Keeps, Library, OtherCell};

@@ -44,16 +44,41 @@ pub struct GateCell {
     pub out: Name,
 }
 
+/// What a cell keeps from cycle to cycle: nothing; the bits of flops or latches (Liberty, groups `ff`, `ff_bank`, `latch`,
+/// `latch_bank`); or a memory (groups `statetable`, `memory`).
+#[derive(Clone, Copy, PartialEq, Eq)]
+pub enum Keeps {
+    Nothing,
+    Bits,
+    Memory,
+}
+
+/// A cell that can't be modelled: its outputs, each of which is a pin, a bus or a bundle, and what it keeps.
+pub struct OtherCell {
+    pub outs: Seq<Name>,
+    pub keeps: Keeps,
+}
+
+impl Drop for OtherCell {
+    fn drop(self) {
+        let OtherCell {
+            outs: _outs,
+            keeps: _keeps,
+        } = self;
+    }
+}
+
 /// What a cell is. `Other` can't be modelled, and is refused only where a design uses it.
 #[derive(Drop)]
 pub enum CellKind {
     Comb(Seq<CombOut>),
     Flop(Flop),
     Gate(GateCell),
-    Other,
+    Other(OtherCell),
 }
 
-/// A cell with its input pins in order, without the clock of a flop or a clock gate, and its power pins.
+/// A cell with its input pins in order, without the clock of a flop or a clock gate, and its power pins. The inputs of one
+/// that can't be modelled are pins, buses and bundles.
 #[derive(Drop)]
 pub struct Cell {
     pub name: Name,

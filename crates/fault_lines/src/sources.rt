@@ -3,10 +3,10 @@ ghost use Rattle.std.specs.Prelude.{◌≡◌, IfOk, Some};
 ghost use Rattle.fault_lines.specs.Sources.{liberty_line, sdc_line, too_long_line, verilog_line};
 
 use crate::shapes::{name_line, number_line, numbered_line, plain_line};
-use cell_lib::LibFault;
+use cell_types::LibFault;
+use netlist_types::VerFault;
 use sdc_values::SdcFault;
 use std::alloc::{AllocError, Global};
-use verilog_scope::VerFault;
 
 /// A text that a run reads.
 #[derive(Clone, Copy)]

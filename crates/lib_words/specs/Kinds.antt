@@ -18,6 +18,7 @@ part_kind x = in_table (
     ∷ (codes "statetable", part.Statetable)
     ∷ (codes "bus", part.Bus)
     ∷ (codes "bundle", part.Bundle)
+    ∷ (codes "memory", part.Memory)
     ∷ []) x
 
 -- the simple attributes that count where they stand directly in a cell or in one of its parts

@@ -1,7 +1,9 @@
 //! Why a text is no group tree.
 ghost use Rattle.std.specs.Prelude.{◌≡◌};
 ghost use Rattle.lib_words.specs.declared.faults.GroupFault.TheVariants as fault;
+ghost use Rattle.lib_words.specs.Told.{of_groups};
 
+use cell_types::LibFault;
 use std::alloc::{AllocError, AllocFailed};
 use thiserror::Error;
 
@@ -31,5 +33,17 @@ impl<T: Drop> From<AllocFailed<T>> for GroupFault {
 
     fn from(_: AllocFailed<T>) -> GroupFault {
         GroupFault::Memory
+    }
+}
+
+impl From<GroupFault> for LibFault {
+    ghost from_gives = { λ f e. e ≡ of_groups f };
+
+    fn from(fault: GroupFault) -> LibFault {
+        match fault {
+            GroupFault::Syntax(place) => LibFault::Syntax(place),
+            GroupFault::Deep(place) => LibFault::Deep(place),
+            GroupFault::Memory => LibFault::Memory,
+        }
     }
 }

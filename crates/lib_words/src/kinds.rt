@@ -16,6 +16,7 @@ pub enum PartKind {
     Statetable,
     Bus,
     Bundle,
+    Memory,
 }
 
 /// A simple attribute that counts where it stands directly in a cell or in one of its parts.
@@ -66,6 +67,8 @@ pub fn part_kind(name: &[u8]) -> Option<PartKind>
         Some(PartKind::Bus)
     } else if is(name, "bundle") {
         Some(PartKind::Bundle)
+    } else if is(name, "memory") {
+        Some(PartKind::Memory)
     } else {
         None
     }

@@ -1,6 +1,8 @@
 //! Libraries that texts are, against cells written by hand.
 use crate::expects::same;
-use cell_lib::{Cell, CellKind, CombOut, Flop, FlopOut, GateCell, LibFault, Library, read_lib};
+use cell_lib::{
+    Cell, CellKind, CombOut, Flop, FlopOut, GateCell, Keeps, LibFault, Library, OtherCell, read_lib,
+};
 use lib_words::GroupFault;
 use net_model::{Func, Node};
 use sdcv_base::Name;
@@ -85,12 +87,22 @@ fn show_names(out: &mut String, names: &[Name]) -> Result<(), AllocError> {
     Ok(())
 }
 
+fn show_other(out: &mut String, other: &OtherCell) -> Result<(), AllocError> {
+    out.push_str(" other")?;
+    show_names(out, other.outs.as_slice())?;
+    out.push_str(match other.keeps {
+        Keeps::Nothing => "",
+        Keeps::Bits => " keeps bits",
+        Keeps::Memory => " keeps memory",
+    })
+}
+
 fn show_kind(out: &mut String, kind: &CellKind) -> Result<(), AllocError> {
     match kind {
         CellKind::Comb(outs) => show_combs(out, outs.as_slice()),
         CellKind::Flop(flop) => show_flop(out, flop),
         CellKind::Gate(gate) => show_clock_gate(out, gate),
-        CellKind::Other => out.push_str(" other"),
+        CellKind::Other(other) => show_other(out, other),
     }
 }
 
@@ -172,22 +184,32 @@ const GATES: &str = r#"library (rules) {
   cell (tri) { pin (Y) { direction : output; function : "1"; three_state : "0"; } }
   cell (icg) { clock_gating_integrated_cell : "latch_posedge"; }
   cell (lat) { latch (IQ, IQN) { } pin (Y) { direction : output; function : "A +"; } }
+  cell (bank) { ff_bank (IQ, IQN, 2) { } statetable ("C", "S") { } bundle (D) { members (D0, D1); direction : input; pin (D0) { direction : output; } }
+    bundle (Q) { direction : "output"; } pin (K) { direction : input; } }
+  cell (fsm) { statetable ("C", "S") { } pin (Q, Q) { direction : output; } }
+  cell (ram) { memory () { type : ram; } bus (A) { bus_type : b4; direction : input; } pin (CK) { direction : input; } bus (Q) { direction : output; }
+    bus (M) { direction : inout; } bundle (N) { pin (O) { direction : output; } } pg_pin (VDD) { direction : output; } }
+  cell (rom) { memory () { type : rom; three_state : "A"; } pin (A) { direction : input; } pin (Y) { direction : output; function : "A"; } }
 }"#;
 
 const GATE_LINES: &str = "
 fill; VDD VSS gate
 bare A; gate Y=0
 last A; gate Y=!0
-lost A; other
-none; other
-free; other
+lost A; other Y
+none; other Y
+free; other Y
 both; other
 mute; other
 same A B; other
 rail A; A other
-tri; other
+tri; other Y
 icg; other
-lat; other";
+lat; other Y keeps bits
+bank D K; other Q keeps bits
+fsm; other Q keeps memory
+ram A CK; VDD other Q keeps memory
+rom A; gate Y=0";
 
 // Each cell is one rule of gates and of cells that are not modelled.
 #[test]
@@ -221,17 +243,17 @@ keep D; clock C next ((0*!!1)+(1*!0)) Q=!state R=state
 both D S; clock C next 0 clear 1 preset 0 both
 low D; clock C next 0 clear 0 preset 0
 one D; clock C next 0 preset 0
-var C D; other
-fall C D; other
-rise C D; other
-loop C; other
-wild C D; other
-out C D; other
-also C D; other
-twin C D; other
-name C D; other
-lone C D; other
-two C D; other
+var C D; other keeps bits
+fall C D; other keeps bits
+rise C D; other keeps bits
+loop C; other keeps bits
+wild C D; other keeps bits
+out C D; other Q keeps bits
+also C D; other keeps bits
+twin C D; other keeps bits
+name C D; other keeps bits
+lone C D; other keeps bits
+two C D; other keeps bits
 note D R; clock C next 0 clear 1 preset zero";
 
 // Each cell is one rule of flops.
@@ -278,14 +300,14 @@ bare EN; VDD clock CK to GCK where EN
 quoted EN; clock CK to GCK where EN
 six A B C D E F; clock K to G where A B C D E F
 test SE; clock K to G where SE
-off SE K; other
-fall E K; other
-clocks E K L; other
-twice E K; other
-bidi E K; other
-outs E K; other
-seen E K; other
-always K; other
+off SE K; other G
+fall E K; other G
+clocks E K L; other G
+twice E K; other G
+bidi E K; other G
+outs E K; other G H
+seen E K; other G
+always K; other G
 inner A; other";
 
 // Each cell is one rule of clock gates.
@@ -328,7 +350,7 @@ fn texts_are_refused_with_their_cause(rt: HostRuntime) -> Result<(), AllocError>
 
 // What stands in front; what is repeated, how often, and what closes each; the middle; what stands behind; what is told.
 const HEIGHTS: &[(&str, (&str, usize, &str), &str, &str, &str)] = &[
-    ("function : \"", ("!", 255, ""), "A", "\";", "\nX; other"),
+    ("function : \"", ("!", 255, ""), "A", "\";", "\nX; other Y"),
     (
         "function : \"",
         ("!", 256, ""),
@@ -343,7 +365,13 @@ const HEIGHTS: &[(&str, (&str, usize, &str), &str, &str, &str)] = &[
         "\";",
         "byte 67: nested too deep",
     ),
-    ("function : \"", ("A + ", 255, ""), "A", "\";", "\nX; other"),
+    (
+        "function : \"",
+        ("A + ", 255, ""),
+        "A",
+        "\";",
+        "\nX; other Y",
+    ),
     (
         "function : \"",
         ("A + ", 256, ""),
@@ -358,7 +386,7 @@ const HEIGHTS: &[(&str, (&str, usize, &str), &str, &str, &str)] = &[
         "\";",
         "byte 67: nested too deep",
     ),
-    ("function : \"", ("(", 256, ")"), "A", "\";", "\nX; other"),
+    ("function : \"", ("(", 256, ")"), "A", "\";", "\nX; other Y"),
     (
         "function : \"",
         ("(", 257, ")"),
@@ -380,7 +408,7 @@ const HEIGHTS: &[(&str, (&str, usize, &str), &str, &str, &str)] = &[
         " ;",
         "byte 66: nested too deep",
     ),
-    ("function : ", ("(", 300, ""), "A", " ;", "\nX; other"),
+    ("function : ", ("(", 300, ""), "A", " ;", "\nX; other Y"),
     (
         "function : \"",
         ("!", 300, ""),
@@ -400,9 +428,9 @@ const HEIGHTS: &[(&str, (&str, usize, &str), &str, &str, &str)] = &[
         ("!", 300, ""),
         "A",
         "\";",
-        "\nX; other",
+        "\nX; other Y keeps bits",
     ),
-    ("} a() {", ("a() {", 253, "}"), "", "", "\nX; other"),
+    ("} a() {", ("a() {", 253, "}"), "", "", "\nX; other Y"),
     (
         "} a() {",
         ("a() {", 254, "}"),
@@ -410,7 +438,7 @@ const HEIGHTS: &[(&str, (&str, usize, &str), &str, &str, &str)] = &[
         "",
         "byte 1331: nested too deep",
     ),
-    ("} a() {", ("a(){} ", 300, ""), "", "", "\nX; other"),
+    ("} a() {", ("a(){} ", 300, ""), "", "", "\nX; other Y"),
 ];
 
 fn push_times(text: &mut String, part: &str, count: usize) -> Result<(), AllocError> {

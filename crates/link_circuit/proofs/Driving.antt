@@ -204,7 +204,7 @@ cell_spread nets conns first c (kind.Gate g) is wired =
     let pins : other_pins c ≡ 2 = rw is refl in
     subst (λ (n : ℕ). IsSpread nets first (first + (length c.inputs + n)) (outs_of (cell_ties conns first c ++ cell_part nets conns first c))) (sym pins)
     (gate_spread nets conns first c g is wired)
-cell_spread nets conns first c kind.Other is wired =
+cell_spread nets conns first c (kind.Other o) is wired =
     let pins : other_pins c ≡ 0 = rw is refl in
     subst (λ (n : ℕ). IsSpread nets first (first + (length c.inputs + n)) (outs_of (cell_ties conns first c ++ cell_part nets conns first c))) (sym pins)
     (none_spread nets conns first c (rw is refl))

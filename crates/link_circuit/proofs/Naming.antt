@@ -408,7 +408,7 @@ cell_leaf nets full conns first c (kind.Gate g) q pin on is has =
     let ties_are : cell_ties conns first c ≡ pin_ties conns first c.inputs ++ tied = rw is refl in
     let part_is : cell_part nets conns first c ≡ own ∷ [] = rw is refl in
     clocked_leaf nets full conns first c (outs_from first c + 1) (wires_of conns g.clock) own q pin on ties_are part_is has
-cell_leaf nets full conns first c kind.Other q pin on is has =
+cell_leaf nets full conns first c (kind.Other o) q pin on is has =
     let none : cell_ties conns first c ++ cell_part nets conns first c ≡ [] = rw is refl in absurd (subst (λ (ps : List Part). In q ps) none has)
 
 ports_unclocked : (first : ℕ) (conns : List Conn) (ports : List Port) (q : Part) (pin : ℕ) → clock_of q ≡ Some pin

@@ -148,14 +148,14 @@ pins_of : CellKind → ℕ
 pins_of (kind.Comb outs) = length outs
 pins_of (kind.Flop f) = length f.outs + 1
 pins_of (kind.Gate g) = 2
-pins_of kind.Other = 0
+pins_of (kind.Other o) = 0
 
 other_is : (c : Cell) (k : CellKind) → c.kind ≡ k → other_pins c ≡ pins_of k
 unfolding pins_of
 other_is c (kind.Comb outs) is = rw is refl
 other_is c (kind.Flop f) is = rw is refl
 other_is c (kind.Gate g) is = rw is refl
-other_is c kind.Other is = rw is refl
+other_is c (kind.Other o) is = rw is refl
 
 -- an instance of a cell that is not refused
 cell_lawful : (total : ℕ) (nets : List ℕ) (full : List ℕ) (conns : List Conn) (first : ℕ) (c : Cell) (k : CellKind) → c.kind ≡ k
@@ -172,7 +172,7 @@ cell_lawful total nets full conns first c (kind.Flop f) is free are widths room 
 cell_lawful total nets full conns first c (kind.Gate g) is free are widths room over =
     gate_lawful total nets conns first c g is are widths (few_inputs c (kind.Gate g) full conns is (rw is refl) free)
     (omega (arith, room, other_is c (kind.Gate g) is))
-cell_lawful total nets full conns first c kind.Other is free are widths room over =
+cell_lawful total nets full conns first c (kind.Other o) is free are widths room over =
     let none : cell_ties conns first c ++ cell_part nets conns first c ≡ [] = rw is refl in
     subst (λ (ps : List Part). All (IsLawfulPart total) ps) (sym none) (all_none (IsLawfulPart total))
 

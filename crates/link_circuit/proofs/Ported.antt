@@ -105,10 +105,10 @@ nets_more m ports p c t same hit =
     ∙ map-append (λ (b : PortBit). b.net) (filter c (bits_in reads m ports)) (filter c (bits_of m p))
     ∙ ap (λ (ns : List ℕ). bit_nets (filter c (bits_in reads m ports)) ++ ns) (tested m p c t same p.bits)
 
-port_more : (m : Module) (clock : Option (List ℕ)) (ports : List Port) (p : Port) (now new : PortNets) (d : Dir) → p.dir ≡ d
-    → ArePorts m clock ports now → HasPortAs m clock p.bits d now new → ArePorts m clock (ports ++ p ∷ []) new
-port_more m clock ports p now new dir.Input is so_far added =
-    let hit : reads p ≡ true = ap is_input is in
+-- of one input port more
+read_more : (m : Module) (clock : Option (List ℕ)) (ports : List Port) (p : Port) (now new : PortNets) → reads p ≡ true
+    → ArePorts m clock ports now → HasInputs m clock p.bits now new → ArePorts m clock (ports ++ p ∷ []) new
+read_more m clock ports p now new hit so_far added =
     record {
       clocks = added.clocks ∙ ap (λ (ns : List ℕ). ns ++ filter (is_clock_net m clock) p.bits) so_far.clocks
           ∙ sym (nets_more m ports p (is_clock clock) (is_clock_net m clock) (clock_same m p clock) hit);
@@ -117,6 +117,11 @@ port_more m clock ports p now new dir.Input is so_far added =
           (λ n. ap not (clock_same m p clock n)) hit);
       outputs = added.outputs ∙ so_far.outputs ∙ ap (λ (bs : List PortBit). bit_nets bs) (sym (bits_no drives m ports p (ap not hit)));
     }
+
+port_more : (m : Module) (clock : Option (List ℕ)) (ports : List Port) (p : Port) (now new : PortNets) (d : Dir) → p.dir ≡ d
+    → ArePorts m clock ports now → HasPortAs m clock p.bits d now new → ArePorts m clock (ports ++ p ∷ []) new
+port_more m clock ports p now new dir.Input is so_far added = read_more m clock ports p now new (ap is_input is) so_far added
+port_more m clock ports p now new dir.Inout is so_far added = read_more m clock ports p now new (ap is_input is) so_far added
 port_more m clock ports p now new dir.Output is so_far (clocks, inputs, outputs) =
     let miss : reads p ≡ false = ap is_input is in
     let same = sym (bits_no reads m ports p miss) in

@@ -248,7 +248,7 @@ cell_known nets full conns first c (kind.Flop f) n is free wires has =
     flop_known nets conns first c f n is (joined_if nets full conns c (rw is refl) free wires) has
 cell_known nets full conns first c (kind.Gate g) n is free wires has =
     gate_known nets conns first c g n is (joined_if nets full conns c (rw is refl) free wires) has
-cell_known nets full conns first c kind.Other n is free wires has =
+cell_known nets full conns first c (kind.Other o) n is free wires has =
     let none : cell_ties conns first c ++ cell_part nets conns first c ≡ [] = rw is refl in
     absurd (subst (λ (ps : List Part). In n (reads_of ps)) none has)
 

@@ -30,6 +30,7 @@ pub record HasInputs (m : Module) (clock : Option (List ℕ)) (bits : List ℕ) 
 -- with the nets of a port of a direction
 abbrev pub HasPortAs : Module → Option (List ℕ) → List ℕ → Dir → PortNets → PortNets → Type 0
 HasPortAs m clock bits dir.Input old new = HasInputs m clock bits old new
+HasPortAs m clock bits dir.Inout old new = HasInputs m clock bits old new
 HasPortAs m clock bits dir.Output old new = (new.clocks ≡ old.clocks) × (new.inputs ≡ old.inputs) × (new.outputs ≡ old.outputs ++ bits)
 
 -- with the nets of a port

@@ -46,7 +46,7 @@ fn push_port(
     ensures { OnOk result (HasPort body.now clock.now port.now nets.old nets.new) }
 {
     match port.dir {
-        Dir::Input => push_inputs(body, clock, &port.bits, nets),
+        Dir::Input | Dir::Inout => push_inputs(body, clock, &port.bits, nets),
         Dir::Output => push_outputs(&port.bits, nets),
     }
 }

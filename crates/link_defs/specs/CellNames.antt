@@ -32,21 +32,21 @@ abbrev pub out_pins : CellKind → List (List ℕ)
 out_pins (kind.Comb outs) = map (λ (o : CombOut). o.name) outs
 out_pins (kind.Flop f) = map (λ (o : FlopOut). o.name) f.outs
 out_pins (kind.Gate g) = g.out ∷ []
-out_pins kind.Other = []
+out_pins (kind.Other o) = []
 
 -- the clock pin of a flop or a clock gate
 abbrev pub clock_pins : CellKind → List (List ℕ)
 clock_pins (kind.Comb outs) = []
 clock_pins (kind.Flop f) = f.clock ∷ []
 clock_pins (kind.Gate g) = g.clock ∷ []
-clock_pins kind.Other = []
+clock_pins (kind.Other o) = []
 
 -- the pins that stand on the clock tree: of a clock gate its output too
 abbrev pub tree_pins : CellKind → List (List ℕ)
 tree_pins (kind.Comb outs) = []
 tree_pins (kind.Flop f) = f.clock ∷ []
 tree_pins (kind.Gate g) = g.clock ∷ g.out ∷ []
-tree_pins kind.Other = []
+tree_pins (kind.Other o) = []
 
 -- a leaf of the flat netlist: its full name, its cell (a primitive has none), and its part
 pub record Leaf : Type 0 where

@@ -19,10 +19,11 @@ use Rattle.linked_types.specs.declared.names.PortName.{PortName}
 use Rattle.link_defs.specs.Flatten.{flat_of}
 use Rattle.link_defs.specs.Parts.{parts_of, inverts}
 
--- the direction of an input port
+-- the direction of a port of the top module whose bits are input bits: input or inout
 abbrev pub is_input : Dir → Bool
 is_input dir.Input = true
 is_input dir.Output = false
+is_input dir.Inout = true
 
 -- a bit of a port of the top module, with its net
 pub record PortBit : Type 0 where

@@ -123,7 +123,7 @@ abbrev pub most_pins : CellKind → ℕ
 most_pins (kind.Comb outs) = 6
 most_pins (kind.Flop f) = 6
 most_pins (kind.Gate g) = 5
-most_pins kind.Other = 6
+most_pins (kind.Other o) = 6
 
 -- a cell or primitive with more input pins than it may have is used, or a flop with six of them behind a clock gate, where it reads an
 -- enable too; the number is the most and 1

@@ -69,7 +69,7 @@ inner_scope scope name m conns first =
 
 -- the pins of a cell that is modelled that are no inputs: outputs, and the clock of a flop or a clock gate
 abbrev pub other_pins : Cell → ℕ
-other_pins c = elim c.kind [ kind.Comb outs ↦ length outs | kind.Flop f ↦ length f.outs + 1 | kind.Gate g ↦ 2 | kind.Other ↦ 0 ]
+other_pins c = elim c.kind [ kind.Comb outs ↦ length outs | kind.Flop f ↦ length f.outs + 1 | kind.Gate g ↦ 2 | kind.Other o ↦ 0 ]
 
 -- how many flat nets an instance brings: one for each net of its module, or for each pin of its cell
 unfoldable pub inst_nets : Source → Library → List ℕ → ℕ

@@ -24,7 +24,7 @@ abbrev pub is_modelled : CellKind → Bool
 is_modelled (kind.Comb outs) = true
 is_modelled (kind.Flop f) = true
 is_modelled (kind.Gate g) = true
-is_modelled kind.Other = false
+is_modelled (kind.Other o) = false
 
 -- the references of an item: an instance has one
 abbrev pub refs : Item → List (List ℕ)

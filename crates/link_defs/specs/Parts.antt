@@ -152,7 +152,7 @@ cell_part nets conns first c = elim c.kind [
   | kind.Flop f ↦ part.Flop (clock_net nets conns first c f) (flop_reg nets conns first c f) ∷ []
   | kind.Gate g ↦
       part.Gate (gate_clock nets conns first c g) (pin_nets nets conns first c.inputs) (pin_net nets (outs_from first c) (wires_of conns g.out)) ∷ []
-  | kind.Other ↦ []
+  | kind.Other o ↦ []
 ]
 
 -- the constants that its input pins are connected to, and the clock pin of a flop or a clock gate
@@ -161,7 +161,7 @@ cell_ties conns first c = elim c.kind [
   | kind.Comb outs ↦ pin_ties conns first c.inputs
   | kind.Flop f ↦ pin_ties conns first c.inputs ++ ties (outs_from first c + length f.outs) (wires_of conns f.clock)
   | kind.Gate g ↦ pin_ties conns first c.inputs ++ ties (outs_from first c + 1) (wires_of conns g.clock)
-  | kind.Other ↦ []
+  | kind.Other o ↦ []
 ]
 
 -- an instance: of a module, whose ports may be tied to constants, or of a cell

@@ -125,21 +125,21 @@ abbrev kind_part : List ℕ → List Conn → ℕ → Cell → CellKind → List
 kind_part nets conns first c (kind.Comb outs) = comb_part nets conns first c outs ∷ []
 kind_part nets conns first c (kind.Flop f) = flop_part nets conns first c f ∷ []
 kind_part nets conns first c (kind.Gate g) = gate_part nets conns first c g ∷ []
-kind_part nets conns first c kind.Other = []
+kind_part nets conns first c (kind.Other o) = []
 
 kind_part_is : (nets : List ℕ) (conns : List Conn) (first : ℕ) (c : Cell) (k : CellKind) → c.kind ≡ k → cell_part nets conns first c ≡ kind_part nets conns
     first c k
 kind_part_is nets conns first c (kind.Comb outs) is = rw is refl
 kind_part_is nets conns first c (kind.Flop f) is = rw is refl
 kind_part_is nets conns first c (kind.Gate g) is = rw is refl
-kind_part_is nets conns first c kind.Other is = rw is refl
+kind_part_is nets conns first c (kind.Other o) is = rw is refl
 
 one_part : (nets : List ℕ) (conns : List Conn) (first : ℕ) (c : Cell) (k : CellKind) → c.kind ≡ k → is_modelled c.kind ≡ true
     → (p : Part) × (cell_part nets conns first c ≡ p ∷ [])
 one_part nets conns first c (kind.Comb outs) is modelled = (comb_part nets conns first c outs, kind_part_is nets conns first c (kind.Comb outs) is)
 one_part nets conns first c (kind.Flop f) is modelled = (flop_part nets conns first c f, kind_part_is nets conns first c (kind.Flop f) is)
 one_part nets conns first c (kind.Gate g) is modelled = (gate_part nets conns first c g, kind_part_is nets conns first c (kind.Gate g) is)
-one_part nets conns first c kind.Other is modelled = let no : false ≡ true = rw is at modelled in absurd cc
+one_part nets conns first c (kind.Other o) is modelled = let no : false ≡ true = rw is at modelled in absurd cc
 
 -- an instance of a module
 pub module_added : (s : Source) (lib : Library) (scope : Scope) (cell name : List ℕ) (conns : List Conn) (m : Module) (old new : Made) (nets : List ℕ)

@@ -41,10 +41,12 @@ fine_input : (conns : List Conn) (p : Port) (d : Dir) (bit : ℕ) → d ≡ dir.
     false
 fine_input conns p dir.Input bit is at fine = fine bit at
 fine_input conns p dir.Output bit is at fine = cc
+fine_input conns p dir.Inout bit is at fine = cc
 
 fine_output : (conns : List Conn) (p : Port) (d : Dir) → d ≡ dir.Output → IsFineAs conns p d → is_tied conns p.name ≡ false
 fine_output conns p dir.Input is fine = cc
 fine_output conns p dir.Output is fine = fine
+fine_output conns p dir.Inout is fine = cc
 
 -- an instance of a module whose connections are fine has no refusal
 pub module_fine : (m : Module) (full : List ℕ) (conns : List Conn) → IsFineModule conns m → (e : LinkFault) → e ≢ fault.Memory → IsModuleFault m full conns e

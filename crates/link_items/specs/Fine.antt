@@ -18,10 +18,11 @@ pub record IsFineCell (conns : List Conn) (cell : Cell) : Type 0 where
   pub clock : All (λ (pin : List ℕ). is_open conns pin ≡ false) (clock_pins cell.kind)
   pub outs : All (λ (pin : List ℕ). is_tied conns pin ≡ false) (out_pins cell.kind)
 
--- an input port with bits is connected, and no output port to a constant
+-- an input port with bits is connected, and no output port to a constant; an inout port is connected as one likes
 abbrev pub IsFineAs : List Conn → Port → Dir → Type 0
 IsFineAs conns p dir.Input = (bit : ℕ) → slice_get p.bits 0 ≡ Some bit → is_open conns p.name ≡ false
 IsFineAs conns p dir.Output = is_tied conns p.name ≡ false
+IsFineAs conns p dir.Inout = Unit {0}
 
 -- the port is connected as its direction asks
 abbrev pub IsFinePort : List Conn → Port → Type 0

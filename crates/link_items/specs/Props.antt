@@ -61,6 +61,6 @@ pub lawful_kind : (inputs : List (List ℕ)) (k : CellKind) → IsProp (IsLawful
 lawful_kind inputs (kind.Comb outs) = hlevel (props, over)
 lawful_kind inputs (kind.Flop flop) = hlevel (props, over, option_over)
 lawful_kind inputs (kind.Gate gate) = hlevel props
-lawful_kind inputs kind.Other = hlevel props
+lawful_kind inputs (kind.Other o) = hlevel props
 
 pub ruleset lawful_props = (props, lawful_item, lawful_kind)

@@ -30,7 +30,7 @@ abbrev pub kind_pins : CellKind → ℕ
 kind_pins (kind.Comb outs) = length outs
 kind_pins (kind.Flop f) = length f.outs + 1
 kind_pins (kind.Gate g) = 2
-kind_pins kind.Other = 0
+kind_pins (kind.Other o) = 0
 
 -- an instance of a module brings a net for each of its module's, and the constants that its ports are connected to
 pub record IsModuleAdded (outer : List ℕ) (conns : List Conn) (m : Module) (old new : Made) (nets : List ℕ) : Type 0 where

@@ -33,7 +33,7 @@ fn is_clock_pin(kind: &CellKind, pin: &Name) -> bool
         CellKind::Comb(_) => false,
         CellKind::Flop(flop) => *pin == flop.clock,
         CellKind::Gate(gate) => *pin == gate.clock,
-        CellKind::Other => false,
+        CellKind::Other(_) => false,
     }
 }
 
@@ -59,7 +59,7 @@ fn is_out_pin(kind: &CellKind, pin: &Name) -> bool
         CellKind::Comb(outs) => is_comb_out(outs.as_slice(), pin),
         CellKind::Flop(flop) => is_flop_out(flop.outs.as_slice(), pin),
         CellKind::Gate(gate) => *pin == gate.out,
-        CellKind::Other => false,
+        CellKind::Other(_) => false,
     }
 }
 
@@ -126,7 +126,7 @@ fn clock_pin(kind: &CellKind) -> Option<&Name>
         CellKind::Flop(flop) => Some(&flop.clock),
         CellKind::Gate(gate) => Some(&gate.clock),
         CellKind::Comb(_) => None,
-        CellKind::Other => None,
+        CellKind::Other(_) => None,
     }
 }
 
@@ -183,7 +183,7 @@ fn tied_out<'a>(conns: &[Conn], kind: &'a CellKind) -> Option<&'a Name>
             }
             None
         }
-        CellKind::Other => None,
+        CellKind::Other(_) => None,
     }
 }
 
@@ -209,7 +209,7 @@ fn most_pins(kind: &CellKind) -> usize
         CellKind::Comb(_) => MOST_PINS,
         CellKind::Flop(_) => MOST_PINS,
         CellKind::Gate(_) => MOST_PINS - 1,
-        CellKind::Other => MOST_PINS,
+        CellKind::Other(_) => MOST_PINS,
     }
 }
 

@@ -236,7 +236,7 @@ pub(crate) fn push_cell(
             parts.push(gate_part(alloc, nets, conns, first, cell, gate)?)?;
             Ok(())
         }
-        CellKind::Other => Ok(()),
+        CellKind::Other(_) => Ok(()),
     }
 }
 

@@ -55,7 +55,7 @@ fn other_pins(kind: &CellKind) -> Result<usize, LinkFault>
         CellKind::Comb(outs) => Ok(outs.len()),
         CellKind::Flop(flop) => sum(flop.outs.len(), 1),
         CellKind::Gate(_) => Ok(2),
-        CellKind::Other => Ok(0),
+        CellKind::Other(_) => Ok(0),
     }
 }
 
@@ -76,7 +76,7 @@ fn is_modelled(kind: &CellKind) -> bool
         CellKind::Comb(_) => true,
         CellKind::Flop(_) => true,
         CellKind::Gate(_) => true,
-        CellKind::Other => false,
+        CellKind::Other(_) => false,
     }
 }
 

@@ -108,6 +108,7 @@ fn check_port(
     match port.dir {
         Dir::Input => check_input(alloc, full, conns, body, port),
         Dir::Output => check_output(alloc, full, conns, body, port),
+        Dir::Inout => Ok(()),
     }
 }
 

@@ -11,12 +11,12 @@ use netlist_types::{Dir, Module, Port};
 use sdcv_base::{Name, Seq};
 use std::alloc::{AllocError, Global};
 
-/// Whether a port is an input.
+/// Whether the bits of such a port of the top module are input bits.
 fn is_input(dir: Dir) -> bool
     ensures { result ≡ reads dir }
 {
     match dir {
-        Dir::Input => true,
+        Dir::Input | Dir::Inout => true,
         Dir::Output => false,
     }
 }

@@ -143,7 +143,7 @@ cell_leaves_are nets conns first full c (kind.Gate g) is =
     (ties_none (wires_of conns g.clock) (outs_from first c + 1))) (record {
       pins = λ d same. length_pin_nets nets conns c.inputs first ∙ (let e : c ≡ d = cc in ap (λ (x : Cell). length x.inputs) e);
     }))
-cell_leaves_are nets conns first full c kind.Other is =
+cell_leaves_are nets conns first full c (kind.Other o) is =
     let none : cell_ties conns first c ++ cell_part nets conns first c ≡ [] = rw is refl in
     subst (λ (ps : List Part). AreLeavesOf ps (leaf_if_any full (Some c) (last_part ps))) (sym none)
     (record { regs = refl; shaped = all_none IsShaped })

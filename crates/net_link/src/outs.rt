@@ -51,7 +51,7 @@ pub(crate) fn out_names(alloc: Global, kind: &CellKind) -> Result<Seq<Name>, All
             let name = gate.out.copy(alloc)?;
             Seq::one(alloc, name)
         }
-        CellKind::Other => Ok(Seq::new(alloc)),
+        CellKind::Other(_) => Ok(Seq::new(alloc)),
     }
 }
 

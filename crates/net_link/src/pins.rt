@@ -105,7 +105,7 @@ fn push_tree(alloc: Global, list: &mut Seq<PinName>, kind: &CellKind) -> Result<
             push_clock(alloc, list, &gate.clock)?;
             push_clock(alloc, list, &gate.out)
         }
-        CellKind::Other => Ok(()),
+        CellKind::Other(_) => Ok(()),
     }
 }
 

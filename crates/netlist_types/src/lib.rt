@@ -5,8 +5,10 @@
 //! read is left to the crates of Verilog, and what a source means to linking.
 #![tactic(auto)]
 
+mod faults;
 mod gates;
 mod sources;
 
+pub use faults::VerFault;
 pub use gates::PrimKind;
 pub use sources::{Conn, Dir, Item, Module, Port, Source, Wire};

@@ -3,11 +3,13 @@
 use crate::gates::PrimKind;
 use sdcv_base::{Name, Seq};
 
-/// The direction of a port.
+/// The direction of a port. Through an `Inout` port a module may read and drive. A bit of such a port of the top module is
+/// an input bit of the design.
 #[derive(Clone, Copy, PartialEq, Eq)]
 pub enum Dir {
     Input,
     Output,
+    Inout,
 }
 
 /// What a pin or an assignment reads: a constant, or a net of the module by its number.

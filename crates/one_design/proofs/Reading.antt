@@ -3,8 +3,8 @@ use Rattle.std.proofs.Common.{◌≡◌, ◌∙◌, ℕ, List, Option, Some, Res
 use Rattle.std.proofs.lemmas.Option.{none-some, same_Some}
 use Rattle.verilog_net.specs.Sources.{source_of}
 use Rattle.cell_types.specs.declared.libraries.Library.{Library}
-use Rattle.cell_lib.specs.declared.faults.LibFault.{LibFault}
-use Rattle.cell_lib.specs.declared.faults.LibFault.TheVariants as fault
+use Rattle.cell_types.specs.declared.faults.LibFault.{LibFault}
+use Rattle.cell_types.specs.declared.faults.LibFault.TheVariants as fault
 use Rattle.cell_lib.specs.Texts.{library_of, Refuses, Reads}
 use Rattle.sdc_text.specs.Scripts.{script_of}
 use Rattle.fault_lines.specs.Sources.{verilog_line, liberty_line, sdc_line}

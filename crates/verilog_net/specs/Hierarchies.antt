@@ -3,7 +3,7 @@ use Rattle.std.specs.Prelude.{ℕ, Bool, true, ◌==◌, List, [], map, slice_ge
 use Rattle.texts.specs.Names.{place_of}
 use Rattle.texts.specs.Rules.{◌>>=◌}
 use Rattle.verilog_syntax.specs.declared.declarations.ModuleDecl.{ModuleDecl}
-use Rattle.verilog_scope.specs.declared.faults.VerFault.{VerFault}
+use Rattle.netlist_types.specs.declared.faults.VerFault.{VerFault}
 use Rattle.verilog_scope.specs.declared.scopes.Scope.{Scope}
 use Rattle.verilog_scope.specs.Folds.{fold_ok, each}
 use Rattle.verilog_scope.specs.Ranges.{width}

@@ -12,8 +12,8 @@ use Rattle.verilog_syntax.specs.declared.declarations.PrimDecl.{PrimDecl}
 use Rattle.verilog_syntax.specs.declared.declarations.AssignDecl.{AssignDecl}
 use Rattle.verilog_syntax.specs.declared.declarations.ItemDecl.{ItemDecl}
 use Rattle.verilog_syntax.specs.declared.declarations.ItemDecl.TheVariants.{Ports, Nets, Assigns, Prims, Insts}
-use Rattle.verilog_scope.specs.declared.faults.VerFault.{VerFault}
-use Rattle.verilog_scope.specs.declared.faults.VerFault.TheVariants as fault
+use Rattle.netlist_types.specs.declared.faults.VerFault.{VerFault}
+use Rattle.netlist_types.specs.declared.faults.VerFault.TheVariants as fault
 use Rattle.verilog_scope.specs.declared.scopes.Scope.{Scope}
 use Rattle.verilog_scope.specs.Folds.{fold_ok, fold_both, each}
 use Rattle.verilog_scope.specs.Decls.{with_new}

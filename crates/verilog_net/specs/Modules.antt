@@ -7,8 +7,8 @@ use Rattle.verilog_syntax.specs.declared.declarations.PortDecl.{PortDecl}
 use Rattle.verilog_syntax.specs.declared.declarations.Head.{Head}
 use Rattle.verilog_syntax.specs.declared.declarations.Head.TheVariants as head
 use Rattle.verilog_syntax.specs.declared.declarations.ModuleDecl.{ModuleDecl}
-use Rattle.verilog_scope.specs.declared.faults.VerFault.{VerFault}
-use Rattle.verilog_scope.specs.declared.faults.VerFault.TheVariants as fault
+use Rattle.netlist_types.specs.declared.faults.VerFault.{VerFault}
+use Rattle.netlist_types.specs.declared.faults.VerFault.TheVariants as fault
 use Rattle.verilog_scope.specs.declared.scopes.Scope.{Scope}
 use Rattle.verilog_scope.specs.Folds.{fold_ok, fold_both}
 use Rattle.verilog_scope.specs.Scopes.{decl_of, all_bits, net_names}

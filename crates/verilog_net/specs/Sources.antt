@@ -3,8 +3,8 @@ use Rattle.std.specs.Prelude.{ℕ, List, Result, Ok, Err}
 use Rattle.texts.specs.Rules.{◌>>=◌}
 use Rattle.verilog_words.specs.declared.faults.SyntaxFault.{SyntaxFault}
 use Rattle.verilog_syntax.specs.Modules.{modules_of}
-use Rattle.verilog_scope.specs.declared.faults.VerFault.{VerFault}
-use Rattle.verilog_scope.specs.Fails.{of_syntax}
+use Rattle.netlist_types.specs.declared.faults.VerFault.{VerFault}
+use Rattle.verilog_words.specs.Told.{of_syntax}
 use Rattle.netlist_types.specs.declared.sources.Source.{Source}
 use Rattle.verilog_net.specs.Hierarchies.{hierarchy_of}
 use Rattle.verilog_net.specs.Modules.{modules_made}

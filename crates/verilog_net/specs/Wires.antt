@@ -5,8 +5,8 @@ use Rattle.texts.specs.Rules.{◌>>=◌}
 use Rattle.verilog_syntax.specs.declared.declarations.Part.TheVariants.{Net, Bits}
 use Rattle.verilog_syntax.specs.declared.declarations.PartDecl.{PartDecl}
 use Rattle.verilog_syntax.specs.declared.declarations.TermDecl.{TermDecl}
-use Rattle.verilog_scope.specs.declared.faults.VerFault.{VerFault}
-use Rattle.verilog_scope.specs.declared.faults.VerFault.TheVariants as fault
+use Rattle.netlist_types.specs.declared.faults.VerFault.{VerFault}
+use Rattle.netlist_types.specs.declared.faults.VerFault.TheVariants as fault
 use Rattle.verilog_scope.specs.declared.ranges.Run.{Run}
 use Rattle.verilog_scope.specs.declared.scopes.Scope.{Scope}
 use Rattle.verilog_scope.specs.Folds.{fold_ok}

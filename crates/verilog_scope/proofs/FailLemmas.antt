@@ -1,7 +1,7 @@
 -- Refusals of one rule that go through to another.
 use Rattle.std.proofs.Common.{◌≡◌, Result, Err}
-use Rattle.verilog_scope.specs.declared.faults.VerFault.{VerFault}
-use Rattle.verilog_scope.specs.declared.faults.VerFault.TheVariants as fault
+use Rattle.netlist_types.specs.declared.faults.VerFault.{VerFault}
+use Rattle.netlist_types.specs.declared.faults.VerFault.TheVariants as fault
 use Rattle.verilog_scope.specs.Fails.{Fails}
 
 -- what fails because its part fails

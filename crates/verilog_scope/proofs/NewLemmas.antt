@@ -3,7 +3,7 @@ use Rattle.std.proofs.Common.{◌≡◌, ℕ, Bool, true, false, if◌then◌els
 use Rattle.std.proofs.Common.{append_assoc, append-nil, subst}
 use Rattle.texts.specs.Names.{is_among, are_distinct}
 use Rattle.texts.proofs.NameLemmas.{are_distinct-push}
-use Rattle.verilog_scope.specs.declared.faults.VerFault.TheVariants as fault
+use Rattle.netlist_types.specs.declared.faults.VerFault.TheVariants as fault
 use Rattle.verilog_scope.specs.Folds.{fold_ok}
 use Rattle.verilog_scope.specs.Decls.{with_new}
 use Rattle.verilog_scope.proofs.KeepLemmas.{step_gave}

@@ -12,7 +12,7 @@ use Rattle.verilog_syntax.specs.declared.declarations.ItemDecl.{ItemDecl}
 use Rattle.verilog_syntax.specs.declared.declarations.ItemDecl.TheVariants.{Ports, Nets, Assigns, Prims, Insts}
 use Rattle.verilog_syntax.specs.declared.declarations.ModuleDecl.{ModuleDecl}
 use Rattle.verilog_scope.specs.declared.decls.Decl.{Decl}
-use Rattle.verilog_scope.specs.declared.faults.VerFault.{VerFault}
+use Rattle.netlist_types.specs.declared.faults.VerFault.{VerFault}
 use Rattle.verilog_scope.specs.declared.scopes.Scope.{Scope}
 use Rattle.verilog_scope.specs.Standing.{standing}
 use Rattle.verilog_scope.specs.Decls.{blank, decl_at, takes_port, takes_net, declare_port, declare_net, declare_listed, declare_item, declare_head}

@@ -16,8 +16,8 @@ use Rattle.verilog_syntax.specs.declared.declarations.ItemDecl.{ItemDecl}
 use Rattle.verilog_syntax.specs.declared.declarations.ItemDecl.TheVariants.{Ports, Nets, Assigns, Prims, Insts}
 use Rattle.verilog_syntax.specs.declared.declarations.ModuleDecl.{ModuleDecl}
 use Rattle.verilog_scope.specs.declared.decls.Decl.{Decl}
-use Rattle.verilog_scope.specs.declared.faults.VerFault.{VerFault}
-use Rattle.verilog_scope.specs.declared.faults.VerFault.TheVariants as fault
+use Rattle.netlist_types.specs.declared.faults.VerFault.{VerFault}
+use Rattle.netlist_types.specs.declared.faults.VerFault.TheVariants as fault
 use Rattle.verilog_scope.specs.Folds.{fold_ok}
 use Rattle.verilog_scope.specs.Ranges.{same_range}
 

@@ -14,7 +14,7 @@ use Rattle.verilog_syntax.specs.declared.declarations.ModuleDecl.{ModuleDecl}
 use Rattle.verilog_scope.specs.declared.decls.Decl.{Decl}
 use Rattle.verilog_scope.specs.declared.ranges.Run.{Run}
 use Rattle.verilog_scope.specs.declared.scopes.Scope.{Scope}
-use Rattle.verilog_scope.specs.declared.faults.VerFault.{VerFault}
+use Rattle.netlist_types.specs.declared.faults.VerFault.{VerFault}
 use Rattle.verilog_scope.specs.Ranges.{width, selected}
 use Rattle.verilog_scope.specs.Standing.{standing, implied}
 use Rattle.verilog_scope.specs.Decls.{decl_at, is_declared, listed_in, declares, inst_names}

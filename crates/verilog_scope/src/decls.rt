@@ -5,9 +5,8 @@ ghost use Rattle.verilog_scope.specs.Fails.{Fails};
 ghost use Rattle.verilog_scope.specs.Folds.{fold_ok};
 ghost use Rattle.verilog_scope.specs.Decls as spec;
 
-use crate::faults::VerFault;
 use crate::ranges::same_range;
-use netlist_types::Dir;
+use netlist_types::{Dir, VerFault};
 use sdcv_base::{Name, Seq};
 use std::alloc::Global;
 use texts::{NameTable, Named};

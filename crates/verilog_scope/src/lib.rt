@@ -8,13 +8,12 @@
 
 mod bits;
 mod decls;
-mod faults;
 mod implied;
 mod ranges;
 mod scopes;
 mod standing;
 
 pub use decls::{Decl, add_new};
-pub use faults::VerFault;
+pub use netlist_types::VerFault;
 pub use ranges::{Run, width};
 pub use scopes::Scope;

@@ -9,10 +9,10 @@ ghost use Rattle.verilog_scope.specs.Scopes.{IsNumbered};
 
 use crate::bits::bit_name;
 use crate::decls::{Decl, check_insts, decl_at, declares, listed_in};
-use crate::faults::VerFault;
 use crate::implied::implied_wires;
 use crate::ranges::{Run, selected, width};
 use crate::standing::standing;
+use netlist_types::VerFault;
 use sdcv_base::{Name, Seq};
 use std::alloc::{AllocError, Global};
 use texts::NameTable;

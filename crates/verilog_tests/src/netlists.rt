@@ -14,6 +14,7 @@ fn push_port(text: &mut String, port: &Port) -> Result<(), AllocError> {
     text.push_str(match port.dir {
         Dir::Input => " input ",
         Dir::Output => " output ",
+        Dir::Inout => " inout ",
     })?;
     let name = &port.name;
     write!(text, "{name}")?;

@@ -43,6 +43,7 @@ fn show_ports(out: &mut String, ports: &[PortDecl]) -> Result<(), AllocError> {
         out.push_str(match port.dir {
             Dir::Input => " in",
             Dir::Output => " out",
+            Dir::Inout => " inout",
         })?;
         show_range(out, port.range)?;
         let Spelled { offset, name } = &port.name;

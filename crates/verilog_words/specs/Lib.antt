@@ -5,4 +5,5 @@ pub mod Marks
 pub mod Names
 pub mod Numbers
 pub mod Reads
+pub mod Told
 pub mod Words

@@ -1,7 +1,9 @@
 //! Why a text is no row of modules.
 ghost use Rattle.std.specs.Prelude.{◌≡◌};
 ghost use Rattle.verilog_words.specs.declared.faults.SyntaxFault.TheVariants as fault;
+ghost use Rattle.verilog_words.specs.Told.{of_syntax};
 
+use netlist_types::VerFault;
 use sdcv_base::Name;
 use std::alloc::{AllocError, AllocFailed};
 use thiserror::Error;
@@ -35,5 +37,18 @@ impl<T: Drop> From<AllocFailed<T>> for SyntaxFault {
 
     fn from(_: AllocFailed<T>) -> SyntaxFault {
         SyntaxFault::Memory
+    }
+}
+
+impl From<SyntaxFault> for VerFault {
+    ghost from_gives = { λ f e. e ≡ of_syntax f };
+
+    fn from(fault: SyntaxFault) -> VerFault {
+        match fault {
+            SyntaxFault::Syntax(place) => VerFault::Syntax(place),
+            SyntaxFault::Unsupported(place, word) => VerFault::Unsupported(place, word),
+            SyntaxFault::Deep(place) => VerFault::Deep(place),
+            SyntaxFault::Memory => VerFault::Memory,
+        }
     }
 }

@@ -1,12 +1,10 @@
 //! Why a text is no netlist.
 ghost use Rattle.std.specs.Prelude.{◌≡◌};
-ghost use Rattle.verilog_scope.specs.declared.faults.VerFault.TheVariants as fault;
-ghost use Rattle.verilog_scope.specs.Fails.{of_syntax};
+ghost use Rattle.netlist_types.specs.declared.faults.VerFault.TheVariants as fault;
 
 use sdcv_base::Name;
 use std::alloc::{AllocError, AllocFailed};
 use thiserror::Error;
-use verilog_words::SyntaxFault;
 
 /// Why a text is no netlist. Offsets count bytes from 0.
 #[derive(Debug, Drop, Error)]
@@ -28,19 +26,6 @@ pub enum VerFault {
     Deep(usize),
     #[error("out of memory")]
     Memory,
-}
-
-impl From<SyntaxFault> for VerFault {
-    ghost from_gives = { λ f e. e ≡ of_syntax f };
-
-    fn from(fault: SyntaxFault) -> VerFault {
-        match fault {
-            SyntaxFault::Syntax(place) => VerFault::Syntax(place),
-            SyntaxFault::Unsupported(place, word) => VerFault::Unsupported(place, word),
-            SyntaxFault::Deep(place) => VerFault::Deep(place),
-            SyntaxFault::Memory => VerFault::Memory,
-        }
-    }
 }
 
 impl From<AllocError> for VerFault {

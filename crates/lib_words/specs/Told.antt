@@ -1,8 +1,8 @@
--- How a fault of the group tree is told.
+-- How a fault of the group tree is told of a library.
 use Rattle.lib_words.specs.declared.faults.GroupFault.{GroupFault}
 use Rattle.lib_words.specs.declared.faults.GroupFault.TheVariants as group_fault
-use Rattle.cell_lib.specs.declared.faults.LibFault.{LibFault}
-use Rattle.cell_lib.specs.declared.faults.LibFault.TheVariants as fault
+use Rattle.cell_types.specs.declared.faults.LibFault.{LibFault}
+use Rattle.cell_types.specs.declared.faults.LibFault.TheVariants as fault
 
 abbrev pub of_groups : GroupFault → LibFault
 of_groups (group_fault.Syntax place) = fault.Syntax place

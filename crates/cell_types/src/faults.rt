@@ -1,10 +1,7 @@
 //! Why a text is no library.
 ghost use Rattle.std.specs.Prelude.{◌≡◌};
-ghost use Rattle.cell_lib.specs.declared.faults.LibFault.TheVariants as fault;
-ghost use Rattle.lib_words.specs.declared.faults.GroupFault.TheVariants as group_fault;
-ghost use Rattle.cell_lib.specs.Told.{of_groups};
+ghost use Rattle.cell_types.specs.declared.faults.LibFault.TheVariants as fault;
 
-use lib_words::GroupFault;
 use sdcv_base::Name;
 use std::alloc::{AllocError, AllocFailed};
 use thiserror::Error;
@@ -27,18 +24,6 @@ pub enum LibFault {
     /// not, and its parentheses nest deeper than 256 or its tree is higher.
     #[error("byte {0}: nested too deep")]
     Deep(usize),
-}
-
-impl From<GroupFault> for LibFault {
-    ghost from_gives = { λ f e. e ≡ of_groups f };
-
-    fn from(fault: GroupFault) -> LibFault {
-        match fault {
-            GroupFault::Syntax(place) => LibFault::Syntax(place),
-            GroupFault::Deep(place) => LibFault::Deep(place),
-            GroupFault::Memory => LibFault::Memory,
-        }
-    }
 }
 
 impl From<AllocError> for LibFault {
