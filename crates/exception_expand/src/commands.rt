@@ -96,7 +96,7 @@ impl Progress {
     {
         match what {
             What::Claiming(exception) => self.add_exception(alloc, task, line, exception),
-            What::Hold => Ok(self.selected.add_line(alloc, line, Listing::Hold)?),
+            What::Hold(_) => Ok(self.selected.add_line(alloc, line, Listing::Hold)?),
             What::Aside(option) => {
                 let listing = Listing::Aside(option.copy(alloc)?);
                 Ok(self.selected.add_line(alloc, line, listing)?)
@@ -106,7 +106,18 @@ impl Progress {
                 value: _,
                 objects: _,
             }
-            | What::Passed => Ok(()),
+            | What::Passed
+            | What::Unjudged(_)
+            | What::Scope(_)
+            | What::Generated {
+                name: _,
+                objects: _,
+            }
+            | What::Delay {
+                output: _,
+                clocks: _,
+                objects: _,
+            } => Ok(()),
         }
     }
 

@@ -2,8 +2,8 @@
 use Rattle.std.specs.Prelude.{ℕ, List, codes, Option, Some, None}
 use Rattle.cell_lib.specs.declared.faults.LibFault.{LibFault}
 use Rattle.cell_lib.specs.declared.faults.LibFault.TheVariants as liberty
-use Rattle.sdc_values.specs.declared.faults.SdcFault.{SdcFault}
-use Rattle.sdc_values.specs.declared.faults.SdcFault.TheVariants as sdc
+use Rattle.script_types.specs.declared.faults.SdcFault.{SdcFault}
+use Rattle.script_types.specs.declared.faults.SdcFault.TheVariants as sdc
 use Rattle.verilog_scope.specs.declared.faults.VerFault.{VerFault}
 use Rattle.verilog_scope.specs.declared.faults.VerFault.TheVariants as verilog
 use Rattle.fault_lines.specs.declared.sources.Origin.{Origin}

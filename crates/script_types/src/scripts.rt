@@ -3,20 +3,52 @@
 use crate::objects::Object;
 use sdcv_base::{Edge, Kind, Name, Seq};
 
+/// Which of the two checks of a path an exception names by its options: neither `-setup` nor `-hold` stands, `-setup` alone,
+/// or both.
+#[derive(Clone, Copy, PartialEq, Eq)]
+pub enum Checks {
+    Unsaid,
+    Setup,
+    Both,
+}
+
 /// A timing exception (SDC 2.1, `set_false_path` and `set_multicycle_path`), with a list of objects for each `-through` in
 /// its order. `from` is the list after `-from`, `-rise_from` or `-fall_from`, and `edge` says which of the three it was; without
 /// any of them it is `Any`.
 #[derive(Drop)]
 pub struct Exception {
     pub kind: Kind,
+    pub checks: Checks,
     pub edge: Edge,
     pub from: Option<Seq<Object>>,
     pub through: Seq<Seq<Object>>,
     pub to: Option<Seq<Object>>,
 }
 
-/// What a command says. `Aside` carries the first option for which an exception is set aside, and `Passed` is a command
-/// that changes no exception.
+/// An exception about the hold check alone: `-hold` stands, and `-setup` does not. `number` is the text of the number of a
+/// `set_multicycle_path`, as it is written, and `None` of a `set_false_path`; the lists and the edge are those of `Exception`.
+pub struct Held {
+    pub number: Option<Name>,
+    pub edge: Edge,
+    pub from: Option<Seq<Object>>,
+    pub through: Seq<Seq<Object>>,
+    pub to: Option<Seq<Object>>,
+}
+
+impl Drop for Held {
+    fn drop(self) {
+        let Held {
+            number: _number,
+            edge: _edge,
+            from: _from,
+            through: _through,
+            to: _to,
+        } = self;
+    }
+}
+
+/// What a command says. No reader makes an `Unjudged`, a `Scope`, a `Generated` or a `Delay` yet, and whoever meets one
+/// treats it as `Passed`.
 #[derive(Drop)]
 pub enum What {
     Clock {
@@ -28,9 +60,27 @@ pub enum What {
         objects: Seq<Object>,
     },
     Claiming(Exception),
-    Hold,
+    Hold(Held),
+    /// The first option for which an exception is set aside.
     Aside(Name),
+    /// A command that changes no exception.
     Passed,
+    /// The command of this name, which a timing analyser obeys, and of whose effect no verdict speaks.
+    Unjudged(Name),
+    /// `current_design` with this name, which is not that of the top module.
+    Scope(Name),
+    /// A generated clock of this name on these objects (`create_generated_clock`).
+    Generated {
+        name: Name,
+        objects: Seq<Object>,
+    },
+    /// The output delay, or else the input delay, of these clocks at these ports (`set_output_delay`, `set_input_delay`);
+    /// without `-clock` it is a delay of no clock.
+    Delay {
+        output: bool,
+        clocks: Option<Seq<Object>>,
+        objects: Seq<Object>,
+    },
 }
 
 /// A command, and the line of its first byte, from 1.
