@@ -26,7 +26,14 @@ cell_named name = Named (record { class = Cells; hier = false; pattern = name })
 
 -- the exception of a pair: at each edge of its start, through any pins
 abbrev pub exception_by : FoundLine → What
-exception_by x = Claiming (record { kind = Multi x.k; checks = Unsaid; edge = Any; from = Some (cell_named x.start); through = []; to = Some (cell_named x.end) })
+exception_by x = Claiming (record {
+  kind = Multi x.k;
+  checks = Unsaid;
+  edge = Any;
+  from = Some (cell_named x.start);
+  through = [];
+  to = Some (cell_named x.end);
+})
 
 -- a command for each line, on lines from this number on
 abbrev pub commands_from : ℕ → List FoundLine → List Command
