@@ -15,7 +15,6 @@ pub enum Checks {
 /// A timing exception (SDC 2.1, `set_false_path` and `set_multicycle_path`), with a list of objects for each `-through` in
 /// its order. `from` is the list after `-from`, `-rise_from` or `-fall_from`, and `edge` says which of the three it was; without
 /// any of them it is `Any`.
-#[derive(Drop)]
 pub struct Exception {
     pub kind: Kind,
     pub checks: Checks,
@@ -23,6 +22,19 @@ pub struct Exception {
     pub from: Option<Seq<Object>>,
     pub through: Seq<Seq<Object>>,
     pub to: Option<Seq<Object>>,
+}
+
+impl Drop for Exception {
+    fn drop(self) {
+        let Exception {
+            kind: _kind,
+            checks: _checks,
+            edge: _edge,
+            from: _from,
+            through: _through,
+            to: _to,
+        } = self;
+    }
 }
 
 /// An exception about the hold check alone: `-hold` stands, and `-setup` does not. `number` is the text of the number of a
@@ -49,7 +61,6 @@ impl Drop for Held {
 
 /// What a command says. No reader makes an `Unjudged`, a `Scope`, a `Generated` or a `Delay` yet, and whoever meets one
 /// treats it as `Passed`.
-#[derive(Drop)]
 pub enum What {
     Clock {
         name: Option<Name>,
@@ -83,15 +94,59 @@ pub enum What {
     },
 }
 
+impl Drop for What {
+    fn drop(self) {
+        match self {
+            What::Clock {
+                name: _name,
+                source: _source,
+            } => {}
+            What::Case {
+                value: _value,
+                objects: _objects,
+            } => {}
+            What::Claiming(_exception) => {}
+            What::Hold(_held) => {}
+            What::Aside(_option) => {}
+            What::Passed => {}
+            What::Unjudged(_name) | What::Scope(_name) => {}
+            What::Generated {
+                name: _name,
+                objects: _objects,
+            } => {}
+            What::Delay {
+                output: _output,
+                clocks: _clocks,
+                objects: _objects,
+            } => {}
+        }
+    }
+}
+
 /// A command, and the line of its first byte, from 1.
-#[derive(Drop)]
 pub struct Command {
     pub line: u64,
     pub what: What,
 }
 
+impl Drop for Command {
+    fn drop(self) {
+        let Command {
+            line: _line,
+            what: _what,
+        } = self;
+    }
+}
+
 /// The commands of a text in their order.
-#[derive(Drop)]
 pub struct Script {
     pub commands: Seq<Command>,
+}
+
+impl Drop for Script {
+    fn drop(self) {
+        let Script {
+            commands: _commands,
+        } = self;
+    }
 }
