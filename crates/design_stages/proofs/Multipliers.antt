@@ -13,8 +13,8 @@ use Rattle.sdc_words.specs.declared.words.Word.{Word}
 use Rattle.sdc_words.specs.declared.words.RawCommand.{RawCommand}
 use Rattle.sdc_words.specs.Commands.{command_at}
 use Rattle.sdc_words.specs.Lines.{cleaned}
-use Rattle.sdc_values.specs.declared.faults.SdcFault.{SdcFault}
-use Rattle.sdc_values.specs.declared.faults.SdcFault.TheVariants as fault
+use Rattle.script_types.specs.declared.faults.SdcFault.{SdcFault}
+use Rattle.script_types.specs.declared.faults.SdcFault.TheVariants as fault
 use Rattle.sdc_values.specs.declared.values.Value.{Value}
 use Rattle.sdc_values.specs.declared.values.Said.{Said}
 use Rattle.sdcv_base.specs.Steps.{after_all}

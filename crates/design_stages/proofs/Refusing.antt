@@ -1,7 +1,7 @@
 -- A fault of constraints that has a line is the one that their text has.
 use Rattle.std.proofs.Common.{◌≡◌, ℕ, List, None, Some, Err, subst}
-use Rattle.sdc_values.specs.declared.faults.SdcFault.{SdcFault}
-use Rattle.sdc_values.specs.declared.faults.SdcFault.TheVariants as fault
+use Rattle.script_types.specs.declared.faults.SdcFault.{SdcFault}
+use Rattle.script_types.specs.declared.faults.SdcFault.TheVariants as fault
 use Rattle.sdc_values.specs.Told.{Fails}
 use Rattle.sdc_text.specs.Scripts.{script_of}
 use Rattle.fault_lines.specs.Sources.{sdc_line}

@@ -12,7 +12,7 @@ use Rattle.selected_types.specs.declared.faults.ExpandFault.{ExpandFault}
 use Rattle.selected_types.specs.declared.faults.ExpandFault.TheVariants.{TwoClocks, ClockNotPort, CaseTwice, CaseOnReset, CaseOnPin, Limit, Memory}
 use Rattle.script_types.specs.declared.scripts.Exception.{Exception}
 use Rattle.script_types.specs.declared.scripts.What.{What}
-use Rattle.script_types.specs.declared.scripts.What.TheVariants.{Clock, Case, Claiming, Hold, Aside, Passed}
+use Rattle.script_types.specs.declared.scripts.What.TheVariants.{Clock, Case, Claiming, Hold, Aside, Passed, Unjudged, Scope, Generated, Delay}
 use Rattle.script_types.specs.declared.scripts.Command.{Command}
 use Rattle.script_types.specs.declared.scripts.Script.{Script}
 use Rattle.selected_types.specs.declared.warnings.Warning.{Warning}
@@ -119,9 +119,13 @@ what_cause : (l : Linked) (script : Script) (judging : Judging) (k : ℕ) (c : C
 what_cause l script judging k c old here before (Claiming e) is fault cause = choice_cause l script judging k c e old here is before fault cause
 what_cause l script judging k c old here before (Clock name source) is fault cause = want_of_memory l script judging fault cause
 what_cause l script judging k c old here before (Case value objects) is fault cause = want_of_memory l script judging fault cause
-what_cause l script judging k c old here before Hold is fault cause = want_of_memory l script judging fault cause
+what_cause l script judging k c old here before (Hold h) is fault cause = want_of_memory l script judging fault cause
 what_cause l script judging k c old here before (Aside option) is fault cause = want_of_memory l script judging fault cause
 what_cause l script judging k c old here before Passed is fault cause = want_of_memory l script judging fault cause
+what_cause l script judging k c old here before (Unjudged name) is fault cause = want_of_memory l script judging fault cause
+what_cause l script judging k c old here before (Scope name) is fault cause = want_of_memory l script judging fault cause
+what_cause l script judging k c old here before (Generated name objects) is fault cause = want_of_memory l script judging fault cause
+what_cause l script judging k c old here before (Delay output clocks objects) is fault cause = want_of_memory l script judging fault cause
 
 -- the cause of a refusal at the command of a place
 pub cause_at : (l : Linked) (script : Script) (judging : Judging) (k : ℕ) (c : Command) (old : Selected) → slice_get script.commands k ≡ Some c

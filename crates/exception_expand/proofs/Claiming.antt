@@ -14,7 +14,7 @@ use Rattle.net_paths.specs.Those.{AreThose, All_seen, Taken, Left_out}
 use Rattle.linked_types.specs.declared.names.Linked.{Linked}
 use Rattle.linked_types.specs.Usable.{IsUsable}
 use Rattle.script_types.specs.declared.scripts.What.{What}
-use Rattle.script_types.specs.declared.scripts.What.TheVariants.{Clock, Case, Claiming, Hold, Aside, Passed}
+use Rattle.script_types.specs.declared.scripts.What.TheVariants.{Clock, Case, Claiming, Hold, Aside, Passed, Unjudged, Scope, Generated, Delay}
 use Rattle.script_types.specs.declared.scripts.Command.{Command}
 use Rattle.script_types.specs.declared.scripts.Script.{Script}
 use Rattle.sdc_objects.specs.Standing.{pins_of}
@@ -56,9 +56,13 @@ claim_fits l script judging (Claiming e) p claim usable short kind few there is 
     })
 claim_fits l script judging (Clock name source) p claim usable short kind few there is = absurd cc
 claim_fits l script judging (Case value objects) p claim usable short kind few there is = absurd cc
-claim_fits l script judging Hold p claim usable short kind few there is = absurd cc
+claim_fits l script judging (Hold h) p claim usable short kind few there is = absurd cc
 claim_fits l script judging (Aside option) p claim usable short kind few there is = absurd cc
 claim_fits l script judging Passed p claim usable short kind few there is = absurd cc
+claim_fits l script judging (Unjudged name) p claim usable short kind few there is = absurd cc
+claim_fits l script judging (Scope name) p claim usable short kind few there is = absurd cc
+claim_fits l script judging (Generated name objects) p claim usable short kind few there is = absurd cc
+claim_fits l script judging (Delay output clocks objects) p claim usable short kind few there is = absurd cc
 
 -- a pair of the script is one of the design
 script_pair : (l : Linked) (script : Script) (x : Chosen) → In x (spec.script_pairs l script) → In x.pair (spec.all_pairs l.design)

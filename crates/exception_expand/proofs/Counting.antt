@@ -5,7 +5,7 @@ use Rattle.std.proofs.lemmas.Bool.Decides.{nat_tests}
 use Rattle.std.proofs.lemmas.List.Sums.{sum_by-append}
 use Rattle.linked_types.specs.declared.names.Linked.{Linked}
 use Rattle.script_types.specs.declared.scripts.What.{What}
-use Rattle.script_types.specs.declared.scripts.What.TheVariants.{Clock, Case, Claiming, Hold, Aside, Passed}
+use Rattle.script_types.specs.declared.scripts.What.TheVariants.{Clock, Case, Claiming, Hold, Aside, Passed, Unjudged, Scope, Generated, Delay}
 use Rattle.script_types.specs.declared.scripts.Command.{Command}
 use Rattle.script_types.specs.declared.scripts.Script.{Script}
 use Rattle.sdcv_base.specs.Seqs.{each_at}
@@ -51,9 +51,13 @@ line_count : (l : Linked) (script : Script) (count line : ℕ) (what : What) →
 line_count l script count line (Clock name source) = refl
 line_count l script count line (Case value objects) = refl
 line_count l script count line (Claiming e) = refl
-line_count l script count line Hold = refl
+line_count l script count line (Hold h) = refl
 line_count l script count line (Aside option) = refl
 line_count l script count line Passed = refl
+line_count l script count line (Unjudged name) = refl
+line_count l script count line (Scope name) = refl
+line_count l script count line (Generated name objects) = refl
+line_count l script count line (Delay output clocks objects) = refl
 
 pub lines_count : (l : Linked) (script : Script) (chosen : List Chosen) (i : ℕ) (cs : List Command)
     → length (each_at (lines_at l script chosen) i cs) ≡ count_by (λ (c : Command). is_exception c.what) cs

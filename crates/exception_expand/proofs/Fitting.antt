@@ -27,7 +27,7 @@ use Rattle.script_types.specs.declared.objects.Query.{Query}
 use Rattle.script_types.specs.declared.objects.Object.{Object}
 use Rattle.script_types.specs.declared.objects.Object.TheVariants.{Named, AllInputs, AllOutputs, AllRegisters, AllClocks}
 use Rattle.script_types.specs.declared.scripts.What.{What}
-use Rattle.script_types.specs.declared.scripts.What.TheVariants.{Clock as ClockCommand, Case, Claiming, Hold, Aside, Passed}
+use Rattle.script_types.specs.declared.scripts.What.TheVariants.{Clock as ClockCommand, Case, Claiming, Hold, Aside, Passed, Unjudged, Scope, Generated, Delay}
 use Rattle.script_types.specs.declared.scripts.Command.{Command}
 use Rattle.script_types.specs.declared.scripts.Script.{Script}
 use Rattle.sdc_objects.specs.declared.things.Thing.{Thing}
@@ -151,9 +151,13 @@ what_clock : (l : Linked) (q : Query) (port : Option (List ℕ)) (what : What) (
 what_clock l q port (ClockCommand name source) t has = clock_thing l q (named.clock_name port name source) (named.has_source source) t has
 what_clock l q port (Case value objects) t has = absurd has
 what_clock l q port (Claiming e) t has = absurd has
-what_clock l q port Hold t has = absurd has
+what_clock l q port (Hold h) t has = absurd has
 what_clock l q port (Aside option) t has = absurd has
 what_clock l q port Passed t has = absurd has
+what_clock l q port (Unjudged name) t has = absurd has
+what_clock l q port (Scope name) t has = absurd has
+what_clock l q port (Generated name objects) t has = absurd has
+what_clock l q port (Delay output clocks objects) t has = absurd has
 
 abbrev clock_of_any : What → List Thing
 clock_of_any what = elim what as (λ w. List Thing) [ ClockCommand name source ↦ thing.Clock (named.has_source source) ∷ [] | _ ↦ [] ]
@@ -162,9 +166,13 @@ any_what : (l : Linked) (what : What) (t : Thing) → In t (clock_of_any what) �
 any_what l (ClockCommand name source) t has = subst (IsThingIn l) (single_is (thing.Clock (named.has_source source)) t has) tt
 any_what l (Case value objects) t has = absurd has
 any_what l (Claiming e) t has = absurd has
-any_what l Hold t has = absurd has
+any_what l (Hold h) t has = absurd has
 any_what l (Aside option) t has = absurd has
 any_what l Passed t has = absurd has
+any_what l (Unjudged name) t has = absurd has
+any_what l (Scope name) t has = absurd has
+any_what l (Generated name objects) t has = absurd has
+any_what l (Delay output clocks objects) t has = absurd has
 
 command_clock : (l : Linked) (q : Query) (port : Option (List ℕ)) (what : What) (place : ℕ) (c : Command) (t : Thing) → c.what ≡ what
     → In t (named.clock_named q port place c) → IsThingIn l t

@@ -95,7 +95,7 @@ impl Progress {
     {
         match what {
             What::Claiming(exception) => self.add_exception(alloc, task, line, exception),
-            What::Hold => Ok(add_line(alloc, &mut self.selected, line, Listing::Hold)?),
+            What::Hold(_) => Ok(add_line(alloc, &mut self.selected, line, Listing::Hold)?),
             What::Aside(option) => {
                 let listing = Listing::Aside(option.copy(alloc)?);
                 Ok(add_line(alloc, &mut self.selected, line, listing)?)
@@ -105,7 +105,18 @@ impl Progress {
                 value: _,
                 objects: _,
             }
-            | What::Passed => Ok(()),
+            | What::Passed
+            | What::Unjudged(_)
+            | What::Scope(_)
+            | What::Generated {
+                name: _,
+                objects: _,
+            }
+            | What::Delay {
+                output: _,
+                clocks: _,
+                objects: _,
+            } => Ok(()),
         }
     }
 

@@ -2,10 +2,10 @@
 use Rattle.std.specs.Prelude.{ℕ, List, codes, Option, Some, None}
 use Rattle.cell_types.specs.declared.faults.LibFault.{LibFault}
 use Rattle.cell_types.specs.declared.faults.LibFault.TheVariants as liberty
-use Rattle.sdc_values.specs.declared.faults.SdcFault.{SdcFault}
-use Rattle.sdc_values.specs.declared.faults.SdcFault.TheVariants as sdc
 use Rattle.netlist_types.specs.declared.faults.VerFault.{VerFault}
 use Rattle.netlist_types.specs.declared.faults.VerFault.TheVariants as verilog
+use Rattle.script_types.specs.declared.faults.SdcFault.{SdcFault}
+use Rattle.script_types.specs.declared.faults.SdcFault.TheVariants as sdc
 use Rattle.fault_lines.specs.declared.sources.Origin.{Origin}
 use Rattle.fault_lines.specs.declared.sources.Origin.TheVariants as origin
 use Rattle.fault_lines.specs.Shapes.{name_line, number_line, numbered_line, plain_line}

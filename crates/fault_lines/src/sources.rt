@@ -5,7 +5,7 @@ ghost use Rattle.fault_lines.specs.Sources.{liberty_line, sdc_line, too_long_lin
 use crate::shapes::{name_line, number_line, numbered_line, plain_line};
 use cell_types::LibFault;
 use netlist_types::VerFault;
-use sdc_values::SdcFault;
+use script_types::SdcFault;
 use std::alloc::{AllocError, Global};
 
 /// A text that a run reads.

@@ -4,6 +4,7 @@ use Rattle.sdcv_base.specs.declared.kinds.Kind.TheVariants.{Multi}
 use Rattle.sdcv_base.specs.declared.kinds.Edge.TheVariants.{Any}
 use Rattle.script_types.specs.declared.objects.Object.{Object}
 use Rattle.script_types.specs.declared.objects.Object.TheVariants.{AllRegisters}
+use Rattle.script_types.specs.declared.scripts.Checks.TheVariants.{Unsaid}
 use Rattle.script_types.specs.declared.scripts.Exception.{Exception}
 use Rattle.script_types.specs.declared.scripts.What.TheVariants.{Claiming}
 use Rattle.script_types.specs.declared.scripts.Command.{Command}
@@ -15,7 +16,7 @@ all_registers = Some (AllRegisters ∷ [])
 
 -- what `set_multicycle_path 2 -from [all_registers] -to [all_registers]` says
 abbrev pub registers_exception : Exception
-registers_exception = record { kind = Multi 2; edge = Any; from = all_registers; through = []; to = all_registers }
+registers_exception = record { kind = Multi 2; checks = Unsaid; edge = Any; from = all_registers; through = []; to = all_registers }
 
 abbrev pub registers_command : Command
 registers_command = record { line = 1; what = Claiming registers_exception }

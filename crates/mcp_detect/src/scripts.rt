@@ -2,7 +2,7 @@
 ghost use Rattle.std.specs.Prelude.{◌≡◌, IfOk};
 ghost use Rattle.mcp_detect.specs.Scripts as spec;
 
-use script_types::{Command, Exception, Object, Script, What};
+use script_types::{Checks, Command, Exception, Object, Script, What};
 use sdcv_base::{Edge, Kind, Seq};
 use std::alloc::{AllocError, Global};
 
@@ -13,6 +13,7 @@ pub(crate) fn registers_script(alloc: Global) -> Result<Script, AllocError>
 {
     let exception = Exception {
         kind: Kind::Multi(2),
+        checks: Checks::Unsaid,
         edge: Edge::Any,
         from: Some(Seq::one(alloc, Object::AllRegisters)?),
         through: Seq::new(alloc),

@@ -5,6 +5,7 @@ use Rattle.sdcv_base.specs.declared.kinds.Edge.TheVariants.{Any}
 use Rattle.script_types.specs.declared.objects.Class.TheVariants.{Cells}
 use Rattle.script_types.specs.declared.objects.Object.{Object}
 use Rattle.script_types.specs.declared.objects.Object.TheVariants.{Named}
+use Rattle.script_types.specs.declared.scripts.Checks.TheVariants.{Unsaid}
 use Rattle.script_types.specs.declared.scripts.What.{What}
 use Rattle.script_types.specs.declared.scripts.What.TheVariants.{Claiming}
 use Rattle.script_types.specs.declared.scripts.Command.{Command}
@@ -25,7 +26,14 @@ cell_named name = Named (record { class = Cells; hier = false; pattern = name })
 
 -- the exception of a pair: at each edge of its start, through any pins
 abbrev pub exception_by : FoundLine → What
-exception_by x = Claiming (record { kind = Multi x.k; edge = Any; from = Some (cell_named x.start); through = []; to = Some (cell_named x.end) })
+exception_by x = Claiming (record {
+  kind = Multi x.k;
+  checks = Unsaid;
+  edge = Any;
+  from = Some (cell_named x.start);
+  through = [];
+  to = Some (cell_named x.end);
+})
 
 -- a command for each line, on lines from this number on
 abbrev pub commands_from : ℕ → List FoundLine → List Command

@@ -252,9 +252,15 @@ fn add_clock(
             let name = clock_name(port, name, source);
             add_clock_by(name, !source.is_empty(), query, found)
         }
-        What::Case { .. } | What::Claiming(_) | What::Hold | What::Aside(_) | What::Passed => Ok(
-            (),
-        ),
+        What::Case { .. }
+        | What::Claiming(_)
+        | What::Hold(_)
+        | What::Aside(_)
+        | What::Passed
+        | What::Unjudged(_)
+        | What::Scope(_)
+        | What::Generated { .. }
+        | What::Delay { .. } => Ok(()),
     }
 }
 
@@ -293,9 +299,15 @@ fn add_any_clock(command: &Command, found: &mut Seq<Thing>) -> Result<(), AllocE
 {
     match &command.what {
         What::Clock { source, .. } => add_where(true, Thing::Clock(!source.is_empty()), found),
-        What::Case { .. } | What::Claiming(_) | What::Hold | What::Aside(_) | What::Passed => Ok(
-            (),
-        ),
+        What::Case { .. }
+        | What::Claiming(_)
+        | What::Hold(_)
+        | What::Aside(_)
+        | What::Passed
+        | What::Unjudged(_)
+        | What::Scope(_)
+        | What::Generated { .. }
+        | What::Delay { .. } => Ok(()),
     }
 }
 

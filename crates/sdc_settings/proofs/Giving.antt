@@ -6,7 +6,7 @@ use Rattle.std.proofs.lemmas.List.Elements.{All-append, All-map}
 use Rattle.linked_types.specs.declared.names.PortName.{PortName}
 use Rattle.script_types.specs.declared.objects.Object.{Object}
 use Rattle.script_types.specs.declared.scripts.What.{What}
-use Rattle.script_types.specs.declared.scripts.What.TheVariants.{Clock, Case, Claiming, Hold, Aside, Passed}
+use Rattle.script_types.specs.declared.scripts.What.TheVariants.{Clock, Case, Claiming, Hold, Aside, Passed, Unjudged, Scope, Generated, Delay}
 use Rattle.script_types.specs.declared.scripts.Command.{Command}
 use Rattle.sdc_settings.specs.declared.cases.Given.{Given}
 use Rattle.selected_types.specs.declared.faults.ExpandFault.{ExpandFault}
@@ -23,9 +23,13 @@ what_within inputs clock line (Case value objects) =
     (All-flat_map (λ (place : ℕ). place < length inputs) (case_places inputs clock) objects (case_places_within inputs clock))
 what_within inputs clock line (Clock name source) = λ i d low. absurd (omega (arith, low))
 what_within inputs clock line (Claiming e) = λ i d low. absurd (omega (arith, low))
-what_within inputs clock line Hold = λ i d low. absurd (omega (arith, low))
+what_within inputs clock line (Hold h) = λ i d low. absurd (omega (arith, low))
 what_within inputs clock line (Aside option) = λ i d low. absurd (omega (arith, low))
 what_within inputs clock line Passed = λ i d low. absurd (omega (arith, low))
+what_within inputs clock line (Unjudged name) = λ i d low. absurd (omega (arith, low))
+what_within inputs clock line (Scope name) = λ i d low. absurd (omega (arith, low))
+what_within inputs clock line (Generated name objects) = λ i d low. absurd (omega (arith, low))
+what_within inputs clock line (Delay output clocks objects) = λ i d low. absurd (omega (arith, low))
 
 pub given_within : (inputs : List PortName) (clock : Option (List ℕ)) (commands : List Command)
     → All (λ (g : Given). g.input < length inputs) (flat_map (λ (c : Command). given_by inputs clock c.line c.what) commands)
@@ -52,15 +56,23 @@ pub other_gives_none : (inputs : List PortName) (clock : Option (List ℕ)) (lin
 other_gives_none inputs clock line (Case value objects) other = absurd (other value objects refl)
 other_gives_none inputs clock line (Clock name source) other = refl
 other_gives_none inputs clock line (Claiming e) other = refl
-other_gives_none inputs clock line Hold other = refl
+other_gives_none inputs clock line (Hold h) other = refl
 other_gives_none inputs clock line (Aside option) other = refl
 other_gives_none inputs clock line Passed other = refl
+other_gives_none inputs clock line (Unjudged name) other = refl
+other_gives_none inputs clock line (Scope name) other = refl
+other_gives_none inputs clock line (Generated name objects) other = refl
+other_gives_none inputs clock line (Delay output clocks objects) other = refl
 
 -- and has no objects of one
 pub other_has_none : (what : What) → ((value : Bool) (objects : List Object) → what ≢ Case value objects) → case_objects what ≡ []
 other_has_none (Case value objects) other = absurd (other value objects refl)
 other_has_none (Clock name source) other = refl
 other_has_none (Claiming e) other = refl
-other_has_none Hold other = refl
+other_has_none (Hold h) other = refl
 other_has_none (Aside option) other = refl
 other_has_none Passed other = refl
+other_has_none (Unjudged name) other = refl
+other_has_none (Scope name) other = refl
+other_has_none (Generated name objects) other = refl
+other_has_none (Delay output clocks objects) other = refl

@@ -52,7 +52,15 @@ fn is_sourced(command: &Command) -> bool
 {
     match &command.what {
         What::Clock { source, .. } => !source.is_empty(),
-        What::Case { .. } | What::Claiming(_) | What::Hold | What::Aside(_) | What::Passed => false,
+        What::Case { .. }
+        | What::Claiming(_)
+        | What::Hold(_)
+        | What::Aside(_)
+        | What::Passed
+        | What::Unjudged(_)
+        | What::Scope(_)
+        | What::Generated { .. }
+        | What::Delay { .. } => false,
     }
 }
 
@@ -67,9 +75,15 @@ fn bit_of(
 {
     match &command.what {
         What::Clock { source, .. } => source_bit(alloc, source, inputs),
-        What::Case { .. } | What::Claiming(_) | What::Hold | What::Aside(_) | What::Passed => Ok(
-            None,
-        ),
+        What::Case { .. }
+        | What::Claiming(_)
+        | What::Hold(_)
+        | What::Aside(_)
+        | What::Passed
+        | What::Unjudged(_)
+        | What::Scope(_)
+        | What::Generated { .. }
+        | What::Delay { .. } => Ok(None),
     }
 }
 

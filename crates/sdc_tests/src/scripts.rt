@@ -1,5 +1,5 @@
 use crate::expects::same;
-use sdc_text::{Class, Exception, Object, Script, SdcFault, What, read_sdc};
+use sdc_text::{Checks, Class, Exception, Held, Object, Script, SdcFault, What, read_sdc};
 use sdcv_base::{Edge, Kind, Name, Seq};
 use std::alloc::{AllocError, Global};
 use std::process::Abort;
@@ -64,13 +64,37 @@ fn push_given(
     }
 }
 
-fn push_exception(out: &mut String, exception: &Exception) -> Result<(), AllocError> {
-    push_kind(out, exception.kind)?;
-    push_given(out, from_word(exception.edge), &exception.from)?;
-    for through in exception.through.as_slice() {
+fn checks_word(checks: Checks) -> &'static str {
+    match checks {
+        Checks::Unsaid => "",
+        Checks::Setup => " setup",
+        Checks::Both => " setup hold",
+    }
+}
+
+fn push_throughs(out: &mut String, throughs: &Seq<Seq<Object>>) -> Result<(), AllocError> {
+    for through in throughs.as_slice() {
         push_objects(out, " through", through)?;
     }
+    Ok(())
+}
+
+fn push_exception(out: &mut String, exception: &Exception) -> Result<(), AllocError> {
+    push_kind(out, exception.kind)?;
+    out.push_str(checks_word(exception.checks))?;
+    push_given(out, from_word(exception.edge), &exception.from)?;
+    push_throughs(out, &exception.through)?;
     push_given(out, " to", &exception.to)
+}
+
+fn push_held(out: &mut String, held: &Held) -> Result<(), AllocError> {
+    match &held.number {
+        Some(number) => write!(out, "Hold {number}")?,
+        None => out.push_str("Hold")?,
+    }
+    push_given(out, from_word(held.edge), &held.from)?;
+    push_throughs(out, &held.through)?;
+    push_given(out, " to", &held.to)
 }
 
 fn push_clock(
@@ -92,9 +116,24 @@ fn push_what(out: &mut String, what: &What) -> Result<(), AllocError> {
             push_objects(out, if *value { "Case 1" } else { "Case 0" }, objects)
         }
         What::Claiming(exception) => push_exception(out, exception),
-        What::Hold => out.push_str("Hold"),
+        What::Hold(held) => push_held(out, held),
         What::Aside(name) => write!(out, "Aside {name}"),
         What::Passed => out.push_str("Passed"),
+        What::Unjudged(name) => write!(out, "Unjudged {name}"),
+        What::Scope(name) => write!(out, "Scope {name}"),
+        What::Generated { name, objects } => {
+            write!(out, "Generated {name}")?;
+            push_objects(out, "", objects)
+        }
+        What::Delay {
+            output,
+            clocks,
+            objects,
+        } => {
+            out.push_str(if *output { "Output" } else { "Input" })?;
+            push_given(out, " clocks", clocks)?;
+            push_objects(out, " ports", objects)
+        }
     }
 }
 
@@ -171,8 +210,8 @@ set_input_delay -clock [get_clocks {clk}] 1.0 [remove_from_collection [all_input
 8 Clock clk ports:clk
 9 Passed
 10 False from cells:a cells:b through pins:u1/A
-11 Multi 2 from cells:r_0 cells:r_1 to pins:c/D
-13 Hold
+11 Multi 2 setup from cells:r_0 cells:r_1 to pins:c/D
+13 Hold 1 from cells:r_0 cells:r_1 to pins:c/D
 14 Passed
 ",
     ),
@@ -194,7 +233,7 @@ set_multicycle_path -setup 3 -through u_mul/* -end
 6 False from cells:u_cfg/reg_* hier cells:mode_reg[*] to AllRegisters
 7 False from any:rst_n
 8 Passed
-9 Multi 3 through any:u_mul/*
+9 Multi 3 setup through any:u_mul/*
 ",
     ),
 ];
@@ -234,7 +273,15 @@ const READ: &[(&str, &str)] = &[
     ),
     (
         "set_multicycle_path 1 -hold\nset_multicycle_path -hold -setup 002\nset_multicycle_path -hold -3\nset_false_path -hold -from a",
-        "1 Hold\n2 Multi 2\n3 Hold\n4 Hold\n",
+        "1 Hold 1\n2 Multi 2 setup hold\n3 Hold -3\n4 Hold from any:a\n",
+    ),
+    (
+        "set_false_path -setup -to b\nset_false_path -hold -to b -setup\nset_false_path -to b",
+        "1 False setup to any:b\n2 False setup hold to any:b\n3 False to any:b\n",
+    ),
+    (
+        "set_multicycle_path -hold -fall_from {a b} -through c 007 -through [get_pins d/Q] -to [all_outputs] -end",
+        "1 Hold 007 fall from any:a any:b through any:c through pins:d/Q to AllOutputs\n",
     ),
     (
         "set_multicycle_path 00000000000000000000000000016",

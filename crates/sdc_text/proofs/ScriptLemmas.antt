@@ -13,9 +13,10 @@ use Rattle.sdc_words.proofs.ReadLemmas.{value_or}
 use Rattle.script_types.specs.declared.scripts.What.TheVariants as what
 use Rattle.sdc_values.specs.Variables.{Vars}
 use Rattle.sdc_values.specs.Lines.{command_name}
-use Rattle.sdc_values.specs.declared.faults.SdcFault.{SdcFault}
-use Rattle.sdc_values.specs.declared.faults.SdcFault.TheVariants as fault
-use Rattle.sdc_values.specs.Told.{Fails, of_words}
+use Rattle.script_types.specs.declared.faults.SdcFault.{SdcFault}
+use Rattle.script_types.specs.declared.faults.SdcFault.TheVariants as fault
+use Rattle.sdc_words.specs.Faults.{of_words}
+use Rattle.sdc_values.specs.Told.{Fails}
 use Rattle.sdc_text.specs.declared.progresses.Progress.{Progress}
 use Rattle.sdc_text.specs.declared.kinds.CommandKind.TheVariants as kind
 use Rattle.sdc_text.specs.Kinds.{command_kind}

@@ -1,7 +1,7 @@
 -- Clocks: create_clock (SDC 2.1).
 use Rattle.std.specs.Prelude.{ℕ, is_some, if◌then◌else◌, List, [], Option, Some, None, Result, Ok, Err}
 use Rattle.texts.specs.Rules.{◌>>=◌}
-use Rattle.sdc_values.specs.declared.faults.SdcFault.{SdcFault}
+use Rattle.script_types.specs.declared.faults.SdcFault.{SdcFault}
 use Rattle.script_types.specs.declared.objects.Object.{Object}
 use Rattle.sdc_values.specs.declared.values.Said.{Said}
 use Rattle.sdc_values.specs.Lists.{objects_of}

@@ -4,10 +4,15 @@ use Rattle.texts.specs.Rules.{◌>>=◌}
 use Rattle.sdcv_base.specs.declared.kinds.Kind.{Kind}
 use Rattle.sdcv_base.specs.declared.kinds.Kind.TheVariants as kind
 use Rattle.sdcv_base.specs.declared.kinds.Edge.TheVariants as edges
-use Rattle.sdc_values.specs.declared.faults.SdcFault.{SdcFault}
+use Rattle.script_types.specs.declared.faults.SdcFault.{SdcFault}
 use Rattle.sdc_values.specs.declared.values.Value.{Value}
+use Rattle.sdc_values.specs.declared.values.Value.TheVariants as value
 use Rattle.sdc_values.specs.declared.values.Said.{Said}
 use Rattle.sdc_values.specs.Lists.{objects_of}
+use Rattle.script_types.specs.declared.scripts.Checks.{Checks}
+use Rattle.script_types.specs.declared.scripts.Checks.TheVariants as checks
+use Rattle.script_types.specs.declared.scripts.Exception.{Exception}
+use Rattle.script_types.specs.declared.scripts.Held.{Held}
 use Rattle.script_types.specs.declared.scripts.What.{What}
 use Rattle.script_types.specs.declared.scripts.What.TheVariants as what
 use Rattle.sdc_text.specs.declared.heads.Head.{Head}
@@ -120,9 +125,28 @@ kind_of r = elim r.number [
   | None ↦ Ok (if is_hold r then None else Some kind.False)
 ]
 
+-- the checks that the options of an exception name, which has `-setup` wherever it has `-hold`
+abbrev pub checks_of : Reading → Checks
+checks_of r = if r.has_setup then (if r.has_hold then checks.Both else checks.Setup) else checks.Unsaid
+
+-- an exception that makes claims of this kind
+abbrev pub exception_by : Reading → Kind → Exception
+exception_by r kind = record { kind = kind; checks = checks_of r; edge = r.edge; from = r.from; through = r.through; to = r.to }
+
+-- the text that a number is, if there is one
+abbrev pub number_text : Option Value → Option (List ℕ)
+number_text None = None
+number_text (Some (value.Text text)) = Some text
+number_text (Some (value.Objects objects)) = None
+
+-- an exception about the hold check alone
+abbrev pub held : Reading → Held
+held r = record { number = number_text r.number; edge = r.edge; from = r.from; through = r.through; to = r.to }
+
+-- an exception claims, or is about the hold check alone
 abbrev pub exception_or_hold : Reading → Option Kind → What
-exception_or_hold r (Some kind) = what.Claiming (record { kind = kind; edge = r.edge; from = r.from; through = r.through; to = r.to })
-exception_or_hold r None = what.Hold
+exception_or_hold r (Some kind) = what.Claiming (exception_by r kind)
+exception_or_hold r None = what.Hold (held r)
 
 -- an exception that is not set aside
 unfoldable pub claimed : Reading → Result What SdcFault

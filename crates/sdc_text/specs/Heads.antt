@@ -1,7 +1,7 @@
 -- The first word of a command, and the refusals that name the command or one of its words.
 use Rattle.std.specs.Prelude.{ℕ, if◌then◌else◌, List, Option, Some, None, Result, Ok, Err}
-use Rattle.sdc_values.specs.declared.faults.SdcFault.{SdcFault}
-use Rattle.sdc_values.specs.declared.faults.SdcFault.TheVariants as fault
+use Rattle.script_types.specs.declared.faults.SdcFault.{SdcFault}
+use Rattle.script_types.specs.declared.faults.SdcFault.TheVariants as fault
 use Rattle.sdc_values.specs.declared.values.Value.{Value}
 use Rattle.sdc_values.specs.declared.values.Value.TheVariants.{Text, Objects}
 use Rattle.sdc_values.specs.NestedKinds.{is_option}

@@ -3,8 +3,8 @@ use Rattle.std.specs.Prelude.{◌≡◌, ℕ, List, [], ◌∷◌, ◌++◌, dro
 use Rattle.texts.specs.Rules.{◌>>=◌}
 use Rattle.sdc_words.specs.declared.words.Word.{Word}
 use Rattle.sdc_words.specs.declared.words.RawCommand.{RawCommand}
-use Rattle.sdc_values.specs.declared.faults.SdcFault.{SdcFault}
-use Rattle.sdc_values.specs.declared.faults.SdcFault.TheVariants as fault
+use Rattle.script_types.specs.declared.faults.SdcFault.{SdcFault}
+use Rattle.script_types.specs.declared.faults.SdcFault.TheVariants as fault
 use Rattle.sdc_values.specs.declared.values.Said.{Said}
 use Rattle.sdc_values.specs.Variables.{with_value}
 use Rattle.sdc_values.specs.Lines.{said_words, command_name}

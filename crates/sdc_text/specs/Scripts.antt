@@ -4,10 +4,10 @@ use Rattle.texts.specs.Rules.{◌>>=◌, offset_of}
 use Rattle.sdc_words.specs.declared.faults.WordFault.{WordFault}
 use Rattle.sdc_words.specs.declared.words.RawCommand.{RawCommand}
 use Rattle.sdc_words.specs.Commands.{command_at}
+use Rattle.sdc_words.specs.Faults.{of_words}
 use Rattle.sdc_words.specs.Lines.{cleaned, original}
-use Rattle.sdc_values.specs.declared.faults.SdcFault.{SdcFault}
-use Rattle.sdc_values.specs.declared.faults.SdcFault.TheVariants as fault
-use Rattle.sdc_values.specs.Told.{of_words}
+use Rattle.script_types.specs.declared.faults.SdcFault.{SdcFault}
+use Rattle.script_types.specs.declared.faults.SdcFault.TheVariants as fault
 use Rattle.script_types.specs.declared.scripts.Script.{Script}
 use Rattle.script_types.specs.declared.scripts.What.TheVariants as what
 use Rattle.sdc_text.specs.declared.progresses.Progress.{Progress}

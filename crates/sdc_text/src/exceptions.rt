@@ -8,7 +8,7 @@ use crate::gathers::{Gather, take_all};
 use crate::heads::{Head, option_of};
 use crate::numbers::{is_whole, multiplier};
 use crate::options::{PathCommand, PathOption, path_option};
-use script_types::{Exception, Object, What};
+use script_types::{Checks, Exception, Held, Object, What};
 use sdc_values::{Said, SdcFault, Value, objects_of};
 use sdcv_base::{Edge, Kind, Name, Seq};
 use std::alloc::{AllocError, Global};
@@ -213,19 +213,63 @@ fn kind_of(alloc: Global, reading: &Reading) -> Result<Option<Kind>, SdcFault>
     kind_by(alloc, reading, text)
 }
 
-// What the exception says, whose lists leave the reading.
+fn checks_of(reading: &Reading) -> Checks
+    ensures { result ≡ spec.checks_of reading.now }
+{
+    if reading.has_setup {
+        if reading.has_hold {
+            Checks::Both
+        } else {
+            Checks::Setup
+        }
+    } else {
+        Checks::Unsaid
+    }
+}
+
+// An exception that claims, whose lists leave the reading.
+fn exception_by(alloc: Global, reading: &mut Reading, kind: Kind) -> Exception
+    ensures { result ≡ spec.exception_by reading.old kind }
+{
+    Exception {
+        kind,
+        checks: checks_of(reading),
+        edge: reading.edge,
+        from: reading.from.take(),
+        through: mem::replace(&mut reading.through, Seq::new(alloc)),
+        to: reading.to.take(),
+    }
+}
+
+fn number_text(number: Option<Value>) -> Option<Name>
+    ensures { result ≡ spec.number_text number }
+{
+    match number {
+        Some(Value::Text(text)) => Some(text),
+        Some(Value::Objects(_)) | None => None,
+    }
+}
+
+// An exception about the hold check alone, whose number and lists leave the reading.
+fn held(alloc: Global, reading: &mut Reading) -> Held
+    ensures { result ≡ spec.held reading.old }
+{
+    Held {
+        number: number_text(reading.number.take()),
+        edge: reading.edge,
+        from: reading.from.take(),
+        through: mem::replace(&mut reading.through, Seq::new(alloc)),
+        to: reading.to.take(),
+    }
+}
+
+// What the exception says, whose number and lists leave the reading.
 fn exception_or_hold(alloc: Global, reading: &mut Reading, kind: Option<Kind>) -> What
     ensures { result ≡ spec.exception_or_hold reading.old kind }
 {
     match kind {
-        Some(kind) => What::Claiming(Exception {
-            kind,
-            edge: reading.edge,
-            from: reading.from.take(),
-            through: mem::replace(&mut reading.through, Seq::new(alloc)),
-            to: reading.to.take(),
-        }),
-        None => What::Hold,
+        Some(kind) => What::Claiming(exception_by(alloc, reading, kind)),
+        None => What::Hold(held(alloc, reading)),
     }
 }
 

@@ -3,7 +3,7 @@ ghost use Rattle.std.specs.Prelude.{◌≡◌, Result};
 ghost use Rattle.texts.specs.Rules.{Gives};
 ghost use Rattle.sdc_values.specs.Told.{Fails};
 ghost use Rattle.sdc_values.specs.declared.values.Said.{Said as TheSaid};
-ghost use Rattle.sdc_values.specs.declared.faults.SdcFault.{SdcFault as TheFault};
+ghost use Rattle.script_types.specs.declared.faults.SdcFault.{SdcFault as TheFault};
 ghost use Rattle.sdcv_base.specs.Steps.{after_all};
 
 use sdc_values::{Said, SdcFault};

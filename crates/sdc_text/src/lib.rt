@@ -18,6 +18,7 @@ mod progresses;
 mod readers;
 
 pub use readers::read_sdc;
-pub use script_types::{Class, Command, Exception, Object, Query, Script, What};
-pub use sdc_values::SdcFault;
+pub use script_types::{
+    Checks, Class, Command, Exception, Held, Object, Query, Script, SdcFault, What,
+};
 pub use sdcv_base::{Edge, Kind};

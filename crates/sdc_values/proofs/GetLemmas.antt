@@ -1,8 +1,8 @@
 -- One turn of the loop over the words of a `get_` command.
 use Rattle.std.proofs.Common.{◌≡◌, ℕ, zero, suc, ◌+◌, ◌<◌, true, false, List, [], drop, Ok, Err, refl, arith}
 use Rattle.sdc_words.specs.declared.words.Word.{Word}
-use Rattle.sdc_values.specs.declared.faults.SdcFault.{SdcFault}
-use Rattle.sdc_values.specs.declared.faults.SdcFault.TheVariants as fault
+use Rattle.script_types.specs.declared.faults.SdcFault.{SdcFault}
+use Rattle.script_types.specs.declared.faults.SdcFault.TheVariants as fault
 use Rattle.sdc_values.specs.declared.gets.Asking.{Asking}
 use Rattle.script_types.specs.declared.objects.Class.{Class}
 use Rattle.script_types.specs.declared.objects.Object.{Object}

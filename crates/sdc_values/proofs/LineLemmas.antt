@@ -1,7 +1,7 @@
 -- One turn of the loop over the words of a command.
 use Rattle.std.proofs.Common.{◌≡◌, ℕ, zero, suc, ◌+◌, ◌<◌, ◌≤◌, List, [], ◌∷◌, length, Ok, Err, refl, arith}
 use Rattle.sdc_words.specs.declared.words.Word.{Word}
-use Rattle.sdc_values.specs.declared.faults.SdcFault.{SdcFault}
+use Rattle.script_types.specs.declared.faults.SdcFault.{SdcFault}
 use Rattle.sdc_values.specs.declared.values.Said.{Said}
 use Rattle.sdc_values.specs.Variables.{Vars}
 use Rattle.sdc_values.specs.Lines.{adds_word, said_from}

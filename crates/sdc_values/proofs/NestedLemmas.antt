@@ -2,7 +2,7 @@
 use Rattle.std.proofs.Common.{◌≡◌, ℕ, zero, suc, ◌+◌, ◌<◌, true, false, List, Ok, Err, refl, arith, ◌==◌}
 use Rattle.std.proofs.lemmas.Bool.Decides.{nat_tests}
 use Rattle.sdc_words.specs.declared.words.Word.{Word}
-use Rattle.sdc_values.specs.declared.faults.SdcFault.{SdcFault}
+use Rattle.script_types.specs.declared.faults.SdcFault.{SdcFault}
 use Rattle.sdc_values.specs.declared.nested.Joined.{Joined}
 use Rattle.sdc_values.specs.Nested.{list_step, lists_from}
 use Rattle.sdc_values.specs.Variables.{Vars}

@@ -7,8 +7,8 @@ use Rattle.texts.specs.Fronts.{first}
 use Rattle.texts.specs.Reads.{◌>>=◌}
 use Rattle.sdc_words.specs.Blanks.{is_next}
 use Rattle.sdc_words.specs.Marks.{backslash, left_brace, right_brace}
-use Rattle.sdc_values.specs.declared.faults.SdcFault.{SdcFault}
-use Rattle.sdc_values.specs.declared.faults.SdcFault.TheVariants as fault
+use Rattle.script_types.specs.declared.faults.SdcFault.{SdcFault}
+use Rattle.script_types.specs.declared.faults.SdcFault.TheVariants as fault
 use Rattle.script_types.specs.declared.objects.Class.{Class}
 use Rattle.script_types.specs.declared.objects.Class.TheVariants as class
 use Rattle.script_types.specs.declared.objects.Object.{Object}

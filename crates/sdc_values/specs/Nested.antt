@@ -3,8 +3,8 @@ use Rattle.std.specs.Prelude.{ℕ, zero, suc, ◌+◌, ◌-◌, Bool, true, fals
 use Rattle.texts.specs.Rules.{◌>>=◌}
 use Rattle.sdc_words.specs.declared.words.Word.{Word}
 use Rattle.sdc_words.specs.declared.words.Word.TheVariants as word
-use Rattle.sdc_values.specs.declared.faults.SdcFault.{SdcFault}
-use Rattle.sdc_values.specs.declared.faults.SdcFault.TheVariants as fault
+use Rattle.script_types.specs.declared.faults.SdcFault.{SdcFault}
+use Rattle.script_types.specs.declared.faults.SdcFault.TheVariants as fault
 use Rattle.sdc_values.specs.declared.nested.Joined.{Joined}
 use Rattle.sdc_values.specs.declared.nested_kinds.NestedKind.{NestedKind}
 use Rattle.sdc_values.specs.declared.nested_kinds.NestedKind.TheVariants as kind

@@ -4,12 +4,12 @@ ghost use Rattle.texts.specs.Rules.{Gives};
 ghost use Rattle.sdc_values.specs.Told.{Fails};
 ghost use Rattle.sdc_values.specs.Lines as spec;
 
-use crate::faults::SdcFault;
 use crate::loans::Loan;
 use crate::nested::nested;
 use crate::values::{Said, Value};
 use crate::variables::Variables;
 use crate::word_texts::{said_text, text_within, value};
+use script_types::SdcFault;
 use sdc_words::Word;
 use sdcv_base::{Name, Seq};
 use std::alloc::Global;

@@ -5,14 +5,13 @@ ghost use Rattle.sdc_values.specs.Told.{Fails};
 ghost use Rattle.sdc_values.specs.Gets as spec;
 
 use crate::command_words::words_after;
-use crate::faults::SdcFault;
 use crate::lists::list_at;
 use crate::loans::Loan;
 use crate::nested_kinds::{is_hier, is_option, is_quiet};
 use crate::values::Value;
 use crate::variables::Variables;
 use crate::word_texts::value;
-use script_types::{Class, Object};
+use script_types::{Class, Object, SdcFault};
 use sdc_words::Word;
 use sdcv_base::{Name, Seq};
 use std::alloc::{AllocError, Global};

@@ -2,7 +2,6 @@
 #![tactic(auto)]
 
 mod command_words;
-mod faults;
 mod gets;
 mod lists;
 mod loans;
@@ -13,11 +12,10 @@ mod variables;
 mod word_texts;
 
 pub use command_words::{command_name, said_words};
-pub use faults::SdcFault;
 pub use lists::objects_of;
 pub use loans::Loan;
 pub use nested_kinds::is_option;
-pub use script_types::{Class, Object, Query, copy_objects};
+pub use script_types::{Class, Object, Query, SdcFault, copy_objects};
 pub use values::{Said, Value};
 pub use variables::Variables;
 pub use word_texts::said_text;

@@ -7,9 +7,8 @@ ghost use Rattle.texts.specs.Rules.{Gives};
 ghost use Rattle.sdc_values.specs.Told.{Fails};
 ghost use Rattle.sdc_values.specs.Lists as spec;
 
-use crate::faults::SdcFault;
 use crate::values::{Said, Value};
-use script_types::{Class, Object, Query, copy_objects};
+use script_types::{Class, Object, Query, SdcFault, copy_objects};
 use sdcv_base::{Cursor, Name, Seq};
 use std::alloc::{AllocError, Global};
 use texts::byte_at;

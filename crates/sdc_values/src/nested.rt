@@ -5,13 +5,12 @@ ghost use Rattle.sdc_values.specs.Told.{Fails};
 ghost use Rattle.sdc_values.specs.Nested as spec;
 
 use crate::command_words::words_after;
-use crate::faults::SdcFault;
 use crate::gets::{Scene, all, get};
 use crate::lists::objects_of;
 use crate::nested_kinds::{NestedKind, nested_kind};
 use crate::variables::Variables;
 use crate::word_texts::{said_text, text_within, value};
-use script_types::Object;
+use script_types::{Object, SdcFault};
 use sdc_words::Word;
 use sdcv_base::{Name, Seq};
 use std::alloc::{AllocError, Global};

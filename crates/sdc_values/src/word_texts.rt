@@ -6,10 +6,10 @@ ghost use Rattle.sdc_values.specs.Told.{Fails};
 ghost use Rattle.sdc_values.specs.Texts as spec;
 ghost use Rattle.sdcv_base.specs.Steps.{after_all};
 
-use crate::faults::SdcFault;
 use crate::loans::Loan;
 use crate::values::{Said, Value};
 use crate::variables::Variables;
+use script_types::SdcFault;
 use sdc_words::Piece;
 use sdcv_base::{Name, Seq};
 use std::alloc::Global;

@@ -1,6 +1,7 @@
 pub mod Blanks
 pub mod Braces
 pub mod Commands
+pub mod Faults
 pub mod Lines
 pub mod Marks
 pub mod Pieces

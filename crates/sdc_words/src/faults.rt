@@ -3,7 +3,9 @@ ghost use Rattle.std.specs.Prelude.{◌≡◌, length};
 ghost use Rattle.sdcv_base.specs.Cursors.{rest, text_of};
 ghost use Rattle.texts.specs.Rules.{offset_of};
 ghost use Rattle.sdc_words.specs.declared.faults.WordFault.TheVariants as fault;
+ghost use Rattle.sdc_words.specs.Faults.{of_words};
 
+use script_types::SdcFault;
 use sdcv_base::Cursor;
 use std::alloc::{AllocError, AllocFailed};
 use thiserror::Error;
@@ -34,6 +36,18 @@ impl<T: Drop> From<AllocFailed<T>> for WordFault {
 
     fn from(_: AllocFailed<T>) -> WordFault {
         WordFault::Memory
+    }
+}
+
+impl From<WordFault> for SdcFault {
+    ghost from_gives = { λ f e. e ≡ of_words f };
+
+    fn from(fault: WordFault) -> SdcFault {
+        match fault {
+            WordFault::Syntax(place) => SdcFault::Syntax(place),
+            WordFault::Memory => SdcFault::Memory,
+            WordFault::Deep(place) => SdcFault::Deep(place),
+        }
     }
 }
 

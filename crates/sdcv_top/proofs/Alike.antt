@@ -7,7 +7,7 @@ use Rattle.net_model.proofs.Members.{In, In-map, from_map}
 use Rattle.net_model.proofs.Settling.{All-at}
 use Rattle.linked_types.specs.declared.names.Linked.{Linked}
 use Rattle.script_types.specs.declared.scripts.What.{What}
-use Rattle.script_types.specs.declared.scripts.What.TheVariants.{Clock, Case, Claiming, Hold, Aside, Passed}
+use Rattle.script_types.specs.declared.scripts.What.TheVariants.{Clock, Case, Claiming, Hold, Aside, Passed, Unjudged, Scope, Generated, Delay}
 use Rattle.script_types.specs.declared.scripts.Command.{Command}
 use Rattle.script_types.specs.declared.scripts.Script.{Script}
 use Rattle.run_options.specs.declared.judging.Judging.{Judging}
@@ -31,9 +31,13 @@ by_what : (l : Linked) (script : Script) (judging : Judging) (p : Pair) (what : 
 by_what l script judging p (Claiming e) claim is = ap (λ (c : Claim). c.hazard) (same_Some claim (spec.claim l script judging e p) is)
 by_what l script judging p (Clock name source) claim is = absurd cc
 by_what l script judging p (Case value objects) claim is = absurd cc
-by_what l script judging p Hold claim is = absurd cc
+by_what l script judging p (Hold h) claim is = absurd cc
 by_what l script judging p (Aside option) claim is = absurd cc
 by_what l script judging p Passed claim is = absurd cc
+by_what l script judging p (Unjudged name) claim is = absurd cc
+by_what l script judging p (Scope name) claim is = absurd cc
+by_what l script judging p (Generated name objects) claim is = absurd cc
+by_what l script judging p (Delay output clocks objects) claim is = absurd cc
 
 by_command : (l : Linked) (script : Script) (judging : Judging) (p : Pair) (at : Option Command) (claim : Claim)
     → Some claim ≡ spec.claim_at l script judging p at → claim.hazard ≡ judging.hazard

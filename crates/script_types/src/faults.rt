@@ -1,9 +1,7 @@
 //! Why a text is no script.
 ghost use Rattle.std.specs.Prelude.{◌≡◌};
-ghost use Rattle.sdc_values.specs.declared.faults.SdcFault.TheVariants as fault;
-ghost use Rattle.sdc_values.specs.Told.{of_words};
+ghost use Rattle.script_types.specs.declared.faults.SdcFault.TheVariants as fault;
 
-use sdc_words::WordFault;
 use sdcv_base::Name;
 use std::alloc::{AllocError, AllocFailed};
 use thiserror::Error;
@@ -31,18 +29,6 @@ pub enum SdcFault {
     /// A brace or a bracket stands there within 256 others.
     #[error("byte {0}: too many braces and brackets are open")]
     Deep(usize),
-}
-
-impl From<WordFault> for SdcFault {
-    ghost from_gives = { λ f e. e ≡ of_words f };
-
-    fn from(fault: WordFault) -> SdcFault {
-        match fault {
-            WordFault::Syntax(place) => SdcFault::Syntax(place),
-            WordFault::Memory => SdcFault::Memory,
-            WordFault::Deep(place) => SdcFault::Deep(place),
-        }
-    }
 }
 
 impl From<AllocError> for SdcFault {
