@@ -120,6 +120,7 @@ fn claims_of(alloc: Global, rows: &[Pair], hazard: bool) -> Result<Seq<Claim>, A
             edge: row.1.1,
             lag: 0,
             hazard,
+            early: false,
             start: Start::Reg(0),
             end: End::Reg(0),
             through: Seq::new(alloc),
