@@ -166,9 +166,7 @@ fn verdict_of(alloc: Global, found: Found) -> Result<Verdict, AllocError> {
             offset,
             stimulus: stimulus_of(alloc, bits)?,
         },
-        Found::Stays => Verdict::Undecided(Cause::Depth {
-            stretch: Seq::new(alloc),
-        }),
+        Found::Stays => Verdict::Undecided(Cause::Depth),
         Found::Spent(phase, depth) => Verdict::Undecided(Cause::Budget {
             phase,
             depth,
