@@ -37,7 +37,7 @@ pub record AreSizesOf (d : Design) (s : Sizes) : Type 0 where
 
 -- the sizes of a sound design and a claim that fits it
 pub record AreSmall (s : Sizes) : Type 0 where
-  pub inputs : s.inputs ≤ 2000
+  pub inputs : s.inputs ≤ 20000
   pub regs : s.regs ≤ 20000
   pub resets : s.resets ≤ 64
   pub judged : s.judged ≤ 16

@@ -29,6 +29,8 @@ pub enum Said {
     Refuted(usize, usize),
     Stays,
     Spends(Phase, usize),
+    /// Open for what is free or cut.
+    Lacks,
 }
 
 /// What is wanted of claims.
@@ -52,8 +54,9 @@ fn told(verdict: &Verdict) -> Said {
         Verdict::Justified(Proof::Fixed) => Said::Fixed,
         Verdict::Justified(Proof::Depth { depth, .. }) => Said::Justified(*depth),
         Verdict::Refuted { offset, stimulus } => Said::Refuted(*offset, stimulus.inputs.len()),
-        Verdict::Undecided(Cause::Depth { .. }) => Said::Stays,
+        Verdict::Undecided(Cause::Depth) => Said::Stays,
         Verdict::Undecided(Cause::Budget { phase, depth, .. }) => Said::Spends(*phase, *depth),
+        Verdict::Undecided(Cause::Free { .. } | Cause::Cut) => Said::Lacks,
     }
 }
 

@@ -49,6 +49,7 @@ claim_fits l script judging (Claiming e) p claim usable short kind few there is 
     subst (Fits l.design) same (record {
       kind = kind;
       lag = lag_fits e.kind judging.lag short;
+      early = refl;
       start = ends.0;
       end_ = ends.1;
       pins = All-map (All (IsPinIn l.design)) (pins_of l script) e.through (λ k d low. pins_fit l script usable (slice_index_or e.through k d));

@@ -1,5 +1,5 @@
 -- Pairs of a start and an end, the paths between them, and claims of them.
-use Rattle.std.specs.Prelude.{ℕ, Bool, true, not, ◌&&◌, ◌||◌, ◌==◌, nat_lt, List, map, flat_map}
+use Rattle.std.specs.Prelude.{ℕ, Bool, true, false, not, ◌&&◌, ◌||◌, ◌==◌, nat_lt, List, map, flat_map}
 use Rattle.std.specs.List.{list_any}
 use Rattle.net_model.specs.Judge.{judged_count}
 use Rattle.sdcv_base.specs.declared.kinds.Kind.{Kind}
@@ -48,6 +48,7 @@ claim_with kind edge judging sets p = record {
   edge = edge;
   lag = lag_for kind judging.lag;
   hazard = judging.hazard;
+  early = false;
   start = p.start;
   end = p.end;
   through = sets;

@@ -41,6 +41,7 @@ fn claim_of(alloc: Global, terms: &Terms, pair: Pair) -> Result<Claim, AllocErro
         edge: terms.edge,
         lag: lag_for(terms.kind, terms.judging.lag),
         hazard: terms.judging.hazard,
+        early: false,
         start: pair.start,
         end: pair.end,
         through: copied(alloc, terms.sets)?,

@@ -216,7 +216,7 @@ made_is c o tree odd above kept n h d lawful held is row above_is clocked same n
     let limits : IsWithinLimits d = record {
       nets = sized.nets;
       regs = sized.regs;
-      inputs = sized.inputs;
+      inputs = omega (arith, sized.inputs);
       outputs = sized.outputs;
       reset_len =
           omega (arith, made.reset_len, held.reset_len);

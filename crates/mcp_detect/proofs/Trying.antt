@@ -21,7 +21,7 @@ use Rattle.mcp_detect.specs.Detections.{AreTriedFirst, IsBare, IsFound, IsJustif
 -- the claim of a multiplier fits where the claim does
 pub fits_multiplier : (d : Design) (claim : Claim) (m : ℕ) → Fits d claim → IsBare claim → 1 ≤ m → m ≤ 16 → Fits d (with_multiplier m claim)
 fits_multiplier d claim m fits bare some most =
-    record { kind = (some, most); lag = bare.lag; start = fits.start; end_ = fits.end_; pins = fits.pins; few = fits.few }
+    record { kind = (some, most); lag = bare.lag; early = fits.early; start = fits.start; end_ = fits.end_; pins = fits.pins; few = fits.few }
 
 -- a claim with a verdict that justifies it is found
 pub found_here : (d : Design) (o : DetectOptions) (kept : List InvClause) (claim : Claim) (verdict : Verdict) → IsRight d claim kept (limits_of o) verdict

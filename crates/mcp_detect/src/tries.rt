@@ -92,6 +92,7 @@ fn with_multiplier(alloc: Global, claim: &Claim, k: u8) -> Claim
         edge: claim.edge,
         lag: claim.lag,
         hazard: claim.hazard,
+        early: claim.early,
         start: claim.start,
         end: claim.end,
         through: Seq::new(alloc),

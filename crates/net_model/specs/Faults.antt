@@ -48,7 +48,7 @@ pub record Passes (limit count n : ℕ) : Type 0 where
 pub data IsAboveLimit (d : Design) (n : ℕ) : Type 0 where
   Nets : Passes 200000 d.nets n → IsAboveLimit d n
   Registers : Passes 20000 (length d.regs) n → IsAboveLimit d n
-  Inputs : Passes 2000 (length d.inputs) n → IsAboveLimit d n
+  Inputs : Passes 20000 (length d.inputs) n → IsAboveLimit d n
   Outputs : Passes 20000 (length d.outputs) n → IsAboveLimit d n
   GatePins : (k : ℕ) (g : Gate) → slice_get d.gates k ≡ Some g → Passes 6 (length g.ins) n → IsAboveLimit d n
   RegPins : (r : ℕ) (reg : Reg) → slice_get d.regs r ≡ Some reg → Passes 6 (length reg.ins) n → IsAboveLimit d n

@@ -81,7 +81,7 @@ IsInOrder d =
 pub record IsWithinLimits (d : Design) : Type 0 where
   pub nets : d.nets ≤ 200000
   pub regs : length d.regs ≤ 20000
-  pub inputs : length d.inputs ≤ 2000
+  pub inputs : length d.inputs ≤ 20000
   pub outputs : length d.outputs ≤ 20000
   pub reset_len : d.reset_len ≤ 64
 

@@ -106,7 +106,7 @@ impl Design {
     ///
     /// Sound is a design whose numbers are all in range, in which each net has one driver and each gate reads only nets
     /// that an input, a register or an earlier gate drives, which fixes or resets no input twice, and which keeps the
-    /// limits: 200,000 nets, 20,000 registers, 2,000 inputs, 20,000 outputs, 6 pins of a gate or a register, and 64
+    /// limits: 200,000 nets, 20,000 registers, 20,000 inputs, 20,000 outputs, 6 pins of a gate or a register, and 64
     /// reset cycles. Where it has several faults, any may be told.
     #[tactic(auto, using(crate::proofs::Unsound::unsound))]
     pub fn check(&self, alloc: Global) -> Result<(), DesignFault>

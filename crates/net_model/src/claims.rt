@@ -33,15 +33,33 @@ pub enum PinRef {
 ///
 /// The paths begin where the start's own bit changes as `edge` says. A false path is judged at `lag` more captures than
 /// the first; a multicycle path has no lag. With `hazard` the end may not see a glitch either.
-#[derive(Drop)]
 pub struct Claim {
     pub kind: Kind,
     pub edge: Edge,
     pub lag: u8,
     pub hazard: bool,
+    /// Whether the claim is of the hold side of a false path: the start's change may come early, and be captured at the very
+    /// edge at which it happens.
+    pub early: bool,
     pub start: Start,
     pub end: End,
     pub through: Seq<PinSet>,
+}
+
+// Let go by a call of its own: whoever owns one proves nothing of how its parts are kept.
+impl Drop for Claim {
+    fn drop(self) {
+        let Claim {
+            kind: _kind,
+            edge: _edge,
+            lag: _lag,
+            hazard: _hazard,
+            early: _early,
+            start: _start,
+            end: _end,
+            through: _through,
+        } = self;
+    }
 }
 
 impl Claim {

@@ -10,11 +10,21 @@ use sdcv_base::Seq;
 use std::alloc::{AllocError, Global};
 
 /// A bit for each register, for each input and for each net, in the order of the design's lists.
-#[derive(Drop)]
 pub struct Cycle {
     pub bits: Seq<bool>,
     pub ins: Seq<bool>,
     pub nets: Seq<bool>,
+}
+
+// Let go by a call of its own: whoever owns one proves nothing of how its parts are kept.
+impl Drop for Cycle {
+    fn drop(self) {
+        let Cycle {
+            bits: _bits,
+            ins: _ins,
+            nets: _nets,
+        } = self;
+    }
 }
 
 impl Cycle {
@@ -43,8 +53,17 @@ impl Cycle {
 }
 
 /// The register bits of a run's first cycle, and the input bits of each of its cycles.
-#[derive(Drop)]
 pub struct Stimulus {
     pub state: Seq<bool>,
     pub inputs: Seq<Seq<bool>>,
+}
+
+// Let go by a call of its own: whoever owns one proves nothing of how its parts are kept.
+impl Drop for Stimulus {
+    fn drop(self) {
+        let Stimulus {
+            state: _state,
+            inputs: _inputs,
+        } = self;
+    }
 }

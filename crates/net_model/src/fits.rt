@@ -70,12 +70,13 @@ fn are_pins_in(design: &Design, set: &PinSet) -> bool
 
 impl Claim {
     /// Whether all places of the claim are in range, its multiplier is from 1 to 16, its lag is at most 8 and that of a
-    /// multicycle path 0, and it has at most 4 through sets.
+    /// multicycle path 0, it is not of the early side, and it has at most 4 through sets.
     pub fn fits(&self, design: &Design) -> bool
         ensures { IsTrue result ↔ Fits design.now self.now }
     {
         is_kind_fit(self.kind)
             && is_lag_fit(self.kind, self.lag)
+            && !self.early
             && is_start_in(design, self.start)
             && is_end_in(design, self.end)
             && self.through.len() <= MOST_SETS

@@ -9,7 +9,7 @@ pub const MOST_NETS: usize = 200_000;
 
 pub const MOST_REGISTERS: usize = 20_000;
 
-pub const MOST_INPUTS: usize = 2_000;
+pub const MOST_INPUTS: usize = 20_000;
 
 pub const MOST_OUTPUTS: usize = 20_000;
 

@@ -3,11 +3,21 @@ use crate::functions::Func;
 use sdcv_base::Seq;
 
 /// A combinational function that drives one net. Place i of `func` is net `ins[i]`.
-#[derive(Drop)]
 pub struct Gate {
     pub func: Func,
     pub ins: Seq<usize>,
     pub out: usize,
+}
+
+// Let go by a call of its own: whoever owns one proves nothing of how its parts are kept.
+impl Drop for Gate {
+    fn drop(self) {
+        let Gate {
+            func: _func,
+            ins: _ins,
+            out: _out,
+        } = self;
+    }
 }
 
 /// A net that shows a register's bit, or where `inverted` its complement.
@@ -21,7 +31,6 @@ pub struct RegOut {
 ///
 /// Place i of `next`, `clear` and `preset` is net `ins[i]`, and the place after the last entry is the register's own
 /// bit. `both` is the value that it takes where clear and preset are both 1.
-#[derive(Drop)]
 pub struct Reg {
     pub next: Func,
     pub clear: Option<Func>,
@@ -29,6 +38,20 @@ pub struct Reg {
     pub both: bool,
     pub ins: Seq<usize>,
     pub outs: Seq<RegOut>,
+}
+
+// Let go by a call of its own: whoever owns one proves nothing of how its parts are kept.
+impl Drop for Reg {
+    fn drop(self) {
+        let Reg {
+            next: _next,
+            clear: _clear,
+            preset: _preset,
+            both: _both,
+            ins: _ins,
+            outs: _outs,
+        } = self;
+    }
 }
 
 /// A value for an input, which is a place in the design's `inputs`.
@@ -42,7 +65,6 @@ pub struct Fixed {
 ///
 /// The clock port is not among `inputs`. `fixed` has the inputs that keep a value, and `resets` those that have the
 /// value given, their active one, in the cycles 0 to `reset_len` - 1 and its complement after.
-#[derive(Drop)]
 pub struct Design {
     pub nets: usize,
     pub gates: Seq<Gate>,
@@ -52,4 +74,20 @@ pub struct Design {
     pub fixed: Seq<Fixed>,
     pub resets: Seq<Fixed>,
     pub reset_len: usize,
+}
+
+// Let go by a call of its own: whoever owns one proves nothing of how its parts are kept.
+impl Drop for Design {
+    fn drop(self) {
+        let Design {
+            nets: _nets,
+            gates: _gates,
+            regs: _regs,
+            inputs: _inputs,
+            outputs: _outputs,
+            fixed: _fixed,
+            resets: _resets,
+            reset_len: _reset_len,
+        } = self;
+    }
 }

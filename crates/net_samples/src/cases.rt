@@ -81,6 +81,7 @@ pub fn case_of(alloc: Global, parts: &[Part], query: &[Ask]) -> Result<Case, All
             edge: Edge::Any,
             lag: 0,
             hazard: false,
+            early: false,
             start: Start::Reg(0),
             end: End::Reg(1),
             through: Seq::new(alloc),

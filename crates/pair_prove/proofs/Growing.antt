@@ -106,13 +106,13 @@ justified_in_form d claim kept limit depth base step few so last = (
 )
 
 -- at the greatest depth the claim stays open
-pub stays : (d : Design) (claim : Claim) (kept : List InvClause) (limits : Limits) (depth : ℕ) (stretch : List Cycle) → depth ≡ limits.depth
-    → IsReached d claim kept limits.depth depth → HoldsAtOffset d claim depth → IsAnswer (claim_query d claim Step depth kept) stretch
-    → IsRight d claim kept limits (Undecided (Stays stretch))
-stays d claim kept limits depth stretch last reached holds answer = (
+pub stays : (d : Design) (claim : Claim) (kept : List InvClause) (limits : Limits) (depth : ℕ) → depth ≡ limits.depth
+    → IsReached d claim kept limits.depth depth → HoldsAtOffset d claim depth → IsOpenAt d claim kept depth
+    → IsRight d claim kept limits (Undecided Stays)
+stays d claim kept limits depth last reached holds answer = (
   subst (IsReached d claim kept limits.depth) last reached,
   subst (HoldsAtOffset d claim) last holds,
-  subst (λ (k : ℕ). IsAnswer (claim_query d claim Step k kept) stretch) last answer,
+  subst (IsOpenAt d claim kept) last answer,
 )
 
 -- the run that answers the base query, told by its stimulus

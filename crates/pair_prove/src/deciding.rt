@@ -53,16 +53,15 @@ pub(crate) fn decide(
             depth,
             budget,
         };
-        let found = match ask_claim(alloc, design, claim, kept, probe)? {
+        match ask_claim(alloc, design, claim, kept, probe)? {
             Asked::Refuted(step) => {
                 return Ok(Verdict::Justified(Proof::Depth { depth, base, step }));
             }
             Asked::Spent(log) => return Ok(Verdict::Undecided(Cause::Budget { phase, depth, log })),
-            Asked::Answered(found) => found,
-        };
+            Asked::Answered(_) => {}
+        }
         if depth == limits.depth {
-            let stretch = found.run(alloc, design)?;
-            return Ok(Verdict::Undecided(Cause::Depth { stretch }));
+            return Ok(Verdict::Undecided(Cause::Depth));
         }
         base.push(derivation)?;
         depth += 1;

@@ -74,7 +74,7 @@ design =
     }
 
 abbrev claim : Claim
-claim = record { kind = False; edge = Any; lag = 0; hazard = false; start = RegStart 0; end = RegEnd 1; through = [] }
+claim = record { kind = False; edge = Any; lag = 0; hazard = false; early = false; start = RegStart 0; end = RegEnd 1; through = [] }
 
 abbrev moved : List (List Bool)
 moved = (false ∷ true ∷ false ∷ []) ∷ []

@@ -9,6 +9,7 @@ use Rattle.sdcv_base.specs.Seqs.{each_at}
 use Rattle.selected_types.specs.declared.selections.CommandLine.{CommandLine}
 use Rattle.selected_types.specs.declared.selections.PairLine.{PairLine}
 use Rattle.selected_types.specs.declared.selections.Selected.{Selected}
+use Rattle.verdict_types.specs.declared.outcomes.Cause.TheVariants.{Depth as Stays, Budget, Free, Cut}
 use Rattle.verdict_types.specs.declared.outcomes.Verdict.{Verdict}
 use Rattle.verdict_types.specs.declared.outcomes.Verdict.TheVariants.{Justified, Refuted, Undecided}
 use Rattle.witness_replay.specs.StimulusTexts.{digits_of}
@@ -31,7 +32,10 @@ commands_have_none place (c ∷ cs) = rw (command_has_none place c, commands_hav
 evidence_has_none : (v : Verdict) → has_float (evidence_data v) ≡ false
 evidence_has_none (Justified proof) = refl
 evidence_has_none (Refuted offset s) = rw (texts_have_none digits_of s.inputs) refl
-evidence_has_none (Undecided cause) = refl
+evidence_has_none (Undecided Stays) = refl
+evidence_has_none (Undecided (Budget phase depth log)) = refl
+evidence_has_none (Undecided (Free offset s)) = rw (texts_have_none digits_of s.inputs) refl
+evidence_has_none (Undecided Cut) = refl
 
 pair_has_none : (limit number : ℕ) (p : PairLine) (c : Claim) (v : Verdict) → has_float (pair_data limit number p c v) ≡ false
 pair_has_none limit number p c v = rw (evidence_has_none v) refl

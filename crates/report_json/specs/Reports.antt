@@ -13,6 +13,7 @@ use Rattle.selected_types.specs.declared.selections.Listing.TheVariants.{Claimin
 use Rattle.selected_types.specs.declared.selections.CommandLine.{CommandLine}
 use Rattle.selected_types.specs.declared.selections.PairLine.{PairLine}
 use Rattle.selected_types.specs.declared.selections.Selected.{Selected}
+use Rattle.verdict_types.specs.declared.outcomes.Cause.TheVariants.{Free}
 use Rattle.verdict_types.specs.declared.outcomes.Verdict.{Verdict}
 use Rattle.verdict_types.specs.declared.outcomes.Verdict.TheVariants.{Justified, Refuted, Undecided}
 use Rattle.witness_replay.specs.StimulusTexts.{digits_of}
@@ -59,10 +60,11 @@ inputs_data = texts_data digits_of
 abbrev pub stimulus_data : Stimulus → Data
 stimulus_data s = object (member (codes "inputs") (inputs_data s.inputs) (member (codes "state") (string (digits_of s.state)) no_members))
 
--- the stimulus by which a pair is refuted
+-- the stimulus by which a pair is refuted, or may be where its free inputs give such bits
 abbrev pub evidence_data : Verdict → Data
 evidence_data (Justified proof) = null
 evidence_data (Refuted offset stimulus) = stimulus_data stimulus
+evidence_data (Undecided (Free offset stimulus)) = stimulus_data stimulus
 evidence_data (Undecided cause) = null
 
 abbrev pub pair_data : ℕ → ℕ → PairLine → Claim → Verdict → Data

@@ -13,7 +13,7 @@ use report_text::bits_text;
 use sdcv_base::Seq;
 use serde_json::Value;
 use std::alloc::{AllocError, Global};
-use verdict_types::Verdict;
+use verdict_types::{Cause, Verdict};
 
 fn inputs_value(alloc: Global, inputs: &Seq<Seq<bool>>) -> Result<Value, AllocError>
     ensures { IfOk result (λ v. view v ≡ inputs_data inputs.now) }
@@ -47,12 +47,14 @@ fn stimulus_value(alloc: Global, stimulus: &Stimulus) -> Result<Value, AllocErro
     Ok(object.into_value())
 }
 
-/// The stimulus by which a pair is refuted, or null.
+/// The stimulus by which a pair is refuted, or may be where its free inputs give such bits, or null.
 pub(crate) fn evidence_value(alloc: Global, verdict: &Verdict) -> Result<Value, AllocError>
     ensures { IfOk result (λ v. view v ≡ evidence_data verdict.now) }
 {
     match verdict {
-        Verdict::Refuted { stimulus, .. } => stimulus_value(alloc, stimulus),
+        Verdict::Refuted { stimulus, .. } | Verdict::Undecided(Cause::Free { stimulus, .. }) => {
+            stimulus_value(alloc, stimulus)
+        }
         Verdict::Justified(_) | Verdict::Undecided(_) => Ok(Value::Null),
     }
 }

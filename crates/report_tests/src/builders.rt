@@ -119,6 +119,7 @@ fn claims_of(alloc: Global, rows: &[Pair], hazard: bool) -> Result<Seq<Claim>, A
             edge: row.1.1,
             lag: 0,
             hazard,
+            early: false,
             start: Start::Reg(0),
             end: End::Reg(0),
             through: Seq::new(alloc),
@@ -164,9 +165,7 @@ fn verdict_of(alloc: Global, found: Found) -> Result<Verdict, AllocError> {
             offset,
             stimulus: stimulus_of(alloc, bits)?,
         },
-        Found::Stays => Verdict::Undecided(Cause::Depth {
-            stretch: Seq::new(alloc),
-        }),
+        Found::Stays => Verdict::Undecided(Cause::Depth),
         Found::Spent(phase, depth) => Verdict::Undecided(Cause::Budget {
             phase,
             depth,

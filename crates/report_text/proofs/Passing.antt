@@ -24,7 +24,7 @@ use Rattle.selected_types.specs.declared.selections.PairLine.{PairLine}
 use Rattle.verdict_types.specs.declared.outcomes.Proof.{Proof}
 use Rattle.verdict_types.specs.declared.outcomes.Proof.TheVariants.{Single, Fixed, Depth}
 use Rattle.verdict_types.specs.declared.outcomes.Cause.{Cause}
-use Rattle.verdict_types.specs.declared.outcomes.Cause.TheVariants.{Depth as Stays, Budget}
+use Rattle.verdict_types.specs.declared.outcomes.Cause.TheVariants.{Depth as Stays, Budget, Free, Cut}
 use Rattle.verdict_types.specs.declared.outcomes.Verdict.{Verdict}
 use Rattle.verdict_types.specs.declared.outcomes.Verdict.TheVariants.{Justified, Refuted, Undecided}
 use Rattle.witness_replay.specs.StimulusTexts.{title_of}
@@ -98,8 +98,10 @@ inline_phase Base = refl
 inline_phase Step = refl
 
 inline_cause : (limit : ℕ) (cause : Cause) → is_inline (cause_text limit cause) ≡ true
-inline_cause limit (Stays stretch) = inline_decimal limit
+inline_cause limit Stays = inline_decimal limit
 inline_cause limit (Budget phase depth log) = simp (inline-append, inline_phase, inline_decimal)
+inline_cause limit (Free offset stimulus) = inline_decimal offset
+inline_cause limit Cut = refl
 
 inline_why : (limit : ℕ) (v : Verdict) → is_inline (why_text limit v) ≡ true
 inline_why limit (Justified proof) = inline_proof proof
@@ -142,7 +144,10 @@ passes_stimulus : (number other : ℕ) (v : Verdict) → number < 2 ^ 64 → oth
     → list_all (passes (title_of number)) (stimulus_texts other v) ≡ true
 passes_stimulus number other (Justified proof) small fits differs = refl
 passes_stimulus number other (Refuted offset s) small fits differs = passes_block number other s small fits differs
-passes_stimulus number other (Undecided cause) small fits differs = refl
+passes_stimulus number other (Undecided Stays) small fits differs = refl
+passes_stimulus number other (Undecided (Budget phase depth log)) small fits differs = refl
+passes_stimulus number other (Undecided (Free offset s)) small fits differs = passes_block number other s small fits differs
+passes_stimulus number other (Undecided Cut) small fits differs = refl
 
 -- the line of a pair
 pub passes_line : (number limit other : ℕ) (p : PairLine) (claim : Claim) (v : Verdict)

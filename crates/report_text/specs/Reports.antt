@@ -8,6 +8,7 @@ use Rattle.sdcv_base.specs.Seqs.{each_at}
 use Rattle.selected_types.specs.declared.selections.CommandLine.{CommandLine}
 use Rattle.selected_types.specs.declared.selections.PairLine.{PairLine}
 use Rattle.selected_types.specs.declared.selections.Selected.{Selected}
+use Rattle.verdict_types.specs.declared.outcomes.Cause.TheVariants.{Free}
 use Rattle.verdict_types.specs.declared.outcomes.Verdict.{Verdict}
 use Rattle.verdict_types.specs.declared.outcomes.Verdict.TheVariants.{Justified, Refuted, Undecided}
 use Rattle.witness_replay.specs.StimulusTexts.{line_of, block_lines}
@@ -29,10 +30,11 @@ command_texts number c = command_text number c ∷ map (warning_line number) c.w
 abbrev pub command_lines : ℕ → CommandLine → List (List ℕ)
 command_lines place c = map line_of (command_texts (place + 1) c)
 
--- the block of the stimulus by which the pair of this number is refuted
+-- the block of the stimulus by which the pair of this number is refuted, or may be where its free inputs give such bits
 abbrev pub stimulus_texts : ℕ → Verdict → List (List ℕ)
 stimulus_texts number (Justified proof) = []
 stimulus_texts number (Refuted offset stimulus) = block_lines number stimulus
+stimulus_texts number (Undecided (Free offset stimulus)) = block_lines number stimulus
 stimulus_texts number (Undecided cause) = []
 
 abbrev pub pair_texts : ℕ → ℕ → PairLine → Claim → Verdict → List (List ℕ)

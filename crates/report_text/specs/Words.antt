@@ -19,7 +19,7 @@ use Rattle.selected_types.specs.declared.selections.PairLine.{PairLine}
 use Rattle.verdict_types.specs.declared.outcomes.Proof.{Proof}
 use Rattle.verdict_types.specs.declared.outcomes.Proof.TheVariants.{Single, Fixed, Depth}
 use Rattle.verdict_types.specs.declared.outcomes.Cause.{Cause}
-use Rattle.verdict_types.specs.declared.outcomes.Cause.TheVariants.{Depth as Stays, Budget}
+use Rattle.verdict_types.specs.declared.outcomes.Cause.TheVariants.{Depth as Stays, Budget, Free, Cut}
 use Rattle.verdict_types.specs.declared.outcomes.Verdict.{Verdict}
 use Rattle.verdict_types.specs.declared.outcomes.Verdict.TheVariants.{Justified, Refuted, Undecided}
 use Rattle.run_options.specs.declared.options.RunOptions.{RunOptions}
@@ -96,10 +96,12 @@ abbrev pub phase_text : Phase → List ℕ
 phase_text Base = codes "base"
 phase_text Step = codes "step"
 
--- a stretch stays at the greatest depth that the run allows, or the budget is spent on a query
+-- the greatest depth that the run allows leaves the claim open, the budget is spent on a query, or what is free or cut may violate it
 abbrev pub cause_text : ℕ → Cause → List ℕ
-cause_text limit (Stays stretch) = codes "depth " ⁀ decimal limit
+cause_text limit Stays = codes "depth " ⁀ decimal limit
 cause_text limit (Budget phase depth log) = codes "budget " ⁀ phase_text phase ⁀ codes " " ⁀ decimal depth
+cause_text limit (Free offset stimulus) = codes "free " ⁀ decimal offset
+cause_text limit Cut = codes "cut"
 
 -- why the verdict is that
 abbrev pub why_text : ℕ → Verdict → List ℕ

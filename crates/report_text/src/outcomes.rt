@@ -41,11 +41,13 @@ fn cause_text(alloc: Global, limit: usize, cause: &Cause) -> Result<String, Allo
     ensures { IfOk result (λ text. string_bytes text ≡ cause_text limit cause.now) }
 {
     match cause {
-        Cause::Depth { .. } => format!(in alloc; "depth {limit}"),
+        Cause::Depth => format!(in alloc; "depth {limit}"),
         Cause::Budget { phase, depth, .. } => {
             let phase = phase_text(*phase);
             format!(in alloc; "budget {phase} {depth}")
         }
+        Cause::Free { offset, .. } => format!(in alloc; "free {offset}"),
+        Cause::Cut => String::from_str(alloc, "cut"),
     }
 }
 

@@ -11,7 +11,7 @@ use crate::rows::{PairRow, row_at};
 use crate::words::claim_text;
 use selected_types::{PairLine, Selected};
 use std::alloc::{AllocError, Global};
-use verdict_types::Verdict;
+use verdict_types::{Cause, Verdict};
 
 fn ends_text(alloc: Global, pair: &PairLine) -> Result<String, AllocError>
     ensures { IfOk result (λ text. string_bytes text ≡ ends_text pair.now) }
@@ -50,7 +50,9 @@ fn add_pair(
 {
     report.add(pair_text(alloc, limit, row)?)?;
     match row.verdict {
-        Verdict::Refuted { stimulus, .. } => add_block(alloc, row.number, stimulus, report),
+        Verdict::Refuted { stimulus, .. } | Verdict::Undecided(Cause::Free { stimulus, .. }) => {
+            add_block(alloc, row.number, stimulus, report)
+        }
         Verdict::Justified(_) | Verdict::Undecided(_) => Ok(()),
     }
 }

@@ -1,5 +1,5 @@
 //! What is found out about a claim, and how far the search may go.
-use net_model::{Cycle, Phase, Stimulus};
+use net_model::{Phase, Stimulus};
 use proof_log::Derivation;
 use sdcv_base::Seq;
 
@@ -28,16 +28,22 @@ pub enum Proof {
 /// Why it stays open whether a claim holds.
 #[derive(Drop)]
 pub enum Cause {
-    /// The stretch answers the step query of the greatest depth.
-    Depth {
-        stretch: Seq<Cycle>,
-    },
+    /// The step query of the greatest depth has an answer.
+    Depth,
     /// The log spends the budget on a query of this depth.
     Budget {
         phase: Phase,
         depth: usize,
         log: Derivation,
     },
+    /// The stimulus violates the claim at this offset, but maybe by bits of inputs that stand for what the design leaves open,
+    /// which the whole netlist may never give.
+    Free {
+        offset: usize,
+        stimulus: Stimulus,
+    },
+    /// A path may lead from the start to the end through cells that are cut out of the design.
+    Cut,
 }
 
 /// What is found out about a claim. It is refuted by the stimulus of a run whose start toggles `offset` cycles after the

@@ -14,13 +14,13 @@ use Rattle.net_model.specs.declared.invariants.InvClause.{InvClause}
 use Rattle.net_model.specs.declared.queries.Phase.{Phase}
 use Rattle.net_model.specs.declared.queries.Phase.TheVariants.{Base, Step}
 use Rattle.proof_log.specs.declared.derivations.Derivation.{Derivation}
-use Rattle.verdicts.specs.Offsets.{HoldsAtOffset, IsOpenBelow}
+use Rattle.verdicts.specs.Offsets.{HoldsAtOffset, IsOpenAt, IsOpenBelow}
 use Rattle.verdicts.specs.Logs.{own_coding, RefutesQuery, RefuteEach, IsSpentOn}
 use Rattle.verdict_types.specs.declared.outcomes.Limits.{Limits}
 use Rattle.verdict_types.specs.declared.outcomes.Proof.{Proof}
 use Rattle.verdict_types.specs.declared.outcomes.Proof.TheVariants.{Single, Fixed, Depth}
 use Rattle.verdict_types.specs.declared.outcomes.Cause.{Cause}
-use Rattle.verdict_types.specs.declared.outcomes.Cause.TheVariants.{Depth as Stays, Budget}
+use Rattle.verdict_types.specs.declared.outcomes.Cause.TheVariants.{Depth as Stays, Budget, Free, Cut}
 use Rattle.verdict_types.specs.declared.outcomes.Verdict.{Verdict}
 use Rattle.verdict_types.specs.declared.outcomes.Verdict.TheVariants.{Justified, Refuted, Undecided}
 
@@ -61,14 +61,16 @@ abbrev pub HoldsBefore : Design → Claim → Phase → ℕ → Type 0
 HoldsBefore d claim Base depth = Unit {0}
 HoldsBefore d claim Step depth = HoldsAtOffset d claim depth
 
--- no run is violated up to the greatest depth, and the stretch answers its step query; or the log spends the budget on a query of
--- the depth that is reached
+-- no run is violated up to the greatest depth, and its step query has an answer; or the log spends the budget on a query of the
+-- depth that is reached. No claim is told to be open for free inputs or cut cells
 abbrev pub IsRightCause : Design → Claim → List InvClause → Limits → Cause → Type 0
-IsRightCause d claim kept limits (Stays stretch) =
-    IsReached d claim kept limits.depth limits.depth × HoldsAtOffset d claim limits.depth × IsAnswer (claim_query d claim Step limits.depth kept) stretch
+IsRightCause d claim kept limits Stays =
+    IsReached d claim kept limits.depth limits.depth × HoldsAtOffset d claim limits.depth × IsOpenAt d claim kept limits.depth
 IsRightCause d claim kept limits (Budget phase depth log) =
     IsReached d claim kept limits.depth depth × HoldsBefore d claim phase depth
     × IsSpentOn own_coding (claim_query d claim phase depth kept) limits.budget log
+IsRightCause d claim kept limits (Free offset stimulus) = ⊥
+IsRightCause d claim kept limits Cut = ⊥
 
 -- the verdict is right for the claim, given the kept clauses and the limits; a refuted offset is the least of all runs
 abbrev pub IsRight : Design → Claim → List InvClause → Limits → Verdict → Type 0

@@ -55,11 +55,11 @@ returns-then-depth-limits-clause-right c =
     let depth = c.loop-base.depth in
     let base : Query = claim_query d claim Base depth kept in
     let step : Query = claim_query d claim Step depth kept in
-    let found = answered step c.args.limits.budget c.in_ok-step.field-0 c.in-Answered-2.found c.in-Answered-2.is c.in_ok-step.ensures in
-    stays d claim kept c.args.limits depth c.in_ok-stretch.stretch c.if-depth-limits.true c.loop-base.invariant.reached
+    let found = answered step c.args.limits.budget c.in_ok-step.field-0 c.in-Answered-2.field-0 c.in-Answered-2.is c.in_ok-step.ensures in
+    stays d claim kept c.args.limits depth c.if-depth-limits.true c.loop-base.invariant.reached
     (holds_at d claim kept depth c.requires.sound
     (refuted base c.args.limits.budget c.in_ok-found.field-0 c.in-Refuted.derivation c.in-Refuted.is c.in_ok-found.ensures).none)
-    (c.in_ok-stretch.ensures step refl found)
+    found.answer
 
 pub loop-base-preserved : goal.loop-base-preserved
 loop-base-preserved c =
@@ -70,7 +70,7 @@ loop-base-preserved c =
     let base : Query = claim_query d claim Base depth kept in
     let step : Query = claim_query d claim Step depth kept in
     let none = refuted base c.args.limits.budget c.in_ok-found.field-0 c.in-Refuted.derivation c.in-Refuted.is c.in_ok-found.ensures in
-    let found = answered step c.args.limits.budget c.in_ok-step.field-0 c.in-Answered-2.found c.in-Answered-2.is c.in_ok-step.ensures in
+    let found = answered step c.args.limits.budget c.in_ok-step.field-0 c.in-Answered-2.field-0 c.in-Answered-2.is c.in_ok-step.ensures in
     subst (λ (logs : List Derivation). OpenSoFar d claim kept c.args.limits.depth (depth + 1) logs) (sym c.in_ok-push.ensures.ok)
     (open_more d claim kept c.args.limits.depth depth c.loop-base.base c.in-Refuted.derivation c.requires.sound
     c.loop-base.invariant c.if-depth-limits.false none found.answer)
