@@ -2,13 +2,13 @@
 use Rattle.std.proofs.Common.{◌≡◌, ℕ, ◌+◌, ◌*◌, ◌/◌, ◌%◌, true, List, [], ◌∷◌, ◌++◌, map, refl, ap, sym, ◌∙◌, subst, arith, inl, inr, append_assoc}
 use Rattle.std.proofs.lemmas.Bool.{cases_eq}
 use Rattle.proof_log.specs.Literals.{negated}
-use Rattle.proof_log.specs.Clauses.{is_set, IsNormal, HasComplements}
+use Rattle.proof_log.specs.Clauses.{is_set, IsNormal, HasComplements, IsKeptOf}
 use Rattle.proof_log.proofs.LiteralLemmas.{negated_even, negated_odd}
-use Rattle.proof_log.proofs.Ascending.{normal_ascends}
+use Rattle.proof_log.proofs.Normalizing.{normal_ascends}
 use Rattle.query_model.specs.Variables.{is_code, IsNormalOf, HasOpposites, AreNormalsOf, code_of}
 use Rattle.query_model.specs.declared.keys.Key.{Key}
 use Rattle.query_model.specs.declared.keys.KeyLit.{KeyLit}
-use Rattle.cnf_encode.specs.Coded.{coded, Adds}
+use Rattle.cnf_encode.specs.Coded.{coded, AddsNormals, Adds}
 
 -- a literal is set where it is a code of the list
 pub is_code-is_set : (lits : List ℕ) (l : ℕ) → is_code l lits ≡ is_set lits l
@@ -70,3 +70,10 @@ pub Adds-append : (keys : List Key) (a b : List (List KeyLit)) (old mid new : Li
 Adds-append keys a b old mid new first then before are =
     subst (λ all. AreNormalsOf all new) (append_assoc before (coded keys a) (coded keys b) ∙ ap (λ more. before ++ more)
     (sym (coded-append keys a b))) (then (before ++ coded keys a) (first before are))
+
+-- a clause that is kept in normal form, or left out, is added
+pub kept_adds : (lits : List ℕ) (old new : List (List ℕ)) → IsKeptOf lits old new → AddsNormals (lits ∷ []) old new
+kept_adds lits old new (inl out) before are =
+    subst (AreNormalsOf (before ++ lits ∷ [])) (sym out.1) (left_out before old lits (opposites lits out.0) are)
+kept_adds lits old new (inr kept) before are =
+    subst (AreNormalsOf (before ++ lits ∷ [])) (sym kept.3) (added before old lits kept.0 (normal_of lits kept.0 kept.1 kept.2) are)

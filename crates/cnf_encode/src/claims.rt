@@ -13,7 +13,7 @@ use crate::late_starts::LateStart;
 use crate::layers::list_layers;
 use crate::points::list_points;
 use frame_unroll::Frames;
-use proof_log::Clause;
+use proof_log::ClauseTable;
 use sdcv_base::Seq;
 use std::alloc::{AllocError, Global};
 
@@ -25,7 +25,7 @@ fn list_late(
     late: &LateStart,
     gates: &Seq<usize>,
     cycle: usize,
-    clauses: &mut Seq<Clause>,
+    clauses: &mut ClauseTable,
 ) -> Result<(), AllocError>
     requires late { IsLateStart late.now }
     requires gates { Covers frames.now cycle (gate_points late.now.subject.design.now) gates.now }
@@ -45,7 +45,7 @@ fn list_claim_cycle(
     late: &LateStart,
     cone: &Cone,
     cycle: usize,
-    clauses: &mut Seq<Clause>,
+    clauses: &mut ClauseTable,
 ) -> Result<(), AllocError>
     requires late { IsLateStart late.now }
     requires cone { IsConeFor frames.now cycle cone.now }
@@ -68,7 +68,7 @@ pub fn list_claim_cycles(
     late: &LateStart,
     cone: &Cone,
     cycles: usize,
-    clauses: &mut Seq<Clause>,
+    clauses: &mut ClauseTable,
 ) -> Result<(), AllocError>
     requires late { IsLateStart late.now }
     requires cone { IsConeOf frames.now cycles cone.now }
@@ -90,7 +90,7 @@ pub fn list_clause_cycles(
     frames: &Frames,
     cone: &Cone,
     cycles: usize,
-    clauses: &mut Seq<Clause>,
+    clauses: &mut ClauseTable,
 ) -> Result<(), AllocError>
     requires cone { IsConeOf frames.now cycles cone.now }
     requires cycles { cycles ≤ 2 ^ 32 }

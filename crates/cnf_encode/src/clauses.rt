@@ -6,9 +6,8 @@ ghost use Rattle.cnf_encode.specs.Coded.{HasKeys, Adds, AddsNormals};
 
 use crate::codes::codes;
 use frame_unroll::Frames;
-use proof_log::{Clause, Lit};
+use proof_log::{ClauseTable, Lit};
 use query_model::{Key, KeyLit};
-use sdcv_base::Seq;
 use std::alloc::{AllocError, Global};
 
 /// Adds the normal form of a clause, if it has one.
@@ -16,22 +15,20 @@ pub fn push_clause(
     alloc: Global,
     frames: &Frames,
     lits: &[KeyLit],
-    clauses: &mut Seq<Clause>,
+    clauses: &mut ClauseTable,
 ) -> Result<(), AllocError>
     requires { HasKeys frames.now (lits.now ∷ []) }
     ensures { OnOk result (Adds frames.now (lits.now ∷ []) clauses.old clauses.new) }
 {
     let coded = codes(alloc, frames, lits)?;
-    push_normal(alloc, coded.as_slice(), clauses)
+    push_normal(coded.as_slice(), clauses)
 }
 
 /// Adds the normal form of a clause of literals, if it has one: without repeats, and nothing where two are complements.
-pub fn push_normal(alloc: Global, lits: &[Lit], clauses: &mut Seq<Clause>) -> Result<(), AllocError>
+pub fn push_normal(lits: &[Lit], clauses: &mut ClauseTable) -> Result<(), AllocError>
     ensures { OnOk result (AddsNormals (lits.now ∷ []) clauses.old clauses.new) }
 {
-    if let Some(clause) = Clause::normal(alloc, lits)? {
-        clauses.push(clause)?;
-    }
+    clauses.push_normal(lits)?;
     Ok(())
 }
 
@@ -41,7 +38,7 @@ pub fn push_unit(
     frames: &Frames,
     value: bool,
     out: Key,
-    clauses: &mut Seq<Clause>,
+    clauses: &mut ClauseTable,
 ) -> Result<(), AllocError>
     requires { HasKeys frames.now (unit value out).clauses }
     ensures { OnOk result (Adds frames.now (unit value out).clauses clauses.old clauses.new) }
@@ -56,7 +53,7 @@ pub fn push_exclusive(
     z: Key,
     x: KeyLit,
     y: KeyLit,
-    clauses: &mut Seq<Clause>,
+    clauses: &mut ClauseTable,
 ) -> Result<(), AllocError>
     requires { HasKeys frames.now (exclusive z x y).clauses }
     ensures { OnOk result (Adds frames.now (exclusive z x y).clauses clauses.old clauses.new) }
@@ -79,7 +76,7 @@ pub fn push_both(
     z: Key,
     x: KeyLit,
     y: KeyLit,
-    clauses: &mut Seq<Clause>,
+    clauses: &mut ClauseTable,
 ) -> Result<(), AllocError>
     requires { HasKeys frames.now (both z x y).clauses }
     ensures { OnOk result (Adds frames.now (both z x y).clauses clauses.old clauses.new) }

@@ -9,9 +9,8 @@ use crate::cones::Cone;
 use crate::needed::list_unit;
 use crate::sites::list_site;
 use frame_unroll::{Frames, bit_site, gate_site};
-use proof_log::Clause;
+use proof_log::ClauseTable;
 use query_model::Key;
-use sdcv_base::Seq;
 use std::alloc::{AllocError, Global};
 
 /// That a key has the value of an input's setting, or where `flip` its complement, if there is one.
@@ -21,7 +20,7 @@ fn list_setting(
     setting: Option<bool>,
     flip: bool,
     out: Key,
-    clauses: &mut Seq<Clause>,
+    clauses: &mut ClauseTable,
 ) -> Result<(), AllocError>
     requires closed { IsClosed frames.now (unit_if setting flip out) }
     ensures { OnOk result (Lists frames.now (unit_if setting flip out) clauses.old clauses.new) }
@@ -39,7 +38,7 @@ fn list_input(
     cone: &Cone,
     cycle: usize,
     input: usize,
-    clauses: &mut Seq<Clause>,
+    clauses: &mut ClauseTable,
 ) -> Result<(), AllocError>
     requires cone { IsConeFor frames.now cycle cone.now }
     requires input { input < length cone.now.design.now.inputs }
@@ -63,7 +62,7 @@ fn list_inputs(
     frames: &Frames,
     cone: &Cone,
     cycle: usize,
-    clauses: &mut Seq<Clause>,
+    clauses: &mut ClauseTable,
 ) -> Result<(), AllocError>
     requires cone { IsConeFor frames.now cycle cone.now }
     requires closed { IsClosed frames.now (flat_map (input_definition cone.now.design.now cone.now.live cycle) (below (length cone.now.design.now.inputs))) }
@@ -84,7 +83,7 @@ fn list_gate(
     cone: &Cone,
     cycle: usize,
     k: usize,
-    clauses: &mut Seq<Clause>,
+    clauses: &mut ClauseTable,
 ) -> Result<(), AllocError>
     requires cone { IsConeFor frames.now cycle cone.now }
     requires gate { k < length cone.now.design.now.gates }
@@ -101,7 +100,7 @@ fn list_gates(
     frames: &Frames,
     cone: &Cone,
     cycle: usize,
-    clauses: &mut Seq<Clause>,
+    clauses: &mut ClauseTable,
 ) -> Result<(), AllocError>
     requires cone { IsConeFor frames.now cycle cone.now }
     requires closed { IsClosed frames.now (map (of_cone gate_definition cone.now cycle) cone.now.design.now.gates) }
@@ -121,7 +120,7 @@ fn list_bit(
     cone: &Cone,
     cycle: usize,
     r: usize,
-    clauses: &mut Seq<Clause>,
+    clauses: &mut ClauseTable,
 ) -> Result<(), AllocError>
     requires cone { IsConeFor frames.now cycle cone.now }
     requires cycle { cycle < 2 ^ 32 }
@@ -139,7 +138,7 @@ fn list_bits(
     frames: &Frames,
     cone: &Cone,
     cycle: usize,
-    clauses: &mut Seq<Clause>,
+    clauses: &mut ClauseTable,
 ) -> Result<(), AllocError>
     requires cone { IsConeFor frames.now cycle cone.now }
     requires cycle { cycle < 2 ^ 32 }
@@ -159,7 +158,7 @@ pub fn list_cycle(
     frames: &Frames,
     cone: &Cone,
     cycle: usize,
-    clauses: &mut Seq<Clause>,
+    clauses: &mut ClauseTable,
 ) -> Result<(), AllocError>
     requires cone { IsConeFor frames.now cycle cone.now }
     requires cycle { cycle < 2 ^ 32 }

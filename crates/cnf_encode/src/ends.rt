@@ -8,8 +8,7 @@ use crate::late_starts::LateStart;
 use crate::sites::list_site;
 use frame_unroll::{Frames, late_reg_site};
 use net_model::End;
-use proof_log::Clause;
-use sdcv_base::Seq;
+use proof_log::ClauseTable;
 use std::alloc::{AllocError, Global};
 
 /// The definition of the late capture of a register that is the end.
@@ -19,7 +18,7 @@ fn list_late_reg(
     late: &LateStart,
     cycle: usize,
     r: usize,
-    clauses: &mut Seq<Clause>,
+    clauses: &mut ClauseTable,
 ) -> Result<(), AllocError>
     requires late { IsLateStart late.now }
     requires place { r < length late.now.subject.design.now.regs }
@@ -38,7 +37,7 @@ pub fn list_end(
     frames: &Frames,
     late: &LateStart,
     cycle: usize,
-    clauses: &mut Seq<Clause>,
+    clauses: &mut ClauseTable,
 ) -> Result<(), AllocError>
     requires late { IsLateStart late.now }
     requires closed { IsClosed frames.now (of_late end_definition late.now cycle late.now.subject.claim.now.end) }

@@ -18,7 +18,7 @@ use crate::prepared_designs::Prepared;
 use crate::problems::Problem;
 use frame_unroll::{Frames, Span, claim_asked, claim_span, clause_asked, clause_span};
 use net_model::{Claim, InvClause, Phase};
-use proof_log::{Clause, Formula};
+use proof_log::{ClauseTable, Formula};
 use query_model::KeyLit;
 use sdcv_base::Seq;
 use std::alloc::{AllocError, Global};
@@ -28,7 +28,7 @@ fn push_asked(
     alloc: Global,
     frames: &Frames,
     asked: &Seq<Seq<KeyLit>>,
-    clauses: &mut Seq<Clause>,
+    clauses: &mut ClauseTable,
 ) -> Result<(), AllocError>
     requires keys { HasKeys frames.now asked.now }
     ensures { OnOk result (Adds frames.now asked.now clauses.old clauses.new) }
@@ -40,7 +40,7 @@ fn push_asked(
 }
 
 /// The problem of these clauses over the keys.
-fn problem_of(frames: Frames, span: Span, clauses: Seq<Clause>) -> Problem
+fn problem_of(frames: Frames, span: Span, clauses: ClauseTable) -> Problem
     ensures frames { result.frames ≡ frames }
     ensures vars { result.formula.vars ≡ length frames }
     ensures clauses { result.formula.clauses ≡ clauses }
@@ -80,7 +80,7 @@ fn claim_formula(
     let asked = claim_asked(alloc, design, claim, phase, depth, inv)?;
     let frames = Frames::by_claim(alloc, &late.subject, span.cycles, &asked)?;
     let cone = Cone::of(alloc, prepared, &frames, span)?;
-    let mut clauses = Seq::new(alloc);
+    let mut clauses = ClauseTable::new(alloc);
     list_claim_cycles(alloc, &frames, late, &cone, span.cycles, &mut clauses)?;
     push_asked(alloc, &frames, &asked, &mut clauses)?;
     Ok(problem_of(frames, span, clauses))
@@ -136,7 +136,7 @@ fn clause_formula(
     let asked = clause_asked(alloc, bare, inv, clause, phase, depth)?;
     let frames = Frames::by_clause(alloc, tables, span.cycles, &asked)?;
     let cone = Cone::of(alloc, design, &frames, span)?;
-    let mut clauses = Seq::new(alloc);
+    let mut clauses = ClauseTable::new(alloc);
     list_clause_cycles(alloc, &frames, &cone, span.cycles, &mut clauses)?;
     push_asked(alloc, &frames, &asked, &mut clauses)?;
     Ok(problem_of(frames, span, clauses))

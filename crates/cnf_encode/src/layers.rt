@@ -11,7 +11,7 @@ use crate::late_starts::LateStart;
 use crate::needed::list_unit;
 use crate::sites::list_site;
 use frame_unroll::{Frames, has_own, late_gate_site};
-use proof_log::Clause;
+use proof_log::ClauseTable;
 use query_model::Key;
 use sdcv_base::Seq;
 use std::alloc::{AllocError, Global};
@@ -44,7 +44,7 @@ fn list_layer_gate(
     late: &LateStart,
     layer_at: LayerAt,
     k: usize,
-    clauses: &mut Seq<Clause>,
+    clauses: &mut ClauseTable,
 ) -> Result<(), AllocError>
     requires late { IsLateStart late.now }
     requires layer { layer_at.layer ≤ length late.now.subject.claim.now.through }
@@ -68,7 +68,7 @@ fn list_layer_gates(
     late: &LateStart,
     gates: &Seq<usize>,
     layer_at: LayerAt,
-    clauses: &mut Seq<Clause>,
+    clauses: &mut ClauseTable,
 ) -> Result<(), AllocError>
     requires late { IsLateStart late.now }
     requires gates { Covers frames.now layer_at.cycle (gate_points late.now.subject.design.now) gates.now }
@@ -88,7 +88,7 @@ fn list_start_net(
     frames: &Frames,
     cycle: usize,
     net: usize,
-    clauses: &mut Seq<Clause>,
+    clauses: &mut ClauseTable,
 ) -> Result<(), AllocError>
     requires closed { IsClosed frames.now (start_net cycle net) }
     ensures { OnOk result (Lists frames.now (start_net cycle net) clauses.old clauses.new) }
@@ -104,7 +104,7 @@ fn list_start_nets(
     frames: &Frames,
     starts: &Seq<usize>,
     cycle: usize,
-    clauses: &mut Seq<Clause>,
+    clauses: &mut ClauseTable,
 ) -> Result<(), AllocError>
     requires closed { IsClosed frames.now (flat_map (start_net cycle) starts.now) }
     ensures { OnOk result (Lists frames.now (flat_map (start_net cycle) starts.now) clauses.old clauses.new) }
@@ -121,7 +121,7 @@ fn list_starts(
     frames: &Frames,
     late: &LateStart,
     layer_at: LayerAt,
-    clauses: &mut Seq<Clause>,
+    clauses: &mut ClauseTable,
 ) -> Result<(), AllocError>
     requires late { IsLateStart late.now }
     requires closed { IsClosed frames.now (start_units late.now.subject.design.now late.now.subject.claim.now layer_at.cycle layer_at.layer) }
@@ -141,7 +141,7 @@ fn list_layer(
     late: &LateStart,
     gates: &Seq<usize>,
     layer_at: LayerAt,
-    clauses: &mut Seq<Clause>,
+    clauses: &mut ClauseTable,
 ) -> Result<(), AllocError>
     requires late { IsLateStart late.now }
     requires gates { Covers frames.now layer_at.cycle (gate_points late.now.subject.design.now) gates.now }
@@ -161,7 +161,7 @@ pub fn list_layers(
     late: &LateStart,
     gates: &Seq<usize>,
     cycle: usize,
-    clauses: &mut Seq<Clause>,
+    clauses: &mut ClauseTable,
 ) -> Result<(), AllocError>
     requires late { IsLateStart late.now }
     requires gates { Covers frames.now cycle (gate_points late.now.subject.design.now) gates.now }

@@ -8,9 +8,8 @@ ghost use Rattle.cnf_encode.specs.Listed.{IsClosed, Lists};
 
 use crate::clauses::{push_both, push_exclusive, push_unit};
 use frame_unroll::{Frames, Pair};
-use proof_log::Clause;
+use proof_log::ClauseTable;
 use query_model::{Key, KeyLit};
-use sdcv_base::Seq;
 use std::alloc::{AllocError, Global};
 
 /// Whether the key is one of those that are needed.
@@ -33,7 +32,7 @@ pub fn list_unit(
     frames: &Frames,
     value: bool,
     out: Key,
-    clauses: &mut Seq<Clause>,
+    clauses: &mut ClauseTable,
 ) -> Result<(), AllocError>
     requires closed { IsClosed frames.now (unit value out ∷ []) }
     ensures { OnOk result (Lists frames.now (unit value out ∷ []) clauses.old clauses.new) }
@@ -51,7 +50,7 @@ fn list_exclusive(
     z: Key,
     x: KeyLit,
     y: KeyLit,
-    clauses: &mut Seq<Clause>,
+    clauses: &mut ClauseTable,
 ) -> Result<(), AllocError>
     requires closed { IsClosed frames.now (exclusive z x y ∷ []) }
     ensures { OnOk result (Lists frames.now (exclusive z x y ∷ []) clauses.old clauses.new) }
@@ -69,7 +68,7 @@ fn list_both(
     z: Key,
     x: KeyLit,
     y: KeyLit,
-    clauses: &mut Seq<Clause>,
+    clauses: &mut ClauseTable,
 ) -> Result<(), AllocError>
     requires closed { IsClosed frames.now (both z x y ∷ []) }
     ensures { OnOk result (Lists frames.now (both z x y ∷ []) clauses.old clauses.new) }
@@ -85,7 +84,7 @@ pub fn list_pair(
     alloc: Global,
     frames: &Frames,
     pair: Pair,
-    clauses: &mut Seq<Clause>,
+    clauses: &mut ClauseTable,
 ) -> Result<(), AllocError>
     requires closed { IsClosed frames.now (defined_by pair ∷ []) }
     ensures { OnOk result (Lists frames.now (defined_by pair ∷ []) clauses.old clauses.new) }

@@ -7,8 +7,7 @@ ghost use Rattle.cnf_encode.specs.Listed.{IsClosed, Lists};
 
 use crate::needed::list_pair;
 use frame_unroll::{Frames, Subject, change_pair, differ_pair, stale_pair, toggle_pair};
-use proof_log::Clause;
-use sdcv_base::Seq;
+use proof_log::ClauseTable;
 use std::alloc::{AllocError, Global};
 
 fn list_stales(
@@ -16,7 +15,7 @@ fn list_stales(
     frames: &Frames,
     subject: &Subject,
     cycle: usize,
-    clauses: &mut Seq<Clause>,
+    clauses: &mut ClauseTable,
 ) -> Result<(), AllocError>
     requires subject { IsSubject subject.now }
     requires closed { IsClosed frames.now (stale_definitions subject.now.design.now subject.now.claim.now cycle) }
@@ -35,7 +34,7 @@ pub fn list_points(
     frames: &Frames,
     subject: &Subject,
     cycle: usize,
-    clauses: &mut Seq<Clause>,
+    clauses: &mut ClauseTable,
 ) -> Result<(), AllocError>
     requires subject { IsSubject subject.now }
     requires cycle { cycle < 2 ^ 32 }

@@ -8,9 +8,8 @@ use crate::needed::{is_either_needed, is_needed};
 use crate::tables::{Rails, push_plain, push_rails};
 use frame_unroll::{Frames, Rail, Site};
 use prime_cubes::Cell;
-use proof_log::Clause;
+use proof_log::ClauseTable;
 use query_model::Cube;
-use sdcv_base::Seq;
 use std::alloc::{AllocError, Global};
 
 /// The definition of a key by the cubes of a function of what is read on a rail.
@@ -19,7 +18,7 @@ fn list_plain(
     frames: &Frames,
     rail: &Rail,
     cubes: &[Cube],
-    clauses: &mut Seq<Clause>,
+    clauses: &mut ClauseTable,
 ) -> Result<(), AllocError>
     requires wide { AreWide (length rail.now.reads) cubes.now }
     requires closed { IsClosed frames.now (plain_by rail.now cubes.now ∷ []) }
@@ -38,7 +37,7 @@ fn list_rails(
     high: &Rail,
     low: &Rail,
     cell: &Cell,
-    clauses: &mut Seq<Clause>,
+    clauses: &mut ClauseTable,
 ) -> Result<(), AllocError>
     requires beside { LiesBeside high.now low.now }
     requires covering { AreWide (length high.now.reads) cell.now.covering }
@@ -64,7 +63,7 @@ pub fn list_site(
     frames: &Frames,
     site: &Site,
     cell: &Cell,
-    clauses: &mut Seq<Clause>,
+    clauses: &mut ClauseTable,
 ) -> Result<(), AllocError>
     requires suits { Suits site.now cell.now }
     requires closed { IsClosed frames.now (site_by site.now cell.now ∷ []) }

@@ -13,7 +13,7 @@ use crate::codes::{code, known_codes};
 use frame_unroll::Frames;
 use net_model::Tern;
 use prime_cubes::Cell;
-use proof_log::{Clause, Lit};
+use proof_log::{ClauseTable, Lit};
 use query_model::{Cube, Key, KeyLit};
 use sdcv_base::Seq;
 use std::alloc::{AllocError, Global};
@@ -34,7 +34,7 @@ pub fn push_plain(
     reads: &Seq<KeyLit>,
     out: Key,
     cubes: &[Cube],
-    clauses: &mut Seq<Clause>,
+    clauses: &mut ClauseTable,
 ) -> Result<(), AllocError>
     requires wide { AreWide (length reads.now) cubes.now }
     requires keys { HasKeys frames.now (plain_clauses reads.now (lit true out) cubes.now) }
@@ -64,7 +64,7 @@ pub fn push_rails(
     frames: &Frames,
     rails: &Rails,
     cell: &Cell,
-    clauses: &mut Seq<Clause>,
+    clauses: &mut ClauseTable,
 ) -> Result<(), AllocError>
     requires long { length rails.now.lows.now ≡ length rails.now.highs.now }
     requires covering { AreWide (length rails.now.highs.now) cell.now.covering }
@@ -82,7 +82,7 @@ fn push_may(
     frames: &Frames,
     rails: &Rails,
     cubes: &[Cube],
-    clauses: &mut Seq<Clause>,
+    clauses: &mut ClauseTable,
 ) -> Result<(), AllocError>
     requires long { length rails.now.lows.now ≡ length rails.now.highs.now }
     requires wide { AreWide (length rails.now.highs.now) cubes.now }
@@ -113,7 +113,7 @@ fn push_must(
     frames: &Frames,
     rails: &Rails,
     cubes: &[Cube],
-    clauses: &mut Seq<Clause>,
+    clauses: &mut ClauseTable,
 ) -> Result<(), AllocError>
     requires long { length rails.now.lows.now ≡ length rails.now.highs.now }
     requires wide { AreWide (length rails.now.highs.now) cubes.now }
@@ -153,7 +153,7 @@ pub fn push_cube(
     ones: &[Lit],
     fixed: &[Tern],
     last: Lit,
-    clauses: &mut Seq<Clause>,
+    clauses: &mut ClauseTable,
 ) -> Result<(), AllocError>
     requires ones { length ones.now ≡ length zeros.now }
     requires fixed { length fixed.now ≡ length zeros.now }
@@ -161,5 +161,5 @@ pub fn push_cube(
 {
     let mut lits = cube_lits(alloc, zeros, ones, fixed)?;
     lits.push(last)?;
-    push_normal(alloc, lits.as_slice(), clauses)
+    push_normal(lits.as_slice(), clauses)
 }

@@ -1,9 +1,8 @@
 -- One more clause that is kept or left out.
 use Rattle.std.proofs.Common.{◌≡◌, ℕ, List, [], ◌∷◌, ◌++◌, subst, sym, inl, inr, append-nil}
 use Rattle.std.specs.Prelude.{◌⊎◌}
-use Rattle.proof_log.specs.Clauses.{is_set, IsNormal, HasComplements}
+use Rattle.proof_log.specs.Clauses.{is_set, IsNormal, HasComplements, IsKeptOf}
 use Rattle.dimacs_text.specs.Texts.{AreKept, No_more, Is_kept, Is_true}
-use Rattle.dimacs_text.specs.Readings.{IsKeptOf}
 
 push_kept : (clauses kept : List (List ℕ)) (clause normal : List ℕ) → IsNormal normal → ((l : ℕ) → is_set normal l ≡ is_set clause l)
     → AreKept clauses kept → AreKept (clauses ++ clause ∷ []) (kept ++ normal ∷ [])

@@ -4,12 +4,12 @@ use Rattle.std.specs.Prelude.{All, ◌⊎◌, Option, Result, Ok, Err, OnOk, IfE
 use Rattle.std.proofs.lemmas.List.{map_push, length-append}
 use Rattle.std.proofs.lemmas.List.Elements.{All-nil, All-push}
 use Rattle.proof_log.specs.Literals.{InVars, literal}
-use Rattle.proof_log.specs.Clauses.{is_set, IsNormal}
+use Rattle.proof_log.specs.Clauses.{is_set, IsNormal, IsKeptOf}
 use Rattle.proof_log.proofs.Members.{All-from_members, member_from_All}
 use Rattle.dimacs_text.specs.Tokens.{Placed, token_of}
 use Rattle.dimacs_text.specs.Texts.{Signed, number_token, lit_of, IsBegun, AreCut, No_numbers, Is_literal, Is_end, AreKept, No_more}
 use Rattle.dimacs_text.specs.Faults.{StandsFirst, StandsAfter, IsStop}
-use Rattle.dimacs_text.specs.Readings.{IsReadAfter, IsReadBy, IsRead, IsKeptOf, IsEnded}
+use Rattle.dimacs_text.specs.Readings.{IsReadAfter, IsReadBy, IsRead, IsEnded}
 use Rattle.dimacs_text.proofs.Keeping.{kept_more}
 use Rattle.dimacs_text.specs.declared.readings.Reading.{Reading}
 use Rattle.dimacs_text.specs.declared.counts.Counts.{Counts}

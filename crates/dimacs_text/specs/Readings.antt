@@ -1,7 +1,7 @@
 -- A text that is read token by token.
-use Rattle.std.specs.Prelude.{◌≡◌, ℕ, ◌+◌, ◌⊎◌, List, [], ◌∷◌, ◌++◌, length, All, Option, None, Some}
+use Rattle.std.specs.Prelude.{◌≡◌, ℕ, ◌+◌, List, [], length, All, Option, None, Some}
 use Rattle.proof_log.specs.Literals.{InVars}
-use Rattle.proof_log.specs.Clauses.{is_set, IsNormal, HasComplements}
+use Rattle.proof_log.specs.Clauses.{IsNormal, IsKeptOf}
 use Rattle.dimacs_text.specs.Tokens.{Placed}
 use Rattle.dimacs_text.specs.Texts.{Signed, IsBegun, AreCut, AreKept}
 use Rattle.dimacs_text.specs.declared.counts.Counts.{Counts}
@@ -26,12 +26,6 @@ IsReadBy placed (Some h) r = IsReadAfter placed h.vars h.told r
 -- these tokens are read
 abbrev pub IsRead : List Placed → Reading → Type 0
 IsRead placed r = IsReadBy placed r.header r
-
--- one more clause is kept in normal form, or left out where two of its literals are complements
-abbrev pub IsKeptOf : List ℕ → List (List ℕ) → List (List ℕ) → Type 0
-IsKeptOf clause old new =
-    (HasComplements clause × (new ≡ old))
-    ⊎ ((normal : List ℕ) × IsNormal normal × ((l : ℕ) → is_set normal l ≡ is_set clause l) × (new ≡ old ++ normal ∷ []))
 
 -- the clause that is begun is kept so, and nothing else changes
 pub record IsKeptIn (old new : Reading) : Type 0 where

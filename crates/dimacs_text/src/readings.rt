@@ -11,15 +11,14 @@ ghost use Rattle.dimacs_text.specs.declared.faults.DimacsFault.TheVariants as fa
 use crate::counts::Counts;
 use crate::faults::DimacsFault;
 use crate::tokens::Token;
-use proof_log::{Clause, Formula, Lit};
-use sdcv_base::Seq;
+use proof_log::{ClauseTable, Formula, Lit};
 use std::alloc::Global;
 
 /// What is read so far: the header, the clauses that are kept, how many there were, and the literals of the clause that is begun.
 #[derive(Drop)]
 pub(crate) struct Reading {
     pub header: Option<Counts>,
-    pub clauses: Seq<Clause>,
+    pub clauses: ClauseTable,
     pub count: u64,
     pub begun: Vec<Lit>,
 }
@@ -34,7 +33,7 @@ impl Reading {
     {
         Reading {
             header,
-            clauses: Seq::new(alloc),
+            clauses: ClauseTable::new(alloc),
             count: 0,
             begun: Vec::new(alloc),
         }
@@ -55,7 +54,7 @@ impl Reading {
     {
         match self.header {
             None => self.begin(alloc, line, token),
-            Some(counts) => self.take_after(alloc, counts, line, token),
+            Some(counts) => self.take_after(counts, line, token),
         }
     }
 
@@ -77,13 +76,7 @@ impl Reading {
     }
 
     /// Reads a token after the header.
-    fn take_after(
-        &mut self,
-        alloc: Global,
-        counts: Counts,
-        line: u64,
-        token: Token,
-    ) -> Result<(), DimacsFault>
+    fn take_after(&mut self, counts: Counts, line: u64, token: Token) -> Result<(), DimacsFault>
         requires header { self.old.header ≡ Some counts }
         ensures ok { (placed : List Placed) → IsReadAfter placed counts.vars counts.told self.old
             → OnOk result (IsRead (placed ++ (line, token) ∷ []) self.new) }
@@ -94,7 +87,7 @@ impl Reading {
                 if var > u64::from(counts.vars) {
                     return Err(DimacsFault::Variable(line));
                 }
-                self.number(alloc, counts, positive, var as u32)
+                self.number(counts, positive, var as u32)
             }
             Token::NoNumber => Err(DimacsFault::Word(line)),
             Token::Header { .. } => Err(DimacsFault::Header(line)),
@@ -103,13 +96,7 @@ impl Reading {
     }
 
     /// Reads a number of the header's variables: a literal, or the end of a clause.
-    fn number(
-        &mut self,
-        alloc: Global,
-        counts: Counts,
-        positive: bool,
-        var: u32,
-    ) -> Result<(), DimacsFault>
+    fn number(&mut self, counts: Counts, positive: bool, var: u32) -> Result<(), DimacsFault>
         requires header { self.old.header ≡ Some counts }
         requires within { var ≤ counts.vars }
         ensures ok { (placed : List Placed) (line : ℕ) → IsReadAfter placed counts.vars counts.told self.old
@@ -117,14 +104,14 @@ impl Reading {
         ensures err { IfErr result (λ e. e ≡ fault.Memory) }
     {
         if var == 0 {
-            return self.end_clause(alloc);
+            return self.end_clause();
         }
         self.begun.push(Lit::new(var, positive))?;
         Ok(())
     }
 
     /// Ends the clause that is begun.
-    fn end_clause(&mut self, alloc: Global) -> Result<(), DimacsFault>
+    fn end_clause(&mut self) -> Result<(), DimacsFault>
         ensures ok { OnOk result (IsEnded self.old self.new) }
         ensures err { IfErr result (λ e. e ≡ fault.Memory) }
     {
@@ -132,24 +119,19 @@ impl Reading {
         let Some(count) = self.count.checked_add(1) else {
             return Err(DimacsFault::Memory);
         };
-        self.keep(alloc)?;
+        self.keep()?;
         self.count = count;
         self.begun.clear();
         Ok(())
     }
 
     /// Keeps the clause that is begun in normal form, unless two of its literals are complements.
-    fn keep(&mut self, alloc: Global) -> Result<(), DimacsFault>
+    fn keep(&mut self) -> Result<(), DimacsFault>
         ensures ok { OnOk result (IsKeptIn self.old self.new) }
         ensures err { IfErr result (λ e. e ≡ fault.Memory) }
     {
-        match Clause::normal(alloc, &self.begun)? {
-            Some(clause) => {
-                self.clauses.push(clause)?;
-                Ok(())
-            }
-            None => Ok(()),
-        }
+        self.clauses.push_normal(&self.begun)?;
+        Ok(())
     }
 
     /// The formula, after the last token.

@@ -11,7 +11,7 @@ use cnf_encode::{Problem, read_back};
 use net_model::{Cycle, Design, InvClause, Stimulus};
 use net_samples::Case;
 use net_sim::{settle, step};
-use proof_log::{Clause, Formula, Lit, Model};
+use proof_log::{Formula, Lit, Model};
 use query_model::Key;
 use sdcv_base::Seq;
 use std::alloc::{AllocError, Global};
@@ -33,17 +33,21 @@ fn is_one(model: &Model, lit: Lit) -> bool
     if lit.positive() { value } else { !value }
 }
 
-fn is_true(model: &Model, clause: &Clause) -> bool
+fn is_true(model: &Model, clause: &[Lit]) -> bool
     ensures { result ≡ clause_true (value_in model.now.values) clause.now }
 {
-    clause.as_slice().iter().any(|lit| is_one(model, *lit))
+    clause.iter().any(|lit| is_one(model, *lit))
 }
 
 fn are_true(formula: &Formula, model: &Model) -> bool
     ensures { IsTrue result ↔ All (λ c. clause_true (value_in model.now.values) c ≡ true) formula.now.clauses }
 {
-    let clauses = formula.clauses.as_slice();
-    clauses.iter().all(|clause| is_true(model, clause))
+    for place in 0..formula.clauses.len() {
+        if !is_true(model, formula.clauses.clause(place)) {
+            return false;
+        }
+    }
+    true
 }
 
 fn is_model(formula: &Formula, model: &Model) -> bool
@@ -70,8 +74,9 @@ pub fn advance(bits: &mut Seq<bool>, count: usize) -> bool {
 /// ones than a false clause has.
 fn place_to_change(formula: &Formula, model: &Model) -> usize {
     if formula.vars > 16 {
-        for clause in formula.clauses.as_slice() {
-            if let [.., last] = clause.as_slice() {
+        for place in 0..formula.clauses.len() {
+            let clause = formula.clauses.clause(place);
+            if let [.., last] = clause {
                 if !is_true(model, clause) {
                     return last.var() as usize;
                 }

@@ -19,7 +19,7 @@ use net_samples::{
     Ask, BOTH, CELL, CHAIN, CLEAR, Case, FLIPS, FORK, GATES, KEEPS, LOOP, Lits, PORTS, Part, RESET,
     TWO, case_of, design,
 };
-use proof_log::{Clause, Model};
+use proof_log::{ClauseTable, Model};
 use query_model::{Coding, Key};
 use sdcv_base::Seq;
 use std::alloc::{AllocError, Global};
@@ -417,9 +417,9 @@ fn push_keys(text: &mut String, problem: &Problem) -> Result<(), AllocError> {
     Ok(())
 }
 
-fn push_clauses(text: &mut String, clauses: &Seq<Clause>) -> Result<(), AllocError> {
-    for clause in clauses.as_slice() {
-        for lit in clause.as_slice() {
+fn push_clauses(text: &mut String, clauses: &ClauseTable) -> Result<(), AllocError> {
+    for place in 0..clauses.len() {
+        for lit in clauses.clause(place) {
             text.push_str(if lit.positive() { " " } else { " -" })?;
             write!(text, "{}", lit.var())?;
         }

@@ -1,26 +1,13 @@
 -- Clauses in normal form, literal by literal.
-use Rattle.std.proofs.Common.{◌≡◌, ℕ, zero, suc, ◌+◌, ◌-◌, ◌<◌, ◌≤◌, List, [], ◌∷◌, ◌++◌, length, get_or, take, drop, refl, sym, ap, ◌∙◌, subst, inl}
+use Rattle.std.proofs.Common.{◌≡◌, ℕ, ◌+◌, ◌-◌, ◌<◌, ◌≤◌, List, [], ◌∷◌, ◌++◌, length, get_or, take, refl, sym, ap, ◌∙◌, subst, inl}
 use Rattle.std.proofs.Common.{inr, arith}
-use Rattle.std.specs.List.{All, AllByRecursion}
+use Rattle.std.specs.List.{All}
 use Rattle.std.proofs.lemmas.Bool.{cases_lt}
-use Rattle.std.proofs.lemmas.List.{take_more, take_all, drop_all, length-take-le, get_or-take}
+use Rattle.std.proofs.lemmas.List.{take_more, take_all, length-take-le, get_or-take}
 use Rattle.std.proofs.lemmas.List.Elements.{All-more, All-nil}
 use Rattle.proof_log.specs.Literals.{lit_var, InVars}
 use Rattle.proof_log.specs.Clauses.{IsNormal}
-use Rattle.proof_log.proofs.Normalizing.{IsNormal-insert}
-
--- what stands later is above
-pub normal_ascends : (xs : List ℕ) (j k : ℕ) → IsNormal xs → j < k → k < length xs → lit_var (get_or xs j 0) < lit_var (get_or xs k 0)
-normal_ascends [] j k n lt h = absurd (omega arith)
-normal_ascends (x ∷ xs) zero zero n lt h = absurd (omega arith)
-normal_ascends (x ∷ xs) zero (suc k) n lt h = each xs k n.0 (omega arith)
-  where
-    each : (ys : List ℕ) (i : ℕ) → AllByRecursion (λ y. lit_var x < lit_var y) ys → i < length ys → lit_var x < lit_var (get_or ys i 0)
-    each [] i a w = absurd (omega arith)
-    each (y ∷ ys) zero a w = a.0
-    each (y ∷ ys) (suc i) a w = each ys i a.1 (omega arith)
-normal_ascends (x ∷ xs) (suc j) zero n lt h = absurd (omega arith)
-normal_ascends (x ∷ xs) (suc j) (suc k) n lt h = normal_ascends xs j k n.1 (omega arith) (omega arith)
+use Rattle.proof_log.proofs.Normalizing.{IsNormal-push, normal_ascends}
 
 -- what the walk along a clause knows: its first literals are in normal form, up to that variable
 pub record IsNormalSoFar (vars : ℕ) (lits : List ℕ) (i before : ℕ) : Type 0 where
@@ -38,13 +25,9 @@ so_far_more vars lits i before l h l_is low above below s =
     let long : length (take i lits) ≡ i = length-take-le i lits (omega arith) in
     let N : List ℕ → Type 0 = IsNormal in
     let next : take (i + 1) lits ≡ take i lits ++ l ∷ [] = take_more lits i 0 h ∙ ap (λ q. take i lits ++ q ∷ []) (sym l_is) in
-    let inserted : take i (take i lits) ++ l ∷ drop i (take i lits) ≡ take i lits ++ l ∷ [] =
-    ap (λ xs. xs ++ l ∷ drop i (take i lits)) (take_all i (take i lits) (omega arith)) ∙ ap (λ ys. take i lits ++ l ∷ ys)
-    (drop_all i (take i lits) (omega arith)) in
     let P : ℕ → Type 0 = InVars vars in
     record {
-      normal = subst N (sym next) (subst N inserted (IsNormal-insert (take i lits) i l s.normal (omega arith)
-          (λ k lt. earlier k lt) (λ lt. absurd (omega arith))));
+      normal = subst N (sym next) (IsNormal-push (take i lits) l s.normal (λ k lt. earlier k (omega (arith, long))));
       in_vars = All-more P lits i 0 h s.in_vars (subst P l_is (low, omega (arith, below)));
       none = λ e. absurd (omega arith);
       last = λ z. ap lit_var (l_is ∙ ap (λ n. get_or lits n 0) (omega arith));

@@ -7,3 +7,4 @@ pub mod Assigning
 pub mod Effecting
 pub mod Normalizing
 pub mod Ascending
+pub mod StoredClauses

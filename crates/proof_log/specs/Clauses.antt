@@ -1,5 +1,5 @@
 -- Clauses, seen as lists of literals, and what a clause is where some literals are set.
-use Rattle.std.specs.Prelude.{◌≡◌, ℕ, ◌<◌, ◌==◌, Bool, true, false, not, List, [], ◌∷◌, filter}
+use Rattle.std.specs.Prelude.{◌≡◌, ℕ, ◌<◌, ◌≤◌, ◌==◌, ◌⊎◌, Bool, true, false, not, List, [], ◌∷◌, ◌++◌, filter, length, take, drop}
 use Rattle.std.specs.List.{list_any, AllByRecursion}
 use Rattle.proof_log.specs.Literals.{lit_var, lit_true, negated}
 
@@ -19,6 +19,23 @@ IsNormal (l ∷ ls) = AllByRecursion (λ q. lit_var l < lit_var q) ls × IsNorma
 -- two of the literals are complements
 abbrev pub HasComplements : List ℕ → Type 0
 HasComplements lits = (l : ℕ) × (is_set lits l ≡ true) × (is_set lits (negated l) ≡ true)
+
+-- so many literals at the front are in normal form, and are those of the old list
+pub record IsNormalFront (old new : List ℕ) (count : ℕ) : Type 0 where
+  pub within : count ≤ length new
+  pub normal : IsNormal (take count new)
+  pub same : (l : ℕ) → is_set (take count new) l ≡ is_set old l
+
+-- the old list up to that place, and then its other literals in normal form
+abbrev pub IsNormalFrom : ℕ → List ℕ → List ℕ → Type 0
+IsNormalFrom start old new =
+    (normal : List ℕ) × IsNormal normal × ((l : ℕ) → is_set normal l ≡ is_set (drop start old) l) × (new ≡ take start old ++ normal)
+
+-- one more clause is kept in normal form, or left out where two of its literals are complements
+abbrev pub IsKeptOf : List ℕ → List (List ℕ) → List (List ℕ) → Type 0
+IsKeptOf clause old new =
+    (HasComplements clause × (new ≡ old))
+    ⊎ ((normal : List ℕ) × IsNormal normal × ((l : ℕ) → is_set normal l ≡ is_set clause l) × (new ≡ old ++ normal ∷ []))
 
 -- the clause's literals whose complement is not set
 abbrev pub open_literals : List ℕ → List ℕ → List ℕ

@@ -5,4 +5,4 @@ pub mod Derivations
 pub mod NewClauses
 pub mod Effects
 pub mod Assignments
-pub mod Inserting
+pub mod Tables

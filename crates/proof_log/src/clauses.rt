@@ -1,8 +1,8 @@
 //! Clauses, and their normal form.
-ghost use Rattle.std.specs.Prelude.{◌≡◌, ◌≢◌, ◌+◌, ◌<◌, ◌≤◌, ◌↔◌, ℕ, length, true, false, IfOk, IfSome, IsNone, IsTrue, All, MatchBool, slice_index};
-ghost use Rattle.proof_log.specs.Literals.{lit_var, negated, InVars};
-ghost use Rattle.proof_log.specs.Clauses.{is_set, IsNormal, HasComplements};
-ghost use Rattle.proof_log.specs.Inserting.{Inserted, IsPlaceOf};
+ghost use Rattle.std.specs.Prelude.{◌≡◌, ◌≤◌, ◌↔◌, ℕ, length, take, drop, IfOk, IfSome, IsNone, IsTrue, All, MatchBool, MatchOption};
+ghost use Rattle.std.specs.List.Sorted.{IsNonDecreasing};
+ghost use Rattle.proof_log.specs.Literals.{InVars};
+ghost use Rattle.proof_log.specs.Clauses.{is_set, IsNormal, HasComplements, IsNormalFrom, IsNormalFront};
 
 use crate::literals::Lit;
 use sdcv_base::Seq;
@@ -30,11 +30,9 @@ impl Clause {
         ensures normal { IfOk result (λ o. IfSome o (λ c. IsNormal c)) }
         ensures same { IfOk result (λ o. IfSome o (λ c. (l : ℕ) → is_set c l ≡ is_set lits.now l)) }
     {
-        let mut out = Vec::new(alloc);
-        for l in lits {
-            if !insert_literal(&mut out, *l)? {
-                return Ok(None);
-            }
+        let mut out = Vec::from_slice(alloc, lits)?;
+        if !normalize(&mut out, 0) {
+            return Ok(None);
         }
         Ok(Some(Clause {
             lits: Seq::from_vec(out),
@@ -64,41 +62,55 @@ impl Clause {
     }
 }
 
-/// Puts a literal into its place. The answer is false where its complement is there.
-fn insert_literal(to: &mut Vec<Lit>, l: Lit) -> Result<bool, AllocError>
-    requires { IsNormal to.old.items }
-    ensures { IfOk result (λ fits. Inserted to.old.items l to.new.items fits) }
+/// Puts the literals from a place on into normal form: by their variables, each once. The answer is
+/// false where two of them are complements, and then none of them is left.
+pub(crate) fn normalize(lits: &mut Vec<Lit>, start: usize) -> bool
+    requires { start ≤ length lits.old.items }
+    ensures normal { MatchBool result
+        (IsNormalFrom start lits.old.items lits.new.items)
+        (HasComplements (drop start lits.old.items) × (lits.new.items ≡ take start lits.old.items)) }
+    ensures short { length lits.new.items ≤ length lits.old.items }
 {
-    let at = place_of(to, l.var());
-    if is_of(to, at, l.var()) {
-        return Ok(to[at] == l);
-    }
-    to.insert(at, l)?;
-    Ok(true)
+    let Some(count) = put_in_order(&mut lits[start..]) else {
+        lits.truncate(start);
+        return false;
+    };
+    lits.truncate(start + count);
+    true
 }
 
-/// The first place whose literal's variable is no smaller, or the length.
-fn place_of(lits: &[Lit], var: u32) -> usize
-    ensures { IsPlaceOf lits.now var result }
+/// Puts literals into normal form at the front, and tells how many they are, or `None` where two are complements.
+fn put_in_order(lits: &mut [Lit]) -> Option<usize>
+    ensures { MatchOption result (HasComplements lits.old) (IsNormalFront lits.old lits.new) }
 {
-    for (i, l) in lits.iter().enumerate() {
-        if l.var() >= var {
-            return i;
+    lits.sort_unstable_by_key(|l| l.index());
+    each_once(lits)
+}
+
+/// Moves literals that stand in order to the front, each once.
+fn each_once(lits: &mut [Lit]) -> Option<usize>
+    requires { IsNonDecreasing lits.old }
+    ensures { MatchOption result (HasComplements lits.old) (IsNormalFront lits.old lits.new) }
+{
+    if lits.is_empty() {
+        return Some(0);
+    }
+    let mut kept = 1;
+    for place in 1..lits.len() {
+        let last = lits[kept - 1];
+        let l = lits[place];
+        if last.var() < l.var() {
+            lits[kept] = l;
+            kept += 1;
+        } else if last != l {
+            return None;
         }
     }
-    lits.len()
-}
-
-fn is_of(lits: &[Lit], at: usize, var: u32) -> bool
-    ensures { MatchBool result
-        ((at < length lits.now) × (lit_var (slice_index lits.now at) ≡ var))
-        (at < length lits.now → lit_var (slice_index lits.now at) ≢ var) }
-{
-    at < lits.len() && lits[at].var() == var
+    Some(kept)
 }
 
 /// Whether the variables ascend, from 1 to `vars`.
-fn is_ascending(lits: &[Lit], vars: u32) -> bool
+pub(crate) fn is_ascending(lits: &[Lit], vars: u32) -> bool
     ensures { IsTrue result ↔ (IsNormal lits.now × All (InVars vars) lits.now) }
 {
     let mut before = 0;

@@ -3,14 +3,14 @@ ghost use Rattle.std.specs.Prelude.{◌↔◌, IsTrue, All};
 ghost use Rattle.proof_log.specs.Literals.{InVars};
 ghost use Rattle.proof_log.specs.Clauses.{IsNormal};
 
-use crate::clauses::Clause;
-use sdcv_base::Seq;
+use crate::clauses::is_ascending;
+use crate::tables::ClauseTable;
 
 /// Clauses over the variables 1 to `vars`, all to be true.
-#[derive(Debug, Drop)]
+#[derive(Drop)]
 pub struct Formula {
     pub vars: u32,
-    pub clauses: Seq<Clause>,
+    pub clauses: ClauseTable,
 }
 
 impl Formula {
@@ -20,15 +20,15 @@ impl Formula {
     pub fn is_normal(&self) -> bool
         ensures { IsTrue result ↔ IsFormula self.now }
     {
-        self.vars < 1 << 31 && are_normal(self.clauses.as_slice(), self.vars)
+        self.vars < 1 << 31 && are_normal(&self.clauses, self.vars)
     }
 }
 
-fn are_normal(clauses: &[Clause], vars: u32) -> bool
+fn are_normal(clauses: &ClauseTable, vars: u32) -> bool
     ensures { IsTrue result ↔ (All IsNormal clauses.now × All (λ c. All (InVars vars) c) clauses.now) }
 {
-    for clause in clauses {
-        if !clause.is_normal(vars) {
+    for place in 0..clauses.len() {
+        if !is_ascending(clauses.clause(place), vars) {
             return false;
         }
     }

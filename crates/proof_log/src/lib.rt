@@ -12,6 +12,7 @@ mod effects;
 mod formulas;
 mod literals;
 mod models;
+mod tables;
 
 pub use assignments::Assignment;
 pub use clauses::Clause;
@@ -20,3 +21,4 @@ pub use effects::{Effect, LitSet};
 pub use formulas::Formula;
 pub use literals::Lit;
 pub use models::Model;
+pub use tables::ClauseTable;

@@ -7,7 +7,7 @@ ghost use Rattle.rup_check.specs.Faults.{hints_fault, fault_after_false, step_fa
 use crate::faults::CheckFault;
 use crate::known::clause_at;
 use crate::step_sets::StepSet;
-use proof_log::{Clause, DerivStep, Derivation, Effect, Formula, LitSet};
+use proof_log::{ClauseTable, DerivStep, Derivation, Effect, Formula, LitSet};
 use std::alloc::Global;
 
 /// Whether the derivation refutes the formula: each step follows by its hints, and the last clause
@@ -26,13 +26,7 @@ pub fn check(alloc: Global, formula: &Formula, derivation: &Derivation) -> Resul
     let steps = derivation.steps.as_slice();
     let mut set = StepSet::new(alloc, formula.vars.min(MOST_VARS))?;
     for (at, step) in steps.iter().enumerate() {
-        check_step(
-            &mut set,
-            formula.clauses.as_slice(),
-            &steps[..at],
-            step,
-            at + 1,
-        )?;
+        check_step(&mut set, &formula.clauses, &steps[..at], step, at + 1)?;
     }
     if ends_empty(steps) {
         Ok(())
@@ -57,7 +51,7 @@ fn ends_empty(steps: &[DerivStep]) -> bool
 /// Whether the step's hints lead from the negation of its clause to a conflict.
 fn check_step(
     set: &mut StepSet,
-    formula: &[Clause],
+    formula: &ClauseTable,
     earlier: &[DerivStep],
     step: &DerivStep,
     number: usize,
@@ -73,7 +67,7 @@ fn check_step(
 /// Whether the hints lead from the set literals to a conflict.
 fn check_hints(
     set: &mut StepSet,
-    formula: &[Clause],
+    formula: &ClauseTable,
     earlier: &[DerivStep],
     hints: &[u64],
     number: usize,
@@ -100,7 +94,7 @@ fn check_hints(
 
 /// Whether no hint stands after a false one.
 fn nothing_after(
-    formula: &[Clause],
+    formula: &ClauseTable,
     earlier: &[DerivStep],
     rest: &[u64],
     number: usize,

@@ -2,11 +2,11 @@
 ghost use Rattle.std.specs.Prelude.{◌≡◌, None, Some, MatchOption};
 ghost use Rattle.proof_log.specs.Derivations.{clause_named, known_clauses};
 
-use proof_log::{Clause, DerivStep, Lit};
+use proof_log::{ClauseTable, DerivStep, Lit};
 
 /// The clause of that number: the formula's count from 1, then the earlier steps'.
 pub fn clause_at<'a>(
-    formula: &'a [Clause],
+    formula: &'a ClauseTable,
     earlier: &'a [DerivStep],
     hint: u64,
 ) -> Option<&'a [Lit]>
@@ -19,7 +19,7 @@ pub fn clause_at<'a>(
     }
     let place = (hint - 1) as usize;
     if place < formula.len() {
-        return Some(formula[place].as_slice());
+        return Some(formula.clause(place));
     }
     let later = place - formula.len();
     if later < earlier.len() {

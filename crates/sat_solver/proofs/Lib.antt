@@ -14,4 +14,3 @@ pub mod Deciding
 pub mod Stamping
 pub mod Marking
 pub mod CoveredLiterals
-pub mod StoredClauses

@@ -6,4 +6,3 @@ pub mod Watches
 pub mod Cuts
 pub mod Markings
 pub mod Engines
-pub mod Arenas

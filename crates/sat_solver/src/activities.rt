@@ -6,10 +6,9 @@ ghost use Rattle.decision_heap.specs.Heaps.{IsSame};
 ghost use Rattle.sat_solver.specs.Searches.{AllInVars, AllSet, IsUnset};
 ghost use Rattle.sat_solver.specs.Engines.{AreWaiting};
 
-use crate::arenas::Arena;
 use crate::trails::Trail;
 use decision_heap::Heap;
-use proof_log::{Lit, LitSet};
+use proof_log::{ClauseTable, Lit, LitSet};
 use std::alloc::{AllocError, Global};
 
 /// The variables that wait for a decision, and the value that each variable last had.
@@ -85,7 +84,7 @@ impl Activities {
     }
 
     /// Raises the variables of the clauses that the hints of a step name.
-    pub fn raise_hints(&mut self, clauses: &Arena, hints: &[u64])
+    pub fn raise_hints(&mut self, clauses: &ClauseTable, hints: &[u64])
         requires { AllInVars self.old.waiting.vars clauses.now }
         ensures { IsSame self.old.waiting self.new.waiting }
     {

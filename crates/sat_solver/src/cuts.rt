@@ -30,10 +30,9 @@ ghost use Rattle.sat_solver.specs.Watches.{clause_at};
 ghost use Rattle.sat_solver.specs.Cuts.{CutState, IsUnitCut, ResolvedBelow};
 ghost use Rattle.sat_solver.specs.Markings.{is_marked, marked_lits, Gathered, AreMarked, AreReplaced};
 
-use crate::arenas::Arena;
 use crate::marks::Marks;
 use crate::trails::Trail;
-use proof_log::{Lit, LitSet};
+use proof_log::{ClauseTable, Lit, LitSet};
 use std::alloc::{AllocError, Global};
 
 /// A cut, whose literals are those that set literals of marked variables make false.
@@ -77,7 +76,7 @@ impl Cut {
     pub fn mark_conflict(
         &mut self,
         marks: &mut Marks,
-        clauses: &Arena,
+        clauses: &ClauseTable,
         trail: &Trail,
         conflict: usize,
     ) -> Result<(), AllocError>
@@ -107,7 +106,7 @@ impl Cut {
     pub fn resolve_to_unit(
         &mut self,
         marks: &mut Marks,
-        clauses: &Arena,
+        clauses: &ClauseTable,
         trail: &Trail,
     ) -> Result<usize, AllocError>
         requires fits { trail.now.vars < length marks.old.stamps }
@@ -140,7 +139,7 @@ impl Cut {
     pub fn resolve_below(
         &mut self,
         marks: &mut Marks,
-        clauses: &Arena,
+        clauses: &ClauseTable,
         trail: &Trail,
     ) -> Result<(), AllocError>
         requires fits { trail.now.vars < length marks.old.stamps }
@@ -170,7 +169,7 @@ impl Cut {
     fn resolve(
         &mut self,
         marks: &mut Marks,
-        clauses: &Arena,
+        clauses: &ClauseTable,
         trail: &Trail,
         at: usize,
     ) -> Result<(), AllocError>

@@ -33,13 +33,12 @@ ghost use Rattle.sat_solver.specs.Watches.{IsQueued};
 ghost use Rattle.sat_solver.specs.Learning.{IsLearnt};
 
 use crate::activities::Activities;
-use crate::arenas::Arena;
 use crate::counts::Counts;
 use crate::learning::{Learnt, analyze, last_step, second_watch};
 use crate::marks::Marks;
 use crate::propagation::Queue;
 use crate::trails::Trail;
-use proof_log::{Clause, DerivStep, Formula, Lit, LitSet};
+use proof_log::{ClauseTable, DerivStep, Formula, Lit, LitSet};
 use sdcv_base::Seq;
 use std::alloc::{AllocError, Global};
 use std::marker::Model;
@@ -59,7 +58,7 @@ use std::marker::Model;
 /// That no clause is false or unit at the present level holds only after `propagate` has said so.
 #[derive(Drop)]
 pub struct Engine {
-    clauses: Arena,
+    clauses: ClauseTable,
     trail: Trail,
     starts: Vec<usize>,
     walks: Vec<usize>,
@@ -91,11 +90,11 @@ impl Engine {
         ensures { IfOk result (λ e. e
             ≡ record { vars = formula.now.vars; clauses = formula.now.clauses; lits = []; starts = [] }) }
     {
-        let clauses = Arena::of(alloc, formula.clauses.as_slice())?;
+        let clauses = formula.clauses.copy(alloc)?;
         let trail = Trail::new(alloc, formula.vars)?;
         let starts = Vec::with_capacity(alloc, formula.vars as usize + 1)?;
         let walks = Vec::with_capacity(alloc, formula.vars as usize + 1)?;
-        let queue = queue_of(alloc, formula.vars, formula.clauses.as_slice())?;
+        let queue = queue_of(alloc, formula.vars, &formula.clauses)?;
         let activities = Activities::new(alloc, formula.vars)?;
         let marks = Marks::new(alloc, formula.vars)?;
         Ok(Engine {
@@ -248,16 +247,15 @@ impl Engine {
 }
 
 /// A queue for the clauses, none of which is looked at.
-fn queue_of(alloc: Global, vars: u32, clauses: &[Clause]) -> Result<Queue, AllocError>
+fn queue_of(alloc: Global, vars: u32, clauses: &ClauseTable) -> Result<Queue, AllocError>
     requires few { vars < 2 ^ 31 }
-    requires many { length clauses.now < 2 ^ 63 }
     requires in_vars { AllInVars vars clauses.now }
     requires normal { All IsNormal clauses.now }
     ensures { IfOk result (λ q. IsQueued clauses.now (record { vars = vars; lits = []; reasons = [] }) q) }
 {
     let mut queue = Queue::new(alloc, vars)?;
-    for (place, clause) in clauses.iter().enumerate() {
-        queue.add_clause(place, clause.as_slice())?;
+    for place in 0..clauses.len() {
+        queue.add_clause(place, clauses.clause(place))?;
     }
     Ok(queue)
 }

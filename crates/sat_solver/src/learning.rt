@@ -8,12 +8,11 @@ ghost use Rattle.sat_solver.specs.Engines.{IsSearch, level_floor};
 ghost use Rattle.sat_solver.specs.Learning.{OthersFalse, IsFrontLen, IsLevel, IsLearnt};
 ghost use Rattle.sat_solver.specs.Cuts.{FalseBy, IsAsserting};
 
-use crate::arenas::Arena;
 use crate::cuts::{Cut, is_open_other};
 use crate::marks::Marks;
 use crate::minimising::minimise;
 use crate::trails::Trail;
-use proof_log::{Clause, DerivStep, Lit};
+use proof_log::{Clause, ClauseTable, DerivStep, Lit};
 use sdcv_base::Seq;
 use std::alloc::{AllocError, Global};
 
@@ -30,7 +29,7 @@ pub struct Learnt {
 /// Learns a clause from a false one, at a level above 0.
 pub fn analyze(
     alloc: Global,
-    clauses: &Arena,
+    clauses: &ClauseTable,
     trail: &Trail,
     starts: &[usize],
     marks: &mut Marks,
@@ -67,7 +66,7 @@ pub fn analyze(
 /// others make needless, its hints in order, and the place of the literal that makes its unit false.
 fn asserting_cut(
     alloc: Global,
-    clauses: &Arena,
+    clauses: &ClauseTable,
     trail: &Trail,
     starts: &[usize],
     marks: &mut Marks,
@@ -129,7 +128,7 @@ fn front_len(trail: &Trail, lits: &[Lit], unit: Lit) -> usize
 /// The empty step by which a false clause refutes the clauses, at level 0.
 pub fn last_step(
     alloc: Global,
-    clauses: &Arena,
+    clauses: &ClauseTable,
     trail: &Trail,
     marks: &mut Marks,
     conflict: usize,

@@ -6,7 +6,6 @@
 #![tactic(auto)]
 
 mod activities;
-mod arenas;
 mod counts;
 mod cuts;
 mod engines;

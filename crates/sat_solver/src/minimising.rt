@@ -26,11 +26,10 @@ ghost use Rattle.proof_log.specs.Clauses.{is_set, IsNormal};
 ghost use Rattle.sat_solver.specs.Cuts.{IsCovered, KeepsAsserting};
 ghost use Rattle.sat_solver.specs.Markings.{is_marked, marked_lits, AreBetween, AreFewer};
 
-use crate::arenas::Arena;
 use crate::cuts::Cut;
 use crate::marks::Marks;
 use crate::trails::Trail;
-use proof_log::{Lit, LitSet};
+use proof_log::{ClauseTable, Lit, LitSet};
 use std::alloc::{AllocError, Global};
 
 /// Resolves away each literal of the levels between whose reason has no others but those of the
@@ -39,7 +38,7 @@ pub fn minimise(
     alloc: Global,
     cut: &mut Cut,
     marks: &mut Marks,
-    clauses: &Arena,
+    clauses: &ClauseTable,
     trail: &Trail,
 ) -> Result<(), AllocError>
     requires fits { trail.now.vars < length marks.old.stamps }
@@ -81,7 +80,7 @@ fn places_of(
 fn drop_covered(
     cut: &mut Cut,
     marks: &mut Marks,
-    clauses: &Arena,
+    clauses: &ClauseTable,
     trail: &Trail,
     mut places: Vec<usize>,
 ) -> Result<(), AllocError>
@@ -106,7 +105,7 @@ fn drop_covered(
 fn drop_if_covered(
     cut: &mut Cut,
     marks: &mut Marks,
-    clauses: &Arena,
+    clauses: &ClauseTable,
     trail: &Trail,
     place: usize,
 ) -> Result<(), AllocError>

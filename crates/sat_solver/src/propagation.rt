@@ -43,9 +43,8 @@ ghost use Rattle.sat_solver.specs.Watches.{
   watched,
 };
 
-use crate::arenas::Arena;
 use crate::trails::Trail;
-use proof_log::{Effect, Lit, LitSet};
+use proof_log::{ClauseTable, Effect, Lit, LitSet};
 use std::alloc::{AllocError, Global};
 use watch_lists::Watches;
 
@@ -157,7 +156,7 @@ impl Queue {
 
     /// Sets the unset literal of each unit clause until none waits, or a clause is false, whose
     /// place is told. It takes no memory.
-    pub fn settle(&mut self, clauses: &Arena, trail: &mut Trail) -> Option<usize>
+    pub fn settle(&mut self, clauses: &ClauseTable, trail: &mut Trail) -> Option<usize>
         requires in_vars { AllInVars trail.old.vars clauses.now }
         requires normal { All IsNormal clauses.now }
         requires queued { IsQueued clauses.now trail.old self.old }
@@ -181,7 +180,7 @@ impl Queue {
 
     /// Looks at the clauses that were not looked at, and sets the literals of those that have no
     /// other.
-    fn look_at_new(&mut self, clauses: &Arena, trail: &mut Trail) -> Option<usize>
+    fn look_at_new(&mut self, clauses: &ClauseTable, trail: &mut Trail) -> Option<usize>
         requires in_vars { AllInVars trail.old.vars clauses.now }
         requires queued { IsQueued clauses.now trail.old self.old }
         ensures settles { Settles clauses.now trail.old self.old trail.new self.new }
@@ -200,7 +199,7 @@ impl Queue {
     }
 
     /// Walks along the watches of the complement of the next set literal.
-    fn walk_next(&mut self, clauses: &Arena, trail: &mut Trail) -> Option<usize>
+    fn walk_next(&mut self, clauses: &ClauseTable, trail: &mut Trail) -> Option<usize>
         requires in_vars { AllInVars trail.old.vars clauses.now }
         requires normal { All IsNormal clauses.now }
         requires queued { IsQueued clauses.now trail.old self.old }
@@ -230,7 +229,7 @@ impl Queue {
 }
 
 /// Sets the literal of a clause that has no other. The answer is false where the clause is false.
-fn set_short(clauses: &Arena, trail: &mut Trail, place: usize) -> bool
+fn set_short(clauses: &ClauseTable, trail: &mut Trail, place: usize) -> bool
     requires in_vars { AllInVars trail.old.vars clauses.now }
     requires within { place < length clauses.now }
     ensures extends { Extends clauses.now trail.old trail.new }
@@ -253,7 +252,7 @@ fn set_short(clauses: &Arena, trail: &mut Trail, place: usize) -> bool
 
 /// Visits the watches that wait, all on the false literal, until none does or a clause is false.
 fn walk(
-    clauses: &Arena,
+    clauses: &ClauseTable,
     trail: &mut Trail,
     watches: &mut Watches,
     starts: &mut [u32],
@@ -292,7 +291,7 @@ fn put_back(watches: &mut Watches, falsified: Lit)
 }
 
 /// Looks at a clause whose other watched literal is this one.
-fn look_into(trail: &Trail, clauses: &Arena, place: usize, other: Lit, starts: &[u32]) -> Look
+fn look_into(trail: &Trail, clauses: &ClauseTable, place: usize, other: Lit, starts: &[u32]) -> Look
     requires { place < length clauses.now }
     ensures { LookMeans trail.now.lits (clause_at clauses.now place) other result }
 {
@@ -371,7 +370,7 @@ fn start_at(starts: &mut [u32], place: usize, at: usize) {
 
 /// Visits one of the watches on the false literal.
 fn visit_one(
-    clauses: &Arena,
+    clauses: &ClauseTable,
     trail: &mut Trail,
     watches: &mut Watches,
     starts: &mut [u32],

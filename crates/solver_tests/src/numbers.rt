@@ -1,5 +1,5 @@
 //! Literals, clauses and formulas, written as DIMACS writes them.
-use proof_log::{Clause, Formula, Lit};
+use proof_log::{Clause, ClauseTable, Formula, Lit};
 use sdcv_base::Seq;
 use std::alloc::{AllocError, Global};
 use std::process::Abort;
@@ -31,15 +31,14 @@ pub fn clause(alloc: Global, numbers: &[i32]) -> Result<Clause, AllocError> {
 
 pub fn push_clause(
     alloc: Global,
-    list: &mut Seq<Clause>,
+    list: &mut ClauseTable,
     numbers: &[i32],
 ) -> Result<(), AllocError> {
-    list.push(clause(alloc, numbers)?)?;
-    Ok(())
+    list.push(&lits(alloc, numbers)?)
 }
 
 pub fn formula(alloc: Global, vars: u32, clauses: &[&[i32]]) -> Result<Formula, AllocError> {
-    let mut list = Seq::new(alloc);
+    let mut list = ClauseTable::new(alloc);
     for numbers in clauses {
         push_clause(alloc, &mut list, numbers)?;
     }

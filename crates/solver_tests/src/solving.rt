@@ -1,9 +1,8 @@
 //! Formulas with a model and without, and the steps of the search, known by hand.
 use crate::numbers::{formula, push_clause, sure};
-use proof_log::{Clause, Formula};
+use proof_log::{ClauseTable, Formula};
 use rup_check::check;
 use sat_solver::{Answer, Engine, Learnt, solve};
-use sdcv_base::Seq;
 use std::alloc::{AllocError, Global};
 
 // What is found of a formula.
@@ -208,14 +207,14 @@ fn formulas_have_a_model_or_none(rt: HostRuntime) -> Result<(), AllocError> {
 // even ones from the last back, so that a scan in either direction sets only a few literals.
 const LAST: i32 = 1_000_000;
 
-fn push_implication(alloc: Global, list: &mut Seq<Clause>, var: i32) -> Result<(), AllocError> {
+fn push_implication(alloc: Global, list: &mut ClauseTable, var: i32) -> Result<(), AllocError> {
     push_clause(alloc, list, &[var.wrapping_neg(), var.wrapping_add(1)])
 }
 
 // So many, from a variable on, by a step.
 fn push_implications(
     alloc: Global,
-    list: &mut Seq<Clause>,
+    list: &mut ClauseTable,
     first: i32,
     step: i32,
     count: i32,
@@ -226,7 +225,7 @@ fn push_implications(
     Ok(())
 }
 
-fn push_chain(alloc: Global, list: &mut Seq<Clause>) -> Result<(), AllocError> {
+fn push_chain(alloc: Global, list: &mut ClauseTable) -> Result<(), AllocError> {
     push_implications(alloc, list, 1, 2, LAST / 2)?;
     push_implications(alloc, list, LAST - 2, -2, LAST / 2 - 1)?;
     push_clause(alloc, list, &[1])?;
@@ -234,7 +233,7 @@ fn push_chain(alloc: Global, list: &mut Seq<Clause>) -> Result<(), AllocError> {
 }
 
 fn chain(alloc: Global) -> Result<Formula, AllocError> {
-    let mut clauses = Seq::new(alloc);
+    let mut clauses = ClauseTable::new(alloc);
     push_chain(alloc, &mut clauses)?;
     Ok(Formula {
         vars: 1_000_000,

@@ -4,8 +4,8 @@ use Rattle.proof_log.specs.Literals.{InVars}
 use Rattle.proof_log.specs.Clauses.{IsNormal}
 use Rattle.proof_log.proofs.formulas.are_normal.Given as goal
 
-abbrev pub invariant-loop-clause : goal.invariant-loop-clause
-invariant-loop-clause l = record {
-  normal : All IsNormal (take l.clause-index l.clauses);
-  in_vars : All (λ c. All (InVars l.vars) c) (take l.clause-index l.clauses);
+abbrev pub invariant-loop-place : goal.invariant-loop-place
+invariant-loop-place l = record {
+  normal : All IsNormal (take l.place l.clauses);
+  in_vars : All (λ c. All (InVars l.vars) c) (take l.place l.clauses);
 }

@@ -15,15 +15,13 @@ returns-in_err-check_step-clause-fault c =
     let e = c.in_err-check_step.field-0.0 in
     let L : List DerivStep → Type 0 = λ xs. c.loop-at.at < length xs in
     let S : List DerivStep → Type 0 = λ xs. c.index-steps-at.result ≡ get_or xs c.loop-at.at c.index-steps-at.result in
-    let F : List (List ℕ) → Type 0 = λ f. e ≢ Memory → step_fault f (take c.loop-at.at c.as_slice-steps.result.now) c.index-steps-at.result
-    (c.loop-at.at + 1) ≡ Some e in
     let G : List DerivStep → Type 0 = λ xs. e ≢ Memory → step_fault c.args.formula.now.clauses (take c.loop-at.at xs) c.index-steps-at.result
     (c.loop-at.at + 1) ≡ Some e in
     let p = err_from_is_err_and c.from_residual-in_err-check_step.result c.from_residual-in_err-check_step.ensures.1 in
     rw (p.1, p.2)
     (first_of_step c.args.formula.now c.args.derivation.now c.loop-at.at c.index-steps-at.result e
     (subst L shown (omega arith)) (subst S shown c.index-steps-at.is) c.loop-at.invariant
-    (subst G shown (subst F c.as_slice.ensures c.in_err-check_step.ensures)))
+    (subst G shown c.in_err-check_step.ensures))
 
 pub returns-in_err-check_step-clause-refused : goal.returns-in_err-check_step-clause-refused
 returns-in_err-check_step-clause-refused c =

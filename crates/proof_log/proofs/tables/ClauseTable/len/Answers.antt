@@ -1,6 +1,6 @@
 use Rattle.std.proofs.Common.{arith}
-use Rattle.sat_solver.proofs.StoredClauses.{length-clauses_of}
-use Rattle.sat_solver.proofs.arenas.Arena.len.Goals as goal
+use Rattle.proof_log.proofs.StoredClauses.{length-clauses_of}
+use Rattle.proof_log.proofs.tables.ClauseTable.len.Goals as goal
 
 pub returns-clause-value : goal.returns-clause-value
 returns-clause-value c =

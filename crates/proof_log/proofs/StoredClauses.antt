@@ -1,10 +1,11 @@
 -- Clauses in one list of literals, as they are read and added.
-use Rattle.std.proofs.Common.{◌≡◌, ◌∙◌, ◌+◌, ◌<◌, ◌≤◌, ℕ, zero, suc, List, [], ◌∷◌, ◌++◌, length, get_or, take, drop, ap, sym, refl, arith}
+use Rattle.std.proofs.Common.{◌≡◌, ◌∙◌, ◌+◌, ◌<◌, ◌≤◌, ℕ, zero, suc, List, [], ◌∷◌, ◌++◌, length, get_or, take, drop, ap, sym, refl, subst, inl, inr, arith}
 use Rattle.std.specs.List.{between}
-use Rattle.std.proofs.lemmas.List.{take-append-le, length-append}
+use Rattle.std.proofs.lemmas.List.{take-append-le, take_all, length-append}
 use Rattle.std.proofs.lemmas.Slice.{between_is}
 use Rattle.std.proofs.Math.Seq.{drop-append_seam, take-length}
-use Rattle.sat_solver.specs.Arenas.{clauses_of, AreEnds}
+use Rattle.proof_log.specs.Clauses.{is_set, HasComplements, IsNormalFrom, IsKeptOf}
+use Rattle.proof_log.specs.Tables.{clauses_of, AreEnds}
 
 -- there are as many clauses as ends
 pub length-clauses_of : (lits : List ℕ) (start : ℕ) (ends : List ℕ) → length (clauses_of lits start ends) ≡ length ends
@@ -52,3 +53,37 @@ clauses_of-push lits more start (e ∷ es) h =
 pub AreEnds-push : (start : ℕ) (ends : List ℕ) (len end : ℕ) → AreEnds start ends len → len ≤ end → AreEnds start (ends ++ end ∷ []) end
 AreEnds-push start [] len end h low = (omega (arith, h, low), refl)
 AreEnds-push start (e ∷ es) len end h low = (h.0, AreEnds-push e es len end h.1 low)
+
+front_append : (old more : List ℕ) (start : ℕ) → start ≡ length old → take start (old ++ more) ≡ old
+front_append old more start e = take-append-le start old more (omega (arith, e)) ∙ take_all start old (omega (arith, e))
+
+back_append : (old more : List ℕ) (start : ℕ) → start ≡ length old → drop start (old ++ more) ≡ more
+back_append old more start e = ap (λ n. drop n (old ++ more)) e ∙ drop-append_seam old more
+
+-- the literals behind the others were put in normal form, and are one more clause
+pub kept_with : (old more new ends : List ℕ) (start end : ℕ) → AreEnds 0 ends (length old) → start ≡ length old → IsNormalFrom start (old ++ more) new
+    → end ≡ length new → IsKeptOf more (clauses_of old 0 ends) (clauses_of new 0 (ends ++ end ∷ [])) × AreEnds 0 (ends ++ end ∷ []) (length new)
+kept_with old more new ends start end h e n l =
+    let new_is : new ≡ old ++ n.0 = n.3 ∙ ap (λ xs. xs ++ n.0) (front_append old more start e) in
+    let end_is : end ≡ length old + length n.0 = l ∙ ap length new_is ∙ length-append old n.0 in
+    let A : ℕ → Type 0 = AreEnds 0 (ends ++ end ∷ []) in (
+      inr (
+        n.0,
+        n.1,
+        λ q. n.2 q ∙ ap (λ xs. is_set xs q) (back_append old more start e),
+        ap (λ xs. clauses_of xs 0 (ends ++ end ∷ [])) new_is ∙ ap (λ m. clauses_of (old ++ n.0) 0 (ends ++ m ∷ [])) end_is ∙ clauses_of-push old n.0 0 ends h,
+      ),
+      subst A l (AreEnds-push 0 ends (length old) end h (omega (arith, end_is))),
+    )
+
+abbrev pub HasNoneFrom : ℕ → List ℕ → List ℕ → Type 0
+HasNoneFrom start old new = HasComplements (drop start old) × (new ≡ take start old)
+
+-- they are none, where two of them are complements
+pub kept_without : (old more new ends : List ℕ) (start : ℕ) → AreEnds 0 ends (length old) → start ≡ length old
+    → HasNoneFrom start (old ++ more) new → IsKeptOf more (clauses_of old 0 ends) (clauses_of new 0 ends) × AreEnds 0 ends (length new)
+kept_without old more new ends start h e n =
+    let C : List ℕ → Type 0 = HasComplements in
+    let A : List ℕ → Type 0 = λ xs. AreEnds 0 ends (length xs) in
+    let new_is : new ≡ old = n.1 ∙ front_append old more start e in
+    (inl (subst C (back_append old more start e) n.0, ap (λ xs. clauses_of xs 0 ends) new_is), subst A (sym new_is) h)

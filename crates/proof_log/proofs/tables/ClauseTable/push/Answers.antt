@@ -1,8 +1,8 @@
 use Rattle.std.proofs.Common.{◌+◌, ◌++◌, ◌∷◌, [], ℕ, length, sym, subst, arith}
 use Rattle.std.proofs.lemmas.List.{length-append}
-use Rattle.sat_solver.specs.Arenas.{AreEnds}
-use Rattle.sat_solver.proofs.StoredClauses.{clauses_of-push, AreEnds-push}
-use Rattle.sat_solver.proofs.arenas.Arena.push.Goals as goal
+use Rattle.proof_log.specs.Tables.{AreEnds}
+use Rattle.proof_log.proofs.StoredClauses.{clauses_of-push, AreEnds-push}
+use Rattle.proof_log.proofs.tables.ClauseTable.push.Goals as goal
 
 pub invariant_of-self-2 : goal.invariant_of-self-2
 invariant_of-self-2 c =

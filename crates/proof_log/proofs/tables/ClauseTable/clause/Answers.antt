@@ -1,8 +1,8 @@
 use Rattle.std.proofs.Common.{◌≡◌, ◌∙◌, ◌<◌, ◌∷◌, ap, get_or, length, sym, arith}
 use Rattle.std.proofs.lemmas.List.{get_or_read}
 use Rattle.std.specs.List.{between}
-use Rattle.sat_solver.proofs.StoredClauses.{length-clauses_of, clauses_of-at, ends_within}
-use Rattle.sat_solver.proofs.arenas.Arena.clause.Goals as goal
+use Rattle.proof_log.proofs.StoredClauses.{length-clauses_of, clauses_of-at, ends_within}
+use Rattle.proof_log.proofs.tables.ClauseTable.clause.Goals as goal
 
 pub start_of-start-requires : goal.start_of-start-requires
 start_of-start-requires c =
