@@ -6,24 +6,39 @@ use net_model::Func;
 use sdcv_base::{Name, Seq};
 
 /// An output pin of a combinational cell. The places of `func` are the cell's `inputs`.
-#[derive(Drop)]
 pub struct CombOut {
     pub name: Name,
     pub func: Func,
 }
 
+impl Drop for CombOut {
+    fn drop(self) {
+        let CombOut {
+            name: _name,
+            func: _func,
+        } = self;
+    }
+}
+
 /// An output pin of a flop: the state, or its complement where it is inverted.
-#[derive(Drop)]
 pub struct FlopOut {
     pub name: Name,
     pub inverted: bool,
+}
+
+impl Drop for FlopOut {
+    fn drop(self) {
+        let FlopOut {
+            name: _name,
+            inverted: _inverted,
+        } = self;
+    }
 }
 
 /// A rising-edge flop (Liberty, group `ff`).
 ///
 /// The places of `next`, `clear` and `preset` are the cell's `inputs`, which leave out the clock; in `next`
 /// the place after the last input is the state itself. `both` is the state where `clear` and `preset` are both 1.
-#[derive(Drop)]
 pub struct Flop {
     pub clock: Name,
     pub next: Func,
@@ -33,15 +48,37 @@ pub struct Flop {
     pub outs: Seq<FlopOut>,
 }
 
+impl Drop for Flop {
+    fn drop(self) {
+        let Flop {
+            clock: _clock,
+            next: _next,
+            clear: _clear,
+            preset: _preset,
+            both: _both,
+            outs: _outs,
+        } = self;
+    }
+}
+
 /// A clock gate (Liberty, attribute `clock_gating_integrated_cell`): `out` follows `clock` in a cycle where an enable is 1,
 /// and stays 0 in every other.
 ///
 /// The enables are the cell's `inputs`, which leave out the clock.
-#[derive(Drop)]
 pub struct GateCell {
     pub clock: Name,
     pub enables: Seq<Name>,
     pub out: Name,
+}
+
+impl Drop for GateCell {
+    fn drop(self) {
+        let GateCell {
+            clock: _clock,
+            enables: _enables,
+            out: _out,
+        } = self;
+    }
 }
 
 /// What a cell keeps from cycle to cycle: nothing; the bits of flops or latches (Liberty, groups `ff`, `ff_bank`, `latch`,
@@ -79,7 +116,6 @@ pub enum CellKind {
 
 /// A cell with its input pins in order, without the clock of a flop or a clock gate, and its power pins. The inputs of one
 /// that can't be modelled are pins, buses and bundles.
-#[derive(Drop)]
 pub struct Cell {
     pub name: Name,
     pub inputs: Seq<Name>,
@@ -87,10 +123,26 @@ pub struct Cell {
     pub kind: CellKind,
 }
 
+impl Drop for Cell {
+    fn drop(self) {
+        let Cell {
+            name: _name,
+            inputs: _inputs,
+            power: _power,
+            kind: _kind,
+        } = self;
+    }
+}
+
 /// The cells of a library, in the order of its text.
-#[derive(Drop)]
 pub struct Library {
     pub cells: Seq<Cell>,
+}
+
+impl Drop for Library {
+    fn drop(self) {
+        let Library { cells: _cells } = self;
+    }
 }
 
 impl Library {

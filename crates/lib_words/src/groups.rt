@@ -27,9 +27,18 @@ pub struct Part {
 }
 
 /// A `cell` group: its only argument, and what stands directly in it and counts, as in the text.
-#[derive(Drop)]
 pub struct CellGroup {
     pub name: Name,
     pub attributes: Seq<Attribute>,
     pub parts: Seq<Part>,
+}
+
+impl Drop for CellGroup {
+    fn drop(self) {
+        let CellGroup {
+            name: _name,
+            attributes: _attributes,
+            parts: _parts,
+        } = self;
+    }
 }

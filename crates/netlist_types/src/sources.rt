@@ -57,7 +57,6 @@ pub enum Item {
 
 /// A module. Its nets are single bits, and the place of a name in `nets` is the number of the net: they are numbered
 /// in the order in which their names first stand in the module's text.
-#[derive(Drop)]
 pub struct Module {
     pub name: Name,
     pub ports: Seq<Port>,
@@ -65,8 +64,24 @@ pub struct Module {
     pub items: Seq<Item>,
 }
 
+impl Drop for Module {
+    fn drop(self) {
+        let Module {
+            name: _name,
+            ports: _ports,
+            nets: _nets,
+            items: _items,
+        } = self;
+    }
+}
+
 /// The modules of a text in their order.
-#[derive(Drop)]
 pub struct Source {
     pub modules: Seq<Module>,
+}
+
+impl Drop for Source {
+    fn drop(self) {
+        let Source { modules: _modules } = self;
+    }
 }
