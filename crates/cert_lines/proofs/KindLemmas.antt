@@ -1,9 +1,10 @@
 -- Each kind of line: its words have no space or newline, and they tell its value.
-use Rattle.std.proofs.Common.{inl, inr, ◌≡◌, ℕ, ◌+◌, ◌*◌, ◌<◌, ◌^◌, Bool, true, false, List, [], ◌∷◌, ◌++◌, map, length, get_or, refl, sym, ap, ◌∙◌, arith}
+use Rattle.std.proofs.Common.{append-nil, ◌≡◌, ℕ, ◌+◌, ◌*◌, ◌<◌, ◌^◌, Bool, true, false, List, [], ◌∷◌, ◌++◌, map, length, get_or, refl, sym, ap, ◌∙◌, arith}
 use Rattle.std.specs.Prelude.{codes}
 use Rattle.std.specs.List.{list_all}
 use Rattle.std.specs.Fmt.{decimal}
 use Rattle.std.proofs.lemmas.Fmt.{decimal_injective}
+use Rattle.std.proofs.lemmas.Simd.{map-map}
 use Rattle.proof_log.specs.Literals.{literal, lit_var}
 use Rattle.proof_log.specs.declared.derivations.DerivStep.{DerivStep}
 use Rattle.net_model.specs.declared.invariants.StateLit.{StateLit}
@@ -19,13 +20,12 @@ use Rattle.cert_words.proofs.LineLemmas.{IsKind}
 use Rattle.cert_lines.specs.declared.heads.InvHead.{InvHead}
 use Rattle.cert_lines.specs.declared.sections.Section.{Section}
 use Rattle.cert_lines.specs.declared.sections.Section.TheVariants.{Single, Fixed, Depth, End}
-use Rattle.cert_lines.specs.Kinds.{first_words, IsVersion, inv_words, IsInvHead, state_word, kept_words, AreKept, IsKept, phase_word}
+use Rattle.cert_lines.specs.Kinds.{first_words, IsVersion, inv_words, IsInvHead, state_literal, state_word, kept_words, IsKept, phase_word}
 use Rattle.cert_lines.specs.Kinds.{head_words, IsCount, section_words, IsSection, step_words, IsStep}
 
 -- a version is a small number
 pub version_small : (version : ℕ) → IsVersion version → version < 2 ^ 63
-version_small version (inl one) = omega arith
-version_small version (inr two) = omega arith
+version_small version (some, few) = omega arith
 
 version_told : (v u : ℕ) → IsVersion v → IsVersion u → first_words v ≡ first_words u → v ≡ u
 version_told v u fv fu e =
@@ -77,6 +77,10 @@ head_kind phase = record {
 }
 
 -- literals of registers
+pub literal_var : (var : ℕ) (positive : Bool) → lit_var (literal var positive) ≡ var
+literal_var var true = omega arith
+literal_var var false = omega arith
+
 pub state_fits : (above reg : ℕ) (value : Bool) → above < reg + 1 → reg + 1 < 2 ^ 31 → IsLitAbove above (literal (reg + 1) value)
 state_fits above reg true a f = let d : lit_var (2 * (reg + 1)) ≡ reg + 1 = omega arith in record { above_it = omega arith; few = omega arith }
 state_fits above reg false a f = let d : lit_var (2 * (reg + 1) + 1) ≡ reg + 1 = omega arith in record { above_it = omega arith; few = omega arith }
@@ -87,53 +91,45 @@ literal_told r s true false e = absurd (omega arith)
 literal_told r s false true e = absurd (omega arith)
 literal_told r s false false e = (omega arith, refl)
 
-state_told : (l m : StateLit) → l.reg + 1 < 2 ^ 31 → m.reg + 1 < 2 ^ 31 → state_word l ≡ state_word m → l ≡ m
-state_told l m fl fm e =
-    let same =
-    lits_tell.same 0 0 (literal (l.reg + 1) l.value) (literal (m.reg + 1) m.value) (state_fits 0 l.reg l.value (omega arith) fl)
-    (state_fits 0 m.reg m.value (omega arith) fm) e in
-    let (reg, value) = literal_told l.reg m.reg l.value m.value same in
+state_same : (l m : StateLit) → state_literal l ≡ state_literal m → l ≡ m
+state_same l m e =
+    let (reg, value) = literal_told l.reg m.reg l.value m.value e in
     ap (λ (n : ℕ). record { reg = n; value = l.value }) reg ∙ ap (λ (b : Bool). record { reg = m.reg; value = b }) value
 
-state_token : (l : StateLit) → l.reg + 1 < 2 ^ 31 → is_token (state_word l) ≡ true
-state_token l fits = lit_token 0 (literal (l.reg + 1) l.value) (state_fits 0 l.reg l.value (omega arith) fits)
-
-kept_plain : (ls : List StateLit) → AreKept ls → list_all is_token (map state_word ls) ≡ true
-kept_plain [] fits = absurd fits
-kept_plain (l ∷ []) fits = rw (state_token l fits) refl
-kept_plain (l ∷ (m ∷ [])) fits = let (less, few) = fits in rw (state_token l (omega arith), state_token m few) refl
-kept_plain (l ∷ (m ∷ (n ∷ more))) fits = absurd fits
-
-lits_told : (xs ys : List StateLit) → AreKept xs → AreKept ys → map state_word xs ≡ map state_word ys → xs ≡ ys
-lits_told [] ys fx fy e = absurd fx
-lits_told (x ∷ xs) [] fx fy e = absurd fy
-lits_told (l ∷ []) (m ∷ []) fx fy e =
-    let word : state_word l ≡ state_word m = cc in
-    ap (λ (z : StateLit). z ∷ []) (state_told l m fx fy word)
-lits_told (l ∷ []) (m ∷ (n ∷ more)) fx fy e = cc
-lits_told (l ∷ (m ∷ more)) (n ∷ []) fx fy e = cc
-lits_told (l ∷ (m ∷ [])) (n ∷ (o ∷ [])) fx fy e =
-    let (lx, fewx) = fx in
-    let (ly, fewy) = fy in
-    let one : state_word l ≡ state_word n = cc in
-    let two : state_word m ≡ state_word o = cc in
-    let first = state_told l n (omega arith) (omega arith) one in
-    let second = state_told m o fewx fewy two in
+states_same : (xs ys : List StateLit) → map state_literal xs ≡ map state_literal ys → xs ≡ ys
+states_same [] [] e = refl
+states_same [] (y ∷ ys) e = cc
+states_same (x ∷ xs) [] e = cc
+states_same (x ∷ xs) (y ∷ ys) e =
+    let first : state_literal x ≡ state_literal y = cc in
+    let others : map state_literal xs ≡ map state_literal ys = cc in
+    let here = state_same x y first in
+    let there = states_same xs ys others in
     cc
-lits_told (l ∷ (m ∷ (k ∷ more))) (n ∷ (o ∷ ys)) fx fy e = absurd fx
-lits_told (l ∷ (m ∷ [])) (n ∷ (o ∷ (p ∷ ys))) fx fy e = absurd fy
 
-kept_told : (v u : InvClause) → IsKept v → IsKept u → kept_words v ≡ kept_words u → v ≡ u
-kept_told v u fv fu e =
+-- the words of a clause are those of its literals
+pub words_of_lits : (ls : List StateLit) → map state_word ls ≡ map lit_word (map state_literal ls)
+words_of_lits ls = sym (map-map lit_word state_literal ls)
+
+kept_plain : (ls : List StateLit) → Chain IsLitAbove lit_var 0 (map state_literal ls) → list_all is_token (map state_word ls) ≡ true
+kept_plain ls fits =
+    ap (λ (z : List (List ℕ)). list_all is_token z) (words_of_lits ls ∙ sym (append-nil (map lit_word (map state_literal ls))))
+    ∙ row_tokens lit_word IsLitAbove lit_var lit_token 0 (map state_literal ls) [] fits refl
+
+kept_told : (long : Bool) (v u : InvClause) → IsKept long v → IsKept long u → kept_words v ≡ kept_words u → v ≡ u
+kept_told long v u fv fu e =
     let words : map state_word v.lits ≡ map state_word u.lits = cc in
-    let same = lits_told v.lits u.lits fv fu words in
-    ap (λ (z : List StateLit). record { lits = z }) same
+    let row : map lit_word (map state_literal v.lits) ++ zero_word ∷ [] ≡ map lit_word (map state_literal u.lits) ++ zero_word ∷ [] =
+    ap (λ (z : List (List ℕ)). z ++ zero_word ∷ []) (sym (words_of_lits v.lits) ∙ words ∙ words_of_lits u.lits) in
+    let (same, none) =
+    row_same lit_word IsLitAbove lit_var lits_tell 0 0 (map state_literal v.lits) (map state_literal u.lits) [] [] fv.ascend fu.ascend row in
+    ap (λ (z : List StateLit). record { lits = z }) (states_same v.lits u.lits same)
 
-pub kept_kind : IsKind IsKept kept_words
-kept_kind = record {
-  plain = λ v fits. rw (kept_plain v.lits fits) refl;
+pub kept_kind : (long : Bool) → IsKind (IsKept long) kept_words
+kept_kind long = record {
+  plain = λ v fits. rw (kept_plain v.lits fits.ascend) refl;
   some = λ v. omega arith;
-  told = kept_told;
+  told = kept_told long;
 }
 
 section_plain : (v : Section) → IsSection v → list_all is_token (section_words v) ≡ true

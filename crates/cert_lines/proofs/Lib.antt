@@ -6,3 +6,4 @@ pub mod DerivationTexts
 pub mod KindLemmas
 pub mod PartLemmas
 pub mod Written
+pub mod Worked

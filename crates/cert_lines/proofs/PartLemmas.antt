@@ -1,20 +1,24 @@
 -- What each line goes on with, by its parts.
-use Rattle.std.proofs.Common.{inl, inr, ◌⊎◌, ◌≡◌, ◌≢◌, ℕ, zero, suc, ◌+◌, ◌-◌, ◌<◌, ◌≤◌, ◌^◌, Bool, true, false, List, [], ◌∷◌, ◌++◌, map, length, drop, get_or}
-use Rattle.std.proofs.Common.{refl, sym, ap, ◌∙◌, append_assoc, append-nil, arith}
+use Rattle.std.proofs.Common.{inl, inr, ◌⊎◌, ◌≡◌, ◌≢◌, ℕ, zero, suc, ◌+◌, ◌-◌, ◌<◌, ◌≤◌, Bool, true, false, List, [], ◌∷◌, ◌++◌, map, length, drop, get_or}
+use Rattle.std.proofs.Common.{Option, None, Some, MatchOption, IsTrue, is_some, ◌↔◌, refl, sym, ap, ◌∙◌, subst, append_assoc, append-nil, arith}
 use Rattle.std.specs.Prelude.{codes}
 use Rattle.std.specs.Fmt.{decimal}
 use Rattle.std.proofs.lemmas.Bool.Decides.{nat_tests}
 use Rattle.std.proofs.lemmas.Fmt.{decimal_injective, decimal_digit}
+use Rattle.std.proofs.lemmas.List.{length-append, length-map, map-append}
 use Rattle.proof_log.specs.Literals.{literal, lit_var, lit_positive}
 use Rattle.proof_log.specs.declared.derivations.DerivStep.{DerivStep}
 use Rattle.net_model.specs.declared.invariants.StateLit.{StateLit}
 use Rattle.net_model.specs.declared.invariants.InvClause.{InvClause}
 use Rattle.cert_words.specs.Numbers.{zero_word, lit_word, IsLitAbove, IsHint}
 use Rattle.cert_words.specs.Growth.{Chain}
-use Rattle.cert_words.specs.Parts.{one, row, HasPart}
+use Rattle.cert_words.specs.Parts.{left, one, row, IsAt, Passes, HasPart, IsPartStop}
+use Rattle.cert_words.specs.Lines.{IsLineStop}
+use Rattle.cert_words.specs.declared.words.Words.{Words}
+use Rattle.cert_words.specs.declared.stops.Stop.{Stop}
 use Rattle.cert_words.proofs.Literals.{hints_tell, lits_tell}
-use Rattle.cert_words.proofs.RowLemmas.{row_same}
-use Rattle.cert_words.proofs.LineLemmas.{HasWords}
+use Rattle.cert_words.proofs.RowLemmas.{row_same, last_key, last_key-push, Chain-push}
+use Rattle.cert_words.proofs.LineLemmas.{HasWords, at_next, stop_part, stop_more}
 use Rattle.cert_lines.specs.declared.heads.InvHead.{InvHead}
 use Rattle.cert_lines.specs.declared.sections.Section.{Section}
 use Rattle.cert_lines.specs.declared.sections.Section.TheVariants.{Single, Fixed, Depth, End}
@@ -22,9 +26,9 @@ use Rattle.cert_lines.specs.declared.sections.ProofWord.{ProofWord}
 use Rattle.cert_lines.specs.declared.sections.ProofWord.TheVariants as word
 use Rattle.cert_lines.specs.declared.sections.How.{How}
 use Rattle.cert_lines.specs.declared.sections.How.TheVariants as how
-use Rattle.cert_lines.specs.Kinds.{IsVersion, inv_words, IsInvHead, state_word, kept_words, AreKept, IsKept, section_words, IsSection, step_words, IsStep}
+use Rattle.cert_lines.specs.Kinds.{IsVersion, inv_words, IsInvHead, state_literal, state_word, kept_words, IsKept, section_words, IsSection, step_words, IsStep}
 use Rattle.cert_lines.specs.SectionWords.{IsVersionWord, IsAny, pair_or_end, proof_word, how_words, IsHow, section_of}
-use Rattle.cert_lines.proofs.KindLemmas.{clash, state_fits, step_tail}
+use Rattle.cert_lines.proofs.KindLemmas.{clash, step_tail, words_of_lits, kept_kind}
 
 one_is : decimal 1 ≡ codes "1"
 one_is = decimal_digit 1 (omega arith)
@@ -32,27 +36,64 @@ one_is = decimal_digit 1 (omega arith)
 two_is : decimal 2 ≡ codes "2"
 two_is = decimal_digit 2 (omega arith)
 
+three_is : decimal 3 ≡ codes "3"
+three_is = decimal_digit 3 (omega arith)
+
 -- the words of the versions
 pub version_one : (word : List ℕ) → word ≡ codes "1" → IsVersion 1 × (word ≡ decimal 1)
-version_one word is = (inl refl, is ∙ sym one_is)
+version_one word is = ((omega arith, omega arith), is ∙ sym one_is)
 
 pub version_two : (word : List ℕ) → word ≡ codes "2" → IsVersion 2 × (word ≡ decimal 2)
-version_two word is = (inr refl, is ∙ sym two_is)
+version_two word is = ((omega arith, omega arith), is ∙ sym two_is)
 
-pub no_version : (word : List ℕ) → word ≢ codes "1" → word ≢ codes "2" → ¬ IsVersionWord word
-no_version word one two (version, inl v, is) = one (is ∙ ap decimal v ∙ one_is)
-no_version word one two (version, inr v, is) = two (is ∙ ap decimal v ∙ two_is)
+pub version_three : (word : List ℕ) → word ≡ codes "3" → IsVersion 3 × (word ≡ decimal 3)
+version_three word is = ((omega arith, omega arith), is ∙ sym three_is)
 
-pub front_of_one : (front more : List ℕ) → front ++ more ≡ codes "1" → (x : List ℕ) × IsVersionWord (front ++ x)
-front_of_one front more is = let v = version_one (front ++ more) is in (more, (1, v.0, v.1))
+-- a version's word is that of one of the three
+pub one_of_three : (word : List ℕ) → IsVersionWord word → (word ≡ codes "1") ⊎ ((word ≡ codes "2") ⊎ (word ≡ codes "3"))
+one_of_three word (zero, (some, few), is) = absurd (omega arith)
+one_of_three word (suc zero, fits, is) = inl (is ∙ one_is)
+one_of_three word (suc (suc zero), fits, is) = inr (inl (is ∙ two_is))
+one_of_three word (suc (suc (suc zero)), fits, is) = inr (inr (is ∙ three_is))
+one_of_three word (suc (suc (suc (suc n))), (some, few), is) = absurd (omega arith)
 
-pub front_of_two : (front more : List ℕ) → front ++ more ≡ codes "2" → (x : List ℕ) × IsVersionWord (front ++ x)
-front_of_two front more is = let v = version_two (front ++ more) is in (more, (2, v.0, v.1))
+pub no_version : (word : List ℕ) → word ≢ codes "1" → word ≢ codes "2" → word ≢ codes "3" → ¬ IsVersionWord word
+no_version word one two three version = by (one_of_three word version)
+  where
+    by : (word ≡ codes "1") ⊎ ((word ≡ codes "2") ⊎ (word ≡ codes "3")) → ⊥
+    by (inl is) = one is
+    by (inr (inl is)) = two is
+    by (inr (inr is)) = three is
 
--- the beginning of a version's word is that of one of the two
-pub front_either : (front more : List ℕ) → IsVersionWord (front ++ more) → (front ++ more ≡ codes "1") ⊎ (front ++ more ≡ codes "2")
-front_either front more (version, inl v, is) = inl (is ∙ ap decimal v ∙ one_is)
-front_either front more (version, inr v, is) = inr (is ∙ ap decimal v ∙ two_is)
+-- a version's word has one byte, so what begins one is empty or is one
+pub empty_version : (word : List ℕ) → length word ≡ 0 → (more : List ℕ) × IsVersionWord (word ++ more)
+empty_version [] none = let v = version_one (codes "1") refl in (codes "1", (1, v.0, v.1))
+empty_version (b ∷ word) none = absurd (omega arith)
+
+one_byte : (word : List ℕ) → IsVersionWord word → length word ≡ 1
+one_byte word version = by (one_of_three word version)
+  where
+    by : (word ≡ codes "1") ⊎ ((word ≡ codes "2") ⊎ (word ≡ codes "3")) → length word ≡ 1
+    by (inl is) = ap length is
+    by (inr (inl is)) = ap length is
+    by (inr (inr is)) = ap length is
+
+whole_version : (word more : List ℕ) → 0 < length word → IsVersionWord (word ++ more) → IsVersionWord word
+whole_version word more some version =
+    let one = one_byte (word ++ more) version in
+    let both = length-append word more in
+    let none : more ≡ [] = nothing more (omega arith) in
+    subst IsVersionWord (ap (λ (z : List ℕ). word ++ z) none ∙ append-nil word) version
+  where
+    nothing : (x : List ℕ) → length x ≤ 0 → x ≡ []
+    nothing [] less = refl
+    nothing (y ∷ x) less = absurd (omega arith)
+
+pub option_version : (word : List ℕ) (o : Option ℕ) → 0 < length word
+    → MatchOption o (¬ IsVersionWord word) (λ v. IsVersion v × (word ≡ decimal v)) → IsTrue (is_some o) ↔ ((more : List ℕ) × IsVersionWord (word ++ more))
+option_version word None some none = (λ t. cc, λ m. absurd (none (whole_version word m.0 some m.1)))
+option_version word (Some v) some is =
+    (λ t. ([], subst IsVersionWord (sym (append-nil word)) (v, is.0, is.1)), λ m. refl)
 
 -- the count of kept clauses
 pub count_in : (depth most : ℕ) → depth ≤ 8 → (depth ≡ 0 → most ≡ 0) → (0 < depth → most ≡ 9223372036854775807)
@@ -83,74 +124,123 @@ literal_of l some = by (lit_positive l) refl
 abbrev pub state_of : ℕ → StateLit
 state_of l = record { reg = lit_var l - 1; value = lit_positive l }
 
-pub state_word_of : (above l : ℕ) → IsLitAbove above l → state_word (state_of l) ≡ lit_word l
-state_word_of above l fits = ap lit_word (literal_of l (omega (arith, fits.above_it)))
-
 abbrev pub first_state : StateLit
 first_state = record { reg = 0; value = true }
 
-pub lit_in : (x : List (List ℕ)) (v : InvClause) → IsKept v → codes "k" ∷ x ≡ kept_words v → HasPart (IsLitAbove 0) (one lit_word) x
-lit_in x v fv e = by v.lits fv (ap (λ (z : List (List ℕ)). drop 1 z) e)
+pub none_left : (x : List (List ℕ)) → length x ≤ 0 → x ≡ []
+none_left [] less = refl
+none_left (w ∷ x) less = absurd (omega arith)
+
+-- the words of one literal more
+pub pushed_words : (lits : List StateLit) (s : StateLit) → map state_word (lits ++ s ∷ []) ≡ map state_word lits ++ state_word s ∷ []
+pushed_words lits s = map-append state_word lits (s ∷ [])
+
+pub pushed_lits : (lits : List StateLit) (s : StateLit) → map state_literal (lits ++ s ∷ []) ≡ map state_literal lits ++ state_literal s ∷ []
+pushed_lits lits s = map-append state_literal lits (s ∷ [])
+
+pub pushed_same : (lits more : List StateLit) (s : StateLit) (l : ℕ) → state_literal s ≡ l → more ≡ lits ++ s ∷ []
+    → map state_literal more ≡ map state_literal lits ++ l ∷ []
+pushed_same lits more s l is pushed =
+    ap (λ (z : List StateLit). map state_literal z) pushed ∙ pushed_lits lits s ∙ ap (λ (z : ℕ). map state_literal lits ++ z ∷ []) is
+
+-- one literal more was passed
+pub pushed_at : (line : List ℕ) (cut : Bool) (lits more : List StateLit) (s : StateLit) (l : ℕ) (a b : Words)
+    → IsAt line cut (codes "k" ∷ map state_word lits) a → Passes (one lit_word l) a b → state_literal s ≡ l → more ≡ lits ++ s ∷ []
+    → IsAt line cut (codes "k" ∷ map state_word more) b
+pushed_at line cut lits more s l a b at passes is pushed =
+    subst (λ (z : List (List ℕ)). IsAt line cut (codes "k" ∷ z) b) words (at_next at passes)
   where
-    by : (ls : List StateLit) → AreKept ls → x ≡ map state_word ls → HasPart (IsLitAbove 0) (one lit_word) x
-    by [] fits is = absurd fits
-    by (l ∷ []) fits is = record { value = literal (l.reg + 1) l.value; tail = []; fits = state_fits 0 l.reg l.value (omega arith) fits; is = is }
-    by (l ∷ (m ∷ [])) fits is =
-        let (less, few) = fits in
-        record { value = literal (l.reg + 1) l.value; tail = state_word m ∷ []; fits = state_fits 0 l.reg l.value (omega arith) (omega arith); is = is }
-    by (l ∷ (m ∷ (n ∷ more))) fits is = absurd fits
+    words : map state_word lits ++ lit_word l ∷ [] ≡ map state_word more
+    words =
+        ap (λ (z : ℕ). map state_word lits ++ lit_word z ∷ []) (sym is) ∙ sym (pushed_words lits s)
+        ∙ ap (λ (z : List StateLit). map state_word z) (sym pushed)
 
-pub lit_onto : (l : ℕ) → IsLitAbove 0 l → HasWords IsKept kept_words (codes "k" ∷ (lit_word l ∷ []))
-lit_onto l fits =
-    let some = fits.above_it in
-    let few = fits.few in
-    (record { lits = state_of l ∷ [] }, omega arith, ap (λ z. codes "k" ∷ (z ∷ [])) (sym (state_word_of 0 l fits)))
+pub pushed_chain : (lits more : List StateLit) (s : StateLit) (l : ℕ) → Chain IsLitAbove lit_var 0 (map state_literal lits)
+    → IsLitAbove (last_key lit_var 0 (map state_literal lits)) l → state_literal s ≡ l → more ≡ lits ++ s ∷ []
+    → Chain IsLitAbove lit_var 0 (map state_literal more)
+pushed_chain lits more s l fit fits is pushed =
+    subst (λ (z : List ℕ). Chain IsLitAbove lit_var 0 z) (sym (pushed_same lits more s l is pushed))
+    (Chain-push IsLitAbove lit_var 0 (map state_literal lits) l fit fits)
 
--- the first of two literals tells its register
-first_reg : (first : ℕ) (l : StateLit) → IsLitAbove 0 first → l.reg + 1 < 2 ^ 31 → lit_word first ≡ state_word l → lit_var first ≡ l.reg + 1
-first_reg first l fits few e =
-    let same = lits_tell.same 0 0 first (literal (l.reg + 1) l.value) fits (state_fits 0 l.reg l.value (omega arith) few) e in
-    ap lit_var same ∙ var_of (l.reg + 1) l.value
-  where
-    var_of : (v : ℕ) (b : Bool) → lit_var (literal v b) ≡ v
-    var_of v true = omega arith
-    var_of v false = omega arith
+pub pushed_key : (lits more : List StateLit) (s : StateLit) (l : ℕ) → state_literal s ≡ l → more ≡ lits ++ s ∷ []
+    → lit_var l ≡ last_key lit_var 0 (map state_literal more)
+pushed_key lits more s l is pushed =
+    sym (last_key-push lit_var 0 (map state_literal lits) l)
+    ∙ ap (λ (z : List ℕ). last_key lit_var 0 z) (sym (pushed_same lits more s l is pushed))
 
-pub second_in : (first : ℕ) → IsLitAbove 0 first → (x : List (List ℕ)) (v : InvClause) → 0 < length x → IsKept v
-    → codes "k" ∷ (lit_word first ∷ x) ≡ kept_words v → HasPart (IsLitAbove (lit_var first)) (one lit_word) x
-second_in first ff x v some fv e = by v.lits fv (ap (λ (z : List (List ℕ)). drop 1 z) e)
-  where
-    by : (ls : List StateLit) → AreKept ls → lit_word first ∷ x ≡ map state_word ls → HasPart (IsLitAbove (lit_var first)) (one lit_word) x
-    by [] fits is = absurd fits
-    by (l ∷ []) fits is = let none : x ≡ [] = cc in let e = ap length none in absurd (omega arith)
-    by (l ∷ (m ∷ [])) fits is =
-        let (less, few) = fits in
-        let word : lit_word first ≡ state_word l = cc in
-        let rest : x ≡ state_word m ∷ [] = cc in
-        let reg = first_reg first l ff (omega arith) word in
-        record { value = literal (m.reg + 1) m.value; tail = []; fits = state_fits (lit_var first) m.reg m.value (omega arith) few; is = rest }
-    by (l ∷ (m ∷ (n ∷ more))) fits is = absurd fits
+pub pushed_long : (lits more : List StateLit) (s : StateLit) → more ≡ lits ++ s ∷ [] → length more ≡ length lits + 1
+pushed_long lits more s pushed = ap length pushed ∙ length-append lits (s ∷ [])
 
-pub second_onto : (first second : ℕ) → IsLitAbove 0 first → IsLitAbove (lit_var first) second
-    → HasWords IsKept kept_words (codes "k" ∷ (lit_word first ∷ (lit_word second ∷ [])))
-second_onto first second ff fs =
-    let some = ff.above_it in
-    let more = fs.above_it in
-    let few = fs.few in (
-      record { lits = state_of first ∷ (state_of second ∷ []) },
-      (omega arith, omega arith),
-      ap (λ z. codes "k" ∷ (z ∷ (lit_word second ∷ []))) (sym (state_word_of 0 first ff))
-          ∙ ap (λ z. codes "k" ∷ (state_word (state_of first) ∷ (z ∷ []))) (sym (state_word_of (lit_var first) second fs)),
+-- where words follow those of some literals, the first is that of the next literal
+next_lit : (a : ℕ) (done items : List ℕ) (x : List (List ℕ)) → Chain IsLitAbove lit_var a done → Chain IsLitAbove lit_var a items
+    → map lit_word done ++ x ≡ map lit_word items → 0 < length x → HasPart (IsLitAbove (last_key lit_var a done)) (one lit_word) x
+next_lit a [] [] x cd ci e some = let none = ap length e in absurd (omega arith)
+next_lit a [] (i ∷ items) x cd ci e some = record { value = i; tail = map lit_word items; fits = ci.0; is = e }
+next_lit a (d ∷ done) [] x cd ci e some = cc
+next_lit a (d ∷ done) (i ∷ items) x cd ci e some =
+    let first : lit_word d ≡ lit_word i = cc in
+    let others : map lit_word done ++ x ≡ map lit_word items = cc in
+    let same = lits_tell.same a a d i cd.0 ci.0 first in
+    next_lit (lit_var d) done items x cd.1 (subst (λ (z : ℕ). Chain IsLitAbove lit_var (lit_var z) items) (sym same) ci.1) others some
+
+pub lit_in : (long : Bool) (lits : List StateLit) → Chain IsLitAbove lit_var 0 (map state_literal lits) → (x : List (List ℕ)) (v : InvClause)
+    → 0 < length x → IsKept long v → codes "k" ∷ (map state_word lits ++ x) ≡ kept_words v
+    → HasPart (IsLitAbove (last_key lit_var 0 (map state_literal lits))) (one lit_word) x
+lit_in long lits fit x v some fv e =
+    next_lit 0 (map state_literal lits) (map state_literal v.lits) x fit fv.ascend
+    (ap (λ (z : List (List ℕ)). z ++ x) (sym (words_of_lits lits)) ∙ ap (λ (z : List (List ℕ)). drop 1 z) e ∙ words_of_lits v.lits) some
+
+-- each clause has a literal
+pub some_lit : (long : Bool) (x : List (List ℕ)) (v : InvClause) → IsKept long v → codes "k" ∷ x ≡ kept_words v → 0 < length x
+some_lit long x v fv e =
+    let is : x ≡ map state_word v.lits = ap (λ (z : List (List ℕ)). drop 1 z) e in
+    let many = ap length is ∙ length-map v.lits state_word in
+    omega (arith, many, fv.some)
+
+-- each literal above the last one may be the next
+pub lit_onto : (long : Bool) (lits : List StateLit) → Chain IsLitAbove lit_var 0 (map state_literal lits) → (long ≡ false → length lits < 2)
+    → (l : ℕ) → IsLitAbove (last_key lit_var 0 (map state_literal lits)) l
+    → HasWords (IsKept long) kept_words (codes "k" ∷ (map state_word lits ++ (lit_word l ∷ [])))
+lit_onto long lits fit room l fits =
+    let s = state_of l in
+    let is : state_literal s ≡ l = literal_of l (omega (arith, fits.above_it)) in
+    let long_by = length-append lits (s ∷ []) in
+    let chain = Chain-push IsLitAbove lit_var 0 (map state_literal lits) l fit fits in
+    let same : map state_literal (lits ++ s ∷ []) ≡ map state_literal lits ++ l ∷ [] =
+    pushed_lits lits s ∙ ap (λ (z : ℕ). map state_literal lits ++ z ∷ []) is in (
+      record { lits = lits ++ s ∷ [] },
+      record {
+        some = omega arith;
+        ascend = subst (λ (z : List ℕ). Chain IsLitAbove lit_var 0 z) (sym same) chain;
+        short = λ e. (let less = room e in omega arith);
+      },
+      ap (λ (z : List (List ℕ)). codes "k" ∷ z)
+          (ap (λ (z : ℕ). map state_word lits ++ lit_word z ∷ []) (sym is) ∙ sym (pushed_words lits s)),
     )
 
-pub kept_end : (a b : List ℕ) (x : List (List ℕ)) (v : InvClause) → IsKept v → codes "k" ∷ (a ∷ (b ∷ x)) ≡ kept_words v → x ≡ []
-kept_end a b x v fv e = by v.lits fv (ap (λ (z : List (List ℕ)). drop 1 z) e)
-  where
-    by : (ls : List StateLit) → AreKept ls → a ∷ (b ∷ x) ≡ map state_word ls → x ≡ []
-    by [] fits is = absurd fits
-    by (l ∷ []) fits is = cc
-    by (l ∷ (m ∷ [])) fits is = ap (λ (z : List (List ℕ)). drop 2 z) is
-    by (l ∷ (m ∷ (n ∷ more))) fits is = absurd fits
+-- a clause that may not be long has ended after two literals
+pub kept_end : (long : Bool) (lits : List StateLit) → long ≡ false → 2 ≤ length lits → (x : List (List ℕ)) (v : InvClause) → IsKept long v
+    → codes "k" ∷ (map state_word lits ++ x) ≡ kept_words v → x ≡ []
+kept_end long lits is two x v fv e =
+    let words : map state_word lits ++ x ≡ map state_word v.lits = ap (λ (z : List (List ℕ)). drop 1 z) e in
+    let many = ap length words ∙ length-map v.lits state_word in
+    let both = length-append (map state_word lits) x in
+    let first = length-map lits state_word in
+    let most = fv.short is in
+    none_left x (omega arith)
+
+-- why no literal comes next
+pub lit_stop : (long : Bool) (lits : List StateLit) (line : List ℕ) (cut : Bool) (w : Words) (stop : Stop)
+    → IsAt line cut (codes "k" ∷ map state_word lits) w → Chain IsLitAbove lit_var 0 (map state_literal lits)
+    → (long ≡ false → length lits < 2) → (lits ≡ []) ⊎ (0 < length (left w))
+    → IsPartStop (IsLitAbove (last_key lit_var 0 (map state_literal lits))) (one lit_word) w stop → IsLineStop (IsKept long) kept_words cut line stop
+lit_stop long lits line cut w stop at fit room (inl none) why =
+    stop_part (kept_kind long) at why
+    (λ x v fv e.
+    lit_in long lits fit x v (some_lit long x v fv (ap (λ (z : List StateLit). codes "k" ∷ (map state_word z ++ x)) (sym none) ∙ e)) fv e)
+    (λ l. []) (lit_onto long lits fit room)
+lit_stop long lits line cut w stop at fit room (inr some) why =
+    stop_more (kept_kind long) at why some (λ x v more fv e. lit_in long lits fit x v more fv e) (λ l. []) (lit_onto long lits fit room)
 
 -- sections
 pub first_in : (x : List (List ℕ)) (v : Section) → IsSection v → x ≡ section_words v → HasPart IsAny (one pair_or_end) x

@@ -1,18 +1,22 @@
 -- Lines, as they are written.
-use Rattle.std.proofs.Common.{◌≡◌, ℕ, ◌<◌, List, [], ◌∷◌, ◌++◌, map, length, refl, sym, ap, ◌∙◌, append_assoc, append-nil, ◌+◌, ◌^◌, arith}
+use Rattle.std.proofs.Common.{true, ◌≡◌, ℕ, ◌<◌, List, [], ◌∷◌, ◌++◌, map, length, refl, sym, ap, ◌∙◌, append_assoc, append-nil, ◌+◌, ◌^◌, arith}
 use Rattle.std.proofs.lemmas.List.Elements.{All-nil, All-cons}
 use Rattle.std.specs.Prelude.{codes, All}
 use Rattle.std.specs.Fmt.{decimal}
 use Rattle.proof_log.specs.declared.derivations.DerivStep.{DerivStep}
 use Rattle.cert_words.specs.Words.{spaced, tailed}
-use Rattle.cert_words.specs.Numbers.{zero_word, lit_word}
+use Rattle.cert_words.specs.Numbers.{zero_word, lit_word, IsLitAbove}
+use Rattle.cert_words.specs.Growth.{Chain}
+use Rattle.proof_log.specs.Literals.{lit_var}
 use Rattle.cert_words.proofs.LineLemmas.{first_spaced, one_spaced, spaced-tailed}
 use Rattle.net_model.specs.declared.invariants.StateLit.{StateLit}
 use Rattle.net_model.specs.declared.invariants.InvClause.{InvClause}
 use Rattle.net_model.specs.declared.queries.Phase.{Phase}
 use Rattle.cert_lines.specs.declared.heads.InvHead.{InvHead}
+use Rattle.cert_lines.proofs.KindLemmas.{literal_var}
 use Rattle.cert_lines.specs.declared.sections.Section.TheVariants.{Single, Fixed, Depth, End}
-use Rattle.cert_lines.specs.Kinds.{text_of, first_words, inv_words, state_word, led, kept_words, AreKept, phase_word, head_words, section_words, step_words}
+use Rattle.cert_lines.specs.Kinds.{text_of, first_words, inv_words, state_literal, state_word, led, kept_words, IsKept, phase_word}
+use Rattle.cert_lines.specs.Kinds.{head_words, section_words, step_words}
 
 pub spaced_two : (a b : List ℕ) → spaced (a ∷ (b ∷ [])) ≡ a ++ 32 ∷ b
 spaced_two a b = first_spaced a (b ∷ []) (omega arith) ∙ ap (λ y. a ++ 32 ∷ y) (one_spaced b)
@@ -83,8 +87,12 @@ kept_line clause out a b new ea eb e = rw (e, eb, ea, spaced-led (codes "k") (ma
 abbrev small : StateLit → Type 0
 small l = l.reg + 1 < 2 ^ 31
 
-pub kept_small : (ls : List StateLit) → AreKept ls → All (λ l. l.reg + 1 < 2 ^ 31) ls
-kept_small [] fits = absurd fits
-kept_small (l ∷ []) fits = All-cons small l [] fits (All-nil small)
-kept_small (l ∷ (m ∷ [])) fits = let (less, few) = fits in All-cons small l (m ∷ []) (omega arith) (All-cons small m [] few (All-nil small))
-kept_small (l ∷ (m ∷ (n ∷ more))) fits = absurd fits
+states_small : (above : ℕ) (ls : List StateLit) → Chain IsLitAbove lit_var above (map state_literal ls) → All small ls
+states_small above [] fits = All-nil small
+states_small above (l ∷ ls) fits =
+    let var = literal_var (l.reg + 1) l.value in
+    let few = fits.0.few in
+    All-cons small l ls (omega arith) (states_small (lit_var (state_literal l)) ls fits.1)
+
+pub kept_small : (clause : InvClause) → IsKept true clause → All (λ l. l.reg + 1 < 2 ^ 31) clause.lits
+kept_small clause fits = states_small 0 clause.lits fits.ascend

@@ -1,5 +1,5 @@
 -- The kinds of lines of a certificate: the words of each value, and which values fit.
-use Rattle.std.specs.Prelude.{◌≡◌, ◌⊎◌, ℕ, ◌+◌, ◌<◌, ◌≤◌, ◌^◌, List, [], ◌∷◌, ◌++◌, map, flat_map, codes}
+use Rattle.std.specs.Prelude.{◌≡◌, ℕ, ◌+◌, ◌<◌, ◌≤◌, ◌^◌, ◌==◌, Bool, false, List, [], ◌∷◌, ◌++◌, length, map, flat_map, codes}
 use Rattle.std.specs.Fmt.{decimal}
 use Rattle.proof_log.specs.Literals.{literal, lit_var}
 use Rattle.proof_log.specs.declared.derivations.DerivStep.{DerivStep}
@@ -22,9 +22,13 @@ text_of {V} ws v = spaced (ws v) ++ 10 ∷ []
 abbrev pub first_words : ℕ → List (List ℕ)
 first_words version = codes "sdcv-cert" ∷ (decimal version ∷ [])
 
--- there are two versions
+-- there are three versions
 abbrev pub IsVersion : ℕ → Type 0
-IsVersion version = (version ≡ 1) ⊎ (version ≡ 2)
+IsVersion version = (1 ≤ version) × (version ≤ 3)
+
+-- in the third one clauses may be long
+abbrev pub is_long : ℕ → Bool
+is_long version = version == 3
 
 -- `inv`, the depth, and how many clauses are kept
 abbrev pub inv_words : InvHead → List (List ℕ)
@@ -36,9 +40,13 @@ pub record IsInvHead (head : InvHead) : Type 0 where
   pub none : head.depth ≡ 0 → head.count ≡ 0
   pub small : head.count < 2 ^ 63
 
--- a register's number, from 1, after a `-` where its value is 0
+-- the literal of a register's number, from 1
+abbrev pub state_literal : StateLit → ℕ
+state_literal l = literal (l.reg + 1) l.value
+
+-- that number, after a `-` where the value is 0
 abbrev pub state_word : StateLit → List ℕ
-state_word l = lit_word (literal (l.reg + 1) l.value)
+state_word l = lit_word (state_literal l)
 
 -- words with a space before each
 abbrev pub led : List (List ℕ) → List ℕ
@@ -48,15 +56,11 @@ led ws = flat_map (λ w. 32 ∷ w) ws
 abbrev pub kept_words : InvClause → List (List ℕ)
 kept_words clause = codes "k" ∷ map state_word clause.lits
 
--- one literal or two, of ascending registers
-abbrev pub AreKept : List StateLit → Type 0
-AreKept [] = ⊥
-AreKept (l ∷ []) = l.reg + 1 < 2 ^ 31
-AreKept (l ∷ (m ∷ [])) = (l.reg < m.reg) × (m.reg + 1 < 2 ^ 31)
-AreKept (l ∷ (m ∷ (n ∷ more))) = ⊥
-
-abbrev pub IsKept : InvClause → Type 0
-IsKept clause = AreKept clause.lits
+-- a literal at least, of ascending registers; at most two, where clauses may not be long
+pub record IsKept (long : Bool) (clause : InvClause) : Type 0 where
+  pub some : 0 < length clause.lits
+  pub ascend : Chain IsLitAbove lit_var 0 (map state_literal clause.lits)
+  pub short : long ≡ false → length clause.lits ≤ 2
 
 -- the word of a derivation: of a base query, or of the step query
 abbrev pub phase_word : Phase → List ℕ

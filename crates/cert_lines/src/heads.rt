@@ -6,7 +6,6 @@ ghost use Rattle.cert_words.specs.Parts.{one, Passes, IsPartStop};
 ghost use Rattle.cert_lines.specs.Kinds.{first_words, IsVersion, inv_words, IsInvHead, phase_word, head_words, IsCount};
 ghost use Rattle.cert_lines.specs.SectionWords.{IsVersionWord};
 
-use crate::sections::is_front;
 use cert_words::{NextWord, Stop, Words, cut_off, take_end, take_number, take_word};
 use net_model::Phase;
 
@@ -33,13 +32,17 @@ fn version_of(word: &[u8]) -> Option<u64>
     if word == b"2".as_slice() {
         return Some(2);
     }
+    if word == b"3".as_slice() {
+        return Some(3);
+    }
     None
 }
 
+/// Whether a word can go on to that of a version, which has one digit.
 fn may_be_version(word: &[u8]) -> bool
     ensures { IsTrue result ↔ ((more : List ℕ) × IsVersionWord (word.now ++ more)) }
 {
-    is_front(word, b"1") || is_front(word, b"2")
+    word.is_empty() || version_of(word).is_some()
 }
 
 /// Passes the number of a version.

@@ -1,19 +1,21 @@
 //! The line of a kept clause.
-ghost use Rattle.std.specs.Prelude.{◌≡◌, ◌+◌, [], ◌∷◌, false, codes, IfOk, IfErr, OnOk};
-ghost use Rattle.proof_log.specs.Literals.{literal, lit_var};
+ghost use Rattle.std.specs.Prelude.{◌≡◌, ◌+◌, ◌≤◌, ◌<◌, true, false, IfOk, IfErr, OnOk};
+ghost use Rattle.proof_log.specs.Literals.{lit_var};
 ghost use Rattle.cert_words.specs.Lines.{Spells, IsLineStop};
-ghost use Rattle.cert_words.specs.Numbers.{lit_word, IsLitAbove};
-ghost use Rattle.cert_lines.specs.Kinds.{kept_words, IsKept};
+ghost use Rattle.cert_lines.specs.Kinds.{state_literal, kept_words, IsKept};
 
-use cert_words::{Stop, Words, take_end, take_lit, take_word};
+use cert_words::{Stop, Words, take_lit, take_word};
 use net_model::{InvClause, StateLit};
 use proof_log::Lit;
 use sdcv_base::Seq;
-use std::alloc::{AllocError, Global};
+use std::alloc::Global;
+
+/// How many literals a clause has at most, where clauses may not be long.
+const MOST: usize = 2;
 
 /// The value of the register whose number, from 1, is the literal's variable.
 fn state_lit(lit: Lit) -> StateLit
-    ensures lit { literal (result.reg + 1) result.value ≡ lit }
+    ensures lit { state_literal result ≡ lit }
     ensures reg { result.reg + 1 ≡ lit_var lit }
 {
     StateLit {
@@ -22,39 +24,33 @@ fn state_lit(lit: Lit) -> StateLit
     }
 }
 
-fn clause_of_one(alloc: Global, first: Lit) -> Result<InvClause, AllocError>
-    requires { IsLitAbove 0 first }
-    ensures words { IfOk result (λ c. kept_words c ≡ codes "k" ∷ (lit_word first ∷ [])) }
-    ensures fits { IfOk result IsKept }
+/// Whether a clause may have one literal more than so many.
+fn may_go_on(long: bool, count: usize) -> bool
+    ensures room { result ≡ true → long ≡ false → count < 2 }
+    ensures full { result ≡ false → (long ≡ false) × (2 ≤ count) }
 {
-    Ok(InvClause {
-        lits: Seq::one(alloc, state_lit(first))?,
-    })
+    long || count < MOST
 }
 
-fn clause_of_two(alloc: Global, first: Lit, second: Lit) -> Result<InvClause, AllocError>
-    requires { IsLitAbove (lit_var first) second }
-    ensures words { IfOk result (λ c. kept_words c ≡ codes "k" ∷ (lit_word first ∷ (lit_word second ∷ []))) }
-    ensures fits { IfOk result IsKept }
-{
-    let mut lits = Seq::one(alloc, state_lit(first))?;
-    lits.push(state_lit(second))?;
-    Ok(InvClause { lits })
-}
-
-/// The clause of a line: one literal or two.
-pub fn read_kept(alloc: Global, line: &[u8], cut: bool) -> Result<InvClause, Stop>
-    ensures ok { IfOk result (Spells IsKept kept_words line.now) }
+/// The clause of a line: one literal or two, or any number where clauses may be long.
+pub fn read_kept(alloc: Global, line: &[u8], cut: bool, long: bool) -> Result<InvClause, Stop>
+    ensures ok { IfOk result (Spells (IsKept long) kept_words line.now) }
     ensures whole { OnOk result (cut ≡ false) }
-    ensures err { IfErr result (IsLineStop IsKept kept_words cut line.now) }
+    ensures err { IfErr result (IsLineStop (IsKept long) kept_words cut line.now) }
 {
     let mut words = Words::new(line, cut);
     take_word(&mut words, b"k")?;
-    let first = take_lit(&mut words, 0)?;
-    if words.is_done() {
-        return Ok(clause_of_one(alloc, first)?);
+    let mut lits: Seq<StateLit> = Seq::new(alloc);
+    let mut above = 0;
+    loop {
+        let lit = take_lit(&mut words, above)?;
+        above = lit.var();
+        lits.push(state_lit(lit))?;
+        if words.is_done() {
+            return Ok(InvClause { lits });
+        }
+        if !may_go_on(long, lits.len()) {
+            return Err(Stop::Bad);
+        }
     }
-    let second = take_lit(&mut words, first.var())?;
-    take_end(&words)?;
-    Ok(clause_of_two(alloc, first, second)?)
 }

@@ -50,14 +50,14 @@ pub fn take_inv(cursor: &mut Cursor<'_>) -> Result<InvHead, Fault>
     }
 }
 
-/// Passes the line of a kept clause.
-pub fn take_kept(alloc: Global, cursor: &mut Cursor<'_>) -> Result<InvClause, Fault>
-    ensures ok { IfOk result (λ v. IsKept v × (rest cursor.old ≡ text_of kept_words v ++ rest cursor.new)) }
+/// Passes the line of a kept clause, which may be long or not.
+pub fn take_kept(alloc: Global, cursor: &mut Cursor<'_>, long: bool) -> Result<InvClause, Fault>
+    ensures ok { IfOk result (λ v. IsKept long v × (rest cursor.old ≡ text_of kept_words v ++ rest cursor.new)) }
     ensures place { OnOk result (place_of cursor.new + length (rest cursor.new) ≡ place_of cursor.old + length (rest cursor.old)) }
-    ensures err { IfErr result (IsFault IsKept (text_of kept_words) (rest cursor.old) (place_of cursor.old)) }
+    ensures err { IfErr result (IsFault (IsKept long) (text_of kept_words) (rest cursor.old) (place_of cursor.old)) }
 {
     let line = next_line(cursor);
-    match read_kept(alloc, line.text, line.cut) {
+    match read_kept(alloc, line.text, line.cut, long) {
         Ok(value) => {
             cursor.skip(line.text.len() + 1);
             Ok(value)

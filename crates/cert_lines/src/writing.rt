@@ -1,5 +1,5 @@
 //! The lines, written.
-ghost use Rattle.std.specs.Prelude.{◌≡◌, ◌++◌, ◌∷◌, [], ◌<◌, ◌^◌, ◌+◌, map, OnOk, All};
+ghost use Rattle.std.specs.Prelude.{◌≡◌, ◌++◌, ◌∷◌, [], ◌<◌, ◌^◌, ◌+◌, true, map, OnOk, All};
 ghost use Rattle.std.specs.Fmt.{decimal};
 ghost use Rattle.cert_lines.specs.Kinds.{text_of, first_words, inv_words, state_word, led, kept_words, IsKept, phase_word};
 ghost use Rattle.cert_lines.specs.Kinds.{head_words, section_words, step_words};
@@ -103,7 +103,7 @@ fn push_pair(alloc: Global, out: &mut Vec<u8>, number: u64) -> Result<(), AllocE
 
 /// Appends the line of a kept clause.
 pub fn push_kept(alloc: Global, out: &mut Vec<u8>, clause: &InvClause) -> Result<(), AllocError>
-    requires { IsKept clause.now }
+    requires { IsKept true clause.now }
     ensures { OnOk result (out.new.items ≡ out.old.items ++ text_of kept_words clause.now) }
 {
     out.push(b'k')?;

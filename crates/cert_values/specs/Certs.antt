@@ -8,7 +8,7 @@ use Rattle.verdict_types.specs.declared.outcomes.Verdict.{Verdict}
 use Rattle.verdict_types.specs.declared.outcomes.Verdict.TheVariants.{Justified, Refuted, Undecided}
 use Rattle.cert_values.specs.declared.certs.PairProof.{PairProof}
 use Rattle.cert_values.specs.declared.certs.Cert.{Cert}
-use Rattle.cert_values.specs.Versions.{own_version}
+use Rattle.cert_values.specs.Versions.{version_for}
 
 -- a proof at a depth has a base derivation for each smaller one, and the depth is at most 64
 abbrev pub HasBases : Proof → Type 0
@@ -40,4 +40,4 @@ justified_from number (Undecided cause ∷ verdicts) = justified_from (number + 
 -- justified
 abbrev pub cert_of : InvSet → List Verdict → Cert
 cert_of inv verdicts =
-    record { version = own_version; depth = inv.depth; kept = inv.kept; proofs = inv.proofs; pairs = justified_from 1 verdicts }
+    record { version = version_for inv.kept; depth = inv.depth; kept = inv.kept; proofs = inv.proofs; pairs = justified_from 1 verdicts }

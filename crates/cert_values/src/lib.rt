@@ -11,4 +11,4 @@ mod versions;
 
 pub use certs::{Cert, PairProof};
 pub use faults::CertFault;
-pub use versions::{coding_of, own_version};
+pub use versions::{coding_of, version_for};

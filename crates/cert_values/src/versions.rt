@@ -1,9 +1,10 @@
-//! Of which formulas a version of certificates speaks.
+//! Of which formulas a version of certificates speaks, and which version is written.
 ghost use Rattle.std.specs.Prelude.{◌≡◌};
+ghost use Rattle.std.specs.List.{list_any};
 ghost use Rattle.cert_values.specs.Versions as versions;
 
+use net_model::InvClause;
 use query_model::Coding;
-use verdicts::own_coding;
 
 /// The coding of the formulas that the derivations of a version refute.
 pub fn coding_of(version: u64) -> Coding
@@ -16,18 +17,19 @@ pub fn coding_of(version: u64) -> Coding
     }
 }
 
-fn version_of(coding: Coding) -> u64
-    ensures { result ≡ versions.version_of coding }
+/// How many literals a kept clause has at most in version 2.
+const MOST: usize = 2;
+
+/// Whether some of the clauses is long.
+fn has_long(clauses: &[InvClause]) -> bool
+    ensures { result ≡ list_any versions.is_long clauses.now }
 {
-    match coding {
-        Coding::Rows => 1,
-        Coding::Primes => 2,
-    }
+    clauses.iter().any(|clause| clause.lits.len() > MOST)
 }
 
-/// The version that is written.
-pub fn own_version() -> u64
-    ensures { result ≡ versions.own_version }
+/// The version in which a certificate with these kept clauses is written.
+pub fn version_for(kept: &[InvClause]) -> u64
+    ensures { result ≡ versions.version_for kept.now }
 {
-    version_of(own_coding())
+    if has_long(kept) { 3 } else { 2 }
 }

@@ -42,16 +42,16 @@ IsVerdictInForm (Justified proof) = IsProofInForm proof
 IsVerdictInForm (Refuted offset stimulus) = Unit {0}
 IsVerdictInForm (Undecided cause) = Unit {0}
 
--- one literal, or two, that of the smaller register first
-abbrev pub AreOneOrTwo : List StateLit → Type 0
-AreOneOrTwo [] = ⊥
-AreOneOrTwo (l ∷ []) = Unit {0}
-AreOneOrTwo (l ∷ (m ∷ [])) = l.reg < m.reg
-AreOneOrTwo (l ∷ (m ∷ (n ∷ more))) = ⊥
+-- each literal's register is above that of the literal before it
+abbrev pub AreAscending : List StateLit → Type 0
+AreAscending [] = Unit {0}
+AreAscending (l ∷ []) = Unit {0}
+AreAscending (l ∷ (m ∷ more)) = (l.reg < m.reg) × AreAscending (m ∷ more)
 
--- and the registers, counted from 1, are below 2^31
+-- a literal at least, whose registers ascend and, counted from 1, are below 2^31
 pub record IsKeptClause (clause : InvClause) : Type 0 where
-  pub short : AreOneOrTwo clause.lits
+  pub some : 0 < length clause.lits
+  pub ascend : AreAscending clause.lits
   pub small : All (λ (l : StateLit). l.reg + 1 < 2 ^ 31) clause.lits
 
 -- the depth is at most 8, and nothing is kept at depth 0; there are fewer than 2^63 kept clauses, each in form and with its

@@ -1,17 +1,14 @@
-use Rattle.std.proofs.Common.{inl, inr, sym, ◌∙◌}
-use Rattle.cert_words.proofs.RowLemmas.{never}
-use Rattle.cert_lines.proofs.PartLemmas.{front_of_one, front_of_two, front_either}
+use Rattle.std.proofs.Common.{◌≡◌, ◌<◌, length, arith}
+use Rattle.std.proofs.lemmas.Bool.Decides.{nat_tests}
+use Rattle.cert_lines.proofs.PartLemmas.{empty_version, option_version}
 use Rattle.cert_lines.proofs.heads.may_be_version.Goals as goal
 
-pub returns-then-is_front : goal.returns-then-is_front
-returns-then-is_front c =
-    (λ t. let m = c.is_front.ensures.0 c.if-is_front.true in front_of_one c.args.word.now m.0 m.1, λ m. c.if-is_front.true)
+pub returns-then-is_empty : goal.returns-then-is_empty
+returns-then-is_empty c =
+    let none : length c.args.word.now ≡ 0 = grind (arith, nat_tests) in
+    (λ t. empty_version c.args.word.now none, λ m. c.if-is_empty.true)
 
-pub returns-else-is_front : goal.returns-else-is_front
-returns-else-is_front c = (
-  λ t. let m = c.is_front-else-is_front.ensures.0 t in front_of_two c.args.word.now m.0 m.1,
-  λ m. elim (front_either c.args.word.now m.0 m.1) [
-    | inl one ↦ absurd (never (sym c.if-is_front.false ∙ c.is_front.ensures.1 (m.0, one)))
-    | inr two ↦ c.is_front-else-is_front.ensures.1 (m.0, two)
-  ],
-)
+pub returns-else-is_empty : goal.returns-else-is_empty
+returns-else-is_empty c =
+    let some : 0 < length c.args.word.now = grind (arith, nat_tests) in
+    rw c.is_some.ensures (option_version c.args.word.now c.version_of.result some c.version_of.ensures)

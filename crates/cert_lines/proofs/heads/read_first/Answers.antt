@@ -1,4 +1,4 @@
-use Rattle.std.proofs.Common.{ℕ, List, [], ◌∷◌, drop, refl, ap, inl}
+use Rattle.std.proofs.Common.{ℕ, List, [], ◌∷◌, drop, refl, ap, arith}
 use Rattle.std.specs.Prelude.{codes}
 use Rattle.std.specs.Fmt.{decimal}
 use Rattle.std.proofs.lemmas.Result.{err_from_is_err_and}
@@ -12,7 +12,7 @@ returns-in_err-take_word-clause-err c =
     rw (p.1, p.2)
     (stop_part first_kind c.new-words.ensures c.in_err-take_word.ensures.err
     (λ x v fv e. record { value = codes "sdcv-cert"; tail = decimal v ∷ []; fits = refl; is = e }) (λ w. decimal 1 ∷ [])
-    (λ w is. (1, inl refl, ap (λ z. z ∷ (decimal 1 ∷ [])) is)))
+    (λ w is. (1, (omega arith, omega arith), ap (λ z. z ∷ (decimal 1 ∷ [])) is)))
 
 pub returns-in_err-version-clause-err : goal.returns-in_err-version-clause-err
 returns-in_err-version-clause-err c =

@@ -1,4 +1,4 @@
-use Rattle.std.proofs.Common.{inl, refl}
+use Rattle.std.proofs.Common.{arith}
 use Rattle.sdcv_base.specs.Cursors.{rest, place_of}
 use Rattle.cert_lines.specs.Kinds.{first_words, IsVersion}
 use Rattle.cert_lines.proofs.KindLemmas.{first_kind}
@@ -24,6 +24,6 @@ returns-in-Ok-clause-ok c =
 pub returns-in-Err-clause-err : goal.returns-in-Err-clause-err
 returns-in-Err-clause-err c =
     rw c.fault_of.ensures
-    (line_fault IsVersion first_words first_kind 1 (inl refl) (rest c.args.cursor.now) c.next_line-line.result.text.now
+    (line_fault IsVersion first_words first_kind 1 ((omega arith, omega arith)) (rest c.args.cursor.now) c.next_line-line.result.text.now
     (place_of c.args.cursor.now) c.next_line-line.result.at c.next_line-line.result.end c.next_line-line.result.cut c.next_line-line.ensures
     c.in-Err.stop c.in-Err.ensures.err)
