@@ -6,7 +6,7 @@ use Rattle.std.proofs.lemmas.Grind.{flat_map-append}
 use Rattle.net_paths.specs.Those.{AreThose}
 use Rattle.net_paths.proofs.Sifting.{those_append}
 use Rattle.exception_expand.specs.Cuts.{IsCut, AddsThose}
-use Rattle.sdc_objects.proofs.Joining.{flat_next}
+use Rattle.list_laws.proofs.Joining.{flat_next}
 
 -- those of what is made of the first items, and of the next one
 pub those_next : {A B : Type 0} (f : A → List B) (P : B → Type 0) (xs : List A) (k : ℕ) (x : A) (old new : List B) → slice_get xs k ≡ Some x

@@ -6,7 +6,7 @@ use Rattle.std.proofs.lemmas.Bool.Decides.{nat_tests}
 use Rattle.std.proofs.lemmas.Option.{slice_get_within, same_Some, cond_some}
 use Rattle.std.proofs.lemmas.List.{get_or-set_same, get_or-set_other}
 use Rattle.net_model.proofs.Members.{In, In-from_Contains, Contains-from_In, In-left, In-right, In-cases}
-use Rattle.sdc_objects.proofs.Joining.{take_next}
+use Rattle.list_laws.proofs.Joining.{take_next}
 use Rattle.net_paths.specs.Those.{AreThose, All_seen, Taken, Left_out}
 use Rattle.sdcv_base.specs.Seqs.{each_at, where_true}
 use Rattle.exception_expand.specs.Points.{place_below, has_mark, AreMarks}

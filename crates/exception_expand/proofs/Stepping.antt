@@ -15,7 +15,7 @@ use Rattle.script_types.specs.declared.scripts.What.TheVariants.{Claiming}
 use Rattle.script_types.specs.declared.scripts.Command.{Command}
 use Rattle.script_types.specs.declared.scripts.Script.{Script}
 use Rattle.sdcv_base.specs.Seqs.{each_at}
-use Rattle.sdc_objects.proofs.Joining.{each_at_more, each_at-append, take_next}
+use Rattle.list_laws.proofs.Joining.{each_at_more, each_at-append, take_next}
 use Rattle.run_options.specs.declared.judging.Judging.{Judging}
 use Rattle.exception_expand.specs.declared.pairs.Pair.{Pair}
 use Rattle.selected_types.specs.declared.selections.Selected.{Selected}

@@ -11,7 +11,7 @@ use Rattle.net_model.specs.declared.netlist.Design.{Design}
 use Rattle.net_model.specs.declared.claims.Claim.{Claim}
 use Rattle.linked_types.specs.declared.names.Linked.{Linked}
 use Rattle.sdcv_base.specs.Seqs.{where_true}
-use Rattle.sdc_objects.proofs.Joining.{item_at}
+use Rattle.list_laws.proofs.Joining.{item_at}
 use Rattle.selected_types.specs.declared.selections.PairLine.{PairLine}
 use Rattle.exception_expand.specs.Selections as spec
 use Rattle.mcp_detect.specs.declared.options.DetectOptions.{DetectOptions}

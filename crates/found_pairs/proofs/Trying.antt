@@ -15,7 +15,7 @@ use Rattle.net_paths.specs.Those.{AreThose, All_seen, Taken, Left_out}
 use Rattle.linked_types.specs.declared.names.Linked.{Linked}
 use Rattle.script_types.specs.declared.scripts.Command.{Command}
 use Rattle.sdcv_base.specs.Seqs.{where_true}
-use Rattle.sdc_objects.proofs.Joining.{item_at}
+use Rattle.list_laws.proofs.Joining.{item_at}
 use Rattle.run_options.specs.declared.judging.Judging.{Judging}
 use Rattle.exception_expand.specs.declared.pairs.Pair.{Pair}
 use Rattle.selected_types.specs.declared.selections.PairLine.{PairLine}

@@ -6,7 +6,7 @@ use Rattle.std.proofs.lemmas.List.Elements.{filter-append}
 use Rattle.std.proofs.lemmas.Grind.{flat_map-append}
 use Rattle.mcp_detect.specs.declared.detections.Tried.{Tried}
 use Rattle.multicycle_text.specs.Lines.{line_text, lines_text}
-use Rattle.sdc_objects.proofs.Joining.{take_next}
+use Rattle.list_laws.proofs.Joining.{take_next}
 use Rattle.found_pairs.specs.Lines.{is_written, line_of, lines_of}
 
 -- the lines of one list of pairs after another

@@ -1,3 +1,3 @@
-pub mod Joining
+mod Firsts
 pub mod Looking
 pub mod Porting

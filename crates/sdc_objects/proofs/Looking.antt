@@ -13,7 +13,7 @@ use Rattle.glob.specs.declared.owners.Owner.TheVariants.{Nobody, One}
 use Rattle.glob.specs.Indexes.{IsLook, IsExact}
 use Rattle.glob.specs.Owners.{IsOwner, IsOwnerAt}
 use Rattle.sdcv_base.specs.Seqs.{each_at, where_true}
-use Rattle.sdc_objects.proofs.Joining.{nothing_made, one_made, item_at}
+use Rattle.list_laws.proofs.Joining.{nothing_made, one_made, item_at}
 
 -- the name of an item at a place
 pub name_at : {A : Type 0} (name : A → List ℕ) (xs : List A) (k : ℕ) (x : A) → slice_get xs k ≡ Some x → slice_get (map name xs) k ≡ Some (name x)

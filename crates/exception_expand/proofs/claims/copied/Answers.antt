@@ -1,6 +1,6 @@
 use Rattle.std.proofs.Common.{◌≡◌, ◌∙◌, ◌++◌, ◌∷◌, [], List, sym, ap, take}
 use Rattle.net_model.specs.declared.claims.PinRef.{PinRef}
-use Rattle.sdc_objects.proofs.Joining.{take_next}
+use Rattle.list_laws.proofs.Joining.{take_next}
 use Rattle.exception_expand.proofs.claims.copied.Goals as goal
 
 pub loop-k-preserved : goal.loop-k-preserved

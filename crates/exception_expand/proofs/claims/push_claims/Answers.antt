@@ -1,7 +1,7 @@
 use Rattle.std.proofs.Common.{◌∙◌, ◌+◌, ◌++◌, ◌∷◌, [], take, map, ap}
 use Rattle.exception_expand.specs.Pairs.{claim_with}
 use Rattle.net_model.specs.declared.claims.Claim.{Claim}
-use Rattle.sdc_objects.proofs.Joining.{pushed, map_next}
+use Rattle.list_laws.proofs.Joining.{pushed, map_next}
 use Rattle.exception_expand.proofs.claims.push_claims.Goals as goal
 
 pub loop-k-preserved : goal.loop-k-preserved

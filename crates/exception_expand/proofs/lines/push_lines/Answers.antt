@@ -1,7 +1,7 @@
 use Rattle.std.proofs.Common.{◌∙◌, ◌+◌, ◌++◌, ◌∷◌, [], take, map, ap}
 use Rattle.exception_expand.specs.Selections.{pair_line}
 use Rattle.selected_types.specs.declared.selections.PairLine.{PairLine}
-use Rattle.sdc_objects.proofs.Joining.{pushed, map_next}
+use Rattle.list_laws.proofs.Joining.{pushed, map_next}
 use Rattle.exception_expand.proofs.lines.push_lines.Goals as goal
 
 pub loop-k-preserved : goal.loop-k-preserved

@@ -3,7 +3,7 @@ use Rattle.std.specs.Prelude.{slice_get, Some}
 use Rattle.std.proofs.lemmas.Option.{get_or_from_slice_get}
 use Rattle.sdcv_base.specs.Seqs.{each_at, where_true}
 use Rattle.exception_expand.specs.Points.{has_mark}
-use Rattle.sdc_objects.proofs.Joining.{added, item_at}
+use Rattle.list_laws.proofs.Joining.{added, item_at}
 use Rattle.exception_expand.proofs.marks.marked.Goals as goal
 use Rattle.exception_expand.proofs.marks.marked.Goals.{then-at+in_ok-push, else-at}
 

@@ -1,6 +1,6 @@
 use Rattle.std.proofs.Common.{◌+◌, ◌∷◌, [], take, map}
 use Rattle.exception_expand.specs.Pairs.{pair}
-use Rattle.sdc_objects.proofs.Joining.{pushed, map_next}
+use Rattle.list_laws.proofs.Joining.{pushed, map_next}
 use Rattle.exception_expand.proofs.pairs.push_pairs.Goals as goal
 
 pub loop-k-preserved : goal.loop-k-preserved

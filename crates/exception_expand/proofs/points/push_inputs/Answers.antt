@@ -1,6 +1,6 @@
 use Rattle.std.proofs.Common.{ℕ, arith, ◌<◌, length, refl, [], ◌∷◌}
 use Rattle.net_model.specs.declared.claims.Start.TheVariants.{Input as InputStart}
-use Rattle.sdc_objects.proofs.Joining.{added_any}
+use Rattle.list_laws.proofs.Joining.{added_any}
 use Rattle.exception_expand.proofs.points.push_inputs.Goals as goal
 
 pub loop-input-preserved : goal.loop-input-preserved

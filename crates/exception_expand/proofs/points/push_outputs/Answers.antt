@@ -1,6 +1,6 @@
 use Rattle.std.proofs.Common.{ℕ, arith, ◌<◌, length, refl, [], ◌∷◌}
 use Rattle.net_model.specs.declared.claims.End.TheVariants.{Output as OutputEnd}
-use Rattle.sdc_objects.proofs.Joining.{added_any}
+use Rattle.list_laws.proofs.Joining.{added_any}
 use Rattle.exception_expand.proofs.points.push_outputs.Goals as goal
 
 pub loop-output-preserved : goal.loop-output-preserved

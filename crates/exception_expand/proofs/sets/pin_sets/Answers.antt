@@ -2,7 +2,7 @@ use Rattle.std.proofs.Common.{◌∙◌, ◌+◌, ◌++◌, ◌∷◌, [], List,
 use Rattle.net_model.specs.declared.claims.PinRef.{PinRef}
 use Rattle.sdc_objects.specs.declared.things.Place.TheVariants.{Through}
 use Rattle.sdc_objects.specs.Standing.{pins_of, through_column, warnings}
-use Rattle.sdc_objects.proofs.Joining.{pushed, map_next, flat_next}
+use Rattle.list_laws.proofs.Joining.{pushed, map_next, flat_next}
 use Rattle.exception_expand.proofs.sets.pin_sets.Goals as goal
 
 pub loop-k-preserved : goal.loop-k-preserved

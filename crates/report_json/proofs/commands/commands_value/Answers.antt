@@ -3,7 +3,7 @@ use Rattle.std.proofs.lemmas.List.{map-append}
 use Rattle.serde_json.specs.Data.{Data, array}
 use Rattle.serde_json.specs.View.{view, items_of}
 use Rattle.serde_json.specs.declared.value.Value.{Value}
-use Rattle.sdc_objects.proofs.Joining.{added, added_all}
+use Rattle.list_laws.proofs.Joining.{added, added_all}
 use Rattle.report_json.specs.Reports.{one_command}
 use Rattle.report_json.proofs.commands.commands_value.Goals as goal
 

@@ -1,5 +1,5 @@
 use Rattle.std.proofs.Common.{arith}
-use Rattle.sdc_objects.proofs.Joining.{added, added_all}
+use Rattle.list_laws.proofs.Joining.{added, added_all}
 use Rattle.report_text.specs.Reports.{command_lines}
 use Rattle.report_text.proofs.commands.add_commands.Goals as goal
 

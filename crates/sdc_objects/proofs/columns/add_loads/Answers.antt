@@ -1,5 +1,5 @@
 use Rattle.std.proofs.Common.{◌+◌, ◌∷◌, [], take}
-use Rattle.sdc_objects.proofs.Joining.{pushed, take_next}
+use Rattle.list_laws.proofs.Joining.{pushed, take_next}
 use Rattle.sdc_objects.proofs.columns.add_loads.Goals as goal
 
 pub loop-k-preserved : goal.loop-k-preserved

@@ -1,6 +1,6 @@
 use Rattle.std.proofs.Common.{◌+◌, ◌∷◌, [], take, map}
 use Rattle.net_model.specs.declared.claims.PinRef.TheVariants.{Net}
-use Rattle.sdc_objects.proofs.Joining.{pushed, map_next}
+use Rattle.list_laws.proofs.Joining.{pushed, map_next}
 use Rattle.sdc_objects.proofs.columns.add_nets.Goals as goal
 
 pub loop-k-preserved : goal.loop-k-preserved

@@ -3,7 +3,7 @@ use Rattle.std.specs.Prelude.{Option}
 use Rattle.std.proofs.lemmas.Option.{slice_get_past}
 use Rattle.linked_types.specs.declared.names.CellName.{CellName}
 use Rattle.sdc_objects.specs.Standing as spec
-use Rattle.sdc_objects.proofs.Joining.{added_nothing}
+use Rattle.list_laws.proofs.Joining.{added_nothing}
 use Rattle.sdc_objects.proofs.columns.add_pin.Goals as goal
 
 pub returns-in-None-clause-added : goal.returns-in-None-clause-added

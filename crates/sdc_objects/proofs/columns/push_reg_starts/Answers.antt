@@ -1,7 +1,7 @@
 use Rattle.std.proofs.Common.{arith, ◌<◌, length, refl, [], ◌∷◌}
 use Rattle.net_model.specs.declared.netlist.Reg.{Reg}
 use Rattle.net_model.specs.declared.claims.Start.TheVariants.{Reg as RegStart}
-use Rattle.sdc_objects.proofs.Joining.{added_any}
+use Rattle.list_laws.proofs.Joining.{added_any}
 use Rattle.sdc_objects.proofs.columns.push_reg_starts.Goals as goal
 
 pub loop-reg-preserved : goal.loop-reg-preserved

@@ -1,5 +1,5 @@
 use Rattle.sdc_objects.specs.Things.{bit_named}
-use Rattle.sdc_objects.proofs.Joining.{added, turned}
+use Rattle.list_laws.proofs.Joining.{added, turned}
 use Rattle.sdc_objects.proofs.found.add_bits.Goals as goal
 
 pub loop-place-preserved : goal.loop-place-preserved

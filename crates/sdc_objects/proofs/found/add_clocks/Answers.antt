@@ -1,5 +1,5 @@
 use Rattle.sdc_objects.specs.Things.{clock_named}
-use Rattle.sdc_objects.proofs.Joining.{added}
+use Rattle.list_laws.proofs.Joining.{added}
 use Rattle.sdc_objects.proofs.found.add_clocks.Goals as goal
 
 pub loop-place-preserved : goal.loop-place-preserved

@@ -4,7 +4,7 @@ use Rattle.sdc_objects.specs.declared.things.Thing.TheVariants as thing
 use Rattle.sdc_objects.specs.Things.{net_named}
 use Rattle.sdcv_base.specs.Seqs.{each_at}
 use Rattle.sdc_objects.specs.Tables.{net_names}
-use Rattle.sdc_objects.proofs.Joining.{added_nothing}
+use Rattle.list_laws.proofs.Joining.{added_nothing}
 use Rattle.sdc_objects.proofs.Looking.{nothing_matched, one_matched}
 use Rattle.sdc_objects.proofs.found.add_nets.Goals as goal
 

@@ -1,7 +1,7 @@
 use Rattle.std.proofs.Common.{◌∙◌, sym, ap}
 use Rattle.texts.specs.Names.{is_among}
 use Rattle.sdc_objects.specs.Things.{ports_named}
-use Rattle.sdc_objects.proofs.Joining.{added_nothing}
+use Rattle.list_laws.proofs.Joining.{added_nothing}
 use Rattle.sdc_objects.proofs.Porting.{no_ports}
 use Rattle.sdc_objects.proofs.found.add_ports.Goals as goal
 

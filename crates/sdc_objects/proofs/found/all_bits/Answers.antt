@@ -2,7 +2,7 @@ use Rattle.std.proofs.Common.{refl, arith, ◌<◌, length, ap, ◌∙◌, [], �
 use Rattle.linked_types.specs.declared.names.PortName.{PortName}
 use Rattle.sdc_objects.specs.Things.{bit_of}
 use Rattle.sdc_objects.specs.declared.things.Thing.{Thing}
-use Rattle.sdc_objects.proofs.Joining.{added_any}
+use Rattle.list_laws.proofs.Joining.{added_any}
 use Rattle.sdc_objects.proofs.found.all_bits.Goals as goal
 
 pub loop-place-preserved : goal.loop-place-preserved

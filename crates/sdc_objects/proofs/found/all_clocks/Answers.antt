@@ -1,6 +1,6 @@
 use Rattle.std.proofs.Common.{[]}
 use Rattle.sdc_objects.specs.Things.{any_clock}
-use Rattle.sdc_objects.proofs.Joining.{added}
+use Rattle.list_laws.proofs.Joining.{added}
 use Rattle.sdc_objects.proofs.found.all_clocks.Goals as goal
 
 pub loop-place-preserved : goal.loop-place-preserved

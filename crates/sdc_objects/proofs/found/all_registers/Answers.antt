@@ -2,7 +2,7 @@ use Rattle.std.proofs.Common.{refl, []}
 use Rattle.linked_types.specs.declared.names.CellName.{CellName}
 use Rattle.sdc_objects.specs.declared.things.Thing.TheVariants as thing
 use Rattle.sdc_objects.specs.Things.{cell_of_reg}
-use Rattle.sdc_objects.proofs.Joining.{added, turned}
+use Rattle.list_laws.proofs.Joining.{added, turned}
 use Rattle.sdc_objects.proofs.found.all_registers.Goals as goal
 
 pub loop-place-preserved : goal.loop-place-preserved

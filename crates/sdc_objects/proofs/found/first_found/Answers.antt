@@ -1,7 +1,8 @@
 use Rattle.std.proofs.Common.{arith, ◌≡◌, ◌∙◌, true, false, sym, ap}
 use Rattle.std.proofs.lemmas.Option.{get_or_from_slice_get}
 use Rattle.sdc_objects.specs.Things.{found}
-use Rattle.sdc_objects.proofs.Joining.{item_at, first_here, first_later}
+use Rattle.list_laws.proofs.Joining.{item_at}
+use Rattle.sdc_objects.proofs.Firsts.{first_here, first_later}
 use Rattle.sdc_objects.proofs.found.first_found.Goals as goal
 
 pub returns-then-not-is_empty : goal.returns-then-not-is_empty

@@ -3,7 +3,7 @@ use Rattle.std.proofs.lemmas.List.Sums.{count_by_more_yes, count_by_more_no}
 use Rattle.std.proofs.lemmas.Option.{slice_get_within, get_or_from_slice_get}
 use Rattle.sdc_objects.specs.declared.things.Thing.{Thing}
 use Rattle.sdc_objects.specs.Standing.{is_dropped, meant_by}
-use Rattle.sdc_objects.proofs.Joining.{flat_next, pushed}
+use Rattle.list_laws.proofs.Joining.{flat_next, pushed}
 use Rattle.sdc_objects.proofs.lists.add_things.Goals.{then-not-branch, else-not-branch}
 use Rattle.sdc_objects.proofs.lists.add_things.Goals as goal
 

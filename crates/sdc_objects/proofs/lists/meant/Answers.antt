@@ -2,7 +2,7 @@ use Rattle.std.proofs.Common.{◌+◌, ◌∙◌, take, sym, ap, ◌++◌, flat_
 use Rattle.script_types.specs.declared.objects.Object.{Object}
 use Rattle.sdc_objects.specs.Things.{things_of}
 use Rattle.sdc_objects.specs.Standing as spec
-use Rattle.sdc_objects.proofs.Joining.{flat_next, pushed}
+use Rattle.list_laws.proofs.Joining.{flat_next, pushed}
 use Rattle.sdc_objects.proofs.lists.meant.Goals as goal
 
 pub loop-k-preserved : goal.loop-k-preserved

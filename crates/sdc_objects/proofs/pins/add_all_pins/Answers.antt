@@ -1,5 +1,5 @@
 use Rattle.sdc_objects.specs.Things.{pins_named}
-use Rattle.sdc_objects.proofs.Joining.{added}
+use Rattle.list_laws.proofs.Joining.{added}
 use Rattle.sdc_objects.proofs.pins.add_all_pins.Goals as goal
 
 pub loop-k-preserved : goal.loop-k-preserved

@@ -8,7 +8,7 @@ use Rattle.sdc_objects.specs.Things.{pins_named}
 use Rattle.sdcv_base.specs.Seqs.{each_at}
 use Rattle.glob.specs.Owners.{IsOwner}
 use Rattle.sdc_objects.specs.Tables.{cell_names}
-use Rattle.sdc_objects.proofs.Joining.{added_nothing}
+use Rattle.list_laws.proofs.Joining.{added_nothing}
 use Rattle.sdc_objects.proofs.Looking.{owned_by_nobody, owned_by_one}
 use Rattle.sdc_objects.proofs.pins.add_pins.Goals as goal
 

@@ -1,7 +1,7 @@
 use Rattle.std.proofs.Common.{refl}
 use Rattle.sdc_objects.specs.declared.things.Thing.TheVariants as thing
 use Rattle.sdc_objects.specs.Things.{pin_named}
-use Rattle.sdc_objects.proofs.Joining.{added, turned}
+use Rattle.list_laws.proofs.Joining.{added, turned}
 use Rattle.sdc_objects.proofs.pins.add_pins_of.Goals as goal
 
 pub loop-place-preserved : goal.loop-place-preserved

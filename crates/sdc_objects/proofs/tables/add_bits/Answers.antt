@@ -2,7 +2,7 @@ use Rattle.std.proofs.Common.{◌∙◌, List, ℕ, take, sym, ap, flat_map}
 use Rattle.std.proofs.lemmas.List.Sums.{fold-append}
 use Rattle.texts.specs.Names.{with_name, with_names}
 use Rattle.sdc_objects.specs.Tables.{bit_names}
-use Rattle.sdc_objects.proofs.Joining.{flat_next}
+use Rattle.list_laws.proofs.Joining.{flat_next}
 use Rattle.sdc_objects.proofs.tables.add_bits.Goals as goal
 
 pub loop-k-preserved : goal.loop-k-preserved

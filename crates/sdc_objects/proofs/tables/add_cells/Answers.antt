@@ -2,7 +2,7 @@ use Rattle.std.proofs.Common.{List, ℕ, take, sym, subst}
 use Rattle.glob.specs.Indexes.{IsIndexOf}
 use Rattle.linked_types.specs.declared.names.CellName.{CellName}
 use Rattle.sdc_objects.specs.Tables.{cell_names}
-use Rattle.sdc_objects.proofs.Joining.{map_next}
+use Rattle.list_laws.proofs.Joining.{map_next}
 use Rattle.sdc_objects.proofs.tables.add_cells.Goals as goal
 
 pub loop-k-preserved : goal.loop-k-preserved

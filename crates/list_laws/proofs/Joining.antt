@@ -1,12 +1,11 @@
 -- What is made of a list item by item.
-use Rattle.std.proofs.Common.{arith, ◌≡◌, ◌≢◌, ◌∙◌, ℕ, zero, suc, ◌+◌, ◌<◌, ◌≤◌, List, [], ◌∷◌, ◌++◌, length, take, drop, get_or, map, flat_map, Bool, refl}
-use Rattle.std.proofs.Common.{sym, ap, subst, append-nil, append_assoc, drop-cons}
+use Rattle.std.proofs.Common.{arith, ◌≡◌, ◌≢◌, ◌∙◌, ℕ, zero, suc, ◌+◌, ◌<◌, ◌≤◌, List, [], ◌∷◌, ◌++◌, length, take, get_or, map, flat_map, Bool, refl}
+use Rattle.std.proofs.Common.{sym, ap, subst, append-nil, append_assoc}
 use Rattle.std.specs.Prelude.{Some, slice_get}
 use Rattle.std.proofs.lemmas.List.{take_more, take_all, length-take, map-append}
 use Rattle.std.proofs.lemmas.Option.{slice_get_within, get_or_from_slice_get}
 use Rattle.std.proofs.lemmas.Grind.{flat_map-append}
 use Rattle.sdcv_base.specs.Seqs.{each_at, where_true}
-use Rattle.sdc_objects.specs.Things.{first_some}
 
 -- of one list after another
 pub each_at-append : {A B : Type 0} (f : ℕ → A → List B) (i : ℕ) (xs ys : List A) → each_at f i (xs ++ ys) ≡ each_at f i xs ++ each_at f (i + length xs) ys
@@ -114,23 +113,3 @@ pushed old now new more all xs before turn whole =
 -- nothing is added
 pub added_nothing : {B : Type 0} (found more : List B) → more ≡ [] → found ≡ found ++ more
 added_nothing found more none = sym (append-nil found) ∙ ap (λ l. found ++ l) (sym none)
-
-drop_next : {A : Type 0} (xs : List A) (i : ℕ) (x : A) → slice_get xs i ≡ Some x → drop i xs ≡ x ∷ drop (i + 1) xs
-drop_next xs i x here =
-    let one : suc i ≡ i + 1 = omega arith in
-    drop-cons xs i x (slice_get_within xs i x here) ∙ ap (λ (n : ℕ). get_or xs i x ∷ drop n xs) one
-    ∙ ap (λ y. y ∷ drop (i + 1) xs) (get_or_from_slice_get xs i x x here)
-
-take_first : {B : Type 0} (ys : List B) (rest : List (List B)) → (ys ≡ [] → ⊥) → first_some (ys ∷ rest) ≡ ys
-take_first [] rest some = absurd (some refl)
-take_first (y ∷ ys) rest some = refl
-
--- the first list that is not empty
-pub first_here : {A B : Type 0} (f : A → List B) (xs : List A) (i : ℕ) (x : A) → slice_get xs i ≡ Some x → (f x ≡ [] → ⊥) → first_some (map f (drop i xs)) ≡ f x
-first_here f xs i x here some =
-    ap (λ l. first_some (map f l)) (drop_next xs i x here) ∙ take_first (f x) (map f (drop (i + 1) xs)) some
-
-pub first_later : {A B : Type 0} (f : A → List B) (xs : List A) (i : ℕ) (x : A) → slice_get xs i ≡ Some x → f x ≡ [] → first_some (map f (drop i xs)) ≡
-    first_some (map f (drop (i + 1) xs))
-first_later f xs i x here none =
-    ap (λ l. first_some (map f l)) (drop_next xs i x here) ∙ ap (λ l. first_some (l ∷ map f (drop (i + 1) xs))) none
