@@ -10,7 +10,7 @@ use Rattle.verdict_types.specs.declared.kept.InvProof.{InvProof}
 use Rattle.cert_values.specs.declared.certs.PairProof.{PairProof}
 use Rattle.cert_values.specs.declared.certs.Cert.{Cert}
 use Rattle.cert_lines.specs.declared.heads.InvHead.{InvHead}
-use Rattle.cert_lines.specs.Kinds.{text_of, first_words, IsVersion, inv_words, IsInvHead, kept_words, IsKept}
+use Rattle.cert_lines.specs.Kinds.{text_of, first_words, IsVersion, inv_words, IsInvHead, kept_words, IsKept, is_long}
 use Rattle.cert_lines.proofs.KindLemmas.{version_small, first_kind, inv_kind, kept_kind}
 use Rattle.cert_lines.specs.declared.faults.Fault.{Fault}
 use Rattle.cert_lines.specs.Texts.{IsWhole, IsFault, AreMany, many_text}
@@ -23,6 +23,10 @@ use Rattle.cert_lines.specs.declared.sections.Section.TheVariants.{End}
 use Rattle.cert_text.specs.Certs.{proof_text, IsProof, IsPair, pair_text, pairs_text, inv_head, cert_bytes, IsSpellable}
 use Rattle.cert_text.proofs.ProofTexts.{proof_tells, proof_whole, shortest}
 use Rattle.cert_text.proofs.PairTexts.{pairs_tell, pair_whole}
+
+-- a kept clause of a version
+abbrev KeptIn : ℕ → InvClause → Type 0
+KeptIn version = IsKept (is_long version)
 
 abbrev clauses_text : List InvClause → List ℕ
 clauses_text kept = many_text (text_of kept_words) kept
@@ -47,7 +51,7 @@ head_is : (version : ℕ) (head : InvHead) (kept : List InvClause) (proofs : Lis
 head_is version head kept proofs pairs count = ap (λ (n : ℕ). record { depth = head.depth; count = n }) count
 
 made_fits : (version : ℕ) (head : InvHead) (kept : List InvClause) (proofs : List InvProof) (pairs : List PairProof) → IsVersion version → IsInvHead head
-    → AreMany head.count IsKept kept → AreMany head.count (IsProof head.depth) proofs → AllByRecursion IsPair pairs
+    → AreMany head.count (KeptIn version) kept → AreMany head.count (IsProof head.depth) proofs → AllByRecursion IsPair pairs
     → IsSpellable (cert_with version head kept proofs pairs)
 made_fits version head kept proofs pairs fv fh fk fp fq = record {
   version = fv;
@@ -78,8 +82,14 @@ abbrev Agree4 : ℕ → InvHead → List InvClause → List InvProof → Cert �
 Agree4 version head kept proofs c = Agree3 version head kept c × (c.proofs ≡ proofs)
 
 kept_part : (version : ℕ) (head : InvHead) (c : Cert) → IsSpellable c → Agree2 version head c
-    → AreMany head.count IsKept c.kept × (after_head c ≡ clauses_text c.kept ++ after_kept c)
-kept_part version head c fc a = (record { count = ap (λ (h : InvHead). h.count) a.1; fit = fc.kept.fit }, refl)
+    → AreMany head.count (KeptIn version) c.kept × (after_head c ≡ clauses_text c.kept ++ after_kept c)
+kept_part version head c fc a = (
+  record {
+    count = ap (λ (h : InvHead). h.count) a.1;
+    fit = subst (λ (v : ℕ). AllByRecursion (KeptIn v) c.kept) a.0.1 fc.kept.fit;
+  },
+  refl,
+)
 
 proofs_part : (head : InvHead) (c : Cert) → IsSpellable c → inv_head c ≡ head → AreMany head.count (IsProof head.depth) c.proofs
 proofs_part head c fc same = record {
@@ -99,14 +109,15 @@ past2 version fv head fh =
     past_next IsSpellable cert_bytes IsInvHead (text_of inv_words) (line_tells IsInvHead inv_words inv_kind) (first_text version) (Agree1 version)
     (λ c. text_of inv_words (inv_head c) ++ after_head c) (past1 version fv) inv_head after_head (λ c fc a. (fc.head, refl)) head fh
 
-past3 : (version : ℕ) → IsVersion version → (head : InvHead) → IsInvHead head → (kept : List InvClause) → AreMany head.count IsKept kept
+past3 : (version : ℕ) → IsVersion version → (head : InvHead) → IsInvHead head → (kept : List InvClause) → AreMany head.count (KeptIn version) kept
     → IsPast IsSpellable cert_bytes ((first_text version ++ text_of inv_words head) ++ clauses_text kept) (Agree3 version head kept) after_kept
 past3 version fv head fh kept fk =
-    past_next IsSpellable cert_bytes (AreMany head.count IsKept) (many_text (text_of kept_words))
-    (many_tells IsKept (text_of kept_words) (line_tells IsKept kept_words kept_kind) head.count) (first_text version ++ text_of inv_words head)
+    past_next IsSpellable cert_bytes (AreMany head.count (KeptIn version)) (many_text (text_of kept_words))
+    (many_tells (KeptIn version) (text_of kept_words) (line_tells (KeptIn version) kept_words (kept_kind (is_long version))) head.count)
+    (first_text version ++ text_of inv_words head)
     (Agree2 version head) after_head (past2 version fv head fh) (λ c. c.kept) after_kept (kept_part version head) kept fk
 
-past4 : (version : ℕ) → IsVersion version → (head : InvHead) → IsInvHead head → (kept : List InvClause) → AreMany head.count IsKept kept
+past4 : (version : ℕ) → IsVersion version → (head : InvHead) → IsInvHead head → (kept : List InvClause) → AreMany head.count (KeptIn version) kept
     → (proofs : List InvProof)
     → AreMany head.count (IsProof head.depth) proofs
     → IsPast IsSpellable cert_bytes (((first_text version ++ text_of inv_words head) ++ clauses_text kept) ++ proofs_text proofs)
@@ -163,7 +174,7 @@ head_fault version fv rest bytes now place is left f e = fault_later IsSpellable
         (λ c. text_of inv_words (inv_head c) ++ after_head c) (past1 version fv) inv_head after_head (λ c fc a. (fc.head, refl))
         (line_whole first_words version)
         (λ head fh.
-        let kept = filled IsKept one_state one_state_fits head.count in
+        let kept = filled (KeptIn version) one_state (one_state_fits (is_long version)) head.count in
         let least = shortest head.depth in
         let proofs = filled (IsProof head.depth) least.proof least.fits head.count in (
           cert_with version head kept.vs proofs.vs [],
@@ -175,14 +186,14 @@ head_fault version fv rest bytes now place is left f e = fault_later IsSpellable
 -- a kept clause is
 pub kept_fault : (version : ℕ) → IsVersion version → (head : InvHead) → IsInvHead head → (rest bytes : List ℕ) (now place : ℕ)
     → bytes ≡ (first_text version ++ text_of inv_words head) ++ rest → now + length rest ≡ place + length bytes → (f : Fault)
-    → IsFault (AreMany head.count IsKept) (many_text (text_of kept_words)) rest now f → IsFault IsSpellable cert_bytes bytes place f
+    → IsFault (AreMany head.count (KeptIn version)) (many_text (text_of kept_words)) rest now f → IsFault IsSpellable cert_bytes bytes place f
 kept_fault version fv head fh rest bytes now place is left f e =
-    fault_later IsSpellable cert_bytes (AreMany head.count IsKept) (many_text (text_of kept_words))
+    fault_later IsSpellable cert_bytes (AreMany head.count (KeptIn version)) (many_text (text_of kept_words))
     (first_text version ++ text_of inv_words head) leads rest bytes now place is left f e
   where
-    leads : Leads IsSpellable cert_bytes (AreMany head.count IsKept) (many_text (text_of kept_words)) (first_text version ++ text_of inv_words head)
+    leads : Leads IsSpellable cert_bytes (AreMany head.count (KeptIn version)) (many_text (text_of kept_words)) (first_text version ++ text_of inv_words head)
     leads =
-        leads_past IsSpellable cert_bytes (AreMany head.count IsKept) (many_text (text_of kept_words)) (first_text version ++ text_of inv_words head)
+        leads_past IsSpellable cert_bytes (AreMany head.count (KeptIn version)) (many_text (text_of kept_words)) (first_text version ++ text_of inv_words head)
         (Agree2 version head) after_head (past2 version fv head fh) (λ c. c.kept) after_kept (kept_part version head) (head_whole version head)
         (λ kept fk.
         let least = shortest head.depth in
@@ -195,7 +206,7 @@ kept_fault version fv head fh rest bytes now place is left f e =
         ))
 
 -- the derivations of a kept clause are
-pub proofs_fault : (version : ℕ) → IsVersion version → (head : InvHead) → IsInvHead head → (kept : List InvClause) → AreMany head.count IsKept kept
+pub proofs_fault : (version : ℕ) → IsVersion version → (head : InvHead) → IsInvHead head → (kept : List InvClause) → AreMany head.count (KeptIn version) kept
     → (rest bytes : List ℕ) (now place : ℕ) → bytes ≡ ((first_text version ++ text_of inv_words head) ++ clauses_text kept) ++ rest
     → now + length rest ≡ place + length bytes → (f : Fault) → IsFault (AreMany head.count (IsProof head.depth)) (many_text proof_text) rest now f
     → IsFault IsSpellable cert_bytes bytes place f
@@ -220,7 +231,7 @@ proofs_fault version fv head fh kept fk rest bytes now place is left f e =
         ))
 
 -- a pair, or the end, is
-pub tail_fault : (version : ℕ) → IsVersion version → (head : InvHead) → IsInvHead head → (kept : List InvClause) → AreMany head.count IsKept kept
+pub tail_fault : (version : ℕ) → IsVersion version → (head : InvHead) → IsInvHead head → (kept : List InvClause) → AreMany head.count (KeptIn version) kept
     → (proofs : List InvProof)
     → AreMany head.count (IsProof head.depth) proofs
     → (rest bytes : List ℕ) (now place : ℕ) → bytes ≡ (((first_text version ++ text_of inv_words head) ++ clauses_text kept) ++ proofs_text proofs) ++ rest
@@ -282,9 +293,9 @@ pub record IsReadAs (bytes rest : List ℕ) (c : Cert) : Type 0 where
   pub is : bytes ≡ cert_bytes c ++ rest
 
 pub cert_read : (version : ℕ) (head : InvHead) (kept : List InvClause) (proofs : List InvProof) (pairs : List PairProof) (bytes b1 b2 b3 b4 rest : List ℕ)
-    → IsVersion version → IsInvHead head → AreMany head.count IsKept kept → AreMany head.count (IsProof head.depth) proofs → AllByRecursion IsPair pairs
-    → bytes ≡ first_text version ++ b1 → b1 ≡ text_of inv_words head ++ b2 → b2 ≡ clauses_text kept ++ b3 → b3 ≡ proofs_text proofs ++ b4
-    → b4 ≡ pairs_text pairs ++ rest → IsReadAs bytes rest (cert_with version head kept proofs pairs)
+    → IsVersion version → IsInvHead head → AreMany head.count (KeptIn version) kept → AreMany head.count (IsProof head.depth) proofs
+    → AllByRecursion IsPair pairs → bytes ≡ first_text version ++ b1 → b1 ≡ text_of inv_words head ++ b2 → b2 ≡ clauses_text kept ++ b3
+    → b3 ≡ proofs_text proofs ++ b4 → b4 ≡ pairs_text pairs ++ rest → IsReadAs bytes rest (cert_with version head kept proofs pairs)
 cert_read version head kept proofs pairs bytes b1 b2 b3 b4 rest fv fh fk fp fq e1 e2 e3 e4 e5 = record {
   fits = made_fits version head kept proofs pairs fv fh fk fp fq;
   is =

@@ -1,8 +1,10 @@
 -- What was found in form can be written.
-use Rattle.std.proofs.Common.{inl, inr, ◌≡◌, ℕ, ◌+◌, ◌-◌, ◌<◌, ◌≤◌, ◌^◌, List, []}
+use Rattle.std.proofs.Common.{if◌then◌else◌, ◌≡◌, ℕ, ◌+◌, ◌-◌, ◌<◌, ◌≤◌, ◌^◌, Bool, true, false, map, List, []}
 use Rattle.std.proofs.Common.{◌∷◌, ◌++◌, length, take, get_or, refl, sym, ap, ◌∙◌, subst, append_assoc, arith}
 use Rattle.std.specs.Prelude.{All}
-use Rattle.std.specs.List.{AllByRecursion}
+use Rattle.std.specs.List.{AllByRecursion, list_any}
+use Rattle.std.proofs.lemmas.Bool.{or_parts}
+use Rattle.std.proofs.lemmas.Bool.Decides.{nat_tests}
 use Rattle.std.proofs.lemmas.List.{take_more, flat_map_more, length-take-le}
 use Rattle.std.proofs.lemmas.List.Concat.{flat_map-append}
 use Rattle.std.proofs.lemmas.List.Elements.{All-head, All-tail, All-weaker, All-append, All-from_recursion, recursion_from_All}
@@ -16,16 +18,16 @@ use Rattle.verdict_types.specs.declared.kept.InvProof.{InvProof}
 use Rattle.verdict_types.specs.declared.kept.InvSet.{InvSet}
 use Rattle.verdict_types.specs.declared.outcomes.Verdict.{Verdict}
 use Rattle.verdict_types.specs.declared.outcomes.Verdict.TheVariants.{Justified, Refuted, Undecided}
-use Rattle.verdict_types.specs.Forms.{IsStepInForm, IsInForm, AreInForm, AreOneOrTwo, IsKeptClause, IsSetInForm}
+use Rattle.verdict_types.specs.Forms.{IsStepInForm, IsInForm, AreInForm, AreAscending, IsKeptClause, IsSetInForm}
 use Rattle.cert_words.specs.Numbers.{IsLitAbove, IsHint}
 use Rattle.cert_words.specs.Growth.{Chain}
+use Rattle.cert_words.proofs.RowLemmas.{never}
 use Rattle.cert_values.specs.declared.certs.PairProof.{PairProof}
 use Rattle.cert_values.specs.Certs.{justified_from, cert_of}
-use Rattle.cert_values.specs.Versions.{version_of, own_version}
-use Rattle.query_model.specs.declared.keys.Coding.{Coding}
-use Rattle.query_model.specs.declared.keys.Coding.TheVariants.{Rows, Primes}
-use Rattle.verdicts.specs.Logs.{own_coding}
-use Rattle.cert_lines.specs.Kinds.{text_of, first_words, IsVersion, inv_words, kept_words, section_words, AreKept, IsKept, IsStep}
+use Rattle.cert_values.specs.Versions.{version_for}
+use Rattle.cert_values.specs.Versions.{is_long as is_long_clause}
+use Rattle.cert_lines.specs.Kinds.{text_of, first_words, IsVersion, inv_words, kept_words, section_words, state_literal, is_long, IsKept, IsStep}
+use Rattle.cert_lines.proofs.KindLemmas.{literal_var, state_fits}
 use Rattle.cert_lines.specs.declared.sections.Section.TheVariants.{End}
 use Rattle.cert_lines.specs.Texts.{many_text}
 use Rattle.cert_lines.specs.Derivations.{IsWritable}
@@ -76,15 +78,44 @@ steps_fit (s ∷ ss) a b = (
 pub found_writable : (d : Derivation) → IsInForm d → All HasSmallHints d.steps → IsWritable d
 found_writable d form hints = record { few = form.few; steps = record { count = refl; fit = steps_fit d.steps form.steps hints } }
 
-lits_kept : (ls : List StateLit) → AreOneOrTwo ls → All (λ (l : StateLit). l.reg + 1 < 2 ^ 31) ls → AreKept ls
-lits_kept [] short few = absurd short
-lits_kept (l ∷ []) short few = All-head (λ (k : StateLit). k.reg + 1 < 2 ^ 31) l [] few
-lits_kept (l ∷ (m ∷ [])) short few =
-    (short, All-head (λ (k : StateLit). k.reg + 1 < 2 ^ 31) m [] (All-tail (λ (k : StateLit). k.reg + 1 < 2 ^ 31) l (m ∷ []) few))
-lits_kept (l ∷ (m ∷ (n ∷ more))) short few = absurd short
+abbrev is_low : StateLit → Type 0
+is_low l = l.reg + 1 < 2 ^ 31
 
-pub clause_kept : (clause : InvClause) → IsKeptClause clause → IsKept clause
-clause_kept clause form = lits_kept clause.lits form.short form.small
+-- literals whose registers ascend are read one after another
+lits_after : (l : StateLit) (ls : List StateLit) → AreAscending (l ∷ ls) → All is_low ls
+    → Chain IsLitAbove lit_var (lit_var (state_literal l)) (map state_literal ls)
+lits_after l [] ascend low = tt
+lits_after l (m ∷ more) (less, ascend) low =
+    let var = literal_var (l.reg + 1) l.value in
+    let here : m.reg + 1 < 2 ^ 31 = All-head is_low m more low in (
+      state_fits (lit_var (state_literal l)) m.reg m.value (omega arith) here,
+      lits_after m more ascend (All-tail is_low m more low),
+    )
+
+lits_kept : (ls : List StateLit) → AreAscending ls → All is_low ls → Chain IsLitAbove lit_var 0 (map state_literal ls)
+lits_kept [] ascend low = tt
+lits_kept (l ∷ ls) ascend low =
+    (state_fits 0 l.reg l.value (omega arith) (All-head is_low l ls low), lits_after l ls ascend (All-tail is_low l ls low))
+
+pub clause_kept : (long : Bool) (clause : InvClause) → (long ≡ false → length clause.lits ≤ 2) → IsKeptClause clause → IsKept long clause
+clause_kept long clause short form =
+    record { some = form.some; ascend = lits_kept clause.lits form.ascend form.small; short = short }
+
+-- where no clause is long, none has more than two literals
+none_long : (kept : List InvClause) → list_any is_long_clause kept ≡ false → All IsKeptClause kept → AllByRecursion (IsKept false) kept
+none_long [] none forms = tt
+none_long (c ∷ kept) none forms =
+    let (here, others) = or_parts (is_long_clause c) (list_any is_long_clause kept) none in (
+      clause_kept false c (λ e. grind (arith, nat_tests)) (All-head IsKeptClause c kept forms),
+      none_long kept others (All-tail IsKeptClause c kept forms),
+    )
+
+-- kept clauses in form can be spelled in the version in which they are written
+kept_fit : (test : Bool) (kept : List InvClause) → list_any is_long_clause kept ≡ test → All IsKeptClause kept
+    → AllByRecursion (IsKept (is_long (if test then 3 else 2))) kept
+kept_fit true kept is forms =
+    recursion_from_All (IsKept true) kept (All-weaker IsKeptClause (IsKept true) (λ c f. clause_kept true c (λ e. absurd (never (sym e))) f) kept forms)
+kept_fit false kept is forms = none_long kept is forms
 
 pub proofs_found : (depth : ℕ) (proofs : List InvProof) → All (λ (p : InvProof). AreInForm depth p.base p.step) proofs → All IsProofFound proofs
 proofs_found depth proofs forms = All-weaker (λ (p : InvProof). AreInForm depth p.base p.step) IsProofFound (λ p f. (f.bases, f.step)) proofs forms
@@ -146,17 +177,17 @@ pairs_more vs i v old now new less is before fits after more =
     recursion_from_All IsPair (xs ++ ys) (All-append IsPair xs ys (All-from_recursion IsPair xs fits) (All-from_recursion IsPair ys more)) in
     (text ∙ ap (λ (z : List PairProof). old ++ many_text pair_text z) (sym both), subst (λ (z : List PairProof). AllByRecursion IsPair z) (sym both) all)
 
-version_fits : (coding : Coding) → IsVersion (version_of coding)
-version_fits Rows = inl refl
-version_fits Primes = inr refl
+version_fits : (test : Bool) → IsVersion (if test then 3 else 2)
+version_fits true = (omega arith, omega arith)
+version_fits false = (omega arith, omega arith)
 
 -- the certificate of what was found can be spelled, where its derivations can be written and its pairs spelled
 pub found_fits : (inv : InvSet) (verdicts : List Verdict) → IsSetInForm inv → All IsProofWritable inv.proofs
     → AllByRecursion IsPair (justified_from 1 verdicts) → IsSpellable (cert_of inv verdicts)
 found_fits inv verdicts form proofs pairs = record {
-  version = version_fits own_coding;
+  version = version_fits (list_any is_long_clause inv.kept);
   head = record { deep = form.low; none = λ none. ap length (form.none none); small = form.few };
-  kept = record { count = refl; fit = recursion_from_All IsKept inv.kept (All-weaker IsKeptClause IsKept clause_kept inv.kept form.clauses) };
+  kept = record { count = refl; fit = kept_fit (list_any is_long_clause inv.kept) inv.kept refl form.clauses };
   proofs = record { count = form.as_many; fit = proofs_fit inv.depth inv.proofs form.each proofs };
   pairs = pairs;
 }
@@ -164,13 +195,14 @@ found_fits inv verdicts form proofs pairs = record {
 -- the certificate of what was found is what was written
 pub written_spells : (inv : InvSet) (verdicts : List Verdict) (a b c d e f : List ℕ) → IsSetInForm inv → All IsProofWritable inv.proofs
     → AllByRecursion IsPair (justified_from 1 verdicts)
-    → a ≡ text_of first_words own_version → b ≡ a ++ text_of inv_words (inv_head (cert_of inv verdicts)) → c ≡ b ++ many_text (text_of kept_words) inv.kept
+    → a ≡ text_of first_words (version_for inv.kept) → b ≡ a ++ text_of inv_words (inv_head (cert_of inv verdicts))
+    → c ≡ b ++ many_text (text_of kept_words) inv.kept
     → d ≡ c ++ many_text proof_text inv.proofs
     → e ≡ d ++ many_text pair_text (justified_from 1 verdicts) → f ≡ e ++ text_of section_words End → Spells f (cert_of inv verdicts)
 written_spells inv verdicts a b c d e f form proofs pairs ea eb ec ed ee ef = record {
   is =
       rw (ef, ee, ed, ec, eb, ea)
-      (joined (text_of first_words own_version) (text_of inv_words (inv_head (cert_of inv verdicts))) (many_text (text_of kept_words) inv.kept)
+      (joined (text_of first_words (version_for inv.kept)) (text_of inv_words (inv_head (cert_of inv verdicts))) (many_text (text_of kept_words) inv.kept)
       (many_text proof_text inv.proofs) (many_text pair_text (justified_from 1 verdicts)) (text_of section_words End));
   fits = found_fits inv verdicts form proofs pairs;
 }

@@ -1,5 +1,5 @@
 -- The derivations at a depth in a text, and lists of them.
-use Rattle.std.proofs.Common.{inl, ◌≡◌, ℕ, ◌+◌, ◌<◌, List, [], ◌++◌, length, refl, sym, ap, ◌∙◌, append_assoc, append-nil}
+use Rattle.std.proofs.Common.{inl, ◌≡◌, ℕ, ◌+◌, ◌<◌, Bool, List, [], ◌++◌, length, refl, sym, ap, ◌∙◌, append_assoc, append-nil}
 use Rattle.std.specs.List.{AllByRecursion}
 use Rattle.std.proofs.lemmas.List.{append_cancel_left}
 use Rattle.proof_log.specs.declared.derivations.Derivation.{Derivation}
@@ -19,13 +19,13 @@ use Rattle.cert_lines.proofs.DerivationTexts.{derivation_tells, derivation_whole
 use Rattle.cert_text.specs.Certs.{proof_text, IsProof}
 
 -- a kept clause is missing after some
-pub clause_fault : (n : ℕ) (done : List InvClause) → AllByRecursion IsKept done → length done < n → (rest bytes : List ℕ) (now place : ℕ)
+pub clause_fault : (long : Bool) (n : ℕ) (done : List InvClause) → AllByRecursion (IsKept long) done → length done < n → (rest bytes : List ℕ) (now place : ℕ)
     → bytes ≡ many_text (text_of kept_words) done ++ rest
-    → now + length rest ≡ place + length bytes → (f : Fault) → IsFault IsKept (text_of kept_words) rest now f
-    → IsFault (AreMany n IsKept) (many_text (text_of kept_words)) bytes place f
-clause_fault n done fd less rest bytes now place is left f e =
-    many_fault IsKept (text_of kept_words) (line_tells IsKept kept_words kept_kind)
-    (line_whole kept_words) one_state one_state_fits n done fd less rest bytes now place is left f e
+    → now + length rest ≡ place + length bytes → (f : Fault) → IsFault (IsKept long) (text_of kept_words) rest now f
+    → IsFault (AreMany n (IsKept long)) (many_text (text_of kept_words)) bytes place f
+clause_fault long n done fd less rest bytes now place is left f e =
+    many_fault (IsKept long) (text_of kept_words) (line_tells (IsKept long) kept_words (kept_kind long))
+    (line_whole kept_words) one_state (one_state_fits long) n done fd less rest bytes now place is left f e
 
 abbrev base_text : Derivation → List ℕ
 base_text d = derivation_text Base d

@@ -11,7 +11,7 @@ use Rattle.cert_lines.specs.declared.heads.InvHead.{InvHead}
 use Rattle.cert_lines.specs.declared.sections.Section.{Section}
 use Rattle.cert_lines.specs.declared.sections.Section.TheVariants.{End}
 use Rattle.cert_lines.specs.declared.sections.Section.TheVariants as line
-use Rattle.cert_lines.specs.Kinds.{text_of, first_words, IsVersion, inv_words, IsInvHead, kept_words, IsKept, section_words}
+use Rattle.cert_lines.specs.Kinds.{text_of, first_words, IsVersion, inv_words, IsInvHead, kept_words, IsKept, is_long, section_words}
 use Rattle.cert_lines.specs.Texts.{AreMany, many_text}
 use Rattle.cert_lines.specs.Derivations.{derivation_text, IsWritable}
 
@@ -63,7 +63,7 @@ cert_bytes c =
 pub record IsSpellable (c : Cert) : Type 0 where
   pub version : IsVersion c.version
   pub head : IsInvHead (inv_head c)
-  pub kept : AreMany (length c.kept) IsKept c.kept
+  pub kept : AreMany (length c.kept) (IsKept (is_long c.version)) c.kept
   pub proofs : AreMany (length c.kept) (IsProof c.depth) c.proofs
   pub pairs : AllByRecursion IsPair c.pairs
 

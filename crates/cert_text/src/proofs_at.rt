@@ -14,19 +14,20 @@ use sdcv_base::{Cursor, Seq};
 use std::alloc::Global;
 use verdict_types::InvProof;
 
-/// Passes so many kept clauses.
+/// Passes so many kept clauses, which may be long or not.
 pub fn take_clauses(
     alloc: Global,
     cursor: &mut Cursor<'_>,
     count: u64,
+    long: bool,
 ) -> Result<Seq<InvClause>, Fault>
-    ensures ok { IfOk result (λ v. AreMany count IsKept v × (rest cursor.old ≡ many_text (text_of kept_words) v ++ rest cursor.new)) }
+    ensures ok { IfOk result (λ v. AreMany count (IsKept long) v × (rest cursor.old ≡ many_text (text_of kept_words) v ++ rest cursor.new)) }
     ensures place { OnOk result (place_of cursor.new + length (rest cursor.new) ≡ place_of cursor.old + length (rest cursor.old)) }
-    ensures err { IfErr result (IsFault (AreMany count IsKept) (many_text (text_of kept_words)) (rest cursor.old) (place_of cursor.old)) }
+    ensures err { IfErr result (IsFault (AreMany count (IsKept long)) (many_text (text_of kept_words)) (rest cursor.old) (place_of cursor.old)) }
 {
     let mut clauses = Seq::new(alloc);
     for _ in 0..count {
-        clauses.push(take_kept(alloc, cursor)?)?;
+        clauses.push(take_kept(alloc, cursor, long)?)?;
     }
     Ok(clauses)
 }

@@ -2,7 +2,7 @@
 ghost use Rattle.std.specs.Prelude.{◌≡◌, ◌↔◌, ◌+◌, ◌++◌, ℕ, length, IfOk, IfErr, OnOk, IsTrue, MatchOption};
 ghost use Rattle.sdcv_base.specs.Cursors.{rest, place_of};
 ghost use Rattle.cert_values.specs.declared.certs.Cert.{Cert};
-ghost use Rattle.cert_lines.specs.Kinds.{IsVersion};
+ghost use Rattle.cert_lines.specs.Kinds.{IsVersion, is_long};
 ghost use Rattle.cert_lines.specs.Texts.{IsFault};
 ghost use Rattle.cert_text.specs.Certs.{cert_bytes, IsSpellable, Spells};
 ghost use Rattle.cert_text.specs.Causes.{IsOtherVersion, IsReadCause, Recalls};
@@ -21,7 +21,14 @@ const MOST: u64 = 9_223_372_036_854_775_807;
 fn is_version(version: u64) -> bool
     ensures { IsTrue result ↔ IsVersion version }
 {
-    version == 1 || version == 2
+    (1..=3).contains(&version)
+}
+
+/// Whether clauses may be long in a version.
+fn may_be_long(version: u64) -> bool
+    ensures { result ≡ is_long version }
+{
+    version == 3
 }
 
 /// The version of the first line, where it is another one.
@@ -52,7 +59,7 @@ fn take_cert(alloc: Global, cursor: &mut Cursor<'_>) -> Result<Cert, Fault>
 {
     let version = take_first(cursor)?;
     let head = take_inv(cursor)?;
-    let kept = take_clauses(alloc, cursor, head.count)?;
+    let kept = take_clauses(alloc, cursor, head.count, may_be_long(version))?;
     let proofs = take_proofs(alloc, cursor, head.count, head.depth)?;
     let pairs = take_pairs(alloc, cursor)?;
     Ok(Cert {

@@ -13,7 +13,7 @@ ghost use Rattle.cert_text.specs.Found.{HasSmallHints, IsProofFound, IsProofWrit
 use cert_lines::{
     InvHead, Section, push_derivation, push_first, push_inv, push_kept, push_section,
 };
-use cert_values::own_version;
+use cert_values::version_for;
 use net_model::{InvClause, Phase};
 use proof_log::{DerivStep, Derivation};
 use std::alloc::{AllocError, Global};
@@ -165,7 +165,7 @@ pub fn write_cert(alloc: Global, verdicts: &[Verdict], inv: &InvSet) -> Result<V
     ensures { IfOk result (λ bytes. Spells bytes.items (cert_of inv.now verdicts.now)) }
 {
     let mut out = Vec::new(alloc);
-    push_first(alloc, &mut out, own_version())?;
+    push_first(alloc, &mut out, version_for(inv.kept.as_slice()))?;
     let head = InvHead {
         depth: inv.depth,
         count: inv.kept.len() as u64,

@@ -12,5 +12,5 @@ returns-in_err-take_kept-clause-err c =
     let test = c.loop-test.true in
     let less : length c.loop.clauses < c.args.count = omega arith in
     rw (p.1, p.2)
-    (clause_fault c.args.count c.loop.clauses i.fits less (rest c.loop.cursor) (rest c.args.cursor.now) (place_of c.loop.cursor)
+    (clause_fault c.args.long c.args.count c.loop.clauses i.fits less (rest c.loop.cursor) (rest c.args.cursor.now) (place_of c.loop.cursor)
     (place_of c.args.cursor.now) i.is i.left c.in_err-take_kept.field-0.0 c.in_err-take_kept.ensures.err)
