@@ -35,13 +35,13 @@ const RESET: &[&[Ask]] = &[&[In(0)]];
 
 const RESET_ONCE: &[&[Ask]] = &[&[In(0), Multi(1)]];
 
-const EITHER: &[&str] = &["1", "2"];
+const EACH: &[&str] = &["1", "2", "3"];
 
 // Numbers count from 1. An unknown number comes before one that is listed twice, and that before what is not of its kind.
 const ROWS: &[Row] = &[
-    Row(ONCE, EITHER, "\ninv 0 0\npair 1 single\nend\n", Ok(&[1])),
-    Row(FALSE, EITHER, "\ninv 0 0\nend\n", Ok(&[])),
-    Row(RESET, EITHER, "\ninv 0 0\npair 1 fixed\nend\n", Ok(&[1])),
+    Row(ONCE, EACH, "\ninv 0 0\npair 1 single\nend\n", Ok(&[1])),
+    Row(FALSE, EACH, "\ninv 0 0\nend\n", Ok(&[])),
+    Row(RESET, EACH, "\ninv 0 0\npair 1 fixed\nend\n", Ok(&[1])),
     Row(ONCE, &["1"], "\ninv 0 0\npair 1 single\n", Err(Form(34))),
     Row(
         ONCE,
@@ -58,98 +58,118 @@ const ROWS: &[Row] = &[
     Row(ONCE, &["20"], "\ninv 0 0\nend\n", Err(Version(20))),
     Row(
         FALSE,
-        &["3"],
+        &["4"],
         "\ninv 0 0\npair 1 depth 0\ni 1\ns 0 0\nend\n",
-        Err(Version(3)),
+        Err(Version(4)),
     ),
     Row(ONCE, &["9", "20"], "", Err(Form(0))),
     Row(ONCE, &["2"], "", Err(Form(11))),
     Row(ONCE, &["01", "02"], "\ninv 0 0\nend\n", Err(Form(0))),
     Row(
         ONCE,
-        EITHER,
+        EACH,
         "\ninv 0 0\npair 2 single\nend\n",
         Err(UnknownPair(2)),
     ),
     Row(
         ONCE,
-        EITHER,
+        EACH,
         "\ninv 0 0\npair 0 single\nend\n",
         Err(UnknownPair(0)),
     ),
     Row(
         ONCE,
-        EITHER,
+        EACH,
         "\ninv 0 0\npair 1 single\npair 1 single\nend\n",
         Err(TwicePair(1)),
     ),
     Row(
         ONCE,
-        EITHER,
+        EACH,
         "\ninv 0 0\npair 1 single\npair 1 single\npair 3 single\nend\n",
         Err(UnknownPair(3)),
     ),
     Row(
         FALSE,
-        EITHER,
+        EACH,
         "\ninv 0 0\npair 1 single\npair 1 single\nend\n",
         Err(TwicePair(1)),
     ),
     Row(
         FALSE,
-        EITHER,
+        EACH,
         "\ninv 0 0\npair 1 single\nend\n",
         Err(NotTrivial(1)),
     ),
     Row(
         FALSE,
-        EITHER,
+        EACH,
         "\ninv 0 0\npair 1 fixed\nend\n",
         Err(NotTrivial(1)),
     ),
     Row(
         RESET_ONCE,
-        EITHER,
+        EACH,
         "\ninv 0 0\npair 1 fixed\nend\n",
         Err(NotTrivial(1)),
     ),
     Row(
         ONCE,
-        EITHER,
+        EACH,
         "\ninv 0 0\npair 1 depth 0\ni 0\nend\n",
         Err(NotTrivial(1)),
     ),
     Row(
         FALSE,
-        EITHER,
+        EACH,
         "\ninv 0 0\npair 1 depth 0\ni 0\nend\n",
         Err(Pair(1, NotEmpty)),
     ),
     Row(
         FALSE,
-        EITHER,
+        EACH,
         "\ninv 0 0\npair 1 depth 0\ni 1\ns 0 0\nend\n",
         Err(Pair(1, NoConflict(1))),
     ),
     Row(
         FALSE,
-        EITHER,
+        EACH,
         "\ninv 0 0\npair 1 depth 0\ni 1\ns 0 999999 0\nend\n",
         Err(Pair(1, HintMissing(1))),
     ),
     // Register 8 is none of the two; register 0 has no derivation.
     Row(
         FALSE,
-        EITHER,
+        EACH,
         "\ninv 1 1\nk 9\nb 0\ni 0\nend\n",
         Err(UnknownRegister(1)),
     ),
     Row(
         FALSE,
-        EITHER,
+        EACH,
         "\ninv 1 1\nk 1\nb 0\ni 0\nend\n",
         Err(Invariant(1, NotEmpty)),
     ),
+    // A third literal stands in version 3 alone, its register above the second one's.
+    Row(
+        FALSE,
+        &["1", "2"],
+        "\ninv 1 1\nk 1 2 9\nb 0\ni 0\nend\n",
+        Err(Form(20)),
+    ),
+    Row(
+        FALSE,
+        &["3"],
+        "\ninv 1 1\nk 1 2 9\nb 0\ni 0\nend\n",
+        Err(UnknownRegister(1)),
+    ),
+    Row(
+        FALSE,
+        &["3"],
+        "\ninv 1 1\nk 1 9 2\nb 0\ni 0\nend\n",
+        Err(Form(20)),
+    ),
+    Row(FALSE, EACH, "\ninv 1 1\nk\nb 0\ni 0\nend\n", Err(Form(20))),
 ];
 
 // Each front of a text that is accepted ends early.

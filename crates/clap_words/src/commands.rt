@@ -6,7 +6,7 @@ use crate::commands::Form::{Flag, Needed, Valued};
 use crate::rules::ValueRule;
 
 /// The program's version, and that of the certificates.
-pub const VERSION: &str = "0.9.0 (reads certificates sdcv-cert 1 and 2, writes 2)";
+pub const VERSION: &str = "0.9.0 (reads certificates sdcv-cert 1 to 3, writes 2)";
 
 /// What help says of the program.
 pub const ABOUT: &str =

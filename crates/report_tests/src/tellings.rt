@@ -50,7 +50,7 @@ const BEGINNINGS: &[(&str, &str)] = &[
     ),
     (
         "--version",
-        "sdcv 0.9.0 (reads certificates sdcv-cert 1 and 2, writes 2)\n",
+        "sdcv 0.9.0 (reads certificates sdcv-cert 1 to 3, writes 2)\n",
     ),
     ("--help", "Prove or refute the timing exceptions"),
     ("help", "Prove or refute the timing exceptions"),

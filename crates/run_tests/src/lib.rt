@@ -31,6 +31,8 @@ mod hosts;
 #[cfg(test)]
 mod judged_rows;
 #[cfg(test)]
+mod long_clauses;
+#[cfg(test)]
 mod other_rows;
 #[cfg(test)]
 mod synthesised;
