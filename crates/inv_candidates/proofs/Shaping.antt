@@ -1,6 +1,6 @@
--- The clauses that are tried are in form: of one or two literals, over different registers in ascending order.
+-- The clauses that are tried are in form: of a literal at least, over different registers in ascending order.
 use Rattle.std.proofs.Common.{arith, ◌≡◌, ◌≢◌, ℕ, suc, ◌<◌, ◌≤◌, Bool, true, false, List, [], ◌∷◌}
-use Rattle.std.proofs.Common.{Some, refl, sym, ap, subst, ◌∙◌, flat_map, All, if◌then◌else◌, nat_lt}
+use Rattle.std.proofs.Common.{Some, length, refl, sym, ap, subst, ◌∙◌, flat_map, All, if◌then◌else◌, nat_lt}
 use Rattle.std.proofs.lemmas.Bool.Decides.{nat_tests}
 use Rattle.std.proofs.lemmas.List.Elements.{All-nil, All-cons, All-append, All-take}
 use Rattle.std.proofs.lemmas.Option.{slice_get-get_or}
@@ -9,7 +9,7 @@ use Rattle.net_model.specs.declared.netlist.Design.{Design}
 use Rattle.net_model.specs.declared.claims.Claim.{Claim}
 use Rattle.net_model.specs.declared.invariants.InvClause.{InvClause}
 use Rattle.net_model.specs.Fits.{NamesRegs}
-use Rattle.verdict_types.specs.Forms.{AreOneOrTwo, IsKeptClause}
+use Rattle.verdict_types.specs.Forms.{AreAscending, IsKeptClause}
 use Rattle.inv_candidates.specs.Near.{Differ}
 use Rattle.inv_candidates.proofs.Grouping.{differ_in_order}
 use Rattle.inv_candidates.specs.Clauses.{lit, one_of, two_of, single_clauses, pair_clauses, all_pairs, group_clauses}
@@ -17,23 +17,29 @@ use Rattle.inv_candidates.specs.Candidates.{AreGroups, No_claims, Counts, Skips,
 use Rattle.inv_candidates.proofs.Adding.{adds_all}
 use Rattle.inv_candidates.proofs.Standing.{all_flat}
 
-abbrev IsShort : InvClause → Type 0
-IsShort clause = AreOneOrTwo clause.lits
+record IsShort (clause : InvClause) : Type 0 where
+  some : 0 < length clause.lits
+  ascend : AreAscending clause.lits
 
 -- whichever of two registers is the smaller stands first
 two_by : (r s : ℕ) (value other test : Bool) → nat_lt r s ≡ test → r ≢ s
     → IsShort (if test then record { lits = lit r value ∷ lit s other ∷ [] } else record { lits = lit s other ∷ lit r value ∷ [] })
-two_by r s value other true less differ = let low : r < s = grind (arith, nat_tests) in low
+two_by r s value other true less differ = let low : r < s = grind (arith, nat_tests) in record { some = omega arith; ascend = (low, tt) }
 two_by r s value other false more differ =
     let high : s ≤ r = grind (arith, nat_tests) in
     let low : s < r = omega (arith, high, differ) in
-    low
+    record { some = omega arith; ascend = (low, tt) }
 
 two_short : (r : ℕ) (value : Bool) (s : ℕ) (other : Bool) → r ≢ s → IsShort (two_of r value s other)
 two_short r value s other differ = two_by r s value other (nat_lt r s) refl differ
 
+one_short : (r : ℕ) (value : Bool) → IsShort (one_of r value)
+one_short r value = record { some = omega arith; ascend = tt }
+
 single_short : (r : ℕ) → All IsShort (single_clauses r)
-single_short r = All-cons IsShort (one_of r false) (one_of r true ∷ []) tt (All-cons IsShort (one_of r true) [] tt (All-nil IsShort))
+single_short r =
+    All-cons IsShort (one_of r false) (one_of r true ∷ []) (one_short r false)
+    (All-cons IsShort (one_of r true) [] (one_short r true) (All-nil IsShort))
 
 pair_short : (r s : ℕ) → r ≢ s → All IsShort (pair_clauses r s)
 pair_short r s differ =
@@ -74,7 +80,9 @@ candidates_short d claims clauses are =
 pub candidates_in_form : (d : Design) (claims : List Claim) (clauses : List InvClause) → IsSound d → AreCandidates d claims clauses
     → All (NamesRegs d) clauses → All IsKeptClause clauses
 candidates_in_form d claims clauses sound are names = λ k c low.
+    let short = candidates_short d claims clauses are k c low in
     record {
-      short = candidates_short d claims clauses are k c low;
+      some = short.some;
+      ascend = short.ascend;
       small = λ i l within. (let named = names k c low i l within in omega (arith, named, sound.limits.regs));
     }
