@@ -1,6 +1,7 @@
 -- The certificate of what was found is accepted.
-use Rattle.std.proofs.Common.{◌≡◌, ℕ, zero, suc, ◌+◌, ◌<◌, ◌≤◌, Option, Some, List, [], ◌∷◌, length, refl, subst, arith}
+use Rattle.std.proofs.Common.{if◌then◌else◌, Bool, true, false, ◌≡◌, ℕ, zero, suc, ◌+◌, ◌<◌, ◌≤◌, Option, Some, List, [], ◌∷◌, length, refl, subst, arith}
 use Rattle.std.specs.Prelude.{All, Contains, slice_get}
+use Rattle.std.specs.List.{list_any}
 use Rattle.std.proofs.lemmas.Option.{slice_get_within}
 use Rattle.std.proofs.lemmas.List.Elements.{All-map}
 use Rattle.net_model.proofs.Existence.{item_at}
@@ -18,6 +19,7 @@ use Rattle.verdict_types.specs.declared.outcomes.Proof.{Proof}
 use Rattle.verdict_types.specs.declared.outcomes.Proof.TheVariants.{Single, Fixed, Depth}
 use Rattle.verdict_types.specs.declared.outcomes.Verdict.{Verdict}
 use Rattle.verdict_types.specs.declared.outcomes.Verdict.TheVariants.{Justified, Refuted, Undecided}
+use Rattle.cert_values.specs.Versions.{coding_of, is_long, version_for}
 use Rattle.cert_values.specs.Certs.{HasBases, IsComplete, listed_numbers, justified_from, cert_of}
 use Rattle.cert_values.specs.declared.certs.PairProof.{PairProof}
 use Rattle.cert_defs.specs.Listed.{item_numbered, IsClaimNumber, IsListed, Suits}
@@ -123,6 +125,14 @@ known_right d claims kept limits verdicts right =
     let within = slice_get_within claims it.place it.claim it.claim_at in
     let e = it.number_is in
     (omega (arith, e), omega (arith, e, within))))
+
+-- what is written speaks of the formulas that are asked, whatever is kept
+pub written_coding : (kept : List InvClause) → coding_of (version_for kept) ≡ own_coding
+written_coding kept = by (list_any is_long kept)
+  where
+    by : (long : Bool) → coding_of (if long then 3 else 2) ≡ own_coding
+    by true = refl
+    by false = refl
 
 -- where nothing is kept at depth 0
 none_kept : (kept : List InvClause) (depth : ℕ) → ((clause : InvClause) → Contains kept clause → 0 < depth) → depth ≡ 0 → kept ≡ []
