@@ -97,7 +97,16 @@ abbrev empty : List ℕ → Module
 empty name = record { name = name; ports = []; nets = []; items = [] }
 
 abbrev pub no_options : LinkOptions
-no_options = record { clock = None; fixed = []; resets = []; reset_len = 0 }
+no_options = record {
+  clock = None;
+  fixed = [];
+  resets = [];
+  reset_len = 0;
+  wide = false;
+  top = None;
+  free = [];
+  cut_clocks = false;
+}
 
 -- module top (); endmodule beside it
 contains_itself : IsCause (record { modules = inner ∷ empty (codes "top") ∷ [] }) builtin no_options (fault.Recursive (codes "m"))
