@@ -88,7 +88,8 @@ cell_in d cells k (Some c) pin all is has = outs_in d c c.reg (spec.is_on_tree c
 place_in : (d : Design) (c : CellName) (place : ℕ) (p : Option PinName) (pin : PinRef) → IsSound d → IsCellOf d c → slice_get c.pins place ≡ p
     → In pin (spec.meant_by (spec.role_row d c.reg p).through) → IsPinIn d pin
 place_in d c place None pin sound is here has = absurd has
-place_in d c place (Some p) pin sound is here has = role_in d c.reg p.role pin sound (All-at (λ (q : PinName). IsRoleOf d q.role) c.pins place p here is.pins) has
+place_in d c place (Some p) pin sound is here has =
+    role_in d c.reg p.role pin sound (All-at (λ (q : PinName). IsRoleOf d q.role) c.pins place p here is.pins) has
 
 pin_at_in : (d : Design) (cells : List CellName) (k place : ℕ) (c : Option CellName) (pin : PinRef) → IsSound d → All (IsCellOf d) cells
     → slice_get cells k ≡ c → In pin (spec.meant_by (spec.pin_at_row d c place).through) → IsPinIn d pin
@@ -212,12 +213,14 @@ ports_in l q t usable has =
       | inl before ↦ elim (In-cases t ins port before) [
         | inl input ↦
             let is = from_each (named.bit_named q InSide) 0 l.names.ins t input in
-            bit_thing l q (0 + is.place) is.item t (within_inputs l (0 + is.place) usable (omega (arith, slice_get_within l.names.ins is.place is.item is.here))) is.of
+            let low = within_inputs l (0 + is.place) usable (omega (arith, slice_get_within l.names.ins is.place is.item is.here)) in
+            bit_thing l q (0 + is.place) is.item t low is.of
         | inr clock ↦ clock_port_thing l q l.names.clock t clock
       ]
       | inr output ↦
           let is = from_each (named.bit_named q OutSide) 0 l.names.outs t output in
-          out_thing l q (0 + is.place) is.item t (within_outputs l (0 + is.place) usable (omega (arith, slice_get_within l.names.outs is.place is.item is.here))) is.of
+          let low = within_outputs l (0 + is.place) usable (omega (arith, slice_get_within l.names.outs is.place is.item is.here)) in
+          out_thing l q (0 + is.place) is.item t low is.of
     ]
 
 cell_thing : (l : Linked) (q : Query) (k : ℕ) (c : CellName) (t : Thing) → In t (named.cell_named q k c) → IsThingIn l t
@@ -256,11 +259,13 @@ things_in l script (Named q) t usable has =
     found_in l script q first.0 t usable first.1
 things_in l script AllInputs t usable has =
     let is = from_each (λ i (p : PortName). thing.In i ∷ []) 0 l.names.ins t has in
-    let low : 0 + is.place < length l.design.inputs = within_inputs l (0 + is.place) usable (omega (arith, slice_get_within l.names.ins is.place is.item is.here)) in
+    let low : 0 + is.place < length l.design.inputs =
+    within_inputs l (0 + is.place) usable (omega (arith, slice_get_within l.names.ins is.place is.item is.here)) in
     subst (IsThingIn l) (single_is (thing.In (0 + is.place)) t is.of) low
 things_in l script AllOutputs t usable has =
     let is = from_each (λ o (p : PortName). thing.Out o ∷ []) 0 l.names.outs t has in
-    let low : 0 + is.place < length l.design.outputs = within_outputs l (0 + is.place) usable (omega (arith, slice_get_within l.names.outs is.place is.item is.here)) in
+    let low : 0 + is.place < length l.design.outputs =
+    within_outputs l (0 + is.place) usable (omega (arith, slice_get_within l.names.outs is.place is.item is.here)) in
     subst (IsThingIn l) (single_is (thing.Out (0 + is.place)) t is.of) low
 things_in l script AllRegisters t usable has =
     let is = from_each (λ k (c : CellName). named.cell_of_reg k c.reg) 0 l.names.cells t has in

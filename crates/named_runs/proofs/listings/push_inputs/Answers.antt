@@ -11,5 +11,6 @@ loop-place-init c = sym (append-nil c.args.text.now.items)
 
 pub loop-place-preserved : goal.loop-place-preserved
 loop-place-preserved c =
-    numbered_added spec.input_row 0 c.loop-place.place c.loop-place.place (input_names c.args.names.now) c.input.result.now c.args.text.now.items c.loop-place.text.items
+    numbered_added spec.input_row 0 c.loop-place.place c.loop-place.place (input_names c.args.names.now)
+    c.input.result.now c.args.text.now.items c.loop-place.text.items
     c.push_row.new.text.items c.input.ensures (omega arith) c.loop-place.invariant c.in_ok-push_row.ensures
