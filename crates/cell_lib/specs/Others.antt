@@ -25,12 +25,16 @@ is_store part.Statetable = true
 is_store part.Memory = true
 is_store _ = false
 
+-- a flop or a latch stands among the groups; a table of states or a memory does
+abbrev pub has_bits : List Part → Bool
+has_bits parts = list_any (λ (p : Part). are_bits p.kind) parts
+
+abbrev pub has_store : List Part → Bool
+has_store parts = list_any (λ (p : Part). is_store p.kind) parts
+
 -- bits where a flop or a latch stands in the cell, else a memory where a table of states or a memory does, else nothing
 abbrev pub keeps_of : List Part → Keeps
-keeps_of parts =
-    if list_any (λ (p : Part). are_bits p.kind) parts then keeps.Bits
-    else if list_any (λ (p : Part). is_store p.kind) parts then keeps.Memory
-    else keeps.Nothing
+keeps_of parts = if has_bits parts then keeps.Bits else if has_store parts then keeps.Memory else keeps.Nothing
 
 -- the output pins, buses and bundles, each once, and what the cell keeps
 abbrev pub other_of : List Part → OtherCell

@@ -24,13 +24,27 @@ fn is_store(kind: PartKind) -> bool
     matches!(kind, PartKind::Statetable | PartKind::Memory)
 }
 
+/// Whether a flop or a latch stands among these groups.
+fn has_bits(parts: &[Part]) -> bool
+    ensures { result ≡ spec.has_bits parts.now }
+{
+    parts.iter().any(|part| are_bits(part.kind))
+}
+
+/// Whether a table of states or a memory does.
+fn has_store(parts: &[Part]) -> bool
+    ensures { result ≡ spec.has_store parts.now }
+{
+    parts.iter().any(|part| is_store(part.kind))
+}
+
 /// What a cell with these groups keeps.
 fn keeps_of(parts: &[Part]) -> Keeps
     ensures { result ≡ spec.keeps_of parts.now }
 {
-    if parts.iter().any(|part| are_bits(part.kind)) {
+    if has_bits(parts) {
         Keeps::Bits
-    } else if parts.iter().any(|part| is_store(part.kind)) {
+    } else if has_store(parts) {
         Keeps::Memory
     } else {
         Keeps::Nothing
