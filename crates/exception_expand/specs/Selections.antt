@@ -68,7 +68,7 @@ IsSelected l script x = (c : Command) × (slice_get script.commands x.command �
 -- exceptions are numbered from 1, whether they claim anything or not
 abbrev pub is_exception : What → Bool
 is_exception (Claiming e) = true
-is_exception Hold = true
+is_exception (Hold held) = true
 is_exception (Aside option) = true
 is_exception _ = false
 
@@ -110,7 +110,7 @@ command_line line listing told = record { line = line; listing = listing; warnin
 -- an exception as it is listed, a claiming one with the number of its pairs; no other command is listed
 abbrev pub lines_by : Linked → Script → ℕ → ℕ → What → List CommandLine
 lines_by l script count line (Claiming e) = command_line line (ListsClaims e.kind e.edge count) (exception_warnings l script e) ∷ []
-lines_by l script count line Hold = command_line line ListsHold [] ∷ []
+lines_by l script count line (Hold held) = command_line line ListsHold [] ∷ []
 lines_by l script count line (Aside option) = command_line line (ListsAside option) [] ∷ []
 lines_by l script count line _ = []
 

@@ -76,7 +76,7 @@ returns-clause-ok c =
     let lib = c.args.netlist.now.library.now in
     let inner = c.in_ok-inner.inner in
     let made = c.in_ok-made.ensures.ok in
-    subst (λ (n : Names). IsLinked s lib c.args.options.now (record { design = c.in_ok-design.design; names = n })) (sym c.whole.ensures)
+    subst (λ (n : Names). IsLinked s lib c.args.options.now (record { design = c.in_ok-design.design; names = n })) (sym c.whole-names.ensures)
     (joined_linked s lib c.args.options.now (module_at s c.args.top) c.args.ports c.args.c.now c.in_ok-made.made inner.gated c.in_ok-design.design
     inner.nets inner.cells inner.clock (top_is s c.args.top c.requires.top) c.requires.circuit
     (lawful_below s lib c.args.top c.args.options.now.clock c.args.c.now c.args.netlist.now.lawful_source c.args.netlist.now.lawful_library
@@ -95,7 +95,7 @@ returns-clause-usable c =
     let lib = c.args.netlist.now.library.now in
     let inner = c.in_ok-inner.inner in
     let made = c.in_ok-made.ensures.ok in
-    subst (λ (n : Names). IsUsable (record { design = c.in_ok-design.design; names = n })) (sym c.whole.ensures)
+    subst (λ (n : Names). IsUsable (record { design = c.in_ok-design.design; names = n })) (sym c.whole-names.ensures)
     (joined_usable s lib c.args.options.now (module_at s c.args.top) c.args.ports c.args.c.now c.in_ok-made.made inner.gated c.in_ok-design.design
     inner.nets inner.cells inner.clock c.requires.circuit
     (lawful_below s lib c.args.top c.args.options.now.clock c.args.c.now c.args.netlist.now.lawful_source c.args.netlist.now.lawful_library
