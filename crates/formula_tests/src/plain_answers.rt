@@ -209,7 +209,7 @@ pub fn run_of(
         let cycle = settled(rt, alloc, design, bits, ins.copy(alloc)?)?;
         let mut next = Cycle::blank(alloc, design)?;
         step(design, &cycle, &mut next);
-        bits = next.bits;
+        bits = next.bits.copy(alloc)?;
         run.push(cycle)?;
     }
     Ok(run)
