@@ -167,6 +167,8 @@ fn push_role(text: &mut String, role: &PinRole) -> Result<(), Fail> {
         PinRole::Clock => Ok(text.push_str("@")?),
         PinRole::Drive(net) => Ok(write!(text, ">{net}")?),
         PinRole::Load(pins) => push_loads(text, pins.as_slice()),
+        PinRole::Source(input) => Ok(write!(text, "<{input}")?),
+        PinRole::Sink(output) => Ok(write!(text, ">>{output}")?),
     }
 }
 
