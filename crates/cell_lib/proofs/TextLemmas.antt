@@ -19,7 +19,7 @@ use Rattle.cell_lib.specs.Cells.{cell_of}
 use Rattle.lib_words.specs.declared.faults.GroupFault.{GroupFault}
 use Rattle.lib_words.specs.declared.faults.GroupFault.TheVariants as group_fault
 use Rattle.lib_words.specs.Reads.{Fails}
-use Rattle.lib_words.specs.Told.{of_groups}
+use Rattle.cell_lib.specs.Told.{of_groups}
 use Rattle.cell_lib.specs.Texts.{first_of, broken_in, deep_in, names, cells_made, library_of, StandsTwice, Refuses}
 use Rattle.cell_lib.proofs.LawfulCells.{cells_lawful}
 

@@ -7,4 +7,5 @@ pub mod Others
 pub mod Pins
 pub mod Scopes
 pub mod Texts
+pub mod Told
 pub mod Values

@@ -6,7 +6,6 @@ pub mod Lists
 pub mod Marks
 pub mod Reads
 pub mod Runs
-pub mod Told
 pub mod Tokens
 pub mod Values
 pub mod Passes

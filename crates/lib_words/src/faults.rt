@@ -1,9 +1,7 @@
 //! Why a text is no group tree.
 ghost use Rattle.std.specs.Prelude.{◌≡◌};
 ghost use Rattle.lib_words.specs.declared.faults.GroupFault.TheVariants as fault;
-ghost use Rattle.lib_words.specs.Told.{of_groups};
 
-use cell_types::LibFault;
 use std::alloc::{AllocError, AllocFailed};
 use thiserror::Error;
 
@@ -33,17 +31,5 @@ impl<T: Drop> From<AllocFailed<T>> for GroupFault {
 
     fn from(_: AllocFailed<T>) -> GroupFault {
         GroupFault::Memory
-    }
-}
-
-impl From<GroupFault> for LibFault {
-    ghost from_gives = { λ f e. e ≡ of_groups f };
-
-    fn from(fault: GroupFault) -> LibFault {
-        match fault {
-            GroupFault::Syntax(place) => LibFault::Syntax(place),
-            GroupFault::Deep(place) => LibFault::Deep(place),
-            GroupFault::Memory => LibFault::Memory,
-        }
     }
 }
