@@ -11,9 +11,13 @@ shift 4
 yosys -q -p "
 read_liberty -lib -ignore_miss_func $lib
 read_verilog -sv $rtl
-synth -top $top -flatten
-# an inout port stops here: yosys takes z for any value that suits it
+# three-state outputs and inout ports stop here: yosys takes z for any value that suits it
+hierarchy -top $top
+proc
+tribuf
+select -assert-none t:\$tribuf
 select -assert-none i:* o:* %i
+synth -top $top -flatten
 # the registers get names while the nets of the RTL are there
 rename -wire -suffix _reg t:\$_*FF*
 # what is cut; where it drove an output port, that becomes an input port
