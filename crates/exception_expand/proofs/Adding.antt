@@ -10,6 +10,7 @@ use Rattle.net_paths.proofs.Sifting.{those_none}
 use Rattle.linked_types.specs.declared.names.Linked.{Linked}
 use Rattle.selected_types.specs.declared.faults.ExpandFault.{ExpandFault}
 use Rattle.selected_types.specs.declared.faults.ExpandFault.TheVariants.{TwoClocks, ClockNotPort, CaseTwice, CaseOnReset, CaseOnPin, Limit, Memory}
+use Rattle.selected_types.specs.declared.faults.ExpandFault.TheVariants.{NoClock, Generated as GeneratedClock}
 use Rattle.script_types.specs.declared.scripts.Exception.{Exception}
 use Rattle.script_types.specs.declared.scripts.What.{What}
 use Rattle.script_types.specs.declared.scripts.What.TheVariants.{Clock, Case, Claiming, Hold, Aside, Passed, Unjudged, Scope, Generated, Delay}
@@ -109,6 +110,8 @@ choice_cause l script judging k c e old here claiming before (ClockNotPort line)
 choice_cause l script judging k c e old here claiming before (CaseTwice first second) cause = absurd cause
 choice_cause l script judging k c e old here claiming before (CaseOnReset line name) cause = absurd cause
 choice_cause l script judging k c e old here claiming before (CaseOnPin line name) cause = absurd cause
+choice_cause l script judging k c e old here claiming before (NoClock name) cause = absurd cause
+choice_cause l script judging k c e old here claiming before (GeneratedClock line) cause = absurd cause
 
 want_of_memory : (l : Linked) (script : Script) (judging : Judging) (fault : ExpandFault) → fault ≡ Memory → IsExpandCause l script judging fault
 want_of_memory l script judging fault is = subst (IsExpandCause l script judging) (sym is) tt

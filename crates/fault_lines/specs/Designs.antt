@@ -31,3 +31,5 @@ expand_line (expand.CaseOnReset line name) = Some (numbered_line (codes "refused
 expand_line (expand.CaseOnPin line name) = Some (numbered_line (codes "refused expand 5 CaseOnPin") line name)
 expand_line (expand.Limit what number) = Some (limit_line (codes "refused expand 6 Limit") what number)
 expand_line expand.Memory = None
+expand_line (expand.NoClock name) = Some (name_line (codes "refused expand 8 NoClock") name)
+expand_line (expand.Generated line) = Some (number_line (codes "refused expand 9 Generated") line)

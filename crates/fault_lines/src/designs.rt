@@ -58,5 +58,7 @@ pub fn expand_line(alloc: Global, fault: &ExpandFault) -> Result<Vec<u8>, AllocE
             limit_line(alloc, "refused expand 6 Limit", *what, *number)
         }
         ExpandFault::Memory => Err(AllocError),
+        ExpandFault::NoClock(name) => name_line(alloc, "refused expand 8 NoClock", name),
+        ExpandFault::Generated(line) => number_line(alloc, "refused expand 9 Generated", *line),
     }
 }

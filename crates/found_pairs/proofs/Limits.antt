@@ -89,3 +89,5 @@ memory_alone l lines judging chosen (fault.ClockNotPort line) those few is = abs
 memory_alone l lines judging chosen (fault.CaseTwice first second) those few is = absurd is
 memory_alone l lines judging chosen (fault.CaseOnReset line name) those few is = absurd is
 memory_alone l lines judging chosen (fault.CaseOnPin line name) those few is = absurd is
+memory_alone l lines judging chosen (fault.NoClock name) those few is = absurd is
+memory_alone l lines judging chosen (fault.Generated line) those few is = absurd is

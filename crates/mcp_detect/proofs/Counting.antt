@@ -109,3 +109,5 @@ cause_of_fault l judging (fault.ClockNotPort line) is = absurd is
 cause_of_fault l judging (fault.CaseTwice first second) is = absurd is
 cause_of_fault l judging (fault.CaseOnReset line name) is = absurd is
 cause_of_fault l judging (fault.CaseOnPin line name) is = absurd is
+cause_of_fault l judging (fault.NoClock name) is = absurd is
+cause_of_fault l judging (fault.Generated line) is = absurd is

@@ -125,6 +125,8 @@ settings_only script inputs resets s (fault.CaseOnPin line name) are (clock, has
     (subst (λ (o : Option (List ℕ)). IsCaseCause inputs o script.commands (fault.CaseOnPin line name)) same cause))
 settings_only script inputs resets s (fault.Limit what number) are cause = absurd cause
 settings_only script inputs resets s fault.Memory are cause = refl
+settings_only script inputs resets s (fault.NoClock name) are cause = absurd cause
+settings_only script inputs resets s (fault.Generated line) are cause = absurd cause
 
 -- so it has one answer
 pub one_settings : (script : Script) (inputs : List PortName) (resets : List Setting)

@@ -101,6 +101,8 @@ selection_only l script judging s (fault.ClockNotPort line) is cause = absurd ca
 selection_only l script judging s (fault.CaseTwice first later) is cause = absurd cause
 selection_only l script judging s (fault.CaseOnReset line name) is cause = absurd cause
 selection_only l script judging s (fault.CaseOnPin line name) is cause = absurd cause
+selection_only l script judging s (fault.NoClock name) is cause = absurd cause
+selection_only l script judging s (fault.Generated line) is cause = absurd cause
 
 -- and has one answer
 pub one_selection : (l : Linked) (script : Script) (judging : Judging)

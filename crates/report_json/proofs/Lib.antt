@@ -1,2 +1,3 @@
 mod Floats
 pub mod Lagging
+mod Worked

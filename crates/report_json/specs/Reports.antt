@@ -9,7 +9,7 @@ use Rattle.net_model.specs.declared.cycles.Stimulus.{Stimulus}
 use Rattle.sdcv_base.specs.Seqs.{each_at}
 use Rattle.selected_types.specs.declared.warnings.Warning.{Warning}
 use Rattle.selected_types.specs.declared.selections.Listing.{Listing}
-use Rattle.selected_types.specs.declared.selections.Listing.TheVariants.{Claiming, Hold, Aside}
+use Rattle.selected_types.specs.declared.selections.Listing.TheVariants.{Claiming, Hold, Aside, HoldSide}
 use Rattle.selected_types.specs.declared.selections.CommandLine.{CommandLine}
 use Rattle.selected_types.specs.declared.selections.PairLine.{PairLine}
 use Rattle.selected_types.specs.declared.selections.Selected.{Selected}
@@ -34,6 +34,7 @@ abbrev pub pairs_of : Listing → ℕ
 pairs_of (Claiming kind edge pairs) = pairs
 pairs_of Hold = 0
 pairs_of (Aside option) = 0
+pairs_of (HoldSide edge pairs) = pairs
 
 abbrev pub warnings_data : List Warning → Data
 warnings_data = texts_data warning_text

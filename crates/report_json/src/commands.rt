@@ -18,7 +18,7 @@ fn pairs_of(listing: &Listing) -> u64
     ensures { result ≡ pairs_of listing.now }
 {
     match listing {
-        Listing::Claiming(_kind, _edge, pairs) => *pairs,
+        Listing::Claiming(_, _, pairs) | Listing::HoldSide(_, pairs) => *pairs,
         Listing::Hold | Listing::Aside(_) => 0,
     }
 }

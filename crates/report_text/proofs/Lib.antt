@@ -2,3 +2,4 @@ mod Lining
 pub mod Rowing
 mod Passing
 pub mod ReadBack
+mod Worked

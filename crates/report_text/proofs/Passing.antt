@@ -16,9 +16,9 @@ use Rattle.net_model.specs.declared.queries.Phase.{Phase}
 use Rattle.net_model.specs.declared.queries.Phase.TheVariants.{Base, Step}
 use Rattle.sdcv_base.specs.Seqs.{each_at}
 use Rattle.selected_types.specs.declared.warnings.Warning.{Warning}
-use Rattle.selected_types.specs.declared.warnings.Warning.TheVariants.{Nothing, Dropped}
+use Rattle.selected_types.specs.declared.warnings.Warning.TheVariants.{Nothing, Dropped, Several, Crossed, Beyond}
 use Rattle.selected_types.specs.declared.selections.Listing.{Listing}
-use Rattle.selected_types.specs.declared.selections.Listing.TheVariants.{Claiming, Hold, Aside}
+use Rattle.selected_types.specs.declared.selections.Listing.TheVariants.{Claiming, Hold, Aside, HoldSide}
 use Rattle.selected_types.specs.declared.selections.CommandLine.{CommandLine}
 use Rattle.selected_types.specs.declared.selections.PairLine.{PairLine}
 use Rattle.verdict_types.specs.declared.outcomes.Proof.{Proof}
@@ -73,15 +73,20 @@ inline_what : (listing : Listing) → is_inline (what_text listing) ≡ true
 inline_what (Claiming kind edge pairs) = inline_claim kind edge
 inline_what Hold = refl
 inline_what (Aside option) = inline_shown option
+inline_what (HoldSide edge pairs) = inline_edge edge
 
 inline_count : (listing : Listing) → is_inline (count_text listing) ≡ true
 inline_count (Claiming kind edge pairs) = inline_decimal pairs
 inline_count Hold = refl
 inline_count (Aside option) = refl
+inline_count (HoldSide edge pairs) = inline_decimal pairs
 
 inline_warning : (warning : Warning) → is_inline (warning_text warning) ≡ true
 inline_warning (Nothing pattern) = inline_shown pattern
 inline_warning (Dropped pattern count) = simp (inline-append, inline_shown, inline_decimal)
+inline_warning (Several pattern) = inline_shown pattern
+inline_warning (Crossed count) = inline_decimal count
+inline_warning (Beyond count) = inline_decimal count
 
 inline_word : (v : Verdict) → is_inline (verdict_word v) ≡ true
 inline_word (Justified proof) = refl

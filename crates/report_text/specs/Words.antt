@@ -11,9 +11,9 @@ use Rattle.net_model.specs.declared.claims.Claim.{Claim}
 use Rattle.net_model.specs.declared.queries.Phase.{Phase}
 use Rattle.net_model.specs.declared.queries.Phase.TheVariants.{Base, Step}
 use Rattle.selected_types.specs.declared.warnings.Warning.{Warning}
-use Rattle.selected_types.specs.declared.warnings.Warning.TheVariants.{Nothing, Dropped}
+use Rattle.selected_types.specs.declared.warnings.Warning.TheVariants.{Nothing, Dropped, Several, Crossed, Beyond}
 use Rattle.selected_types.specs.declared.selections.Listing.{Listing}
-use Rattle.selected_types.specs.declared.selections.Listing.TheVariants.{Claiming, Hold, Aside}
+use Rattle.selected_types.specs.declared.selections.Listing.TheVariants.{Claiming, Hold, Aside, HoldSide}
 use Rattle.selected_types.specs.declared.selections.CommandLine.{CommandLine}
 use Rattle.selected_types.specs.declared.selections.PairLine.{PairLine}
 use Rattle.verdict_types.specs.declared.outcomes.Proof.{Proof}
@@ -63,21 +63,27 @@ abbrev pub what_text : Listing → List ℕ
 what_text (Claiming kind edge pairs) = claim_text kind edge
 what_text Hold = codes "hold"
 what_text (Aside option) = codes "aside " ⁀ shown option
+what_text (HoldSide edge pairs) = codes "false hold" ⁀ edge_text edge
 
 -- how many pairs it claims something of
 abbrev pub count_text : Listing → List ℕ
 count_text (Claiming kind edge pairs) = codes " pairs " ⁀ decimal pairs
 count_text Hold = []
 count_text (Aside option) = []
+count_text (HoldSide edge pairs) = codes " pairs " ⁀ decimal pairs
 
 abbrev pub command_text : ℕ → CommandLine → List ℕ
 command_text number c =
     codes "command " ⁀ decimal number ⁀ codes " line " ⁀ decimal c.line ⁀ codes " " ⁀ what_text c.listing ⁀ count_text c.listing
 
--- nothing goes by a pattern, or so many of the things that it names can't stand in its place
+-- nothing goes by a pattern, so many of the things that it names can't stand in its place, or it names things of two classes; so many
+-- pairs may be joined through what is cut, or so many starts and ends lead there where a list is not given
 abbrev pub warning_text : Warning → List ℕ
 warning_text (Nothing pattern) = codes "nothing " ⁀ shown pattern
 warning_text (Dropped pattern count) = codes "dropped " ⁀ shown pattern ⁀ codes " " ⁀ decimal count
+warning_text (Several pattern) = codes "several " ⁀ shown pattern
+warning_text (Crossed count) = codes "crossed " ⁀ decimal count
+warning_text (Beyond count) = codes "beyond " ⁀ decimal count
 
 abbrev pub warning_line : ℕ → Warning → List ℕ
 warning_line number warning = codes "warning command " ⁀ decimal number ⁀ codes " " ⁀ warning_text warning

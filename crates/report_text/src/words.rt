@@ -62,6 +62,10 @@ pub fn what_text(alloc: Global, listing: &Listing) -> Result<String, AllocError>
         Listing::Claiming(kind, edge, _pairs) => claim_text(alloc, *kind, *edge),
         Listing::Hold => String::from_str(alloc, "hold"),
         Listing::Aside(option) => format!(in alloc; "aside {option}"),
+        Listing::HoldSide(edge, _pairs) => {
+            let edge = edge_text(*edge);
+            format!(in alloc; "false hold{edge}")
+        }
     }
 }
 
@@ -70,17 +74,22 @@ pub(crate) fn count_text(alloc: Global, listing: &Listing) -> Result<String, All
     ensures { IfOk result (λ text. string_bytes text ≡ count_text listing.now) }
 {
     match listing {
-        Listing::Claiming(_kind, _edge, pairs) => format!(in alloc; " pairs {pairs}"),
+        Listing::Claiming(_, _, pairs) | Listing::HoldSide(_, pairs) => {
+            format!(in alloc; " pairs {pairs}")
+        }
         Listing::Hold | Listing::Aside(_) => Ok(String::new(alloc)),
     }
 }
 
-/// What a warning says of a pattern.
+/// What a warning says of a pattern, or of the lists of an exception.
 pub fn warning_text(alloc: Global, warning: &Warning) -> Result<String, AllocError>
     ensures { IfOk result (λ text. string_bytes text ≡ warning_text warning.now) }
 {
     match warning {
         Warning::Nothing(pattern) => format!(in alloc; "nothing {pattern}"),
         Warning::Dropped(pattern, count) => format!(in alloc; "dropped {pattern} {count}"),
+        Warning::Several(pattern) => format!(in alloc; "several {pattern}"),
+        Warning::Crossed(count) => format!(in alloc; "crossed {count}"),
+        Warning::Beyond(count) => format!(in alloc; "beyond {count}"),
     }
 }

@@ -11,6 +11,7 @@ use Rattle.script_types.specs.declared.scripts.Command.{Command}
 use Rattle.sdc_settings.specs.declared.cases.Given.{Given}
 use Rattle.selected_types.specs.declared.faults.ExpandFault.{ExpandFault}
 use Rattle.selected_types.specs.declared.faults.ExpandFault.TheVariants.{TwoClocks, ClockNotPort, CaseTwice, CaseOnReset, CaseOnPin, Limit, Memory}
+use Rattle.selected_types.specs.declared.faults.ExpandFault.TheVariants.{NoClock, Generated as GeneratedClock}
 use Rattle.sdc_settings.specs.Settings.{given, given_by, case_objects, case_places}
 use Rattle.sdc_settings.specs.Causes.{IsObjectCause, IsCaseCause}
 use Rattle.sdc_settings.proofs.Naming.{All-flat_map, case_places_within}
@@ -49,6 +50,8 @@ case_cause inputs clock commands c (CaseOnReset line name) has cause = cause
 case_cause inputs clock commands c (CaseOnPin line name) has cause = (c, has, cause)
 case_cause inputs clock commands c (Limit what number) has cause = cause
 case_cause inputs clock commands c Memory has cause = cause
+case_cause inputs clock commands c (NoClock name) has cause = cause
+case_cause inputs clock commands c (GeneratedClock line) has cause = cause
 
 -- a command that is no case analysis gives nothing
 pub other_gives_none : (inputs : List PortName) (clock : Option (List ℕ)) (line : ℕ) (what : What)

@@ -7,6 +7,7 @@ use Rattle.script_types.specs.declared.scripts.Command.{Command}
 use Rattle.script_types.specs.declared.scripts.Script.{Script}
 use Rattle.selected_types.specs.declared.faults.ExpandFault.{ExpandFault}
 use Rattle.selected_types.specs.declared.faults.ExpandFault.TheVariants.{TwoClocks, ClockNotPort, CaseTwice, CaseOnReset, CaseOnPin, Limit, Memory}
+use Rattle.selected_types.specs.declared.faults.ExpandFault.TheVariants.{NoClock, Generated}
 use Rattle.sdc_settings.specs.declared.cases.Given.{Given}
 use Rattle.sdc_settings.specs.Inputs.{name_at, object_text}
 use Rattle.sdc_settings.specs.Settings.{sourced, source_of, IsSourceOf, HasClock, all_given, case_objects, IsCaseObject, setting_names}
@@ -57,7 +58,8 @@ IsClockCause script inputs (ClockNotPort line) =
 IsClockCause script inputs Memory = Unit {0}
 IsClockCause script inputs _ = ⊥
 
--- the refusals of settings; those of case analyses come only where the clock is settled
+-- the refusals of settings; those of case analyses come only where the clock is settled, and no script is refused for a clock that
+-- is chosen by its name, or for a generated one
 abbrev pub IsSettingsCause : Script → List PortName → List Setting → ExpandFault → Type 0
 IsSettingsCause script inputs resets (TwoClocks first second) = IsClockCause script inputs (TwoClocks first second)
 IsSettingsCause script inputs resets (ClockNotPort line) = IsClockCause script inputs (ClockNotPort line)
@@ -69,3 +71,5 @@ IsSettingsCause script inputs resets (CaseOnPin line name) =
     (clock : Option (List ℕ)) × HasClock script inputs clock × IsCaseCause inputs clock script.commands (CaseOnPin line name)
 IsSettingsCause script inputs resets (Limit what number) = ⊥
 IsSettingsCause script inputs resets Memory = Unit {0}
+IsSettingsCause script inputs resets (NoClock name) = ⊥
+IsSettingsCause script inputs resets (Generated line) = ⊥

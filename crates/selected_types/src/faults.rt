@@ -6,7 +6,8 @@ use sdcv_base::{LimitName, Name};
 use std::alloc::{AllocError, AllocFailed};
 use thiserror::Error;
 
-/// Why a script gives no settings, or selects no pairs. Lines count from 1, and are those of the commands' first bytes.
+/// Why a script gives no settings, or selects no pairs. Lines count from 1, and are those of the commands' first bytes. No
+/// call tells a `NoClock` or a `Generated` yet.
 #[derive(Debug, Drop, Error)]
 pub enum ExpandFault {
     /// These are the first two clocks that have a source.
@@ -29,6 +30,12 @@ pub enum ExpandFault {
     Limit(LimitName, u64),
     #[error("out of memory")]
     Memory,
+    /// The clock of this name is to be judged, and no clock of it has a source.
+    #[error("no clock {0} has a source")]
+    NoClock(Name),
+    /// The generated clock of this line may clock a register that is judged by its source.
+    #[error("line {0}: a generated clock whose registers are judged by another")]
+    Generated(u64),
 }
 
 impl From<AllocError> for ExpandFault {

@@ -3,13 +3,17 @@ use crate::warnings::Warning;
 use net_model::Claim;
 use sdcv_base::{Edge, Kind, Name, Seq};
 
-/// What an exception does: it claims something of so many pairs, at these changes of their starts, or it is a `-hold` command, or this option, which it has,
-/// sets it aside.
+/// What an exception does. None is listed as a `HoldSide` yet.
 #[derive(Drop)]
 pub enum Listing {
+    /// It claims something of so many pairs, at these changes of their starts.
     Claiming(Kind, Edge, u64),
+    /// It is a `-hold` command, of which nothing is claimed.
     Hold,
+    /// This option, which it has, sets it aside.
     Aside(Name),
+    /// It is a `-hold` command of a false path that claims the hold side of so many pairs, at these changes of their starts.
+    HoldSide(Edge, u64),
 }
 
 /// An exception, the line of its first byte, from 1, and the warnings of its objects: those after `-from` or the like, after each

@@ -30,6 +30,7 @@ fn push_listing(text: &mut String, listing: &Listing) -> Result<(), AllocError> 
         }
         Listing::Hold => text.push_str("hold"),
         Listing::Aside(option) => write!(text, "aside {option}"),
+        Listing::HoldSide(edge, pairs) => write!(text, "false hold{} {pairs}", edge_word(*edge)),
     }
 }
 
@@ -37,6 +38,9 @@ fn push_warning(text: &mut String, warning: &Warning) -> Result<(), AllocError> 
     match warning {
         Warning::Nothing(pattern) => write!(text, " nothing {pattern}"),
         Warning::Dropped(pattern, count) => write!(text, " dropped {pattern} {count}"),
+        Warning::Several(pattern) => write!(text, " several {pattern}"),
+        Warning::Crossed(count) => write!(text, " crossed {count}"),
+        Warning::Beyond(count) => write!(text, " beyond {count}"),
     }
 }
 
