@@ -3,6 +3,7 @@ ghost use Rattle.std.specs.Prelude.{◌≡◌, ◌≤◌, IfOk};
 ghost use Rattle.netlist_types.specs.Lawful.{IsLawful};
 ghost use Rattle.cell_types.specs.Libraries.{IsLawful as IsLawfulLibrary};
 ghost use Rattle.exception_expand.specs.Selections.{HasMultipliers};
+ghost use Rattle.run_options.specs.Judging.{CanJudge};
 ghost use Rattle.linked_types.specs.Narrow.{IsNarrow};
 ghost use Rattle.linked_types.specs.Usable.{IsUsable};
 ghost use Rattle.fault_lines.specs.Designs.{link_line, expand_line};
@@ -24,7 +25,7 @@ use selected_types::Selected;
 use std::alloc::Global;
 
 /// Links the netlist with its cells, as the constraints and the reset set its inputs, and selects the pairs that the constraints
-/// make exceptions of, each with a claim that is judged in this manner. The lag is at most 8.
+/// make exceptions of, each with a claim that is judged in this manner.
 pub fn designed(
     alloc: Global,
     texts: &ReadTexts,
@@ -33,7 +34,7 @@ pub fn designed(
 ) -> Result<Designed, Refusal>
     requires lawful { AreLawful texts.now }
     requires reset { reset.len ≤ 64 }
-    requires lag { judging.lag ≤ 8 }
+    requires judging { CanJudge judging }
     ensures found { Finds (Designs texts.now reset judging) result }
     ensures judged { IfOk result CanBeJudged }
 {
@@ -128,10 +129,10 @@ fn selected(
 ) -> Result<Selected, Refusal>
     requires linked { IsUsable linked.now }
     requires script { HasMultipliers script.now }
-    requires lag { judging.lag ≤ 8 }
+    requires judging { CanJudge judging }
     ensures { Finds (Staged (Selects linked.now script.now judging) expand_line) result }
 {
-    match expand(alloc, linked, script, judging.hazard, judging.lag) {
+    match expand(alloc, linked, script, judging) {
         Ok(selected) => Ok(selected),
         Err(fault) => Err(Refusal::Line(expand_line(alloc, &fault)?)),
     }

@@ -32,10 +32,6 @@ pairs_between starts ends = flat_map (λ start. map (pair start) ends) starts
 abbrev pub IsConnected : Design → List (List PinRef) → Pair → Type 0
 IsConnected d sets p = HasPath d p.start p.end sets
 
--- claims are judged with hazards or without, and false paths over this lag
-abbrev pub judging_by : Bool → ℕ → Judging
-judging_by hazard lag = record { hazard = hazard; lag = lag }
-
 -- the lag of a claim of this kind: a multicycle path has none
 abbrev pub lag_for : Kind → ℕ → ℕ
 lag_for False lag = lag

@@ -1,8 +1,8 @@
 //! The call that finds all that a script selects.
-ghost use Rattle.std.specs.Prelude.{◌≤◌, IfOk, IfErr};
+ghost use Rattle.std.specs.Prelude.{IfOk, IfErr};
 ghost use Rattle.linked_types.specs.Usable.{IsUsable};
+ghost use Rattle.run_options.specs.Judging.{CanJudge};
 ghost use Rattle.exception_expand.specs.Selections.{IsSelectionOf, HasMultipliers};
-ghost use Rattle.exception_expand.specs.Pairs.{judging_by};
 ghost use Rattle.exception_expand.specs.Causes.{IsExpandCause};
 
 use crate::commands::all_selected;
@@ -19,20 +19,19 @@ use selected_types::{ExpandFault, Selected};
 use std::alloc::Global;
 
 /// The pairs that the exceptions of a script select in a linked design, each with its claim, and the exceptions with their
-/// warnings. With `hazard` the claims allow no glitch either. Each false path is judged at `lag` captures more than the first,
-/// at most 8; a multicycle path has no lag.
+/// warnings. With hazards the claims allow no glitch either. Each false path is judged at as many captures more than the first
+/// as the lag says, at most 8; a multicycle path has no lag.
 pub fn expand(
     alloc: Global,
     linked: &Linked,
     script: &Script,
-    hazard: bool,
-    lag: u8,
+    judging: Judging,
 ) -> Result<Selected, ExpandFault>
     requires linked { IsUsable linked.now }
     requires script { HasMultipliers script.now }
-    requires lag { lag ≤ 8 }
-    ensures ok { IfOk result (IsSelectionOf linked.now script.now (judging_by hazard lag)) }
-    ensures err { IfErr result (IsExpandCause linked.now script.now (judging_by hazard lag)) }
+    requires judging { CanJudge judging }
+    ensures ok { IfOk result (IsSelectionOf linked.now script.now judging) }
+    ensures err { IfErr result (IsExpandCause linked.now script.now judging) }
 {
     let tables = Tables::of(alloc, linked)?;
     let points = Points::of(alloc, &linked.design)?;
@@ -45,7 +44,7 @@ pub fn expand(
         },
         points: &points,
         cells: &cells,
-        judging: Judging { hazard, lag },
+        judging,
     };
     let selected = all_selected(alloc, &task)?;
     if has_many_judged(&linked.design, &selected.claims) {

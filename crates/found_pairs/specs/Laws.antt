@@ -15,7 +15,7 @@ use Rattle.selected_types.specs.declared.selections.Listing.TheVariants.{Claimin
 use Rattle.selected_types.specs.declared.selections.PairLine.{PairLine}
 use Rattle.selected_types.specs.declared.selections.Selected.{Selected}
 use Rattle.exception_expand.specs.Causes.{IsExpandCause}
-use Rattle.exception_expand.specs.Pairs.{judging_by}
+use Rattle.run_options.specs.Judging.{judging_by}
 use Rattle.exception_expand.specs.Selections.{IsSelectionOf, command_line}
 use Rattle.mcp_detect.specs.declared.options.DetectOptions.{DetectOptions}
 use Rattle.mcp_detect.specs.declared.detections.Tried.{Tried}

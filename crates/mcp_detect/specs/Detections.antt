@@ -6,7 +6,7 @@ use Rattle.net_model.specs.declared.netlist.Design.{Design}
 use Rattle.net_model.specs.declared.claims.Claim.{Claim}
 use Rattle.net_model.specs.declared.invariants.InvClause.{InvClause}
 use Rattle.linked_types.specs.declared.names.Linked.{Linked}
-use Rattle.exception_expand.specs.Pairs.{judging_by}
+use Rattle.run_options.specs.Judging.{judging_by}
 use Rattle.exception_expand.specs.Selections.{IsSelectionOf}
 use Rattle.selected_types.specs.declared.selections.PairLine.{PairLine}
 use Rattle.selected_types.specs.declared.selections.Selected.{Selected}

@@ -1,7 +1,7 @@
 //! The pairs that are tried.
 ghost use Rattle.std.specs.Prelude.{◌≡◌, IfOk, IfErr, OnOk};
 ghost use Rattle.linked_types.specs.Usable.{IsUsable};
-ghost use Rattle.exception_expand.specs.Pairs.{judging_by};
+ghost use Rattle.run_options.specs.Judging.{judging_by};
 ghost use Rattle.exception_expand.specs.Selections.{IsSelectionOf};
 ghost use Rattle.mcp_detect.specs.Scripts as spec;
 ghost use Rattle.mcp_detect.specs.Causes.{IsDetectCause, HasFewPairs};
@@ -11,6 +11,7 @@ use crate::faults::DetectFault;
 use crate::scripts::registers_script;
 use exception_expand::expand;
 use linked_types::Linked;
+use run_options::Judging;
 use sdcv_base::LimitName;
 use selected_types::{ExpandFault, Selected};
 use std::alloc::Global;
@@ -27,7 +28,13 @@ pub(crate) fn selected(
     ensures none { OnOk result (HasFewPairs linked.now) }
 {
     let script = registers_script(alloc)?;
-    match expand(alloc, linked, &script, hazard, 0) {
+    let judging = Judging {
+        hazard,
+        lag: 0,
+        hold: false,
+        strict: false,
+    };
+    match expand(alloc, linked, &script, judging) {
         Ok(selected) => Ok(selected),
         Err(fault) => Err(fault_of(fault)),
     }

@@ -20,7 +20,7 @@ use Rattle.sdcv_top.specs.Headline.{IsReported}
 use Rattle.sdcv_top.specs.Jobs.{IsDone, run_options}
 use Rattle.sdcv_top.specs.Reads.{Got, Text}
 use Rattle.sdcv_top.specs.Stages.{Due, After}
-use Rattle.sdcv_top.specs.Due.{Worked, judging_of, reset_of}
+use Rattle.sdcv_top.specs.Due.{Worked}
 use Rattle.sdcv_top.proofs.Repeats.{repeats}
 use Rattle.one_design.proofs.Finding.{designs_one}
 use Rattle.replay_law.specs.Laws.{CheckRepeats, ReplayIsDue, ReportReplays}
@@ -30,18 +30,18 @@ use Rattle.replay_law.proofs.Telling.{HasRefuted, due_alone, is_due}
 
 -- what a job is done on, after the texts
 abbrev AfterPairs : Options → Job → ReadTexts → Due
-AfterPairs o job texts = After (Designs texts (reset_of o) (judging_of o)) (IsDone (judging_of o) o.reset_len job)
+AfterPairs o job texts = After (Designs texts o.reset o.judging) (IsDone o.judging o.reset.len job)
 
 -- a verification read texts and found a design with its pairs, whose report is due; any job whose reads begin so is done on the same
 -- design, and reads what is left
 record IsVerified (files : TextNames) (o : Options) (p : Proving) (out : List ℕ) (json : Bool) (reads : List Got) (due : Outcome) : Type 0 where
   texts : ReadTexts
   designed : Designed
-  found : Designs texts (reset_of o) (judging_of o) (Ok designed)
-  report : IsReported (Some out) json (run_options (judging_of o) o.reset_len p) designed due
+  found : Designs texts o.reset o.judging (Ok designed)
+  report : IsReported (Some out) json (run_options o.judging o.reset.len p) designed due
   on : (job : Job) (more : List Got) (again : Outcome) → Worked files o job (reads ++ more) again
-      → IsDone (judging_of o) o.reset_len job designed more again
-  back : (job : Job) (more : List Got) (again : Outcome) → IsDone (judging_of o) o.reset_len job designed more again
+      → IsDone o.judging o.reset.len job designed more again
+  back : (job : Job) (more : List Got) (again : Outcome) → IsDone o.judging o.reset.len job designed more again
       → Worked files o job (reads ++ more) again
 
 -- what hands out verdicts is no refusal
@@ -53,9 +53,9 @@ verified : (files : TextNames) (o : Options) (p : Proving) (out : List ℕ) (jso
 unfolding Worked
 verified files o p out json reads due well worked =
     let led = texts_led files (AfterPairs o (Verify out json p)) reads due well worked in
-    let finds = Designs led.value (reset_of o) (judging_of o) in
-    let here = has_found finds (IsDone (judging_of o) o.reset_len (Verify out json p)) led.rest due well led.goes in
-    let one = designs_one led.value (reset_of o) (judging_of o) in
+    let finds = Designs led.value o.reset o.judging in
+    let here = has_found finds (IsDone o.judging o.reset.len (Verify out json p)) led.rest due well led.goes in
+    let one = designs_one led.value o.reset o.judging in
     let last = here.goes in
     record {
       texts = led.value;
@@ -63,12 +63,12 @@ verified files o p out json reads due well worked =
       found = here.found;
       report = last.1;
       on = λ job more again run.
-          let job_due = IsDone (judging_of o) o.reset_len job in
+          let job_due = IsDone o.judging o.reset.len job in
           let paired = led.on (AfterPairs o job) more again run in
           subst (λ (rest : List Got). job_due here.value (rest ++ more) again) last.0
           (goes_same finds here.value job_due (led.rest ++ more) again one here.found paired);
       back = λ job more again run.
-          let job_due = IsDone (judging_of o) o.reset_len job in
+          let job_due = IsDone o.judging o.reset.len job in
           let left = subst (λ (rest : List Got). job_due here.value (rest ++ more) again) (sym last.0) run in
           led.back (AfterPairs o job) more again (leads_on finds job_due here.value (led.rest ++ more) again here.found left);
     }
@@ -77,7 +77,7 @@ verified files o p out json reads due well worked =
 pub checks_again : (files : TextNames) (o : Options) (p : Proving) → CheckRepeats files o p
 checks_again files o p out cert bytes json reads due again judged worked told saved checked =
     let is = verified files o p out json reads due (told_no_refusal due judged told) worked in
-    let here = repeats is.designed (run_options (judging_of o) o.reset_len p) out bytes json due again is.report saved
+    let here = repeats is.designed (run_options o.judging o.reset.len p) out bytes json due again is.report saved
     (is.on (Check cert) (Text bytes ∷ []) again checked) in
     let count = sym is.report.right.right.as_many in
     let same : is.report.judged ≡ judged = same_Some is.report.judged judged (sym is.report.told ∙ told) in

@@ -35,7 +35,6 @@ use Rattle.sdcv_top.specs.Headline.{IsReported}
 use Rattle.sdcv_top.specs.Jobs.{HasPair, ReadsStimulus, Replays, RunAgain, Replayed, replayed, run_options}
 use Rattle.sdcv_top.specs.Reads.{Text}
 use Rattle.sdcv_top.specs.Texts.{ReportText}
-use Rattle.sdcv_top.specs.Due.{judging_of, reset_of}
 use Rattle.replay_law.specs.Laws.{violated_after}
 use Rattle.replay_law.proofs.Finding.{known}
 use Rattle.replay_law.proofs.Going.{goes_on, goes_on_text, leads_on, leads_on_text, text_alone, never_refused}
@@ -44,10 +43,10 @@ use Rattle.replay_law.proofs.Standing.{refused_memory, replays, replays_alone}
 -- a design and its pairs are found of these texts with these options; what is due for its verification prints the report by lines, and
 -- its verdict on the pair of this number is that it is refuted at this offset
 pub record HasRefuted (texts : ReadTexts) (o : Options) (d : Designed) (due : Outcome) (number offset : ℕ) : Type 0 where
-  pub found : Designs texts (reset_of o) (judging_of o) (Ok d)
+  pub found : Designs texts o.reset o.judging (Ok d)
   pub out : Option (List ℕ)
   pub proving : Proving
-  pub report : IsReported out false (run_options (judging_of o) o.reset_len proving) d due
+  pub report : IsReported out false (run_options o.judging o.reset.len proving) d due
   pub stimulus : Stimulus
   pub verdict : item_numbered report.judged.verdicts number ≡ Some (Refuted offset stimulus)
 
@@ -93,7 +92,7 @@ told : (texts : ReadTexts) (o : Options) (d : Designed) (due : Outcome) (number 
     → IsTold d number offset due.printed
 told texts o d due zero offset refuted = absurd (none-some (Refuted offset refuted.stimulus) refuted.verdict)
 told texts o d due (suc place) offset refuted =
-    let found = known texts (reset_of o) (judging_of o) d refuted.found in
+    let found = known texts o.reset o.judging d refuted.found in
     let reported = refuted.report in
     let verdicts : List Verdict = reported.judged.verdicts in
     let all = reported.right.right in
@@ -106,7 +105,7 @@ told texts o d due (suc place) offset refuted =
       claim_at = claim.1;
       stimulus = refuted.stimulus;
       least = reported.right.violated place offset claim.0 refuted.stimulus claim.1 refuted.verdict;
-      first = first_in (run_options (judging_of o) o.reset_len refuted.proving) d.selected verdicts place offset refuted.stimulus due.printed rows small
+      first = first_in (run_options o.judging o.reset.len refuted.proving) d.selected verdicts place offset refuted.stimulus due.printed rows small
           refuted.verdict reported.printed;
     }
 
@@ -145,7 +144,7 @@ pub due_alone : (texts : ReadTexts) (o : Options) (d : Designed) (due again : Ou
 unfolding Replayed
 due_alone texts o d due again number offset refuted replay =
     let is = told texts o d due number offset refuted in
-    let found = known texts (reset_of o) (judging_of o) d refuted.found in
+    let found = known texts o.reset o.judging d refuted.found in
     let paired = goes_on (HasPair d.selected.claims number) _ is.claim (Text due.printed ∷ []) again
     (λ other at. same_Some other is.claim (sym at ∙ is.claim_at)) (λ line none. none-some is.claim (sym none.0 ∙ is.claim_at)) replay in
     let read = goes_on_text ReportText _ due.printed (Text due.printed) [] again (λ other same. text_alone due.printed other same)
@@ -158,7 +157,7 @@ pub is_due : (texts : ReadTexts) (o : Options) (d : Designed) (due : Outcome) (n
 unfolding Replayed
 is_due texts o d due number offset refuted small =
     let is = told texts o d due number offset refuted in
-    let found = known texts (reset_of o) (judging_of o) d refuted.found in
+    let found = known texts o.reset o.judging d refuted.found in
     let run = run_due d number offset due.printed is found.judged.sound small in
     let held = subst (λ (len : ℕ). RunAgain number d.linked.design is.claim due.printed [] (replayed number (Violated (len + 1 + offset)))) found.len run in
     leads_on (HasPair d.selected.claims number) _ is.claim (Text due.printed ∷ []) _ is.claim_at

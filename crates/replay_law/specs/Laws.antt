@@ -28,7 +28,7 @@ CheckRepeats files o p =
 
 -- it is printed that the pair is violated, so many cycles after the first one in which it can be
 abbrev pub violated_after : Options → ℕ → ℕ → Outcome
-violated_after o number offset = replayed number (Violated (o.reset_len + 1 + offset))
+violated_after o number offset = replayed number (Violated (o.reset.len + 1 + offset))
 
 -- where a verification prints its report by lines, and its verdict on the pair of a number is that it is refuted at an offset, this is
 -- due for a replay of that number whose reads are the same and then what was printed, if that is shorter than 2^64 bytes

@@ -1,6 +1,6 @@
 -- No report has a float, so its text is a function of it.
 use Rattle.std.proofs.Common.{◌≡◌, ◌==◌, ℕ, ◌+◌, Bool, true, false, List, [], ◌∷◌, map, refl}
-use Rattle.std.specs.Prelude.{codes, if◌then◌else◌}
+use Rattle.std.specs.Prelude.{codes, Option, None, Some, if◌then◌else◌}
 use Rattle.serde_json.specs.Data.{Members, member, no_members, string}
 use Rattle.serde_json.specs.View.{items_of}
 use Rattle.serde_json.specs.Written.{has_float, items_have_float, members_have_float}
@@ -16,7 +16,8 @@ use Rattle.witness_replay.specs.StimulusTexts.{digits_of}
 use Rattle.run_options.specs.declared.options.RunOptions.{RunOptions}
 use Rattle.report_text.specs.Rows.{each_pair}
 use Rattle.report_text.specs.Words.{mode_text, warning_text}
-use Rattle.report_json.specs.Reports.{count_data, command_data, one_command, evidence_data, pair_data, one_pair, pairs_data, total_data, report_data}
+use Rattle.report_json.specs.Reports.{count_data, command_data, commands_data, one_command, evidence_data, pair_data, one_pair, pairs_data, total_data}
+use Rattle.report_json.specs.Reports.{flag_member, lag_member, number_member, report_data}
 
 texts_have_none : {A : Type 0} (text : A → List ℕ) (xs : List A) → items_have_float (items_of (map (λ x. string (text x)) xs)) ≡ false
 texts_have_none text [] = refl
@@ -53,8 +54,32 @@ lag_has_none : (none : Bool) (lag : ℕ) (following : Members)
 lag_has_none true lag following = refl
 lag_has_none false lag following = refl
 
+-- nor has that of a number or of a word
+number_has_none : (key : List ℕ) (number : Option ℕ) (following : Members)
+    → members_have_float (number_member key number following) ≡ members_have_float following
+number_has_none key None following = refl
+number_has_none key (Some number) following = refl
+
+flag_has_none : (key : List ℕ) (stands : Bool) (following : Members) → members_have_float (flag_member key stands following) ≡ members_have_float following
+flag_has_none key true following = refl
+flag_has_none key false following = refl
+
 pub report_has_none : (o : RunOptions) (selected : Selected) (vs : List Verdict) → has_float (report_data o selected vs) ≡ false
 report_has_none o selected vs =
-    let following : Members = member (codes "mode") (string (mode_text o.hazard)) (member (codes "pairs") (pairs_data o.depth selected vs)
-    (member (codes "reset") (count_data o.reset_len) (member (codes "total") (total_data vs) no_members))) in
-    rw (lag_has_none (o.lag == 0) o.lag following, commands_have_none 0 selected.commands, pairs_have_none o.depth 1 selected.pairs selected.claims vs) refl
+    let total : Members = member (codes "total") (total_data vs) no_members in
+    let mode : Members = member (codes "mode") (string (mode_text o.hazard)) (member (codes "pairs") (pairs_data o.depth selected vs)
+    (member (codes "reset") (count_data o.reset_len) (flag_member (codes "strict") o.strict total))) in
+    let inv : Members = member (codes "inv") (count_data o.inv_depth) (lag_member o.lag mode) in
+    let hold : Members = flag_member (codes "hold") o.hold inv in
+    let budget : Members = member (codes "budget") (count_data o.budget) (member (codes "commands") (commands_data selected.commands)
+    (member (codes "depth") (count_data o.depth) (number_member (codes "free") o.free hold))) in
+    rw (
+      number_has_none (codes "assist") o.assist (number_member (codes "assumed") o.assumed budget),
+      number_has_none (codes "assumed") o.assumed budget,
+      commands_have_none 0 selected.commands,
+      number_has_none (codes "free") o.free hold,
+      flag_has_none (codes "hold") o.hold inv,
+      lag_has_none (o.lag == 0) o.lag mode,
+      pairs_have_none o.depth 1 selected.pairs selected.claims vs,
+      flag_has_none (codes "strict") o.strict total,
+    ) refl

@@ -1,3 +1,4 @@
 mod Floats
-pub mod Lagging
+pub mod Asking
 mod Worked
+mod WorkedOptions

@@ -1,6 +1,6 @@
 -- A report as JSON: the value, and its text.
-use Rattle.std.specs.Prelude.{ℕ, ◌+◌, ◌==◌, if◌then◌else◌, Bool, List, [], ◌∷◌, ◌++◌, map, codes}
-use Rattle.serde_json.specs.Data.{Data, Members, null, number, unsigned, string, array, object, member, no_members}
+use Rattle.std.specs.Prelude.{ℕ, ◌+◌, ◌==◌, if◌then◌else◌, Bool, true, List, [], ◌∷◌, ◌++◌, map, codes, Option, None, Some}
+use Rattle.serde_json.specs.Data.{Data, Members, null, boolean, number, unsigned, string, array, object, member, no_members}
 use Rattle.serde_json.specs.View.{items_of}
 use Rattle.serde_json.specs.Written.{compact_text}
 use Rattle.sdcv_base.specs.Shown.{shown}
@@ -93,21 +93,33 @@ total_data vs =
     (member (codes "refuted") (count_data (tally_of vs).refuted)
     (member (codes "undecided") (count_data (tally_of vs).undecided) no_members))))
 
--- the member of the lag, where there is any, before those that follow it
+-- a member that stands only where it is asked for, before those that follow it: the lag, a number, and a word
 abbrev pub lag_member : ℕ → Members → Members
 lag_member lag following = if lag == 0 then following else member (codes "lag") (count_data lag) following
 
+abbrev pub number_member : List ℕ → Option ℕ → Members → Members
+number_member key None following = following
+number_member key (Some number) following = member key (count_data number) following
+
+abbrev pub flag_member : List ℕ → Bool → Members → Members
+flag_member key stands following = if stands then member key (boolean true) following else following
+
 abbrev pub report_data : RunOptions → Selected → List Verdict → Data
 report_data o selected verdicts =
-    object (member (codes "budget") (count_data o.budget)
+    object (number_member (codes "assist") o.assist
+    (number_member (codes "assumed") o.assumed
+    (member (codes "budget") (count_data o.budget)
     (member (codes "commands") (commands_data selected.commands)
     (member (codes "depth") (count_data o.depth)
+    (number_member (codes "free") o.free
+    (flag_member (codes "hold") o.hold
     (member (codes "inv") (count_data o.inv_depth)
     (lag_member o.lag
     (member (codes "mode") (string (mode_text o.hazard))
     (member (codes "pairs") (pairs_data o.depth selected verdicts)
     (member (codes "reset") (count_data o.reset_len)
-    (member (codes "total") (total_data verdicts) no_members)))))))))
+    (flag_member (codes "strict") o.strict
+    (member (codes "total") (total_data verdicts) no_members))))))))))))))
 
 -- the text without spaces, and a newline
 abbrev pub json_text : RunOptions → Selected → List Verdict → List ℕ

@@ -3,7 +3,7 @@ ghost use Rattle.std.specs.Prelude.{◌≡◌, OnOk};
 ghost use Rattle.serde_json.specs.Data.{array, number, unsigned, string, object, no_members};
 ghost use Rattle.serde_json.specs.Data.{put as with_member};
 ghost use Rattle.serde_json.specs.View.{view, items_view};
-ghost use Rattle.report_json.specs.Objects.{made};
+ghost use Rattle.report_json.specs.Objects.{made, with_number, with_flag};
 
 use serde_json::{Map, Value, put};
 use std::alloc::{AllocError, Global};
@@ -39,6 +39,32 @@ impl Object {
         ensures { OnOk result (made self.new ≡ with_member key.now (string text.now) (made self.old)) }
     {
         self.put_value(alloc, key, Value::try_from_str(alloc, text)?)
+    }
+
+    /// Puts a number, where there is one.
+    pub fn put_number(
+        &mut self,
+        alloc: Global,
+        key: &str,
+        number: Option<u64>,
+    ) -> Result<(), AllocError>
+        ensures { OnOk result (made self.new ≡ with_number key.now number (made self.old)) }
+    {
+        match number {
+            Some(number) => self.put_count(alloc, key, number),
+            None => Ok(()),
+        }
+    }
+
+    /// Puts `true`, where the word stands.
+    pub fn put_flag(&mut self, alloc: Global, key: &str, stands: bool) -> Result<(), AllocError>
+        ensures { OnOk result (made self.new ≡ with_flag key.now stands (made self.old)) }
+    {
+        if stands {
+            self.put_value(alloc, key, Value::from(true))
+        } else {
+            Ok(())
+        }
     }
 
     pub fn into_value(self) -> Value

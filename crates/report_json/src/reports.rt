@@ -3,7 +3,7 @@ ghost use Rattle.std.specs.Prelude.{◌≡◌, codes, IfOk, OnOk};
 ghost use Rattle.serde_json.specs.Data.{put as with_member};
 ghost use Rattle.serde_json.specs.View.{view};
 ghost use Rattle.report_text.specs.Rows.{HasRows};
-ghost use Rattle.report_json.specs.Objects.{made, with_lag};
+ghost use Rattle.report_json.specs.Objects.{made, with_asked, with_lag};
 ghost use Rattle.report_json.specs.Reports.{commands_data, pairs_data, total_data, report_data, json_text};
 
 use crate::commands::commands_value;
@@ -72,6 +72,18 @@ fn put_lag(alloc: Global, object: &mut Object, lag: u8) -> Result<(), AllocError
     }
 }
 
+// Puts what stands only where it is asked for.
+fn put_asked(alloc: Global, object: &mut Object, options: &RunOptions) -> Result<(), AllocError>
+    ensures { OnOk result (made object.new ≡ with_asked options.now (made object.old)) }
+{
+    object.put_flag(alloc, "strict", options.strict)?;
+    put_lag(alloc, object, options.lag)?;
+    object.put_flag(alloc, "hold", options.hold)?;
+    object.put_number(alloc, "free", options.free)?;
+    object.put_number(alloc, "assumed", options.assumed)?;
+    object.put_number(alloc, "assist", options.assist)
+}
+
 fn report_value(
     alloc: Global,
     options: &RunOptions,
@@ -90,7 +102,7 @@ fn report_value(
     put_pairs(alloc, &mut object, options.depth, selected, verdicts)?;
     object.put_count(alloc, "reset", options.reset_len as u64)?;
     put_total(alloc, &mut object, verdicts)?;
-    put_lag(alloc, &mut object, options.lag)?;
+    put_asked(alloc, &mut object, options)?;
     Ok(object.into_value())
 }
 

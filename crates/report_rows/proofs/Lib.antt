@@ -3,3 +3,4 @@ mod Decimals
 mod Parts
 mod Steps
 mod LineSteps
+mod Worked

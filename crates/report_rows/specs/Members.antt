@@ -1,11 +1,12 @@
 -- A report as JSON (RFC 8259): an object whose further members are passed over.
-use Rattle.std.specs.Prelude.{ℕ, List, [], ◌∷◌, codes, Option, Some, None, option_and_then}
+use Rattle.std.specs.Prelude.{ℕ, Bool, false, List, [], ◌∷◌, codes, Option, Some, None, option_and_then}
 use Rattle.std.specs.Option.{option_map}
 use Rattle.serde_json.specs.Data.{Data, Items, no_items, item}
-use Rattle.serde_json.specs.Find.{get, as_array, as_str, as_number, as_u64}
+use Rattle.serde_json.specs.Find.{get, as_array, as_bool, as_str, as_number, as_u64}
 use Rattle.texts.specs.Reads.{◌>>=◌}
 use Rattle.report_rows.specs.Rows.{verdict_in, hazard_in, with_script, with_pair}
 use Rattle.report_rows.specs.Heads.{rowless}
+use Rattle.report_rows.specs.declared.heads.Asked.{Asked}
 use Rattle.report_rows.specs.declared.heads.Head.{Head}
 use Rattle.report_rows.specs.declared.reports.Said.TheVariants.{Does, Warns}
 use Rattle.report_rows.specs.declared.reports.ScriptRow.{ScriptRow}
@@ -37,6 +38,28 @@ lag_in d = go (get (codes "lag") d)
     go : Option Data → Option ℕ
     go None = Some 0
     go (Some v) = option_and_then as_u64 (as_number v)
+
+-- a number that stands only where it is asked for, and a word, which is false where the key is missing
+unfoldable pub number_asked : List ℕ → Data → Option (Option ℕ)
+number_asked key d = go (get key d)
+  where
+    go : Option Data → Option (Option ℕ)
+    go None = Some None
+    go (Some v) = option_map Some (option_and_then as_u64 (as_number v))
+
+unfoldable pub flag_asked : List ℕ → Data → Option Bool
+flag_asked key d = go (get key d)
+  where
+    go : Option Data → Option Bool
+    go None = Some false
+    go (Some v) = as_bool v
+
+-- what else is asked for
+unfoldable pub asked_in : Data → Option Asked
+asked_in d =
+    number_asked (codes "assist") d >>= λ assist. number_asked (codes "free") d >>= λ free. number_asked (codes "assumed") d >>= λ assumed.
+    flag_asked (codes "strict") d >>= λ strict.
+    Some (record { assist = assist; free = free; assumed = assumed; strict = strict })
 
 -- what all of these add to what is found
 unfoldable pub with_all : {S A : Type 0} → (S → A → Option S) → S → List A → Option S
@@ -74,7 +97,8 @@ with_command_data found d =
 unfoldable pub head_in : Data → Option Head
 head_in d =
     text_in (codes "mode") d >>= λ mode. hazard_in mode >>= λ hazard. count_in (codes "reset") d >>= λ reset. lag_in d >>= λ lag.
-    Some (record { hazard = hazard; reset = reset; lag = lag })
+    flag_asked (codes "hold") d >>= λ hold. asked_in d >>= λ asked.
+    Some (record { hazard = hazard; reset = reset; lag = lag; hold = hold; asked = asked })
 
 -- the report that an object is
 unfoldable pub report_in : Data → Option Report

@@ -7,10 +7,10 @@ ghost use Rattle.report_rows.specs.Members as spec;
 ghost use Rattle.report_rows.specs.Reads.{IsJsonReport, IsValueOf, IsUnread, IsJsonFault};
 
 use crate::faults::ReportFault;
-use crate::heads::Head;
+use crate::heads::{Asked, Head};
 use crate::json_pairs::add_pair_value;
 use crate::json_scripts::add_command_value;
-use crate::members::{count_in, lag_in, list_in, text_in};
+use crate::members::{count_in, flag_asked, lag_in, list_in, number_asked, text_in};
 use crate::reports::Report;
 use crate::verdicts::hazard_in;
 use serde_json::{Category, Value};
@@ -23,7 +23,32 @@ fn head_in(value: &Value) -> Option<Head>
     let hazard = hazard_in(text_in(value, "mode")?.as_bytes())?;
     let reset = count_in(value, "reset")?;
     let lag = lag_in(value)?;
-    Some(Head { hazard, reset, lag })
+    let hold = flag_asked(value, "hold")?;
+    let asked = asked_in(value)?;
+    Some(Head {
+        hazard,
+        reset,
+        lag,
+        hold,
+        asked,
+    })
+}
+
+// What else is asked for.
+#[tactic(auto, unfolding(crate::specs::Members::asked_in))]
+fn asked_in(value: &Value) -> Option<Asked>
+    ensures { result ≡ spec.asked_in (view value.now) }
+{
+    let assist = number_asked(value, "assist")?;
+    let free = number_asked(value, "free")?;
+    let assumed = number_asked(value, "assumed")?;
+    let strict = flag_asked(value, "strict")?;
+    Some(Asked {
+        assist,
+        free,
+        assumed,
+        strict,
+    })
 }
 
 fn add_commands(alloc: Global, found: &mut Report, values: &[Value]) -> Result<bool, AllocError>

@@ -21,6 +21,7 @@ mod stimuli;
 mod verdicts;
 
 pub use faults::ReportFault;
+pub use heads::{Asked, Head};
 pub use reads::read_report;
 pub use reports::{PairRow, Report, Said, ScriptRow, Word};
 pub use stimuli::stimulus_of;

@@ -47,3 +47,25 @@ pub(crate) fn lag_in(value: &Value) -> Option<u64>
         None => Some(0),
     }
 }
+
+/// The number of a key, where the key stands.
+#[tactic(auto, unfolding(crate::specs::Members::number_asked))]
+pub(crate) fn number_asked(value: &Value, key: &str) -> Option<Option<u64>>
+    ensures { result ≡ spec.number_asked key.now (view value.now) }
+{
+    match value.get(key) {
+        Some(number) => Some(Some(number.as_u64()?)),
+        None => Some(None),
+    }
+}
+
+/// The truth of a key, which is false where the key is missing.
+#[tactic(auto, unfolding(crate::specs::Members::flag_asked))]
+pub(crate) fn flag_asked(value: &Value, key: &str) -> Option<bool>
+    ensures { result ≡ spec.flag_asked key.now (view value.now) }
+{
+    match value.get(key) {
+        Some(flag) => flag.as_bool(),
+        None => Some(false),
+    }
+}

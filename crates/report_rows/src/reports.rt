@@ -1,4 +1,5 @@
 //! The rows of a report.
+use crate::heads::Head;
 use sdcv_base::{Name, Seq};
 
 /// What a report says of a pair.
@@ -41,12 +42,10 @@ pub struct PairRow {
     pub why: Name,
 }
 
-/// A report: whether its claims are judged with hazards, the cycles of reset, the lag of its false paths, and its rows.
+/// A report: what its first line says, and its rows.
 #[derive(Drop)]
 pub struct Report {
-    pub hazard: bool,
-    pub reset: u64,
-    pub lag: u64,
+    pub head: Head,
     pub script: Seq<ScriptRow>,
     pub pairs: Seq<PairRow>,
 }

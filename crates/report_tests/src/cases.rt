@@ -24,6 +24,11 @@ const DEFAULTS: RunOptions = RunOptions {
     budget: 20_000,
     inv_depth: 1,
     lag: 0,
+    hold: false,
+    assist: None,
+    free: None,
+    assumed: None,
+    strict: false,
 };
 
 const NO_RESET: RunOptions = RunOptions {
@@ -133,7 +138,7 @@ const HAZARDS: Case = Case {
         depth: 12,
         budget: 1,
         inv_depth: 0,
-        lag: 0,
+        ..DEFAULTS
     },
     exceptions: &[Exception(2, Claims(Multi(2), Any, 1), &[])],
     pairs: &[Pair(1, (Multi(2), Any), b"r", b"r", Refuted(0, ALONE))],
@@ -208,4 +213,25 @@ total 3 justified 2 refuted 1 undecided 0
 \"reset\":1,\"total\":{\"justified\":2,\"pairs\":3,\"refuted\":1,\"undecided\":0}}\n",
 };
 
-pub const CASES: &[Case] = &[NOTHING, NO_CELL, EACH, HAZARDS, EDGES];
+// Nothing is selected, and all that can be asked for is.
+const ASKED: Case = Case {
+    options: RunOptions {
+        lag: 2,
+        hold: true,
+        assist: Some(14),
+        free: Some(0),
+        assumed: Some(3),
+        strict: true,
+        ..DEFAULTS
+    },
+    exceptions: &[],
+    pairs: &[],
+    text: "sdcv 1 mode plain reset 1 depth 8 budget 20000 inv 1 lag 2 hold assist 14 free 0 assumed 3 strict
+total 0 justified 0 refuted 0 undecided 0
+",
+    json: "{\"assist\":14,\"assumed\":3,\"budget\":20000,\"commands\":[],\"depth\":8,\"free\":0,\"hold\":true,\
+\"inv\":1,\"lag\":2,\"mode\":\"plain\",\"pairs\":[],\"reset\":1,\"strict\":true,\
+\"total\":{\"justified\":0,\"pairs\":0,\"refuted\":0,\"undecided\":0}}\n",
+};
+
+pub const CASES: &[Case] = &[NOTHING, NO_CELL, EACH, HAZARDS, EDGES, ASKED];

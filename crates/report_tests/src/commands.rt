@@ -23,10 +23,14 @@ fn resets_text(alloc: Global, resets: &Seq<Setting>) -> Result<String, AllocErro
 }
 
 fn options_text(alloc: Global, options: &Options) -> Result<String, AllocError> {
-    let mode = if options.hazard { "hazard" } else { "plain" };
-    let resets = resets_text(alloc, &options.resets)?;
-    let lag = options.lag;
-    let cycles = options.reset_len;
+    let mode = if options.judging.hazard {
+        "hazard"
+    } else {
+        "plain"
+    };
+    let resets = resets_text(alloc, &options.reset.ports)?;
+    let lag = options.judging.lag;
+    let cycles = options.reset.len;
     format!(in alloc; "{mode} lag {lag}{resets} cycles {cycles}")
 }
 

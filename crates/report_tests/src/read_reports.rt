@@ -59,6 +59,10 @@ const NO_REPORTS: &[(&str, ReportFault)] = &[
         "sdcv 1 mode plain reset 1 depth 8 budget 20000 inv 1 lag\n",
         Line(1),
     ),
+    (
+        "sdcv 1 mode plain reset 1 depth 8 budget 20000 inv 1 strict free 0\n",
+        Line(1),
+    ),
     ("{", Json),
     ("{}", Json),
     (
@@ -95,8 +99,8 @@ fn each_cut_of_a_report_is_refused(rt: HostRuntime) {
 #[test]
 fn rows_have_what_the_lines_say(rt: HostRuntime) -> Result<(), test::Fail> {
     let report = read_report(rt.alloc(), NOTES.as_bytes())?;
-    assert!(rt; report.hazard);
-    assert_eq!(rt; (report.reset, report.lag), (0, 2));
+    assert!(rt; report.head.hazard);
+    assert_eq!(rt; (report.head.reset, report.head.lag), (0, 2));
     let Some(warned) = report.script.as_slice().get(5) else {
         rt.abort();
     };

@@ -3,3 +3,4 @@ pub mod Rowing
 mod Passing
 pub mod ReadBack
 mod Worked
+mod WorkedOptions

@@ -1,6 +1,6 @@
 -- The lines of a report that are of no stimulus: each is one line, and begins none.
 use Rattle.std.proofs.Common.{◌≡◌, ◌≢◌, ℕ, ◌+◌, ◌<◌, ◌^◌, ◌==◌, Bool, true, false, not, ◌&&◌, List, [], ◌∷◌, ◌++◌, map, refl, ◌∙◌, arith}
-use Rattle.std.specs.Prelude.{nat_le, codes}
+use Rattle.std.specs.Prelude.{nat_le, codes, Option, None, Some}
 use Rattle.std.specs.Fmt.{decimal}
 use Rattle.std.specs.List.{list_all}
 use Rattle.std.proofs.lemmas.Bool.{and_parts, and_from, cond_both, leb-true}
@@ -32,7 +32,8 @@ use Rattle.witness_replay.proofs.LineLemmas.{is_inline}
 use Rattle.witness_replay.proofs.WrittenLemmas.{inline_decimal}
 use Rattle.witness_replay.proofs.PassedLemmas.{passes, passes_block}
 use Rattle.run_options.specs.declared.options.RunOptions.{RunOptions}
-use Rattle.report_text.specs.Words.{mode_text, lag_text, header_text, kind_text, edge_text, claim_text, what_text, count_text, command_text, warning_text, warning_line}
+use Rattle.report_text.specs.Words.{mode_text, lag_text, number_text, flag_text, asked_text, header_text}
+use Rattle.report_text.specs.Words.{kind_text, edge_text, claim_text, what_text, count_text, command_text, warning_text, warning_line}
 use Rattle.report_text.specs.Words.{verdict_word, proof_text, phase_text, cause_text, why_text, pair_text}
 use Rattle.report_text.specs.Reports.{command_texts, pair_texts, stimulus_texts}
 
@@ -68,6 +69,14 @@ inline_claim kind edge = simp (inline-append, inline_kind, inline_edge)
 inline_lag : (lag : ℕ) → is_inline (lag_text lag) ≡ true
 inline_lag lag =
     cond_both (lag == 0) [] (codes " lag " ++ decimal lag) (λ (text : List ℕ). is_inline text ≡ true) (λ none. refl) (λ some. inline_decimal lag)
+
+inline_number : (word : List ℕ) (number : Option ℕ) → is_inline word ≡ true → is_inline (number_text word number) ≡ true
+inline_number word None plain = refl
+inline_number word (Some number) plain = simp (inline-append, plain, inline_decimal)
+
+inline_flag : (word : List ℕ) (stands : Bool) → is_inline word ≡ true → is_inline (flag_text word stands) ≡ true
+inline_flag word true plain = plain
+inline_flag word false plain = refl
 
 inline_what : (listing : Listing) → is_inline (what_text listing) ≡ true
 inline_what (Claiming kind edge pairs) = inline_claim kind edge
@@ -115,7 +124,13 @@ inline_why limit (Undecided cause) = inline_cause limit cause
 
 -- a line whose first letters are others than those of a stimulus
 pub passes_header : (number : ℕ) (o : RunOptions) → passes (title_of number) (header_text o) ≡ true
-passes_header number o = simp (inline-append, inline_mode, inline_decimal, inline_lag)
+passes_header number o =
+    let hold = inline_flag (codes " hold") o.hold refl in
+    let assist = inline_number (codes "assist") o.assist refl in
+    let free = inline_number (codes "free") o.free refl in
+    let assumed = inline_number (codes "assumed") o.assumed refl in
+    let strict = inline_flag (codes " strict") o.strict refl in
+    simp (inline-append, inline_mode, inline_decimal, inline_lag, hold, assist, free, assumed, strict)
 
 passes_command : (number place : ℕ) (c : CommandLine) → passes (title_of number) (command_text place c) ≡ true
 passes_command number place c = simp (inline-append, inline_what, inline_count, inline_decimal)

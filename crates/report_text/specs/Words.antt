@@ -1,6 +1,6 @@
 -- The texts of a report's lines, each without its newline. A name, a pattern or a word is shown with a `?` for each byte outside
 -- 32 to 126.
-use Rattle.std.specs.Prelude.{ℕ, ◌==◌, Bool, true, false, if◌then◌else◌, List, [], ◌++◌, length, count_by, codes}
+use Rattle.std.specs.Prelude.{ℕ, ◌==◌, Bool, true, false, if◌then◌else◌, List, [], ◌++◌, length, count_by, codes, Option, None, Some}
 use Rattle.std.specs.Fmt.{decimal}
 use Rattle.sdcv_base.specs.Shown.{shown}
 use Rattle.sdcv_base.specs.declared.kinds.Kind.{Kind}
@@ -37,11 +37,25 @@ mode_text hazard = if hazard then codes "hazard" else codes "plain"
 abbrev pub lag_text : ℕ → List ℕ
 lag_text lag = if lag == 0 then [] else codes " lag " ⁀ decimal lag
 
+-- a word with its number, where it has one; and a word, where it stands
+abbrev pub number_text : List ℕ → Option ℕ → List ℕ
+number_text word None = []
+number_text word (Some number) = codes " " ⁀ word ⁀ codes " " ⁀ decimal number
+
+abbrev pub flag_text : List ℕ → Bool → List ℕ
+flag_text word stands = if stands then word else []
+
+-- what stands only where it is asked for
+abbrev pub asked_text : RunOptions → List ℕ
+asked_text o =
+    lag_text o.lag ⁀ flag_text (codes " hold") o.hold ⁀ number_text (codes "assist") o.assist ⁀ number_text (codes "free") o.free
+    ⁀ number_text (codes "assumed") o.assumed ⁀ flag_text (codes " strict") o.strict
+
 -- the options of the run
 abbrev pub header_text : RunOptions → List ℕ
 header_text o =
     codes "sdcv 1 mode " ⁀ mode_text o.hazard ⁀ codes " reset " ⁀ decimal o.reset_len ⁀ codes " depth " ⁀ decimal o.depth ⁀ codes " budget "
-    ⁀ decimal o.budget ⁀ codes " inv " ⁀ decimal o.inv_depth ⁀ lag_text o.lag
+    ⁀ decimal o.budget ⁀ codes " inv " ⁀ decimal o.inv_depth ⁀ asked_text o
 
 -- the kind of what is claimed
 abbrev pub kind_text : Kind → List ℕ

@@ -8,7 +8,7 @@ use crate::commands::add_commands;
 use crate::lines::ReportLines;
 use crate::pairs::add_pairs;
 use crate::tallies::total_text;
-use crate::words::{lag_text, mode_text};
+use crate::words::{asked_text, mode_text};
 use run_options::RunOptions;
 use selected_types::Selected;
 use std::alloc::{AllocError, Global};
@@ -22,9 +22,9 @@ fn header_text(alloc: Global, options: &RunOptions) -> Result<String, AllocError
     let depth = options.depth;
     let budget = options.budget;
     let inv = options.inv_depth;
-    let lag = lag_text(alloc, options.lag)?;
+    let asked = asked_text(alloc, options)?;
     format!(in alloc;
-        "sdcv 1 mode {mode} reset {reset} depth {depth} budget {budget} inv {inv}{lag}"
+        "sdcv 1 mode {mode} reset {reset} depth {depth} budget {budget} inv {inv}{asked}"
     )
 }
 

@@ -1,7 +1,9 @@
 //! The words of an option, of an exception and of a warning.
 ghost use Rattle.std.specs.Prelude.{◌≡◌, IfOk, string_bytes};
-ghost use Rattle.report_text.specs.Words.{mode_text, lag_text, kind_text, edge_text, claim_text, what_text, count_text, warning_text};
+ghost use Rattle.report_text.specs.Words.{mode_text, lag_text, number_text, flag_text, asked_text};
+ghost use Rattle.report_text.specs.Words.{kind_text, edge_text, claim_text, what_text, count_text, warning_text};
 
+use run_options::RunOptions;
 use sdcv_base::{Edge, Kind};
 use selected_types::{Listing, Warning};
 use std::alloc::{AllocError, Global};
@@ -13,8 +15,8 @@ pub fn mode_text(hazard: bool) -> &'static str
     if hazard { "hazard" } else { "plain" }
 }
 
-/// At how many captures more than the first a false path is judged, where it is at any.
-pub(crate) fn lag_text(alloc: Global, lag: u8) -> Result<String, AllocError>
+// At how many captures more than the first a false path is judged, where it is at any.
+fn lag_text(alloc: Global, lag: u8) -> Result<String, AllocError>
     ensures { IfOk result (λ text. string_bytes text ≡ lag_text lag) }
 {
     if lag == 0 {
@@ -22,6 +24,36 @@ pub(crate) fn lag_text(alloc: Global, lag: u8) -> Result<String, AllocError>
     } else {
         format!(in alloc; " lag {lag}")
     }
+}
+
+// A word with its number, where it has one.
+fn number_text(alloc: Global, word: &str, number: Option<u64>) -> Result<String, AllocError>
+    ensures { IfOk result (λ text. string_bytes text ≡ number_text word.now number) }
+{
+    match number {
+        Some(number) => format!(in alloc; " {word} {number}"),
+        None => Ok(String::new(alloc)),
+    }
+}
+
+// A word, where it stands.
+fn flag_text(word: &'static str, stands: bool) -> &'static str
+    ensures { result.now ≡ flag_text word.now stands }
+{
+    if stands { word } else { "" }
+}
+
+/// What stands only where it is asked for, each with a space before it.
+pub(crate) fn asked_text(alloc: Global, options: &RunOptions) -> Result<String, AllocError>
+    ensures { IfOk result (λ text. string_bytes text ≡ asked_text options.now) }
+{
+    let lag = lag_text(alloc, options.lag)?;
+    let hold = flag_text(" hold", options.hold);
+    let assist = number_text(alloc, "assist", options.assist)?;
+    let free = number_text(alloc, "free", options.free)?;
+    let assumed = number_text(alloc, "assumed", options.assumed)?;
+    let strict = flag_text(" strict", options.strict);
+    format!(in alloc; "{lag}{hold}{assist}{free}{assumed}{strict}")
 }
 
 // The kind of an exception, with its multiplier.

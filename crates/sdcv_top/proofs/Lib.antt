@@ -1,6 +1,7 @@
 pub mod Alike
 pub mod BuiltinLibrary
 pub mod Delivered
+pub mod Holding
 pub mod Repeats
 pub mod Replays
 pub mod Reading

@@ -7,6 +7,7 @@ use Rattle.sdcv_gen.specs.Texts.{verilog_text, sdc_text}
 use Rattle.run_options.specs.declared.options.RunOptions.{RunOptions}
 use Rattle.run_options.specs.declared.judging.Judging.{Judging}
 use Rattle.run_options.specs.declared.resets.Reset.{Reset}
+use Rattle.run_options.specs.Judging.{judging_by}
 use Rattle.mcp_detect.specs.declared.options.DetectOptions.{DetectOptions}
 use Rattle.found_pairs.specs.Tellings.{detect_line}
 use Rattle.design_stages.specs.Designs.{LinksTo, Designs}
@@ -15,29 +16,21 @@ use Rattle.design_stages.specs.Texts as texts
 use Rattle.sdcv_top.specs.Outcomes.{usage}
 use Rattle.sdcv_top.specs.Found.{Detects, IsFoundOut}
 use Rattle.sdcv_top.specs.Headline.{IsReported}
-use Rattle.sdcv_top.specs.Jobs.{IsDone}
+use Rattle.sdcv_top.specs.Jobs.{IsDone, run_options}
 use Rattle.sdcv_top.specs.Stages.{Due, After, Last, ◌>>=◌}
 use Rattle.sdcv_top.specs.Texts.{AfterTexts, builtin_library}
-
--- how the reset is held
-abbrev pub reset_of : Options → Reset
-reset_of o = record { ports = o.resets; len = o.reset_len }
-
--- how claims are judged
-abbrev pub judging_of : Options → Judging
-judging_of o = record { hazard = o.hazard; lag = o.lag }
 
 -- a job over three texts: they are read, the netlist is linked, pairs are selected, and the job is done on them
 unfoldable pub Worked : Texts → Options → Job → Due
 Worked files o job = do
   texts ← AfterTexts files
-  designed ← After (Designs texts (reset_of o) (judging_of o))
-  IsDone (judging_of o) o.reset_len job designed
+  designed ← After (Designs texts o.reset o.judging)
+  IsDone o.judging o.reset.len job designed
 
 -- how pairs are tried
 abbrev pub detect_options : Options → Finding → DetectOptions
 detect_options o f = record {
-  hazard = o.hazard;
+  hazard = o.judging.hazard;
   depth = f.proving.depth;
   budget = f.proving.budget;
   inv_depth = f.proving.inv_depth;
@@ -48,9 +41,9 @@ detect_options o f = record {
 unfoldable pub FindsPairs : Texts → Options → Finding → Due
 FindsPairs files o f = do
   texts ← AfterTexts files
-  linked ← After (LinksTo texts (reset_of o))
+  linked ← After (LinksTo texts o.reset)
   detected ← After (Staged (Detects linked (detect_options o f)) detect_line)
-  Last (IsFoundOut f.out (detect_options o f) o.reset_len linked detected)
+  Last (IsFoundOut f.out (detect_options o f) o.reset.len linked detected)
 
 -- the reset of generated designs: its port is 1 in the first cycle
 abbrev pub demo_reset : Reset
@@ -58,11 +51,11 @@ demo_reset = record { ports = record { name = codes "rst"; value = true } ∷ []
 
 -- their claims are judged without hazards, and each false path at the first capture
 abbrev pub demo_judging : Judging
-demo_judging = record { hazard = false; lag = 0 }
+demo_judging = judging_by false 0
 
 -- the options of their runs
 abbrev pub demo_options : RunOptions
-demo_options = record { hazard = false; reset_len = 1; depth = 8; budget = 20000; inv_depth = 1; lag = 0 }
+demo_options = run_options demo_judging 1 (record { depth = 8; budget = 20000; inv_depth = 1 })
 
 -- a verification of generated texts: nothing is read, and no certificate is saved
 unfoldable pub Demonstrated : ℕ → ℕ → Due

@@ -40,6 +40,11 @@ run_options judging reset_len p = record {
   budget = p.budget;
   inv_depth = p.inv_depth;
   lag = judging.lag;
+  hold = judging.hold;
+  assist = None;
+  free = None;
+  assumed = None;
+  strict = judging.strict;
 }
 
 -- a certificate is accepted with exactly these numbers of claims, each of which holds in all runs; or it is rejected with its cause

@@ -21,12 +21,19 @@ const OPTIONS: RunOptions = RunOptions {
     budget: 20_000,
     inv_depth: 1,
     lag: 0,
+    hold: false,
+    assist: None,
+    free: None,
+    assumed: None,
+    strict: false,
 };
 
 /// How their claims are judged.
 const JUDGING: Judging = Judging {
     hazard: false,
     lag: 0,
+    hold: false,
+    strict: false,
 };
 
 /// Judges the pairs of the design of a seed, of so many blocks.

@@ -20,7 +20,6 @@ use judgements::Progress;
 use linked_types::Linked;
 use mcp_detect::{DetectOptions, Detected, detect};
 use run_ends::Ending;
-use run_options::Reset;
 use sdcv_base::Host;
 use sdcv_words::{Finding, Options, Texts};
 use std::alloc::{AllocError, Global};
@@ -46,21 +45,14 @@ pub fn found_out<'a, H: Host, P: Progress>(
 {
     let texts = texts(alloc, host, files)?;
     let trying = DetectOptions {
-        hazard: options.hazard,
+        hazard: options.judging.hazard,
         depth: finding.proving.depth,
         budget: finding.proving.budget,
         inv_depth: finding.proving.inv_depth,
         bound: finding.bound,
     };
-    let Options {
-        resets,
-        reset_len,
-        ..
-    } = options;
-    let reset = Reset {
-        ports: resets,
-        len: reset_len,
-    };
+    let Options { reset, .. } = options;
+    let reset_len = reset.len;
     let linked = linked(alloc, &texts, reset)?;
     let detected = detected(alloc, &linked, &trying, progress)?;
     let plan = told(alloc, &linked, &trying, reset_len, finding.out, detected)?;

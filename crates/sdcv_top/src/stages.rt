@@ -18,7 +18,7 @@ use crate::verifying::verified;
 use crate::watching::watched;
 use design_stages::{Designed, designed};
 use judgements::Progress;
-use run_options::{Judging, Reset, RunOptions};
+use run_options::{Judging, RunOptions};
 use sdcv_base::Host;
 use sdcv_words::{Command, Job, Options, Texts};
 use std::alloc::Global;
@@ -63,7 +63,7 @@ fn worked<'a, H: Host, P: Progress>(
     progress: &mut P,
 ) -> Result<Plan<'a>, Stop>
     requires options { AreOptionsInRange options }
-    requires job { IsJobInRange options.hazard (seen_job job) }
+    requires job { IsJobInRange options.judging.hazard (seen_job job) }
     ensures planned { Plans (Worked (seen_texts files.entry) options (seen_job job.entry))
         (reads_of (Some (Over (seen_texts files.entry) options (seen_job job.entry))))
         (H.files host.old) (H.asked host.old) (H.asked host.new) result }
@@ -73,44 +73,26 @@ fn worked<'a, H: Host, P: Progress>(
     ensures saved { H.saved host.new ≡ H.saved host.old }
 {
     let texts = texts(alloc, host, files)?;
-    let Options {
-        hazard,
-        lag,
-        resets,
-        reset_len,
-    } = options;
-    let reset = Reset {
-        ports: resets,
-        len: reset_len,
-    };
-    let judging = Judging { hazard, lag };
+    let Options { judging, reset } = options;
     let designed = designed(alloc, &texts, reset, judging)?;
-    let manner = Manner { judging, reset_len };
-    let done = done(alloc, host, &designed, manner, job, progress)?;
+    let done = done(alloc, host, &designed, judging, job, progress)?;
     Ok(done)
 }
 
-/// How claims are judged, and how long runs are held in reset.
-#[derive(Clone, Copy)]
-pub struct Manner {
-    pub judging: Judging,
-    pub reset_len: usize,
-}
-
-// The job is done on the selected pairs.
+// The job is done on the selected pairs. Runs are held in reset for as long as the design says.
 fn done<'a, H: Host, P: Progress>(
     alloc: Global,
     host: &mut H,
     designed: &Designed,
-    manner: Manner,
+    judging: Judging,
     job: Job<'a>,
     progress: &mut P,
 ) -> Result<Plan<'a>, Stop>
     requires judged { CanBeJudged designed.now }
-    requires hazard { All (λ claim. claim.hazard ≡ manner.judging.hazard) designed.now.selected.claims }
-    requires job { IsJobInRange manner.judging.hazard (seen_job job) }
-    ensures planned { Plans (IsDone manner.judging manner.reset_len (seen_job job.entry) designed.now) (job_reads (seen_job job.entry)) (H.files host.old)
-        (H.asked host.old) (H.asked host.new) result }
+    requires hazard { All (λ claim. claim.hazard ≡ judging.hazard) designed.now.selected.claims }
+    requires job { IsJobInRange judging.hazard (seen_job job) }
+    ensures planned { Plans (IsDone judging designed.now.linked.design.reset_len (seen_job job.entry) designed.now)
+        (job_reads (seen_job job.entry)) (H.files host.old) (H.asked host.old) (H.asked host.new) result }
     ensures count { StopCounts (H.faults host.old) (H.faults host.new) result }
     ensures files { H.files host.new ≡ H.files host.old }
     ensures printed { H.printed host.new ≡ H.printed host.old }
@@ -119,12 +101,17 @@ fn done<'a, H: Host, P: Progress>(
     match job {
         Job::Verify { out, json, proving } => {
             let options = RunOptions {
-                hazard: manner.judging.hazard,
-                reset_len: manner.reset_len,
+                hazard: judging.hazard,
+                reset_len: designed.linked.design.reset_len,
                 depth: proving.depth,
                 budget: proving.budget,
                 inv_depth: proving.inv_depth,
-                lag: manner.judging.lag,
+                lag: judging.lag,
+                hold: judging.hold,
+                assist: None,
+                free: None,
+                assumed: None,
+                strict: judging.strict,
             };
             Ok(verified(alloc, designed, &options, Some(out), json, progress)?)
         }

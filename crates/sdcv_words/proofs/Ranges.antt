@@ -10,11 +10,12 @@ use Rattle.texts.proofs.ReadLemmas.{bind_gave}
 use Rattle.clap_words.specs.Readings.{Given, Reading, clap_reading}
 use Rattle.sdcv_words.specs.declared.commands.Options.{Options}
 use Rattle.run_options.specs.declared.proving.Proving.{Proving}
+use Rattle.run_options.specs.Judging.{CanJudge, judging_by}
 use Rattle.sdcv_words.specs.Commands.{Aiger, Command, Demo, Detect, Finding, Job, Check, Over, Replay, Text, Verify}
 use Rattle.sdcv_words.specs.Givens.{stands}
 use Rattle.sdcv_words.specs.Numbers.{are_digits, number_in, number_or}
 use Rattle.sdcv_words.specs.Options.{default_cycles, lag_of, options_of, proving_of, resets_of}
-use Rattle.sdcv_words.specs.Jobs.{aiger_of, check_of, demo_of, detect_of, finding_of, job_of, judged_if, over_of, replay_of, texts_of, verify_of, watching_of}
+use Rattle.sdcv_words.specs.Jobs.{aiger_of, check_of, demo_of, detect_of, finding_of, job_of, judged_if, over_of, replay_of, texts_of, verify_of, watching_of, without_hazards}
 use Rattle.sdcv_words.specs.Places.{by_place}
 use Rattle.sdcv_words.specs.Words.{command, or_else}
 use Rattle.sdcv_words.specs.Ranges.{AreOptionsInRange, IsFindingInRange, IsInRange, IsJobInRange, IsProvingInRange}
@@ -59,6 +60,10 @@ few_cycles (Some text) = omega arith
 pub lag_range : (given : List Given) (lag : ℕ) → lag_of given ≡ Some lag → lag ≤ 8
 lag_range given lag is = (number_or_range 0 0 8 lag (in_table given (codes "lag")) (omega arith) (omega arith) is).1
 
+-- so claims can be judged
+can_judge : (hazard : Bool) (lag : ℕ) → lag ≤ 8 → CanJudge (judging_by hazard lag)
+can_judge hazard lag few = record { lag = few; hold = refl; strict = refl }
+
 options_range : (given : List Given) (options : Options) → options_of given ≡ Some options → AreOptionsInRange options
 options_range given options is =
     let list = in_table given (codes "reset") in
@@ -67,8 +72,10 @@ options_range given options is =
     let (lag, late, with_lag) = bind_gave (lag_of given) _ options rest in
     let (resets, of, made) = bind_gave (resets_of list) _ options with_lag in
     let range = number_or_range (default_cycles list) 0 64 cycles (in_table given (codes "reset-cycles")) (omega arith) (few_cycles list) held in
-    let opened : Options = record { hazard = stands given (codes "hazard"); lag = lag; resets = resets; reset_len = cycles } in
-    let same : opened ≡ options = cc in subst AreOptionsInRange same (record { lag = lag_range given lag late; reset_len = range.1 })
+    let judging = judging_by (stands given (codes "hazard")) lag in
+    let opened : Options = record { judging = judging; reset = record { ports = resets; len = cycles } } in
+    let same : opened ≡ options = cc in
+    subst AreOptionsInRange same (record { judging = can_judge (stands given (codes "hazard")) lag (lag_range given lag late); reset_len = range.1 })
 
 -- how far proofs are sought
 proving_range : (given : List Given) (proving : Proving) → proving_of given ≡ Some proving → IsProvingInRange proving
@@ -117,7 +124,7 @@ over_range name given c is =
     let (job, done, with_job) = bind_gave (job_of name given) _ c with_texts in
     let (options, set, made) = bind_gave (options_of given) _ c with_job in
     let same : Over texts options job ≡ c = cc in
-    let range = job_range options.hazard (bytes_eq name (codes "verify")) (bytes_eq name (codes "check")) (bytes_eq name (codes "replay")) given job done in
+    let range = job_range options.judging.hazard (bytes_eq name (codes "verify")) (bytes_eq name (codes "check")) (bytes_eq name (codes "replay")) given job done in
     subst IsInRange same (options_range given options set, range)
 
 -- up to which multiplier pairs are tried
@@ -154,10 +161,11 @@ aiger_range given c is =
     let (texts, files, with_texts) = bind_gave (texts_of given) _ c is in
     let (job, done, with_job) = bind_gave (watching_of given) _ c with_texts in
     let (options, set, made) = bind_gave (options_of given) _ c with_job in
-    let plain : Options = record options { hazard = false } in
-    let same : Over texts plain job ≡ c = cc in
+    let same : Over texts (without_hazards options) job ≡ c = cc in
     let range = options_range given options set in
-    subst IsInRange same (record { lag = range.lag; reset_len = range.reset_len }, watching_range given job done)
+    let judging : CanJudge (without_hazards options).judging =
+    record { lag = range.judging.lag; hold = range.judging.hold; strict = range.judging.strict } in
+    subst IsInRange same (record { judging = judging; reset_len = range.reset_len }, watching_range given job done)
 
 demo_range : (given : List Given) (c : Command) → demo_of given ≡ Some c → IsInRange c
 demo_range given c is =

@@ -4,6 +4,7 @@ use Rattle.std.specs.Str.{bytes_eq}
 use Rattle.texts.specs.Lookups.{in_table}
 use Rattle.texts.specs.Reads.{◌>>=◌}
 use Rattle.clap_words.specs.Readings.{Given, Reading}
+use Rattle.sdcv_words.specs.declared.commands.Options.{Options}
 use Rattle.sdcv_words.specs.Commands.{Aiger, Command, Demo, Detect, Finding, Job, Check, Over, Replay, Text, Texts, Verify}
 use Rattle.sdcv_words.specs.Givens.{stands}
 use Rattle.sdcv_words.specs.Numbers.{number_in, number_or}
@@ -67,13 +68,16 @@ watching_of given =
     number_in 1 18446744073709551615 digits >>= λ pair.
     Some (Aiger out pair)
 
+abbrev pub without_hazards : Options → Options
+without_hazards o = record { judging = record o.judging { hazard = false }; reset = o.reset }
+
 -- a claim is watched without hazards
 abbrev pub aiger_of : List Given → Option Command
 aiger_of given =
     texts_of given >>= λ texts.
     watching_of given >>= λ job.
     options_of given >>= λ options.
-    Some (Over texts (record options { hazard = false }) job)
+    Some (Over texts (without_hazards options) job)
 
 abbrev pub demo_of : List Given → Option Command
 demo_of given =

@@ -6,6 +6,7 @@ use Rattle.sdcv_base.specs.declared.settings.Setting.{Setting}
 use Rattle.clap_words.specs.Readings.{Given}
 use Rattle.sdcv_words.specs.declared.commands.Options.{Options}
 use Rattle.run_options.specs.declared.proving.Proving.{Proving}
+use Rattle.run_options.specs.Judging.{judging_by}
 use Rattle.sdcv_words.specs.Givens.{stands}
 use Rattle.sdcv_words.specs.Numbers.{number_or}
 use Rattle.sdcv_words.specs.Settings.{settings_of}
@@ -29,7 +30,7 @@ options_of given =
     number_or (default_cycles list) 0 64 (in_table given (codes "reset-cycles")) >>= λ cycles.
     lag_of given >>= λ lag.
     resets_of list >>= λ resets.
-    Some (record { hazard = stands given (codes "hazard"); lag = lag; resets = resets; reset_len = cycles })
+    Some (record { judging = judging_by (stands given (codes "hazard")) lag; reset = record { ports = resets; len = cycles } })
 
 abbrev pub proving_of : List Given → Option Proving
 proving_of given =

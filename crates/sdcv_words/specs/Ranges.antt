@@ -2,6 +2,7 @@
 use Rattle.std.specs.Prelude.{◌≡◌, ◌≤◌, Bool, false}
 use Rattle.sdcv_words.specs.declared.commands.Options.{Options}
 use Rattle.run_options.specs.declared.proving.Proving.{Proving}
+use Rattle.run_options.specs.Judging.{CanJudge}
 use Rattle.sdcv_words.specs.Commands.{Aiger, Command, Demo, Detect, Finding, Job, Check, Over, Replay, Verify}
 
 -- claims are proved up to a depth of 64, with at least one and at most ten million clauses for a query; kept clauses up to a depth of 8
@@ -18,10 +19,10 @@ IsJobInRange hazard (Check cert) = Unit {0}
 IsJobInRange hazard (Replay report pair) = 1 ≤ pair
 IsJobInRange hazard (Aiger out pair) = (hazard ≡ false) × (1 ≤ pair)
 
--- false paths are judged at most eight captures after the first, and reset is held for at most 64 cycles
+-- claims can be judged so, and reset is held for at most 64 cycles
 pub record AreOptionsInRange (options : Options) : Type 0 where
-  pub lag : options.lag ≤ 8
-  pub reset_len : options.reset_len ≤ 64
+  pub judging : CanJudge options.judging
+  pub reset_len : options.reset.len ≤ 64
 
 -- multipliers are tried up to a bound from 2 to 16
 pub record IsFindingInRange (finding : Finding) : Type 0 where
@@ -31,6 +32,6 @@ pub record IsFindingInRange (finding : Finding) : Type 0 where
 
 -- a generated design has 1 to 160 blocks
 abbrev pub IsInRange : Command → Type 0
-IsInRange (Over texts options job) = AreOptionsInRange options × IsJobInRange options.hazard job
+IsInRange (Over texts options job) = AreOptionsInRange options × IsJobInRange options.judging.hazard job
 IsInRange (Detect texts options finding) = AreOptionsInRange options × IsFindingInRange finding
 IsInRange (Demo seed size) = (1 ≤ size) × (size ≤ 160)

@@ -1,7 +1,6 @@
 //! The commands, as the program carries them out.
 
-use run_options::Proving;
-use sdcv_base::{Seq, Setting};
+use run_options::{Judging, Proving, Reset};
 
 /// The names of the files that a command reads.
 #[derive(Clone, Copy)]
@@ -12,15 +11,11 @@ pub struct Texts<'a> {
     pub constraints: &'a str,
 }
 
-/// How runs are judged, and how they begin.
+/// How claims are judged, and how runs begin. The names of no two reset ports are equal, and none is empty.
 #[derive(Drop)]
 pub struct Options {
-    pub hazard: bool,
-    /// At how many captures more than the first a false path is judged, 0 to 8.
-    pub lag: u8,
-    /// The values of the reset ports. The names of no two are equal, and none is empty.
-    pub resets: Seq<Setting>,
-    pub reset_len: usize,
+    pub judging: Judging,
+    pub reset: Reset,
 }
 
 /// Where the found pairs are saved, how far their proofs are sought, and the largest multiplier that is tried.

@@ -4,13 +4,14 @@ ghost use Rattle.std.specs.Option.{option_map};
 ghost use Rattle.clap_words.specs.Readings.{seen_given, seen_reading};
 ghost use Rattle.sdcv_words.specs.Commands.{seen_command, seen_finding, seen_job, seen_texts};
 ghost use Rattle.sdcv_words.specs.Jobs.{aiger_of, check_of, demo_of, detect_of, finding_of, job_of};
-ghost use Rattle.sdcv_words.specs.Jobs.{judged, over_of, replay_of, texts_of, verify_of, watching_of};
+ghost use Rattle.sdcv_words.specs.Jobs.{judged, over_of, replay_of, texts_of, verify_of, watching_of, without_hazards};
 
 use crate::commands::{Command, Finding, Job, Options, Texts};
 use crate::givens::{stands, text_of};
 use crate::numbers::{number_in, number_or};
 use crate::options::{options_of, proving_of};
 use clap_words::{Given, Reading};
+use run_options::Judging;
 use std::alloc::{AllocError, Global};
 
 fn texts_of<'a>(given: &[Given<'a>]) -> Option<Texts<'a>>
@@ -125,6 +126,17 @@ fn watching_of<'a>(given: &[Given<'a>]) -> Option<Job<'a>>
     })
 }
 
+fn without_hazards(options: Options) -> Options
+    ensures { result ≡ without_hazards options }
+{
+    let Options { judging, reset } = options;
+    let judging = Judging {
+        hazard: false,
+        ..judging
+    };
+    Options { judging, reset }
+}
+
 // A claim is watched without hazards.
 fn aiger_of<'a>(alloc: Global, given: &[Given<'a>]) -> Result<Option<Command<'a>>, AllocError>
     ensures { IfOk result (λ found. option_map seen_command found ≡ aiger_of (map seen_given given.now)) }
@@ -138,10 +150,7 @@ fn aiger_of<'a>(alloc: Global, given: &[Given<'a>]) -> Result<Option<Command<'a>
     let Some(options) = options_of(alloc, given)? else {
         return Ok(None);
     };
-    let options = Options {
-        hazard: false,
-        ..options
-    };
+    let options = without_hazards(options);
     Ok(Some(Command::Over {
         texts,
         options,

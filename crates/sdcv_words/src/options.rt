@@ -9,7 +9,7 @@ use crate::givens::{stands, text_of};
 use crate::numbers::number_or;
 use crate::settings::settings_of;
 use clap_words::Given;
-use run_options::Proving;
+use run_options::{Judging, Proving, Reset};
 use sdcv_base::{Seq, Setting};
 use std::alloc::{AllocError, Global};
 
@@ -45,12 +45,17 @@ pub fn options_of(alloc: Global, given: &[Given<'_>]) -> Result<Option<Options>,
     let Some(resets) = resets_of(alloc, list)? else {
         return Ok(None);
     };
-    Ok(Some(Options {
+    let judging = Judging {
         hazard: stands(given, "hazard"),
         lag,
-        resets,
-        reset_len: cycles as usize,
-    }))
+        hold: false,
+        strict: false,
+    };
+    let reset = Reset {
+        ports: resets,
+        len: cycles as usize,
+    };
+    Ok(Some(Options { judging, reset }))
 }
 
 /// How far proofs are sought, if the numbers lie in their ranges.

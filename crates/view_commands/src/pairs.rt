@@ -1,5 +1,6 @@
 //! A refuted pair of a report.
-ghost use Rattle.std.specs.Prelude.{◌≡◌, ◌≤◌, ◌<◌, IfOk, Some, length, slice_get};
+ghost use Rattle.std.specs.Prelude.{◌≡◌, ◌<◌, IfOk, Some, length, slice_get};
+ghost use Rattle.run_options.specs.Judging.{CanJudge};
 ghost use Rattle.view_commands.specs.Runs.{IsRefutedPair};
 
 use crate::lines::stimulus_line;
@@ -7,14 +8,14 @@ use crate::reports::report_in;
 use crate::stops::Stop;
 use crate::words::PairWords;
 use net_model::Stimulus;
-use report_rows::{PairRow, Report, Word, stimulus_of};
+use report_rows::{Head, PairRow, Report, Word, stimulus_of};
 use run_options::Judging;
 use sdcv_base::Seq;
 use std::alloc::Global;
 
 /// A refuted pair of a report with its stimulus, and how the claims of the report are judged.
 ///
-/// What always holds (`IsRefutedPair`): the pair is one of the report's, and the lag is one that can be judged.
+/// What always holds (`IsRefutedPair`): the pair is one of the report's, and its claim can be judged so.
 #[derive(Drop)]
 pub(crate) struct RefutedPair {
     pub report: Report,
@@ -63,17 +64,45 @@ fn check_refuted(alloc: Global, words: &PairWords<'_>, row: &PairRow) -> Result<
     )))
 }
 
+// What the first line asks for beside what can be shown here, where it asks for any of it.
+fn unknown_word(head: &Head) -> Option<&'static str> {
+    if head.hold {
+        Some("hold")
+    } else if head.asked.free.is_some() {
+        Some("free")
+    } else if head.asked.assumed.is_some() {
+        Some("assumed")
+    } else if head.asked.strict {
+        Some("strict")
+    } else {
+        None
+    }
+}
+
+// The report was made with nothing that these words can't give.
+fn check_words(alloc: Global, name: &str, head: &Head) -> Result<(), Stop> {
+    match unknown_word(head) {
+        Some(word) => {
+            Err(Stop::refused(format!(in alloc; "{name}: no run of a report with {word} is shown")))
+        }
+        None => Ok(()),
+    }
+}
+
 // How the claims of a report are judged.
-fn judging_of(alloc: Global, name: &str, report: &Report) -> Result<Judging, Stop>
-    ensures { IfOk result (λ judging. judging.lag ≤ 8) }
+fn judging_of(alloc: Global, name: &str, head: &Head) -> Result<Judging, Stop>
+    ensures { IfOk result CanJudge }
 {
-    if report.lag <= 8 {
+    check_words(alloc, name, head)?;
+    if head.lag <= 8 {
         return Ok(Judging {
-            hazard: report.hazard,
-            lag: report.lag as u8,
+            hazard: head.hazard,
+            lag: head.lag as u8,
+            hold: false,
+            strict: false,
         });
     }
-    let lag = report.lag;
+    let lag = head.lag;
     Err(Stop::refused(format!(in alloc; "{name}: its lag {lag} is above 8")))
 }
 
@@ -83,7 +112,7 @@ fn cycles_word(count: u64) -> &'static str {
 
 // The report was made with so many cycles of reset.
 fn check_reset(alloc: Global, name: &str, report: &Report, len: usize) -> Result<(), Stop> {
-    let then = report.reset;
+    let then = report.head.reset;
     if then == len as u64 {
         return Ok(());
     }
@@ -109,10 +138,10 @@ fn asked_pair(
     reset: usize,
 ) -> Result<AskedPair, Stop>
     ensures place { IfOk result (λ asked. asked.place < length report.now.pairs) }
-    ensures lag { IfOk result (λ asked. asked.judging.lag ≤ 8) }
+    ensures judging { IfOk result (λ asked. CanJudge asked.judging) }
 {
     check_reset(alloc, words.report, report, reset)?;
-    let judging = judging_of(alloc, words.report, report)?;
+    let judging = judging_of(alloc, words.report, &report.head)?;
     let place = place_of(alloc, words, &report.pairs)?;
     check_refuted(alloc, words, report.pairs.item(place))?;
     let stimulus = stimulus_in(alloc, words, text)?;

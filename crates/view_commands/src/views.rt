@@ -37,6 +37,8 @@ pub fn bits(alloc: Global, texts: &ReadTexts, reset: Reset) -> Result<Vec<u8>, S
     let judging = Judging {
         hazard: false,
         lag: 0,
+        hold: false,
+        strict: false,
     };
     let designed = designed(alloc, texts, reset, judging)?;
     or_stop(bits_text(alloc, &designed.linked))

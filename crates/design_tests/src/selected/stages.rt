@@ -1,6 +1,7 @@
 //! From texts to what a script selects.
 ghost use Rattle.std.specs.Prelude.{◌≡◌, ◌≤◌, IfOk};
 ghost use Rattle.cell_types.specs.Libraries.{IsLawful as IsLawfulLibrary};
+ghost use Rattle.run_options.specs.Judging.{CanJudge};
 ghost use Rattle.design_stages.specs.Designs.{AreLawful};
 
 use cell_types::{Library, builtin};
@@ -74,10 +75,12 @@ fn ports(alloc: Global, port: &str) -> Result<Seq<Setting>, AllocError> {
 }
 
 fn judging(texts: &Texts) -> Judging
-    ensures { result.lag ≤ 8 }
+    ensures { CanJudge result }
 {
     Judging {
         hazard: texts.hazard,
         lag: texts.lag.min(8),
+        hold: false,
+        strict: false,
     }
 }

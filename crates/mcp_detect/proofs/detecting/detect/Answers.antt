@@ -1,7 +1,7 @@
 use Rattle.std.proofs.Common.{◌∙◌, Err, IfErr, ap, arith, sym, subst}
 use Rattle.std.specs.Prelude.{Result}
 use Rattle.std.proofs.lemmas.Result.{err_from_is_err_and}
-use Rattle.exception_expand.specs.Pairs.{judging_by}
+use Rattle.run_options.specs.Judging.{judging_by}
 use Rattle.mcp_detect.specs.Causes.{IsDetectCause}
 use Rattle.mcp_detect.specs.declared.detections.Detected.{Detected}
 use Rattle.mcp_detect.specs.declared.faults.DetectFault.{DetectFault}

@@ -1,6 +1,6 @@
 use Rattle.std.proofs.Common.{sym, subst}
 use Rattle.script_types.specs.declared.scripts.Script.{Script}
-use Rattle.exception_expand.specs.Pairs.{judging_by}
+use Rattle.run_options.specs.Judging.{judging_by}
 use Rattle.exception_expand.specs.Selections.{HasMultipliers, IsSelectionOf}
 use Rattle.exception_expand.specs.Causes.{IsExpandCause}
 use Rattle.mcp_detect.specs.Causes.{IsDetectCause}

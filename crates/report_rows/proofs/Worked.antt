@@ -1,0 +1,39 @@
+-- First lines of reports that are read back, worked out by hand.
+use Rattle.std.proofs.Common.{◌≡◌, ℕ, List, true, false, refl}
+use Rattle.std.specs.Prelude.{codes, Option, None, Some}
+use Rattle.report_rows.specs.Words.{words, number_in}
+use Rattle.report_rows.specs.Rows.{hazard_in}
+use Rattle.report_rows.specs.Heads.{head_of, asked_last}
+use Rattle.report_rows.specs.declared.heads.Asked.{Asked}
+use Rattle.report_rows.specs.declared.heads.Head.{Head}
+
+abbrev read : List ℕ → Option Head
+read line = head_of (words line)
+
+abbrev nothing : Asked
+nothing = record { assist = None; free = None; assumed = None; strict = false }
+
+abbrev plain : Head
+plain = record { hazard = false; reset = 1; lag = 0; hold = false; asked = nothing }
+
+asked_for_nothing : read (codes "sdcv 1 mode plain reset 1 depth 8 budget 20000 inv 1") ≡ Some plain
+unfolding head_of asked_last hazard_in number_in
+asked_for_nothing = refl
+
+asked_for_all : read (codes "sdcv 1 mode plain reset 1 depth 8 budget 20000 inv 1 lag 2 hold assist 14 free 0 assumed 3 strict")
+    ≡ Some (record plain { lag = 2; hold = true; asked = record { assist = Some 14; free = Some 0; assumed = Some 3; strict = true } })
+unfolding head_of asked_last hazard_in number_in
+asked_for_all = refl
+
+-- words stand in their order, each with its number
+strict_before_free : read (codes "sdcv 1 mode plain reset 1 depth 8 budget 20000 inv 1 strict free 0") ≡ None
+unfolding head_of asked_last hazard_in number_in
+strict_before_free = refl
+
+assist_without_number : read (codes "sdcv 1 mode plain reset 1 depth 8 budget 20000 inv 1 assist") ≡ None
+unfolding head_of asked_last hazard_in number_in
+assist_without_number = refl
+
+cut_before_the_end : read (codes "sdcv 1 mode plain reset 1 depth 8 budget 20000 inv") ≡ None
+unfolding head_of asked_last hazard_in number_in
+cut_before_the_end = refl
