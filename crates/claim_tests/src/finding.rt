@@ -86,7 +86,7 @@ pub fn find(
     requires some { 0 < limits.budget }
     ensures { IfOk result (λ f. IsAcceptedText design.now claims.now f.text.items (justified_numbers f.verdicts)) }
 {
-    let inv = invariants(alloc, design, claims, depth, limits.budget)?;
+    let inv = invariants(alloc, design, claims, &[], depth, limits.budget)?;
     let verdicts = verdicts_of(alloc, design, claims, &inv, limits)?;
     let text = write_cert(alloc, verdicts.as_slice(), &inv)?;
     found_is_writable(design, claims, &inv, limits, &verdicts);

@@ -1,5 +1,5 @@
-//! Claims of small designs, beside what is worked out by hand: the registers near them, the clauses that an induction tries
-//! and those that it keeps, the verdicts, and certificates as values and as texts: those that are written here, and those
+//! Claims of small designs, beside what is worked out by hand: the registers near them, the clauses that an induction tries,
+//! further ones among them, and those that it keeps, the verdicts, and certificates as values and as texts: those that are written here, and those
 //! of what is found, made, written, cut off, read and checked.
 //!
 //! This crate has tests alone. `finding.rt` is also how a caller comes from claims to a text that is accepted. `wants.rt`
@@ -8,6 +8,7 @@
 
 #[cfg(test)]
 mod answers;
+#[cfg(test)]
 #[cfg(test)]
 mod cases;
 #[cfg(test)]

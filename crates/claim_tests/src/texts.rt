@@ -170,6 +170,21 @@ const ROWS: &[Row] = &[
         Err(Form(20)),
     ),
     Row(FALSE, EACH, "\ninv 1 1\nk\nb 0\ni 0\nend\n", Err(Form(20))),
+    // A text that ends early ends where more bytes could mend it; else its fault stands at the line.
+    Row(FALSE, EACH, "\ninv 1 1\nk", Err(Form(21))),
+    Row(FALSE, EACH, "\ninv 1 1\nk ", Err(Form(22))),
+    Row(FALSE, EACH, "\ninv 1 1\nk 1", Err(Form(23))),
+    Row(FALSE, EACH, "\ninv 1 1\nk 1 ", Err(Form(24))),
+    Row(FALSE, EACH, "\ninv 1 1\nk 1 1", Err(Form(25))),
+    Row(FALSE, EACH, "\ninv 1 1\nk 1 1\n", Err(Form(20))),
+    Row(FALSE, EACH, "\ninv 1 1\nk 2 1", Err(Form(25))),
+    Row(FALSE, EACH, "\ninv 1 1\nk 2 1\n", Err(Form(20))),
+    Row(FALSE, EACH, "\ninv 1 1\nk 1 -", Err(Form(25))),
+    Row(FALSE, EACH, "\ninv 1 1\nk 1 -2", Err(Form(26))),
+    Row(FALSE, &["1", "2"], "\ninv 1 1\nk 1 -2 ", Err(Form(20))),
+    Row(FALSE, &["3"], "\ninv 1 1\nk 1 -2 ", Err(Form(27))),
+    Row(FALSE, &["1", "2"], "\ninv 1 1\nk 1 -2 3", Err(Form(20))),
+    Row(FALSE, &["3"], "\ninv 1 1\nk 1 -2 3", Err(Form(28))),
 ];
 
 // Each front of a text that is accepted ends early.

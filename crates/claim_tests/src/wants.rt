@@ -79,7 +79,8 @@ fn judged(
     Ok(told(&verdict))
 }
 
-fn judged_bare(
+/// What the verdict on a claim of a design says, with the kept clauses.
+pub fn judged_bare(
     alloc: Global,
     design: &Design,
     claim: &Claim,
@@ -112,7 +113,7 @@ fn is_judged_so(
     requires few { limits.now.depth ≤ 64 }
     requires some { 0 < limits.now.budget }
 {
-    let inv = invariants(alloc, design, claims, depth, limits.budget)?;
+    let inv = invariants(alloc, design, claims, &[], depth, limits.budget)?;
     Ok(judged_bare(alloc, design, claims.item(0), &inv, limits)? == want)
 }
 
@@ -129,7 +130,7 @@ fn are_found(
     requires few { depth ≤ 8 }
     requires some { 0 < budget }
 {
-    let set = invariants(alloc, design, claims, depth, budget)?;
+    let set = invariants(alloc, design, claims, &[], depth, budget)?;
     Ok(are_kept(&set, wants.0) && are_spent(&set, wants.1))
 }
 

@@ -33,7 +33,8 @@ verify_row = record {
   name = codes "verify";
   positions = codes "V" ∷ codes "L" ∷ codes "S" ∷ [];
   options = needed (codes "out") ∷ flag (codes "hazard") ∷ valued (codes "lag") ∷ flag (codes "json") ∷ valued (codes "reset")
-      ∷ valued (codes "reset-cycles") ∷ valued (codes "depth") ∷ valued (codes "budget") ∷ valued (codes "inv-depth") ∷ [];
+      ∷ valued (codes "reset-cycles") ∷ valued (codes "depth") ∷ valued (codes "budget") ∷ valued (codes "inv-depth")
+      ∷ valued (codes "assist") ∷ [];
 }
 
 abbrev pub check_row : CommandRow
@@ -65,7 +66,8 @@ abbrev pub aiger_row : CommandRow
 aiger_row = record {
   name = codes "aiger";
   positions = codes "V" ∷ codes "L" ∷ codes "S" ∷ codes "PAIR" ∷ [];
-  options = needed (codes "out") ∷ valued (codes "lag") ∷ valued (codes "reset") ∷ valued (codes "reset-cycles") ∷ [];
+  options = needed (codes "out") ∷ flag (codes "symbols") ∷ valued (codes "lag") ∷ valued (codes "reset")
+      ∷ valued (codes "reset-cycles") ∷ [];
 }
 
 abbrev pub command_rows : List CommandRow

@@ -22,7 +22,8 @@ abbrev pub argument_ids : List Text
 argument_ids =
     codes "V" ∷ codes "L" ∷ codes "S" ∷ codes "CERT" ∷ codes "REPORT" ∷ codes "PAIR" ∷ codes "SEED" ∷ codes "SIZE"
     ∷ codes "out" ∷ codes "hazard" ∷ codes "lag" ∷ codes "json" ∷ codes "reset" ∷ codes "reset-cycles"
-    ∷ codes "depth" ∷ codes "budget" ∷ codes "inv-depth" ∷ codes "bound" ∷ []
+    ∷ codes "depth" ∷ codes "budget" ∷ codes "inv-depth" ∷ codes "bound"
+    ∷ codes "symbols" ∷ []
 
 -- an argument with its text, if it has one
 abbrev pub given_as : Text → Option Text → List Given

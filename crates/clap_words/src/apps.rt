@@ -6,7 +6,7 @@ ghost use Rattle.clap_words.specs.Apps.{IsCommand, Makes, app_from, option_rule,
 ghost use Rattle.clap_words.specs.Apps.{sdcv_app, top_app, with_options, with_positions};
 ghost use Rattle.clap_words.specs.declared.apps.Aim.TheVariants.{Read};
 
-use crate::commands::{ABOUT, CommandRow, Form, OptionRow, PositionRow, VERSION, rows};
+use crate::commands::{ABOUT, CommandRow, Form, OptionRow, PositionRow, rows};
 use crate::rules::ValueRule;
 use clap::builder::ValueParser;
 use clap::{Arg, ArgAction, Command};
@@ -17,7 +17,7 @@ use std::alloc::{AllocError, Global};
 pub enum Aim {
     /// To read words: each text is a value. `sdcv_words` judges it.
     Read,
-    /// To tell of words: there is help and a version, help names the values, and a number has to lie in its range.
+    /// To tell of words: there is help, help names the values, and a number has to lie in its range.
     Tell,
 }
 
@@ -107,7 +107,6 @@ fn top<'a>(alloc: Global, aim: Aim) -> Result<Command<'a>, AllocError>
     match aim {
         Aim::Read => Ok(named.disable_help_flag(true).disable_help_subcommand(true)),
         Aim::Tell => named
-            .version(VERSION)
             .about(ABOUT)
             .arg_required_else_help(true)
             .subcommand_required(true)

@@ -5,9 +5,6 @@ ghost use Rattle.clap_words.specs.Commands.{command_rows, seen_row};
 use crate::commands::Form::{Flag, Needed, Valued};
 use crate::rules::ValueRule;
 
-/// The program's version, and that of the certificates.
-pub const VERSION: &str = "0.9.0 (reads certificates sdcv-cert 1 to 3, writes 2)";
-
 /// What help says of the program.
 pub const ABOUT: &str =
     "Prove or refute the timing exceptions of a script, for each register pair that they select";
@@ -194,6 +191,14 @@ const INV_DEPTH: OptionRow = OptionRow {
     sentence: "Seek kept clauses by induction of depth M, 0 to 8 (else 1)",
 };
 
+const ASSIST: OptionRow = OptionRow {
+    id: "assist",
+    form: Valued,
+    value: "FILE",
+    rule: ValueRule::Text,
+    sentence: "Try the clauses of FILE too when clauses are sought",
+};
+
 const OUT_SDC: OptionRow = OptionRow {
     id: "out",
     form: Needed,
@@ -218,6 +223,14 @@ const OUT_AIGER: OptionRow = OptionRow {
     sentence: "Save the monitor of the pair as AIGER text",
 };
 
+const SYMBOLS: OptionRow = OptionRow {
+    id: "symbols",
+    form: Flag,
+    value: "",
+    rule: ValueRule::Text,
+    sentence: "Name the latches in the text, by a symbol for each",
+};
+
 const ROWS: [CommandRow; 6] = [
     CommandRow {
         name: "verify",
@@ -233,6 +246,7 @@ const ROWS: [CommandRow; 6] = [
             DEPTH,
             BUDGET,
             INV_DEPTH,
+            ASSIST,
         ],
     },
     CommandRow {
@@ -272,7 +286,7 @@ const ROWS: [CommandRow; 6] = [
         name: "aiger",
         sentence: "Save the claim of a pair as an AIGER text, whose bad literal rises where it is violated",
         positions: &[V, L, S, WATCHED],
-        options: &[OUT_AIGER, LAG, RESET, RESET_CYCLES],
+        options: &[OUT_AIGER, SYMBOLS, LAG, RESET, RESET_CYCLES],
     },
 ];
 

@@ -25,7 +25,7 @@ pub struct Reading<'a> {
 }
 
 // The ids of all arguments.
-const IDS: [&str; 18] = [
+const IDS: [&str; 19] = [
     "V",
     "L",
     "S",
@@ -44,6 +44,7 @@ const IDS: [&str; 18] = [
     "budget",
     "inv-depth",
     "bound",
+    "symbols",
 ];
 
 fn ids() -> &'static [&'static str]

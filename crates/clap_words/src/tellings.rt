@@ -11,9 +11,13 @@ fn text_of(alloc: Global, error: &Error) -> Result<Option<String>, AllocError> {
     }
 }
 
-/// What `clap` tells of the words, with a line feed at its end. None where it takes them.
-pub fn told<'a>(alloc: Global, words: &'a [String]) -> Result<Option<String>, AllocError> {
-    let command = sdcv(alloc, Aim::Tell)?;
+/// What `clap` tells of the words, with a line feed at its end, by a program of that version. None where it takes them.
+pub fn told<'a>(
+    alloc: Global,
+    version: &'a str,
+    words: &'a [String],
+) -> Result<Option<String>, AllocError> {
+    let command = sdcv(alloc, Aim::Tell)?.version(version);
     match command.try_get_matches_from(words).err() {
         Some(error) => text_of(alloc, &error),
         None => Ok(None),

@@ -18,4 +18,4 @@ as_many l script judging s selects =
 pub can_be_judged : (l : Linked) (script : Script) (judging : Judging) (s : Selected) → IsUsable l → IsSelectionOf l script judging s
     → CanBeJudged (record { linked = l; selected = s })
 can_be_judged l script judging s usable selects =
-    record { sound = usable.sound; each = as_many l script judging s selects; fit = selects.fit }
+    record { sound = usable.sound; usable = usable; each = as_many l script judging s selects; fit = selects.fit }

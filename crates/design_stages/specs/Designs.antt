@@ -86,8 +86,10 @@ Designs t reset judging = do
   selected ← Staged (Selects linked t.script judging) expand_line
   λ found. found ≡ Ok (record { linked = linked; selected = selected })
 
--- what those rely on who judge the pairs of a design: it is sound, each pair has a claim, and each claim fits
+-- what those rely on who judge the pairs of a design: it is sound, its names are of its places, each pair has a claim, and each
+-- claim fits
 pub record CanBeJudged (d : Designed) : Type 0 where
   pub sound : IsSound d.linked.design
+  pub usable : IsUsable d.linked
   pub each : length d.selected.claims ≡ length d.selected.pairs
   pub fit : All (Fits d.linked.design) d.selected.claims

@@ -1,5 +1,7 @@
 -- The lines of texts that are not read.
 use Rattle.std.specs.Prelude.{ℕ, List, codes, Option, Some, None}
+use Rattle.assist_types.specs.declared.faults.AssistFault.{AssistFault}
+use Rattle.assist_types.specs.declared.faults.AssistFault.TheVariants as assist
 use Rattle.cell_types.specs.declared.faults.LibFault.{LibFault}
 use Rattle.cell_types.specs.declared.faults.LibFault.TheVariants as liberty
 use Rattle.netlist_types.specs.declared.faults.VerFault.{VerFault}
@@ -17,6 +19,7 @@ too_long_line origin.Liberty = plain_line (codes "refused liberty 0 TooLong")
 too_long_line origin.Sdc = plain_line (codes "refused sdc 0 TooLong")
 too_long_line origin.Cert = plain_line (codes "refused cert 0 TooLong")
 too_long_line origin.Stimulus = plain_line (codes "refused stimulus 0 TooLong")
+too_long_line origin.Assist = plain_line (codes "refused assist 0 TooLong")
 
 abbrev pub verilog_line : VerFault → Option (List ℕ)
 verilog_line (verilog.Syntax place) = Some (number_line (codes "refused verilog 1 Syntax") place)
@@ -41,3 +44,10 @@ sdc_line (sdc.BadOption line word) = Some (numbered_line (codes "refused sdc 4 B
 sdc_line (sdc.BadNumber line word) = Some (numbered_line (codes "refused sdc 5 BadNumber") line word)
 sdc_line sdc.Memory = None
 sdc_line (sdc.Deep place) = Some (number_line (codes "refused sdc 7 Deep") place)
+
+abbrev pub assist_line : AssistFault → Option (List ℕ)
+assist_line (assist.Syntax line) = Some (number_line (codes "refused assist 1 Syntax") line)
+assist_line (assist.Twice line name) = Some (numbered_line (codes "refused assist 2 Twice") line name)
+assist_line (assist.Many number) = Some (number_line (codes "refused assist 3 Many") number)
+assist_line assist.Memory = None
+assist_line (assist.UnknownRegister line name) = Some (numbered_line (codes "refused assist 5 UnknownRegister") line name)

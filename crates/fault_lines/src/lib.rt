@@ -10,4 +10,4 @@ mod shapes;
 mod sources;
 
 pub use designs::{expand_line, link_line};
-pub use sources::{Origin, liberty_line, sdc_line, too_long_line, verilog_line};
+pub use sources::{Origin, assist_line, liberty_line, sdc_line, too_long_line, verilog_line};

@@ -1,8 +1,9 @@
 //! The lines of texts that are not read.
 ghost use Rattle.std.specs.Prelude.{◌≡◌, IfOk, Some};
-ghost use Rattle.fault_lines.specs.Sources.{liberty_line, sdc_line, too_long_line, verilog_line};
+ghost use Rattle.fault_lines.specs.Sources.{assist_line, liberty_line, sdc_line, too_long_line, verilog_line};
 
 use crate::shapes::{name_line, number_line, numbered_line, plain_line};
+use assist_types::AssistFault;
 use cell_types::LibFault;
 use netlist_types::VerFault;
 use script_types::SdcFault;
@@ -16,6 +17,7 @@ pub enum Origin {
     Sdc,
     Cert,
     Stimulus,
+    Assist,
 }
 
 /// The line of a text that is longer than its limit.
@@ -28,6 +30,7 @@ pub fn too_long_line(alloc: Global, origin: Origin) -> Result<Vec<u8>, AllocErro
         Origin::Sdc => plain_line(alloc, "refused sdc 0 TooLong"),
         Origin::Cert => plain_line(alloc, "refused cert 0 TooLong"),
         Origin::Stimulus => plain_line(alloc, "refused stimulus 0 TooLong"),
+        Origin::Assist => plain_line(alloc, "refused assist 0 TooLong"),
     }
 }
 
@@ -82,5 +85,22 @@ pub fn sdc_line(alloc: Global, fault: &SdcFault) -> Result<Vec<u8>, AllocError>
         }
         SdcFault::Memory => Err(AllocError),
         SdcFault::Deep(place) => number_line(alloc, "refused sdc 7 Deep", *place as u64),
+    }
+}
+
+/// The line of clauses by name that are not read, or that speak of what is no register.
+pub fn assist_line(alloc: Global, fault: &AssistFault) -> Result<Vec<u8>, AllocError>
+    ensures { IfOk result (λ line. assist_line fault.now ≡ Some line.items) }
+{
+    match fault {
+        AssistFault::Syntax(line) => number_line(alloc, "refused assist 1 Syntax", *line),
+        AssistFault::Twice(line, name) => {
+            numbered_line(alloc, "refused assist 2 Twice", *line, name)
+        }
+        AssistFault::Many(number) => number_line(alloc, "refused assist 3 Many", *number),
+        AssistFault::Memory => Err(AllocError),
+        AssistFault::UnknownRegister(line, name) => {
+            numbered_line(alloc, "refused assist 5 UnknownRegister", *line, name)
+        }
     }
 }

@@ -4,7 +4,9 @@ pub mod Growing
 pub mod Grouping
 pub mod Owning
 pub mod ClauseNumbers
+pub mod TableKeys
 pub mod Adding
 pub mod Standing
 pub mod Claiming
 mod Shaping
+mod Worked

@@ -1,6 +1,7 @@
 -- Clauses that are listed stand once, and name registers of the design.
-use Rattle.std.proofs.Common.{arith, ℕ, zero, suc, ◌<◌, Bool, true, false, List, [], ◌∷◌, ◌++◌, length, take}
+use Rattle.std.proofs.Common.{arith, ◌≡◌, ◌==◌, ◌∙◌, append_assoc, append-nil, ℕ, zero, suc, ◌<◌, Bool, true, false, List, [], ◌∷◌, ◌++◌, length, take}
 use Rattle.std.proofs.Common.{refl, sym, subst, inl, inr, Contains, flat_map, All, if◌then◌else◌, nat_lt}
+use Rattle.std.proofs.lemmas.Bool.Decides.{nat_tests}
 use Rattle.std.proofs.lemmas.List.Elements.{Contains-append_left, Contains-append_right, Contains-append_cases, Contains-push_cases}
 use Rattle.std.proofs.lemmas.List.Elements.{All-nil, All-cons, All-append, All-contains}
 use Rattle.net_model.specs.Netlist.{AllBelow}
@@ -15,6 +16,13 @@ use Rattle.inv_candidates.specs.Listing.{AddsNew, No_more, Stands, Is_new}
 -- an item that is the first
 first_item : {A : Type 0} (x : A) (xs : List A) → Contains (x ∷ xs) x
 first_item x xs = (0, omega arith, refl)
+
+is_zero : (n : ℕ) → (n == 0) ≡ true → n ≡ 0
+is_zero n none = grind (arith, nat_tests)
+
+lone : {A : Type 0} (x y : A) → Contains (x ∷ []) y → x ≡ y
+lone x y (zero, below, is) = is
+lone x y (suc i, below, is) = absurd (omega (arith, below))
 
 -- one more that does not stand there
 once_push : (xs : List InvClause) (x : InvClause) → StandOnce xs → (Contains xs x → ⊥) → StandOnce (xs ++ x ∷ [])
@@ -32,6 +40,34 @@ pub adds_once : (old xs new : List InvClause) → AddsNew old xs new → StandOn
 adds_once _ _ _ (No_more listed) once = once
 adds_once _ _ _ (Stands listed x xs new has rest) once = adds_once listed xs new rest once
 adds_once _ _ _ (Is_new listed x xs new fresh rest) once = adds_once (listed ++ x ∷ []) xs new rest (once_push listed x once fresh)
+
+-- an item that stands again after those that were listed
+not_again : (listed : List InvClause) (x : InvClause) (more : List InvClause) → StandOnce (listed ++ x ∷ more) → Contains listed x → ⊥
+not_again [] x more once has = absurd (omega (arith, has.1))
+not_again (y ∷ ys) x more (alone, once) has = elim (Contains-append_cases (y ∷ []) ys x has) [
+  | inl first ↦ alone (subst (Contains (ys ++ x ∷ more)) (sym (lone y x first)) (Contains-append_right ys (x ∷ more) x (first_item x more)))
+  | inr later ↦ not_again ys x more once later
+]
+
+-- clauses that stand once are added as they are
+adds_same : (old xs new : List InvClause) → AddsNew old xs new → StandOnce (old ++ xs) → new ≡ old ++ xs
+adds_same _ _ _ (No_more listed) once = sym (append-nil listed)
+adds_same _ _ _ (Stands listed x xs new has rest) once = absurd (not_again listed x xs once has)
+adds_same _ _ _ (Is_new listed x xs new fresh rest) once =
+    adds_same (listed ++ x ∷ []) xs new rest (subst StandOnce (sym (append_assoc listed (x ∷ []) xs)) once) ∙ append_assoc listed (x ∷ []) xs
+
+-- nothing is added where there is nothing
+pub adds_where_empty : (own extra : List InvClause) → (length extra == 0) ≡ true → AddsNew own extra own
+adds_where_empty own [] none = No_more own
+adds_where_empty own (x ∷ xs) none = absurd (let zero_of = is_zero (length (x ∷ xs)) none in omega (arith, zero_of))
+
+-- what is added to a table of the own clauses is added to them
+pub adds_after_own : (own extra none slice first second : List InvClause) → StandOnce own → none ≡ [] → slice ≡ own → AddsNew none slice first
+    → AddsNew first extra second → AddsNew own extra second
+adds_after_own own extra none slice first second once empty same adds more =
+    let begun : AddsNew [] own first =
+    subst (λ (l : List InvClause). AddsNew [] l first) same (subst (λ (l : List InvClause). AddsNew l slice first) empty adds) in
+    subst (λ (l : List InvClause). AddsNew l extra second) (adds_same [] own first begun once) more
 
 taken_has : (n : ℕ) (xs : List InvClause) (x : InvClause) → Contains (take n xs) x → Contains xs x
 taken_has zero xs x has = absurd (omega (arith, has.1))

@@ -6,19 +6,20 @@ ghost use Rattle.net_model.specs.Fits.{NamesRegs};
 ghost use Rattle.verdicts.specs.Inductive.{AreAlwaysMet};
 ghost use Rattle.verdicts.specs.Logs.{own_coding};
 ghost use Rattle.verdicts.specs.Certified.{ProveKept};
-ghost use Rattle.verdict_types.specs.Forms.{IsSetInForm};
+ghost use Rattle.verdict_types.specs.Forms.{IsKeptClause, IsSetInForm};
 ghost use Rattle.invariants.specs.Invariants.{AreInvariants};
 
 use drawn_runs::survivors;
 use induction::greatest_set;
-use inv_candidates::candidates;
-use net_model::{Claim, Design};
+use inv_candidates::{candidates, with_more};
+use net_model::{Claim, Design, InvClause};
 use sdcv_base::Seq;
 use std::alloc::{AllocError, Global};
 use verdicts::InvSet;
 
-/// The greatest inductive set, at a depth, of the clauses near some claims. A clause whose query spends the budget is left out,
-/// with an entry.
+/// The greatest inductive set, at a depth, of the clauses near some claims and of further ones. A clause whose query spends the
+/// budget is left out, with an entry. The further clauses may be of any length and count for all claims; none of them is taken
+/// on trust.
 ///
 /// A clause that fails in a live cycle of a run from reset is in no inductive set, so no query is asked about those that fail in
 /// one of the 64 drawn runs.
@@ -26,20 +27,24 @@ pub fn invariants(
     alloc: Global,
     design: &Design,
     claims: &Seq<Claim>,
+    extra: &[InvClause],
     depth: usize,
     budget: u64,
 ) -> Result<InvSet, AllocError>
     requires sound { IsSound design.now }
     requires fit { All (Fits design.now) claims.now }
+    requires extra_names { All (NamesRegs design.now) extra.now }
+    requires extra_form { All IsKeptClause extra.now }
     requires few { depth ≤ 8 }
     requires some { 0 < budget }
-    ensures kept { IfOk result (AreInvariants design.now claims.now depth budget) }
+    ensures kept { IfOk result (AreInvariants design.now claims.now extra.now depth budget) }
     ensures names { IfOk result (λ set. All (NamesRegs design.now) set.kept) }
     ensures met { IfOk result (λ set. AreAlwaysMet design.now set.kept) }
     ensures proved { IfOk result (λ set. ProveKept own_coding design.now set.kept set.depth set.proofs) }
     ensures in_form { IfOk result IsSetInForm }
 {
-    let clauses = candidates(alloc, design, claims)?;
+    let own = candidates(alloc, design, claims)?;
+    let clauses = with_more(alloc, own, extra)?;
     let left = survivors(alloc, design, clauses)?;
     let set = greatest_set(alloc, design, &left, depth, budget)?;
     Ok(set)

@@ -51,9 +51,10 @@ module _ (d : Design) (claims : List Claim) (kept : List InvClause) (limits : Li
       }
 
 -- kept clauses with a verdict on each claim
-pub judged_of : (d : Design) (claims : List Claim) (inv_depth : ℕ) (limits : Limits) (j : Judged) → AreInvariants d claims inv_depth limits.budget j.inv
-    → All (NamesRegs d) j.inv.kept → AreFound d claims j.inv.kept limits j.verdicts → AreJudged d claims inv_depth limits j
-judged_of d claims inv_depth limits j set names found =
+pub judged_of : (d : Design) (claims : List Claim) (extra : List InvClause) (inv_depth : ℕ) (limits : Limits) (j : Judged)
+    → AreInvariants d claims extra inv_depth limits.budget j.inv → All (NamesRegs d) j.inv.kept → AreFound d claims j.inv.kept limits j.verdicts
+    → AreJudged d claims extra inv_depth limits j
+judged_of d claims extra inv_depth limits j set names found =
     record {
       holds = λ place claim proof here at. (found.each place claim (Justified proof) here at).holds proof refl;
       violated = λ place offset claim s here at. (found.each place claim (Refuted offset s) here at).violated offset s refl;
@@ -67,7 +68,7 @@ judged_of d claims inv_depth limits j set names found =
     }
 
 -- the kept clauses have their derivations
-pub kept_proved : (d : Design) (claims : List Claim) (inv_depth budget : ℕ) (set : InvSet) → AreInvariants d claims inv_depth budget set
-    → ProveKept own_coding d set.kept set.depth set.proofs
-kept_proved d claims inv_depth budget set is =
+pub kept_proved : (d : Design) (claims : List Claim) (extra : List InvClause) (inv_depth budget : ℕ) (set : InvSet)
+    → AreInvariants d claims extra inv_depth budget set → ProveKept own_coding d set.kept set.depth set.proofs
+kept_proved d claims extra inv_depth budget set is =
     subst (λ (depth : ℕ). ProveKept own_coding d set.kept depth set.proofs) (sym is.kept.at_depth) is.kept.proofs

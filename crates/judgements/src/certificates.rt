@@ -1,5 +1,6 @@
 //! The certificate of what is found out.
-ghost use Rattle.std.specs.Prelude.{ℕ, IfOk};
+ghost use Rattle.std.specs.Prelude.{ℕ, List, IfOk};
+ghost use Rattle.net_model.specs.declared.invariants.InvClause.{InvClause as InvClauseRecord};
 ghost use Rattle.judgements.specs.Judgements.{AreAllInForm, AreJudged};
 ghost use Rattle.judgements.specs.Certificates.{IsCertificateOf};
 
@@ -20,7 +21,7 @@ pub fn certificate(
     limits: &Limits,
     judged: &Judged,
 ) -> Result<Vec<u8>, AllocError>
-    requires judged { (inv_depth : ℕ) × AreJudged design.now claims.now inv_depth limits.now judged.now }
+    requires judged { (extra : List InvClauseRecord) × (inv_depth : ℕ) × AreJudged design.now claims.now extra inv_depth limits.now judged.now }
     requires in_form { AreAllInForm judged.now }
     ensures { IfOk result (λ bytes. IsCertificateOf design.now claims.now judged.now bytes.items) }
 {

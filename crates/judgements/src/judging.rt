@@ -4,9 +4,10 @@ ghost use Rattle.net_model.specs.Netlist.{IsSound};
 ghost use Rattle.net_model.specs.Fits.{Fits};
 ghost use Rattle.net_model.specs.Fits.{NamesRegs};
 ghost use Rattle.verdicts.specs.Inductive.{AreAlwaysMet};
-ghost use Rattle.judgements.specs.Judgements.{AreAllInForm, AreFound, AreJudged};
+ghost use Rattle.judgements.specs.Judgements.{AreAllInForm, AreFound, AreJudged, CanBeSought};
 
 use crate::judged::Judged;
+use crate::searches::InvSearch;
 use invariants::invariants;
 use net_model::{Claim, Design};
 use pair_prove::{Progress, prove};
@@ -15,26 +16,27 @@ use sdcv_base::Seq;
 use std::alloc::{AllocError, Global};
 use verdicts::{InvSet, Limits, Verdict};
 
-/// The verdicts on some claims about a design, each proved with the clauses over register bits that are kept for all of them,
-/// by an induction of depth `inv_depth`. How many have one, `progress` is told before the first and after each.
+/// The verdicts on some claims about a design, each proved with the clauses over register bits that are kept for all of them
+/// by the search. How many have one, `progress` is told before the first and after each.
 pub fn judge<P: Progress>(
     alloc: Global,
     design: &Design,
     claims: &Seq<Claim>,
-    inv_depth: usize,
+    search: &InvSearch,
     limits: &Limits,
     progress: &mut P,
 ) -> Result<Judged, AllocError>
     requires sound { IsSound design.now }
     requires fit { All (Fits design.now) claims.now }
-    requires shallow { inv_depth ≤ 8 }
+    requires sought { CanBeSought design.now search.now }
     requires few { limits.now.depth ≤ 64 }
     requires some { 0 < limits.now.budget }
-    ensures judged { IfOk result (AreJudged design.now claims.now inv_depth limits.now) }
+    ensures judged { IfOk result (AreJudged design.now claims.now search.now.extra.now search.now.depth limits.now) }
     ensures in_form { IfOk result AreAllInForm }
 {
     progress.judged(0, claims.len());
-    let inv = invariants(alloc, design, claims, inv_depth, limits.budget)?;
+    let InvSearch { depth, extra } = *search;
+    let inv = invariants(alloc, design, claims, extra, depth, limits.budget)?;
     let verdicts = all_verdicts(alloc, design, claims, &inv, limits, progress)?;
     Ok(Judged { inv, verdicts })
 }

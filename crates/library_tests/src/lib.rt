@@ -1,5 +1,5 @@
-//! Liberty texts as vendors write them, and one by one their rules: groups, functions and cells, against what is read by
-//! hand; and the built-in cells by name.
+//! Liberty texts as vendors write them, and one by one their rules: groups and functions, against what is read by hand; and the
+//! built-in cells by name.
 //!
 //! This crate has tests alone.
 #![tactic(auto)]
@@ -9,8 +9,8 @@ mod cells;
 #[cfg(test)]
 mod expects;
 #[cfg(test)]
+mod faults;
+#[cfg(test)]
 mod functions;
 #[cfg(test)]
 mod groups;
-#[cfg(test)]
-mod libraries;

@@ -75,7 +75,7 @@ pub record AreDetected (l : Linked) (o : DetectOptions) (f : Detected) : Type 0 
   pub selected : Selected
   pub pairs : IsSelectionOf l registers_script (judging_by o.hazard 0) selected
   -- the kept clauses are the greatest inductive set of the clauses near the claims, but for those whose query spends the budget
-  pub invariants : AreInvariants l.design selected.claims o.inv_depth o.budget f.inv
+  pub invariants : AreInvariants l.design selected.claims [] o.inv_depth o.budget f.inv
   -- each kept clause holds in every live cycle of every run
   pub kept_hold : AreAlwaysMet l.design f.inv.kept
   pub tried : AreTried l.design o f.inv.kept selected f.tried

@@ -41,7 +41,7 @@ pub fn detect<P: Progress>(
     let selected = selected(alloc, linked, options.hazard)?;
     progress.judged(0, selected.claims.len());
     let (depth, budget) = (options.inv_depth, options.budget);
-    let inv = invariants(alloc, &linked.design, &selected.claims, depth, budget)?;
+    let inv = invariants(alloc, &linked.design, &selected.claims, &[], depth, budget)?;
     let tried = pairs_tried(alloc, &linked.design, &selected, &inv, options, progress)?;
     Ok(Detected { inv, tried })
 }

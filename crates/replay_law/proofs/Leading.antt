@@ -1,5 +1,6 @@
 -- How the stages of two runs lead on whose reads begin alike, where the first one is not refused.
-use Rattle.std.proofs.Common.{◌≡◌, ℕ, Bool, true, false, List, [], ◌∷◌, ◌++◌, Ok, Err, inl, inr}
+use Rattle.std.proofs.Common.{◌≡◌, ◌∙◌, ℕ, Bool, true, false, List, [], ◌∷◌, ◌++◌, Ok, Err, inl, inr, refl, ap, sym, subst}
+use Rattle.std.proofs.lemmas.List.{append_assoc}
 use Rattle.netlist_types.specs.declared.sources.Source.{Source}
 use Rattle.cell_types.specs.declared.libraries.Library.{Library}
 use Rattle.script_types.specs.declared.scripts.Script.{Script}
@@ -27,13 +28,16 @@ pub record HasFound {A : Type 0} (Finds : Found A → Type 0) (next : A → Due)
   pub found : Finds (Ok value)
   pub goes : next value reads due
 
--- a stage led on with a value, and some reads are left; any run whose reads begin so is led on with that value, and these are left
+-- a stage led on with a value by the front of the reads, and some are left; any run whose reads have this front is led on with that
+-- value, and what comes after it is left
 pub record IsLed {A : Type 0} (stage : (A → Due) → Due) (next : A → Due) (reads : List Got) (due : Outcome) : Type 1 where
   pub value : A
+  pub front : List Got
   pub rest : List Got
+  pub parts : front ++ rest ≡ reads
   pub goes : next value rest due
-  pub on : (other : A → Due) (more : List Got) (again : Outcome) → stage other (reads ++ more) again → other value (rest ++ more) again
-  pub back : (other : A → Due) (more : List Got) (again : Outcome) → other value (rest ++ more) again → stage other (reads ++ more) again
+  pub on : (other : A → Due) (more : List Got) (again : Outcome) → stage other (front ++ more) again → other value more again
+  pub back : (other : A → Due) (more : List Got) (again : Outcome) → other value more again → stage other (front ++ more) again
 
 -- a stage whose run is not refused found a value
 pub has_found : {A : Type 0} (Finds : Found A → Type 0) (next : A → Due) (reads : List Got) (due : Outcome) → IsNoRefusal due
@@ -55,10 +59,12 @@ after_led Finds next reads due one well run =
     let here = has_found Finds next reads due well run in
     record {
       value = here.value;
+      front = [];
       rest = reads;
+      parts = refl;
       goes = here.goes;
-      on = λ other more again run. goes_same Finds here.value other (reads ++ more) again one here.found run;
-      back = λ other more again run. leads_on Finds other here.value (reads ++ more) again here.found run;
+      on = λ other more again run. goes_same Finds here.value other more again one here.found run;
+      back = λ other more again run. leads_on Finds other here.value more again here.found run;
     }
 
 -- so does one that reads a text
@@ -70,7 +76,9 @@ text_led Finds next (got ∷ reads) due one well run =
     let led = after_led (Finds got) next reads due (one got) well run in
     record {
       value = led.value;
+      front = got ∷ led.front;
       rest = led.rest;
+      parts = ap (λ (xs : List Got). got ∷ xs) led.parts;
       goes = led.goes;
       on = λ other more again run. led.on other more again run;
       back = λ other more again run. led.back other more again run;
@@ -88,7 +96,9 @@ cells_led : (known : Bool) (next : Library → Due) (reads : List Got) (due : Ou
 unfolding AfterCellsIf
 cells_led true next reads due well run = record {
   value = builtin_library;
+  front = [];
   rest = reads;
+  parts = refl;
   goes = run;
   on = λ other more again run. run;
   back = λ other more again run. run;
@@ -107,6 +117,10 @@ AfterTwo next source library = AfterText Constraints (λ (script : Script). next
 abbrev AfterOne : List ℕ → (ReadTexts → Due) → Source → Due
 AfterOne cells next source = AfterCells cells (AfterTwo next source)
 
+-- three fronts of a list, one after another
+three_parts : (a b c more : List Got) → (a ++ (b ++ c)) ++ more ≡ a ++ (b ++ (c ++ more))
+three_parts a b c more = append_assoc a (b ++ c) more ∙ ap (λ (xs : List Got). a ++ xs) (append_assoc b c more)
+
 -- three texts lead on with what is read of them
 pub texts_led : (names : TextNames) (next : ReadTexts → Due) (reads : List Got) (due : Outcome) → IsNoRefusal due → AfterTexts names next reads due
     → IsLed (AfterTexts names) next reads due
@@ -116,16 +130,24 @@ texts_led names next reads due well run =
     let second = named_cells_led names.cells (AfterTwo next first.value) first.rest due well first.goes in
     let third = text_led Constraints (λ (script : Script). next (record { source = first.value; library = second.value; script = script })) second.rest due
     (unless_one origin.Sdc _ constraints_one) well second.goes in
+    let AfterThree : (ReadTexts → Due) → Script → Due =
+    λ other script. other (record { source = first.value; library = second.value; script = script }) in
     record {
       value = record { source = first.value; library = second.value; script = third.value };
+      front = first.front ++ (second.front ++ third.front);
       rest = third.rest;
+      parts = three_parts first.front second.front third.front third.rest
+          ∙ ap (λ (xs : List Got). first.front ++ (second.front ++ xs)) third.parts
+          ∙ ap (λ (xs : List Got). first.front ++ xs) second.parts ∙ first.parts;
       goes = third.goes;
       on = λ other more again run.
-          let cells = first.on (AfterOne names.cells other) more again run in
-          let script = second.on (AfterTwo other first.value) more again cells in
-          third.on (λ (script : Script). other (record { source = first.value; library = second.value; script = script })) more again script;
+          let parted = subst (λ (xs : List Got). AfterTexts names other xs again) (three_parts first.front second.front third.front more) run in
+          let cells = first.on (AfterOne names.cells other) (second.front ++ (third.front ++ more)) again parted in
+          let script = second.on (AfterTwo other first.value) (third.front ++ more) again cells in
+          third.on (AfterThree other) more again script;
       back = λ other more again run.
-          let script = third.back (λ (script : Script). other (record { source = first.value; library = second.value; script = script })) more again run in
-          let cells = second.back (AfterTwo other first.value) more again script in
-          first.back (AfterOne names.cells other) more again cells;
+          let script = third.back (AfterThree other) more again run in
+          let cells = second.back (AfterTwo other first.value) (third.front ++ more) again script in
+          let parted = first.back (AfterOne names.cells other) (second.front ++ (third.front ++ more)) again cells in
+          subst (λ (xs : List Got). AfterTexts names other xs again) (sym (three_parts first.front second.front third.front more)) parted;
     }

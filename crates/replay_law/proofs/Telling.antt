@@ -5,6 +5,7 @@ use Rattle.std.specs.Prelude.{slice_get}
 use Rattle.std.proofs.lemmas.Option.{none-some, same_Some, slice_get_within}
 use Rattle.net_model.specs.Netlist.{IsSound}
 use Rattle.net_model.specs.declared.claims.Claim.{Claim}
+use Rattle.net_model.specs.declared.invariants.InvClause.{InvClause}
 use Rattle.net_model.specs.declared.cycles.Stimulus.{Stimulus}
 use Rattle.witness_replay.specs.Blocks.{HasFirstBlock, IsWritten}
 use Rattle.witness_replay.specs.declared.outcomes.Replay.TheVariants.{Violated}
@@ -29,10 +30,9 @@ use Rattle.design_stages.specs.declared.designs.ReadTexts.{ReadTexts}
 use Rattle.design_stages.specs.declared.designs.Designed.{Designed}
 use Rattle.design_stages.specs.Designs.{Designs}
 use Rattle.sdcv_words.specs.declared.commands.Options.{Options}
-use Rattle.run_options.specs.declared.proving.Proving.{Proving}
 use Rattle.sdcv_top.specs.Outcomes.{Outcome}
 use Rattle.sdcv_top.specs.Headline.{IsReported}
-use Rattle.sdcv_top.specs.Jobs.{HasPair, ReadsStimulus, Replays, RunAgain, Replayed, replayed, run_options}
+use Rattle.sdcv_top.specs.Jobs.{HasPair, ReadsStimulus, Replays, RunAgain, Replayed, replayed}
 use Rattle.sdcv_top.specs.Reads.{Text}
 use Rattle.sdcv_top.specs.Texts.{ReportText}
 use Rattle.replay_law.specs.Laws.{violated_after}
@@ -45,8 +45,9 @@ use Rattle.replay_law.proofs.Standing.{refused_memory, replays, replays_alone}
 pub record HasRefuted (texts : ReadTexts) (o : Options) (d : Designed) (due : Outcome) (number offset : ℕ) : Type 0 where
   pub found : Designs texts o.reset o.judging (Ok d)
   pub out : Option (List ℕ)
-  pub proving : Proving
-  pub report : IsReported out false (run_options o.judging o.reset.len proving) d due
+  pub options : RunOptions
+  pub extra : List InvClause
+  pub report : IsReported out false options extra d due
   pub stimulus : Stimulus
   pub verdict : item_numbered report.judged.verdicts number ≡ Some (Refuted offset stimulus)
 
@@ -105,7 +106,7 @@ told texts o d due (suc place) offset refuted =
       claim_at = claim.1;
       stimulus = refuted.stimulus;
       least = reported.right.violated place offset claim.0 refuted.stimulus claim.1 refuted.verdict;
-      first = first_in (run_options o.judging o.reset.len refuted.proving) d.selected verdicts place offset refuted.stimulus due.printed rows small
+      first = first_in refuted.options d.selected verdicts place offset refuted.stimulus due.printed rows small
           refuted.verdict reported.printed;
     }
 

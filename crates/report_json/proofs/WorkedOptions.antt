@@ -1,9 +1,10 @@
 -- The objects of reports, worked out by hand.
-use Rattle.std.proofs.Common.{◌≡◌, ℕ, List, [], ◌++◌, true, false, refl}
+use Rattle.std.proofs.Common.{◌≡◌, ℕ, List, [], ◌∷◌, true, false, refl}
 use Rattle.std.specs.Prelude.{codes, None, Some}
+use Rattle.serde_json.specs.Data.{Data, Members, object, member, no_members}
 use Rattle.run_options.specs.declared.options.RunOptions.{RunOptions}
 use Rattle.selected_types.specs.declared.selections.Selected.{Selected}
-use Rattle.report_json.specs.Reports.{json_text}
+use Rattle.report_json.specs.Reports.{report_data}
 
 abbrev plain : RunOptions
 plain = record {
@@ -23,14 +24,20 @@ plain = record {
 abbrev nothing : Selected
 nothing = record { commands = []; pairs = []; claims = [] }
 
-abbrev total : List ℕ
-total = codes "\"total\":{\"justified\":0,\"pairs\":0,\"refuted\":0,\"undecided\":0}}\n"
+-- the keys of an object, in their order
+abbrev keys : Data → List (List ℕ)
+keys (object members) = named members
+  where
+    named : Members → List (List ℕ)
+    named no_members = []
+    named (member key value others) = key ∷ named others
+keys _ = []
 
-asked_for_nothing : json_text plain nothing []
-    ≡ codes "{\"budget\":20000,\"commands\":[],\"depth\":8,\"inv\":1,\"mode\":\"plain\",\"pairs\":[],\"reset\":1," ++ total
+asked_for_nothing : keys (report_data plain nothing [])
+    ≡ codes "budget" ∷ codes "commands" ∷ codes "depth" ∷ codes "inv" ∷ codes "mode" ∷ codes "pairs" ∷ codes "reset" ∷ codes "total" ∷ []
 asked_for_nothing = refl
 
-asked_for_all : json_text (record plain { hazard = true; lag = 2; hold = true; assist = Some 14; free = Some 0; assumed = Some 3; strict = true }) nothing []
-    ≡ codes "{\"assist\":14,\"assumed\":3,\"budget\":20000,\"commands\":[],\"depth\":8,\"free\":0,\"hold\":true,\"inv\":1,"
-    ++ (codes "\"lag\":2,\"mode\":\"hazard\",\"pairs\":[],\"reset\":1,\"strict\":true," ++ total)
+asked_for_all : keys (report_data (record plain { lag = 2; hold = true; assist = Some 14; free = Some 0; assumed = Some 3; strict = true }) nothing [])
+    ≡ codes "assist" ∷ codes "assumed" ∷ codes "budget" ∷ codes "commands" ∷ codes "depth" ∷ codes "free" ∷ codes "hold" ∷ codes "inv" ∷ codes "lag"
+    ∷ codes "mode" ∷ codes "pairs" ∷ codes "reset" ∷ codes "strict" ∷ codes "total" ∷ []
 asked_for_all = refl

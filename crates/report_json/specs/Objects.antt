@@ -16,7 +16,7 @@ with_lag lag members = if lag == 0 then members else put (codes "lag") (count_da
 
 abbrev pub with_number : List ℕ → Option ℕ → Members → Members
 with_number key None members = members
-with_number key (Some number) members = put key (count_data number) members
+with_number key (Some count) members = put key (count_data count) members
 
 abbrev pub with_flag : List ℕ → Bool → Members → Members
 with_flag key stands members = if stands then put key (boolean true) members else members

@@ -99,7 +99,7 @@ lag_member lag following = if lag == 0 then following else member (codes "lag") 
 
 abbrev pub number_member : List ℕ → Option ℕ → Members → Members
 number_member key None following = following
-number_member key (Some number) following = member key (count_data number) following
+number_member key (Some count) following = member key (count_data count) following
 
 abbrev pub flag_member : List ℕ → Bool → Members → Members
 flag_member key stands following = if stands then member key (boolean true) following else following

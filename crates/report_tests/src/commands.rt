@@ -36,15 +36,26 @@ fn options_text(alloc: Global, options: &Options) -> Result<String, AllocError> 
 
 fn job_text(alloc: Global, job: &Job<'_>) -> Result<String, AllocError> {
     match job {
-        Job::Verify { out, json, proving } => {
+        Job::Verify {
+            out,
+            json,
+            proving,
+            assist,
+        } => {
+            let assist = assist.unwrap_or("-");
             let depth = proving.depth;
             let budget = proving.budget;
             let inv = proving.inv_depth;
-            format!(in alloc; "verify <{out}> json {json} depth {depth} budget {budget} inv {inv}")
+            format!(in alloc;
+                "verify <{out}> json {json} depth {depth} budget {budget} inv {inv} assist <{assist}>"
+            )
         }
         Job::Check { cert } => format!(in alloc; "check <{cert}>"),
         Job::Replay { report, pair } => format!(in alloc; "replay <{report}> pair {pair}"),
-        Job::Aiger { out, pair } => format!(in alloc; "aiger <{out}> pair {pair}"),
+        Job::Aiger { out, pair, symbols } => {
+            let named = if *symbols { " with symbols" } else { "" };
+            format!(in alloc; "aiger <{out}> pair {pair}{named}")
+        }
     }
 }
 
@@ -158,6 +169,10 @@ const BY_PLACE: &[(&str, &str)] = &[
         "aiger|v|l|s|18446744073709551615|--reset-cycles|3|--lag|8|--out|a|--reset|rst=1",
         "<v> <l> <s> plain lag 8 rst=true cycles 3 aiger <a> pair 18446744073709551615",
     ),
+    (
+        "aiger|v|builtin|s|2|--symbols|--out|a",
+        "<v> <builtin> <s> plain lag 0 cycles 0 aiger <a> pair 2 with symbols",
+    ),
     ("demo|007|160", "demo 7 160"),
 ];
 
@@ -194,6 +209,10 @@ const BY_CLAP: &[(&str, &str)] = &[
     (
         "aiger|--out=a|v|l|s|2|--lag=1",
         "<v> <l> <s> plain lag 1 cycles 0 aiger <a> pair 2",
+    ),
+    (
+        "aiger|--symbols|--out=a|v|l|s|2",
+        "<v> <l> <s> plain lag 0 cycles 0 aiger <a> pair 2 with symbols",
     ),
     ("demo|--|7|20", "demo 7 20"),
 ];
@@ -267,6 +286,12 @@ const NONE: &[(&str, &str)] = &[
         "aiger|v|l|s|1|--out|a|--hazard",
         "hazards of a watched pair",
     ),
+    ("aiger|v|l|s|1|--out|a|--symbols|--symbols", "symbols twice"),
+    (
+        "aiger|v|l|s|1|--out|a|--symbols=true",
+        "symbols with a value",
+    ),
+    ("verify|v|l|s|--out|c|--symbols", "symbols of no graph"),
     ("demo|7|0", "a design of no blocks"),
     ("demo|7|161", "a design past its size"),
     ("demo|-7|20", "a negative number"),

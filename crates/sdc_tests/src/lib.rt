@@ -1,5 +1,5 @@
-//! SDC texts as tools write them, and layer by layer their rules: patterns, words, values, scripts and what these set, and the
-//! text of multicycle pairs, against what is worked out by hand.
+//! SDC texts as tools write them, and layer by layer their rules: patterns, words, values and what scripts set, and the text of
+//! multicycle pairs, against what is worked out by hand.
 //!
 //! This crate has tests alone.
 #![tactic(auto)]
@@ -10,8 +10,6 @@ mod expects;
 mod multicycles;
 #[cfg(test)]
 mod patterns;
-#[cfg(test)]
-mod scripts;
 #[cfg(test)]
 mod settings;
 #[cfg(test)]

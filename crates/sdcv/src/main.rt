@@ -4,8 +4,10 @@
 #![tactic(auto)]
 
 mod count_lines;
+mod version;
 
 use crate::count_lines::CountLine;
+use crate::version::VERSION;
 use real_host::RealHost;
 use sdcv_top::{Silent, Status, run_told};
 use sdcv_words::told;
@@ -57,7 +59,7 @@ fn ran(rt: &HostRuntime, words: &[String]) -> Status {
 
 // A text that can't be made or written is dropped: the status stands.
 fn tell(rt: &HostRuntime, words: &[String]) {
-    if let Ok(text) = told(rt.alloc(), words) {
+    if let Ok(text) = told(rt.alloc(), VERSION, words) {
         let _ = eprint!(rt; "{text}");
     }
 }

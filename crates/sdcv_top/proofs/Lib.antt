@@ -1,4 +1,6 @@
 pub mod Alike
+pub mod FurtherClauses
+pub mod FurtherReads
 pub mod BuiltinLibrary
 pub mod Delivered
 pub mod Holding

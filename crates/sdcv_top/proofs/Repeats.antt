@@ -51,10 +51,10 @@ text_of_ok text bytes same = ap (λ (r : Result (List ℕ) (List ℕ)). elim r [
 -- the text that is checked is that of the certificate
 pub repeats : (d : Designed) (o : RunOptions) → CheckRepeats d o
 unfolding Checked AfterText After
-repeats d o name bytes json due again report saved (inl (text, read, last)) =
+repeats d o name bytes json extra due again report saved (inl (text, read, last)) =
     let found = last.1 in
     let cert = report.certificate in
     let same : cert.0 ≡ text = sym (text_of_ok text bytes read ∙ only_bytes name bytes cert.0 (sym saved ∙ cert.2)) in
     let accepted = subst (λ (t : List ℕ). IsAcceptedText d.linked.design d.selected.claims t (justified_numbers report.judged.verdicts)) same cert.1.accepted in
     told_of_list (length d.selected.claims) (justified_numbers report.judged.verdicts) found.0 again (found.1.only _ accepted) found.2
-repeats d o name bytes json due again report saved (inr (line, read, none, refusal)) = absurd cc
+repeats d o name bytes json extra due again report saved (inr (line, read, none, refusal)) = absurd cc

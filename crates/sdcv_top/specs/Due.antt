@@ -63,7 +63,7 @@ Demonstrated seed size = do
   source ← After (texts.Netlist (verilog_text (drawn seed size)))
   script ← After (texts.Constraints (sdc_text (drawn seed size)))
   designed ← After (Designs (record { source = source; library = builtin_library; script = script }) demo_reset demo_judging)
-  Last (IsReported None false demo_options designed)
+  Last (IsReported None false demo_options [] designed)
 
 -- what is due for a command, and where the words name none: the usage line is printed, and nothing is read
 abbrev pub IsDueFor : Option Command → Due

@@ -2,6 +2,7 @@
 use Rattle.std.specs.Prelude.{◌≡◌, ℕ, ◌≤◌, ◌<◌, nat_lt, Bool, List, [], ◌∷◌, Option, None, Some, if◌then◌else◌}
 use Rattle.net_model.specs.declared.netlist.Design.{Design}
 use Rattle.net_model.specs.declared.claims.Claim.{Claim}
+use Rattle.net_model.specs.declared.invariants.InvClause.{InvClause}
 use Rattle.verdict_types.specs.declared.outcomes.Limits.{Limits}
 use Rattle.run_options.specs.declared.options.RunOptions.{RunOptions}
 use Rattle.report_text.specs.declared.tallies.Tally.{Tally}
@@ -35,10 +36,10 @@ IsSaved None d claims judged saved = saved ≡ []
 IsSaved (Some name) d claims judged saved = (bytes : List ℕ) × IsCertificateOf d claims judged bytes × (saved ≡ (name, bytes) ∷ [])
 
 -- each selected pair has its verdict: those that are justified hold in all runs, those that are refuted have a run that
--- violates them; a certificate of it is saved, and the report says exactly that
-pub record IsReported (out : Option (List ℕ)) (json : Bool) (o : RunOptions) (d : Designed) (due : Outcome) : Type 0 where
+-- violates them; a certificate of it is saved, and the report says exactly that. Further clauses are tried where there are any
+pub record IsReported (out : Option (List ℕ)) (json : Bool) (o : RunOptions) (extra : List InvClause) (d : Designed) (due : Outcome) : Type 0 where
   pub judged : Judged
-  pub right : AreJudged d.linked.design d.selected.claims o.inv_depth (limits_of o) judged
+  pub right : AreJudged d.linked.design d.selected.claims extra o.inv_depth (limits_of o) judged
   pub certificate : IsSaved out d.linked.design d.selected.claims judged due.saved
   pub ending : due.ending ≡ ending_by (tally_of judged.verdicts)
   pub printed : due.printed ≡ report_bytes json o d.selected judged.verdicts

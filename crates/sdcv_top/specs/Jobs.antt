@@ -1,5 +1,5 @@
 -- What is done with the pairs that are selected.
-use Rattle.std.specs.Prelude.{◌≡◌, ℕ, List, length, None, Some, Result, Ok, Err, IfOk, IfErr}
+use Rattle.std.specs.Prelude.{◌≡◌, ℕ, Bool, List, [], length, Option, None, Some, Result, Ok, Err, IfOk, IfErr}
 use Rattle.std.specs.List.{concat}
 use Rattle.net_model.specs.declared.netlist.Design.{Design}
 use Rattle.net_model.specs.declared.claims.Claim.{Claim}
@@ -29,7 +29,7 @@ use Rattle.sdcv_top.specs.Outcomes.{Outcome, prints}
 use Rattle.sdcv_top.specs.Headline.{IsReported}
 use Rattle.sdcv_top.specs.Monitors.{IsWatchedOut}
 use Rattle.sdcv_top.specs.Stages.{Due, After, AfterText, Last, ◌>>=◌}
-use Rattle.sdcv_top.specs.Texts.{CertText, ReportText}
+use Rattle.sdcv_top.specs.Texts.{AssistText, CertText, ReportText}
 
 -- the options that a report tells
 abbrev pub run_options : Judging → ℕ → Proving → RunOptions
@@ -109,14 +109,29 @@ Checked d = do
   Last (IsChecked d.linked.design d.selected.claims text)
 
 -- the claim of a pair is watched
-unfoldable pub Watched : List ℕ → ℕ → Designed → Due
-Watched out number d = do
+unfoldable pub Watched : List ℕ → ℕ → Bool → Designed → Due
+Watched out number symbols d = do
   claim ← After (HasPair d.selected.claims number)
-  Last (IsWatchedOut out number d.linked.design claim)
+  Last (IsWatchedOut out number symbols d.linked claim)
+
+-- the options of a verification that tries so many further clauses
+abbrev pub with_assist : RunOptions → ℕ → RunOptions
+with_assist o count = record o { assist = Some count }
+
+-- the clauses of an assisting text are tried too
+unfoldable pub Assisted : Option (List ℕ) → Bool → RunOptions → Designed → Due
+Assisted out json o d = do
+  clauses ← AfterText (AssistText d.linked.names)
+  Last (IsReported out json (with_assist o (length clauses)) clauses d)
+
+-- a verification, with the clauses of a file where one is named
+abbrev pub Verified : Option (List ℕ) → Bool → RunOptions → Option (List ℕ) → Designed → Due
+Verified out json o None d = Last (IsReported out json o [] d)
+Verified out json o (Some name) d = Assisted out json o d
 
 -- a job is done
 abbrev pub IsDone : Judging → ℕ → Job → Designed → Due
-IsDone judging reset_len (Verify out json proving) d = Last (IsReported (Some out) json (run_options judging reset_len proving) d)
+IsDone judging reset_len (Verify out json proving assist) d = Verified (Some out) json (run_options judging reset_len proving) assist d
 IsDone judging reset_len (Check cert) d = Checked d
 IsDone judging reset_len (ReplayJob report number) d = Replayed number d
-IsDone judging reset_len (Aiger out number) d = Watched out number d
+IsDone judging reset_len (Aiger out number symbols) d = Watched out number symbols d

@@ -3,6 +3,7 @@ use Rattle.std.specs.Prelude.{◌≡◌, ℕ, Bool, List, [], ◌∷◌, length,
 use Rattle.std.specs.List.{concat}
 use Rattle.cert_defs.specs.Accepted.{justified_numbers}
 use Rattle.answer_lines.specs.Certs.{accepted_lines}
+use Rattle.net_model.specs.declared.invariants.InvClause.{InvClause}
 use Rattle.run_options.specs.declared.options.RunOptions.{RunOptions}
 use Rattle.design_stages.specs.declared.designs.Designed.{Designed}
 use Rattle.run_ends.specs.declared.statuses.Ending.TheVariants as ending
@@ -14,6 +15,6 @@ use Rattle.sdcv_top.specs.Reads.{Text}
 -- a check of the certificate that was saved, over the same texts and options, accepts exactly the pairs that are justified
 abbrev pub CheckRepeats : Designed → RunOptions → Type 0
 CheckRepeats d o =
-    (name bytes : List ℕ) (json : Bool) (due again : Outcome) (report : IsReported (Some name) json o d due) → due.saved ≡ (name, bytes) ∷ []
+    (name bytes : List ℕ) (json : Bool) (extra : List InvClause) (due again : Outcome) (report : IsReported (Some name) json o extra d due) → due.saved ≡ (name, bytes) ∷ []
     → Checked d (Text bytes ∷ []) again
     → again ≡ prints ending.Done (concat (accepted_lines (justified_numbers report.judged.verdicts) (length d.selected.claims)))

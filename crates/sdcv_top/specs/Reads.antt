@@ -38,12 +38,17 @@ cell_reads_if false name = text_of name ∷ []
 unfoldable pub cell_reads : List ℕ → List ReadOf
 cell_reads name = cell_reads_if (is_builtin name) name
 
+-- the assisting text, where one is named
+abbrev pub assist_reads : Option (List ℕ) → List ReadOf
+assist_reads None = []
+assist_reads (Some name) = text_of name ∷ []
+
 -- what is read for a job, once pairs are selected
 abbrev pub job_reads : Job → List ReadOf
-job_reads (Verify out json proving) = []
+job_reads (Verify out json proving assist) = assist_reads assist
 job_reads (Check cert) = whole_of cert ∷ []
 job_reads (Replay report pair) = whole_of report ∷ []
-job_reads (Aiger out pair) = []
+job_reads (Aiger out pair symbols) = []
 
 -- a netlist, its cells and its constraints, and then more
 unfoldable pub text_reads : Texts → List ReadOf → List ReadOf

@@ -1,13 +1,20 @@
 -- The stages that read a text.
-use Rattle.std.specs.Prelude.{◌≡◌, ℕ, Bool, true, false, List, Ok, Err}
+use Rattle.std.specs.Prelude.{◌≡◌, ◌⊎◌, ℕ, Bool, true, false, List, Result, Ok, Err}
+use Rattle.net_model.specs.declared.invariants.InvClause.{InvClause}
 use Rattle.netlist_types.specs.declared.sources.Source.{Source}
 use Rattle.cell_types.specs.declared.libraries.Library.{Library}
 use Rattle.cell_types.specs.Builtin.{builtin_cells}
 use Rattle.script_types.specs.declared.scripts.Script.{Script}
+use Rattle.linked_types.specs.declared.names.Names.{Names}
+use Rattle.assist_types.specs.declared.clauses.Assist.{Assist}
+use Rattle.assist_types.specs.declared.faults.AssistFault.{AssistFault}
+use Rattle.assist_text.specs.Clauses.{IsTextOf}
+use Rattle.assist_text.specs.Causes.{IsCause}
+use Rattle.assist_text.specs.Named.{AreNamed, IsUnknown}
 use Rattle.fault_lines.specs.declared.sources.Origin.{Origin}
 use Rattle.fault_lines.specs.declared.sources.Origin.TheVariants as origin
-use Rattle.fault_lines.specs.Sources.{too_long_line}
-use Rattle.design_stages.specs.Stages.{Found}
+use Rattle.fault_lines.specs.Sources.{assist_line, too_long_line}
+use Rattle.design_stages.specs.Stages.{Found, Staged}
 use Rattle.design_stages.specs.Texts as texts
 use Rattle.design_stages.specs.declared.designs.ReadTexts.{ReadTexts}
 use Rattle.sdcv_words.specs.Commands.{Texts as TextNames}
@@ -37,6 +44,17 @@ CertText = Unless origin.Cert Itself
 
 abbrev pub ReportText : Got → Found (List ℕ) → Type 0
 ReportText = Unless origin.Stimulus Itself
+
+-- the clauses that an assisting text has over the registers of these names, or its fault
+abbrev pub HasClauses : Names → List ℕ → Result (List InvClause) AssistFault → Type 0
+HasClauses names text (Ok clauses) = (assist : Assist) × IsTextOf text assist × AreNamed names.cells assist.clauses clauses
+HasClauses names text (Err fault) = IsCause text fault ⊎ ((assist : Assist) × IsTextOf text assist × IsUnknown names.cells assist.clauses fault)
+
+abbrev pub Assists : Names → List ℕ → Found (List InvClause) → Type 0
+Assists names text = Staged (HasClauses names text) assist_line
+
+abbrev pub AssistText : Names → Got → Found (List InvClause) → Type 0
+AssistText names = Unless origin.Assist (Assists names)
 
 -- the cells that are known without a file
 unfoldable pub builtin_library : Library

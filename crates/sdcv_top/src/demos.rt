@@ -4,7 +4,7 @@ ghost use Rattle.sdcv_top.specs.Due.{Demonstrated, demo_reset};
 ghost use Rattle.sdcv_top.specs.Plans.{IsPlanned};
 
 use crate::plans::Plan;
-use crate::verifying::verified;
+use crate::verifying::{Verifying, verified};
 use cell_types::builtin;
 use design_stages::{ReadTexts, Refusal, constraints, designed, netlist};
 use judgements::Progress;
@@ -56,7 +56,12 @@ pub fn demonstrated<'a, P: Progress>(
     };
     let reset = demo_reset(alloc)?;
     let designed = designed(alloc, &texts, reset, JUDGING)?;
-    let plan = verified(alloc, &designed, &OPTIONS, None, false, progress)?;
+    let verifying = Verifying {
+        options: OPTIONS,
+        out: None,
+        json: false,
+    };
+    let plan = verified(alloc, &designed, &verifying, &[], progress)?;
     Ok(plan)
 }
 

@@ -5,6 +5,7 @@
 //! `IsReported` of specs/Headline; what it did is `HasRun` of specs/Runs.
 #![tactic(auto)]
 
+mod assisting;
 mod checking;
 mod deliveries;
 mod demos;

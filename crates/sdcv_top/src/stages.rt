@@ -1,24 +1,27 @@
 //! The run on one screen: its stages in their order, each of which ends with its own value.
 ghost use Rattle.std.specs.Prelude.{◌≡◌, All, Some};
+ghost use Rattle.std.specs.Option.{option_map};
 ghost use Rattle.sdcv_words.specs.Commands.{seen_command, seen_texts, seen_job, Over};
 ghost use Rattle.sdcv_words.specs.Ranges.{AreOptionsInRange, IsInRange, IsJobInRange};
 ghost use Rattle.design_stages.specs.Designs.{CanBeJudged};
 ghost use Rattle.sdcv_top.specs.Due.{IsDueFor, Worked};
-ghost use Rattle.sdcv_top.specs.Jobs.{IsDone};
-ghost use Rattle.sdcv_top.specs.Reads.{reads_of, job_reads};
+ghost use Rattle.sdcv_top.specs.Headline.{AreInRange};
+ghost use Rattle.sdcv_top.specs.Jobs.{IsDone, Verified, run_options};
+ghost use Rattle.sdcv_top.specs.Reads.{assist_reads, reads_of, job_reads};
 ghost use Rattle.sdcv_top.specs.Plans.{StopCounts, Plans};
 
+use crate::assisting::assisted;
 use crate::checking::checked;
 use crate::demos::demonstrated;
 use crate::finding::found_out;
 use crate::plans::{Plan, Stop};
 use crate::readers::texts;
 use crate::replaying::replayed;
-use crate::verifying::verified;
+use crate::verifying::{Verifying, verified};
 use crate::watching::watched;
 use design_stages::{Designed, designed};
 use judgements::Progress;
-use run_options::{Judging, RunOptions};
+use run_options::{Judging, Proving, RunOptions};
 use sdcv_base::Host;
 use sdcv_words::{Command, Job, Options, Texts};
 use std::alloc::Global;
@@ -99,24 +102,66 @@ fn done<'a, H: Host, P: Progress>(
     ensures saved { H.saved host.new ≡ H.saved host.old }
 {
     match job {
-        Job::Verify { out, json, proving } => {
-            let options = RunOptions {
-                hazard: judging.hazard,
-                reset_len: designed.linked.design.reset_len,
-                depth: proving.depth,
-                budget: proving.budget,
-                inv_depth: proving.inv_depth,
-                lag: judging.lag,
-                hold: judging.hold,
-                assist: None,
-                free: None,
-                assumed: None,
-                strict: judging.strict,
+        Job::Verify {
+            out,
+            json,
+            proving,
+            assist,
+        } => {
+            let reset_len = designed.linked.design.reset_len;
+            let verifying = Verifying {
+                options: run_options(judging, reset_len, proving),
+                out: Some(out),
+                json,
             };
-            Ok(verified(alloc, designed, &options, Some(out), json, progress)?)
+            verify(alloc, host, designed, verifying, assist, progress)
         }
         Job::Check { cert } => checked(alloc, host, designed, cert),
         Job::Replay { report, pair } => replayed(alloc, host, designed, report, pair),
-        Job::Aiger { out, pair } => Ok(watched(alloc, designed, out, pair)?),
+        Job::Aiger { out, pair, symbols } => Ok(watched(alloc, designed, out, pair, symbols)?),
+    }
+}
+
+// What a report tells of how the run was made.
+fn run_options(judging: Judging, reset_len: usize, proving: Proving) -> RunOptions
+    ensures { result ≡ run_options judging reset_len proving }
+{
+    RunOptions {
+        hazard: judging.hazard,
+        reset_len,
+        depth: proving.depth,
+        budget: proving.budget,
+        inv_depth: proving.inv_depth,
+        lag: judging.lag,
+        hold: judging.hold,
+        assist: None,
+        free: None,
+        assumed: None,
+        strict: judging.strict,
+    }
+}
+
+// All selected pairs are judged, with the clauses of a file where one is named.
+fn verify<'a, H: Host, P: Progress>(
+    alloc: Global,
+    host: &mut H,
+    designed: &Designed,
+    verifying: Verifying<'a>,
+    assist: Option<&'a str>,
+    progress: &mut P,
+) -> Result<Plan<'a>, Stop>
+    requires judged { CanBeJudged designed.now }
+    requires options { AreInRange verifying.options }
+    ensures planned { Plans (Verified (option_map (λ t. t.now) verifying.entry.out) verifying.entry.json verifying.entry.options
+        (option_map (λ t. t.now) assist.entry) designed.now)
+        (assist_reads (option_map (λ t. t.now) assist.entry)) (H.files host.old) (H.asked host.old) (H.asked host.new) result }
+    ensures count { StopCounts (H.faults host.old) (H.faults host.new) result }
+    ensures files { H.files host.new ≡ H.files host.old }
+    ensures printed { H.printed host.new ≡ H.printed host.old }
+    ensures saved { H.saved host.new ≡ H.saved host.old }
+{
+    match assist {
+        Some(file) => assisted(alloc, host, designed, file, verifying, progress),
+        None => Ok(verified(alloc, designed, &verifying, &[], progress)?),
     }
 }

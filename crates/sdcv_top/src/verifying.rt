@@ -1,6 +1,9 @@
 //! The verdicts on the selected pairs, with their certificate and their report.
-ghost use Rattle.std.specs.Prelude.{◌≡◌, ℕ, IfOk};
+ghost use Rattle.std.specs.Prelude.{◌≡◌, ℕ, List, All, IfOk};
 ghost use Rattle.std.specs.Option.{option_map};
+ghost use Rattle.net_model.specs.declared.invariants.InvClause.{InvClause as InvClauseRecord};
+ghost use Rattle.net_model.specs.Fits.{NamesRegs};
+ghost use Rattle.verdict_types.specs.Forms.{IsKeptClause};
 ghost use Rattle.design_stages.specs.Designs.{CanBeJudged};
 ghost use Rattle.judgements.specs.Judgements.{AreJudged, AreAllInForm};
 ghost use Rattle.sdcv_top.specs.Headline.{IsReported, IsSaved, ending_by, AreInRange};
@@ -8,37 +11,55 @@ ghost use Rattle.sdcv_top.specs.Plans.{outcome_of, saved_of};
 
 use crate::plans::{Plan, SavedFile};
 use design_stages::Designed;
-use judgements::{Judged, Progress, certificate, judge, report};
+use judgements::{InvSearch, Judged, Progress, certificate, judge, report};
+use net_model::InvClause;
 use report_text::{Tally, tally_of};
 use run_ends::Ending;
 use run_options::RunOptions;
 use std::alloc::{AllocError, Global};
 use verdict_types::Limits;
 
-/// Judges all selected pairs. A certificate of the verdicts is saved where it has a name.
+/// How a verification is made, and what is told of it.
+#[derive(Clone, Copy)]
+pub struct Verifying<'a> {
+    pub options: RunOptions,
+    /// The name of the certificate, where one is saved.
+    pub out: Option<&'a str>,
+    pub json: bool,
+}
+
+/// Judges all selected pairs, with further clauses among those that are tried. A certificate of the verdicts is saved where it has
+/// a name.
 pub fn verified<'a, P: Progress>(
     alloc: Global,
     designed: &Designed,
-    options: &RunOptions,
-    out: Option<&'a str>,
-    json: bool,
+    verifying: &Verifying<'a>,
+    extra: &[InvClause],
     progress: &mut P,
 ) -> Result<Plan<'a>, AllocError>
     requires judged { CanBeJudged designed.now }
-    requires options { AreInRange options.now }
-    ensures { IfOk result (λ plan. IsReported (option_map (λ t. t.now) out.entry) json options.now designed.now (outcome_of plan)) }
+    requires options { AreInRange verifying.now.options }
+    requires names { All (NamesRegs designed.now.linked.design) extra.now }
+    requires in_form { All IsKeptClause extra.now }
+    ensures { IfOk result (λ plan. IsReported (option_map (λ t. t.now) verifying.entry.now.out) verifying.now.json verifying.now.options extra.now
+        designed.now (outcome_of plan)) }
 {
+    let Verifying { options, out, json } = *verifying;
     let limits = Limits {
         depth: options.depth,
         budget: options.budget,
     };
     let design = &designed.linked.design;
     let claims = &designed.selected.claims;
-    let judged = judge(alloc, design, claims, options.inv_depth, &limits, progress)?;
+    let search = InvSearch {
+        depth: options.inv_depth,
+        extra,
+    };
+    let judged = judge(alloc, design, claims, &search, &limits, progress)?;
     let saved = certified(alloc, designed, &limits, &judged, out)?;
     let lines = report(
         alloc,
-        options,
+        &options,
         &designed.selected,
         judged.verdicts.as_slice(),
         json,
@@ -60,7 +81,8 @@ fn certified<'a>(
     judged: &Judged,
     out: Option<&'a str>,
 ) -> Result<Option<SavedFile<'a>>, AllocError>
-    requires judged { (inv_depth : ℕ) × AreJudged designed.now.linked.design designed.now.selected.claims inv_depth limits.now judged.now }
+    requires judged { (extra : List InvClauseRecord) × (inv_depth : ℕ) × AreJudged designed.now.linked.design designed.now.selected.claims
+        extra inv_depth limits.now judged.now }
     requires in_form { AreAllInForm judged.now }
     ensures { IfOk result (λ saved. IsSaved (option_map (λ t. t.now) out.entry) designed.now.linked.design
         designed.now.selected.claims judged.now (saved_of saved)) }

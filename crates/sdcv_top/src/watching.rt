@@ -1,11 +1,11 @@
 //! The graph that watches the claim of a pair.
-ghost use Rattle.std.specs.Prelude.{◌≡◌, false, All, IfOk};
+ghost use Rattle.std.specs.Prelude.{◌≡◌, Bool, false, All, IfOk};
 ghost use Rattle.net_model.specs.declared.claims.Claim.{Claim as TheClaim};
-ghost use Rattle.net_model.specs.declared.netlist.Design.{Design as TheDesign};
+ghost use Rattle.linked_types.specs.declared.names.Linked.{Linked as TheLinked};
 ghost use Rattle.claim_monitor.specs.AigerTexts.{IsAigerOf};
 ghost use Rattle.design_stages.specs.Designs.{CanBeJudged};
 ghost use Rattle.sdcv_top.specs.Jobs.{Watched};
-ghost use Rattle.sdcv_top.specs.Monitors.{IsWatchedOut, aiger_line};
+ghost use Rattle.sdcv_top.specs.Monitors.{IsWatchedOut, aiger_line, symbols_if};
 ghost use Rattle.sdcv_top.specs.Plans.{IsPlanned, outcome_of};
 
 use crate::plans::{Plan, SavedFile};
@@ -13,42 +13,66 @@ use crate::replaying::numbered;
 use answer_lines::no_pair_line;
 use claim_monitor::{AigerText, write_aiger};
 use design_stages::{Designed, Refusal};
+use linked_types::Linked;
+use monitor_symbols::symbols_text;
+use net_model::Claim;
 use run_ends::Ending;
 use std::alloc::{AllocError, Global};
 
-/// Watches the claim of a pair: the text of the graph is to be saved, and its counts are to be told.
+/// Watches the claim of a pair: the text of the graph is to be saved, with symbols where they are asked for, and its counts are to
+/// be told.
 pub fn watched<'a>(
     alloc: Global,
     designed: &Designed,
     out: &'a str,
     number: u64,
+    symbols: bool,
 ) -> Result<Plan<'a>, Refusal>
     requires judged { CanBeJudged designed.now }
     requires plain { All (λ claim. claim.hazard ≡ false) designed.now.selected.claims }
-    ensures { IsPlanned (Watched out.entry.now number designed.now) result }
+    ensures { IsPlanned (Watched out.entry.now number symbols designed.now) result }
 {
     let claims = designed.selected.claims.as_slice();
     let Some(claim) = numbered(claims, number) else {
         return Err(Refusal::Line(no_pair_line(alloc, number)?));
     };
     let text = write_aiger(alloc, &designed.linked.design, claim)?;
-    let plan = plan(alloc, out, number, text)?;
+    let symbols = symbols_if(alloc, symbols, &designed.linked, claim)?;
+    let plan = plan(alloc, out, number, text, symbols)?;
     Ok(plan)
 }
 
-// The text is saved, and its counts are told.
+// The symbols of the latches, where they are asked for.
+fn symbols_if(
+    alloc: Global,
+    symbols: bool,
+    linked: &Linked,
+    claim: &Claim,
+) -> Result<Vec<u8>, AllocError>
+    ensures { IfOk result (λ lines. lines.items ≡ symbols_if symbols linked.now claim.now) }
+{
+    if symbols {
+        symbols_text(alloc, &linked.names, &linked.design, claim)
+    } else {
+        Ok(Vec::new(alloc))
+    }
+}
+
+// The text is saved with the symbols after it, and its counts are told.
 fn plan<'a>(
     alloc: Global,
     out: &'a str,
     number: u64,
     text: AigerText,
+    symbols: Vec<u8>,
 ) -> Result<Plan<'a>, AllocError>
-    ensures { IfOk result (λ plan. (d : TheDesign) (claim : TheClaim) → IsAigerOf d claim text
-        → IsWatchedOut out.entry.now number d claim (outcome_of plan)) }
+    ensures { IfOk result (λ plan. (asked : Bool) (l : TheLinked) (claim : TheClaim) → IsAigerOf l.design claim text
+        → symbols.items ≡ symbols_if asked l claim → IsWatchedOut out.entry.now number asked l claim (outcome_of plan)) }
 {
     let line = aiger_line(alloc, number, &text)?;
     let told = Plan::printing_one(alloc, Ending::Done, line)?;
-    let bytes = text.bytes;
+    let mut bytes = text.bytes;
+    bytes.extend_from_slice(&symbols)?;
     Ok(Plan {
         saved: Some(SavedFile { name: out, bytes }),
         ..told

@@ -1,4 +1,5 @@
 //! The words of the program: a table of its commands, read by `clap`.
+use crate::version::VERSION;
 use clap::builder::ValueParser;
 use clap::{Arg, ArgAction, ArgMatches, Command, Error};
 use std::alloc::{AllocError, Global};
@@ -203,7 +204,7 @@ fn subcommand<'a>(alloc: Global, row: CommandRow) -> Result<Command<'a>, AllocEr
 fn bare<'a>(alloc: Global) -> Result<Command<'a>, AllocError> {
     Command::new(alloc, "sdcv_view")
         .no_binary_name(true)
-        .version("0.9.0")
+        .version(VERSION)
         .about("Show a report of sdcv, the bits of a stimulus, and the run of a refuted pair")
         .arg_required_else_help(true)
         .subcommand_required(true)

@@ -11,6 +11,7 @@ mod answers;
 mod commands;
 mod ends;
 mod reads;
+mod version;
 
 use crate::answers::answer;
 use crate::commands::asked_by;

@@ -95,7 +95,7 @@ verify_range : (hazard : Bool) (given : List Given) (job : Job) → verify_of gi
 verify_range hazard given job is =
     let (out, there, with_out) = bind_gave (in_table given (codes "out")) _ job is in
     let (proving, of, made) = bind_gave (proving_of given) _ job with_out in
-    let same : Verify out (stands given (codes "json")) proving ≡ job = cc in subst (IsJobInRange hazard) same (proving_range given proving of)
+    let same : Verify out (stands given (codes "json")) proving (in_table given (codes "assist")) ≡ job = cc in subst (IsJobInRange hazard) same (proving_range given proving of)
 
 check_range : (hazard : Bool) (given : List Given) (job : Job) → check_of given ≡ Some job → IsJobInRange hazard job
 check_range hazard given job is =
@@ -154,7 +154,8 @@ watching_range given job is =
     let (out, there, with_out) = bind_gave (in_table given (codes "out")) _ job is in
     let (digits, stand, with_digits) = bind_gave (in_table given (codes "PAIR")) _ job with_out in
     let (pair, number, made) = bind_gave (number_in 1 18446744073709551615 digits) _ job with_digits in
-    let same : Aiger out pair ≡ job = cc in subst (IsJobInRange false) same (refl, (number_in_range 1 18446744073709551615 pair digits number).0)
+    let same : Aiger out pair (stands given (codes "symbols")) ≡ job = cc in
+    subst (IsJobInRange false) same (refl, (number_in_range 1 18446744073709551615 pair digits number).0)
 
 aiger_range : (given : List Given) (c : Command) → aiger_of given ≡ Some c → IsInRange c
 aiger_range given c is =

@@ -1,5 +1,6 @@
 -- The commands, as texts and numbers.
-use Rattle.std.specs.Prelude.{ℕ, Bool, List}
+use Rattle.std.specs.Prelude.{ℕ, Bool, List, Option}
+use Rattle.std.specs.Option.{option_map}
 use Rattle.sdcv_words.specs.declared.commands.Texts.{Texts as TheTexts}
 use Rattle.sdcv_words.specs.declared.commands.Options.{Options}
 use Rattle.run_options.specs.declared.proving.Proving.{Proving}
@@ -26,10 +27,10 @@ pub record Finding : Type 0 where
 
 -- what is done with the pairs that are selected
 pub data Job : Type 0 where
-  Verify : (out : Text) → (json : Bool) → (proving : Proving) → Job
+  Verify : (out : Text) → (json : Bool) → (proving : Proving) → (assist : Option Text) → Job
   Check : (cert : Text) → Job
   Replay : (report : Text) → (pair : ℕ) → Job
-  Aiger : (out : Text) → (pair : ℕ) → Job
+  Aiger : (out : Text) → (pair : ℕ) → (symbols : Bool) → Job
 
 pub data Command : Type 0 where
   Over : (texts : Texts) → (options : Options) → (job : Job) → Command
@@ -44,10 +45,10 @@ abbrev pub seen_finding : TheFinding → Finding
 seen_finding f = record { out = f.out.now; proving = f.proving; bound = f.bound }
 
 abbrev pub seen_job : TheJob → Job
-seen_job (the_job.Verify out json proving) = Verify out.now json proving
+seen_job (the_job.Verify out json proving assist) = Verify out.now json proving (option_map (λ t. t.now) assist)
 seen_job (the_job.Check cert) = Check cert.now
 seen_job (the_job.Replay report pair) = Replay report.now pair
-seen_job (the_job.Aiger out pair) = Aiger out.now pair
+seen_job (the_job.Aiger out pair symbols) = Aiger out.now pair symbols
 
 abbrev pub seen_command : TheCommand → Command
 seen_command (the_command.Over texts options job) = Over (seen_texts texts) options (seen_job job)

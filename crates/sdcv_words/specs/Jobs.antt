@@ -21,7 +21,7 @@ abbrev pub verify_of : List Given → Option Job
 verify_of given =
     in_table given (codes "out") >>= λ out.
     proving_of given >>= λ proving.
-    Some (Verify out (stands given (codes "json")) proving)
+    Some (Verify out (stands given (codes "json")) proving (in_table given (codes "assist")))
 
 abbrev pub check_of : List Given → Option Job
 check_of given = in_table given (codes "CERT") >>= λ cert. Some (Check cert)
@@ -66,7 +66,7 @@ watching_of given =
     in_table given (codes "out") >>= λ out.
     in_table given (codes "PAIR") >>= λ digits.
     number_in 1 18446744073709551615 digits >>= λ pair.
-    Some (Aiger out pair)
+    Some (Aiger out pair (stands given (codes "symbols")))
 
 abbrev pub without_hazards : Options → Options
 without_hazards o = record { judging = record o.judging { hazard = false }; reset = o.reset }

@@ -14,10 +14,10 @@ pub record IsProvingInRange (proving : Proving) : Type 0 where
 
 -- pairs are numbered from 1, and a claim is watched without hazards
 abbrev pub IsJobInRange : Bool → Job → Type 0
-IsJobInRange hazard (Verify out json proving) = IsProvingInRange proving
+IsJobInRange hazard (Verify out json proving assist) = IsProvingInRange proving
 IsJobInRange hazard (Check cert) = Unit {0}
 IsJobInRange hazard (Replay report pair) = 1 ≤ pair
-IsJobInRange hazard (Aiger out pair) = (hazard ≡ false) × (1 ≤ pair)
+IsJobInRange hazard (Aiger out pair symbols) = (hazard ≡ false) × (1 ≤ pair)
 
 -- claims can be judged so, and reset is held for at most 64 cycles
 pub record AreOptionsInRange (options : Options) : Type 0 where

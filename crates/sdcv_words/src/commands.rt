@@ -33,6 +33,8 @@ pub enum Job<'a> {
         out: &'a str,
         json: bool,
         proving: Proving,
+        /// The name of a file whose clauses are tried too.
+        assist: Option<&'a str>,
     },
     Check {
         cert: &'a str,
@@ -41,10 +43,12 @@ pub enum Job<'a> {
         report: &'a str,
         pair: u64,
     },
-    /// The monitor of a pair's claim is saved. Claims are then judged without hazards.
+    /// The monitor of a pair's claim is saved, and the names of its latches where these are asked for. Claims are then judged
+    /// without hazards.
     Aiger {
         out: &'a str,
         pair: u64,
+        symbols: bool,
     },
 }
 

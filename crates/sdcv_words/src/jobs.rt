@@ -31,6 +31,7 @@ fn verify_of<'a>(given: &[Given<'a>]) -> Option<Job<'a>>
         out: text_of(given, "out")?,
         json: stands(given, "json"),
         proving: proving_of(given)?,
+        assist: text_of(given, "assist"),
     })
 }
 
@@ -123,6 +124,7 @@ fn watching_of<'a>(given: &[Given<'a>]) -> Option<Job<'a>>
     Some(Job::Aiger {
         out: text_of(given, "out")?,
         pair: number_in(text_of(given, "PAIR")?, 1, u64::MAX)?,
+        symbols: stands(given, "symbols"),
     })
 }
 

@@ -77,8 +77,8 @@ fn broken(alloc: Global, words: &[String]) -> Result<Option<String>, AllocError>
 
 /// What is told of words that name no command, with a line feed at its end: help or the version, if they ask for it, else
 /// what is wrong with them.
-pub fn told(alloc: Global, words: &[String]) -> Result<String, AllocError> {
-    if let Some(text) = clap_words::told(alloc, words)? {
+pub fn told(alloc: Global, version: &str, words: &[String]) -> Result<String, AllocError> {
+    if let Some(text) = clap_words::told(alloc, version, words)? {
         return Ok(text);
     }
     match broken(alloc, words)? {

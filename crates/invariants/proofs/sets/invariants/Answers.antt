@@ -8,10 +8,14 @@ use Rattle.verdict_types.specs.Forms.{IsKeptClause}
 use Rattle.invariants.proofs.Surviving.{All-sifted, StandOnce-sifted, kept_all, entries_hold}
 use Rattle.invariants.proofs.sets.invariants.Goals as goal
 
+pub with_more-requires : goal.with_more-requires
+with_more-requires c = record { once = c.in_ok-own.ensures.once }
+
 pub greatest_set-requires-clause-names : goal.greatest_set-requires-clause-names
 greatest_set-requires-clause-names c =
     let d = c.args.design.now in
-    All-sifted (NamesRegs d) (HoldsDrawn d) (FailsDrawn d) c.in_ok-clauses.clauses c.in_ok-left.left c.in_ok-left.ensures c.in_ok-clauses.ensures.names
+    All-sifted (NamesRegs d) (HoldsDrawn d) (FailsDrawn d) c.in_ok-clauses.clauses c.in_ok-left.left c.in_ok-left.ensures
+    (c.in_ok-clauses.ensures.names d c.in_ok-own.ensures.names c.requires.extra_names)
 
 pub greatest_set-requires-clause-once : goal.greatest_set-requires-clause-once
 greatest_set-requires-clause-once c =
@@ -26,8 +30,10 @@ returns-clause-kept c =
     let set = c.in_ok-set.set in
     let kept = c.in_ok-set.ensures.kept in
     record {
+      own = c.in_ok-own.own;
+      of_claims = c.in_ok-own.ensures.candidates;
       candidates = clauses;
-      of_claims = c.in_ok-clauses.ensures.candidates;
+      assisted = c.in_ok-clauses.ensures.added;
       kept = kept_all d c.args.depth c.args.budget clauses left set c.in_ok-left.ensures kept;
       drawn = entries_hold d c.args.depth c.args.budget clauses left set c.in_ok-left.ensures kept;
     }
@@ -45,4 +51,5 @@ pub returns-clause-in_form : goal.returns-clause-in_form
 returns-clause-in_form c =
     let d = c.args.design.now in
     c.in_ok-set.ensures.in_form
-    (All-sifted IsKeptClause (HoldsDrawn d) (FailsDrawn d) c.in_ok-clauses.clauses c.in_ok-left.left c.in_ok-left.ensures c.in_ok-clauses.ensures.in_form)
+    (All-sifted IsKeptClause (HoldsDrawn d) (FailsDrawn d) c.in_ok-clauses.clauses c.in_ok-left.left c.in_ok-left.ensures
+    (c.in_ok-clauses.ensures.in_form c.in_ok-own.ensures.in_form c.requires.extra_form))

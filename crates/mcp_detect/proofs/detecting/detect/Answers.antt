@@ -1,13 +1,22 @@
 use Rattle.std.proofs.Common.{◌∙◌, Err, IfErr, ap, arith, sym, subst}
 use Rattle.std.specs.Prelude.{Result}
 use Rattle.std.proofs.lemmas.Result.{err_from_is_err_and}
+use Rattle.std.proofs.lemmas.List.Elements.{All-nil}
+use Rattle.net_model.specs.Fits.{NamesRegs}
 use Rattle.run_options.specs.Judging.{judging_by}
+use Rattle.verdict_types.specs.Forms.{IsKeptClause}
 use Rattle.mcp_detect.specs.Causes.{IsDetectCause}
 use Rattle.mcp_detect.specs.declared.detections.Detected.{Detected}
 use Rattle.mcp_detect.specs.declared.faults.DetectFault.{DetectFault}
 use Rattle.mcp_detect.proofs.Registers.{all_bare}
 use Rattle.mcp_detect.proofs.Counting.{few_claims}
 use Rattle.mcp_detect.proofs.detecting.detect.Goals as goal
+
+pub invariants-requires-clause-extra_names : goal.invariants-requires-clause-extra_names
+invariants-requires-clause-extra_names g c = All-nil (NamesRegs c.args.linked.now.design)
+
+pub invariants-requires-clause-extra_form : goal.invariants-requires-clause-extra_form
+invariants-requires-clause-extra_form g c = All-nil IsKeptClause
 
 pub pairs_tried-requires-clause-bare : goal.pairs_tried-requires-clause-bare
 pairs_tried-requires-clause-bare g c =

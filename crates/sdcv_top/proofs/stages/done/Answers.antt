@@ -4,17 +4,11 @@ use Rattle.sdcv_top.proofs.Alike.{AreAlike}
 use Rattle.sdcv_top.proofs.Staging.{plan_memory, last_due, stops, planned_ok, planned_err}
 use Rattle.sdcv_top.proofs.stages.done.Goals as goal
 
-pub returns-in_err-verified-in-Verify-clause-planned : goal.returns-in_err-verified-in-Verify-clause-planned
-returns-in_err-verified-in-Verify-clause-planned g c =
-    let p = err_from_is_err_and c.from_residual.result c.from_residual.ensures.1 in
-    stops _ _ _ _ _ _ _ (p.1 ∙ ap Err p.2) (plan_memory _ _ _ _ _ refl)
+pub verify-requires-clause-judged : goal.verify-requires-clause-judged
+verify-requires-clause-judged g c = c.requires.judged
 
-pub returns-in_ok-verified-in-Verify-clause-planned : goal.returns-in_ok-verified-in-Verify-clause-planned
-returns-in_ok-verified-in-Verify-clause-planned g c =
-    rw c.in-Verify.is (last_due _ _ _ _ _ _ c.in_ok-verified-in-Verify.ensures refl)
-
-pub verified-requires-clause-judged : goal.verified-requires-clause-judged
-verified-requires-clause-judged g c = c.requires.judged
+pub returns-in-Verify-clause-planned : goal.returns-in-Verify-clause-planned
+returns-in-Verify-clause-planned g c = rw (c.in-Verify.is, ← c.run_options.ensures) c.verify.ensures.planned
 
 pub checked-requires : goal.checked-requires
 checked-requires g c = c.requires.judged
@@ -38,7 +32,7 @@ watched-requires-clause-plain g c =
 
 pub returns-in_err-watched-in-Aiger-clause-planned : goal.returns-in_err-watched-in-Aiger-clause-planned
 returns-in_err-watched-in-Aiger-clause-planned g c =
-    let p = err_from_is_err_and c.from_residual-in_err-watched-in-Aiger.result c.from_residual-in_err-watched-in-Aiger.ensures.1 in
+    let p = err_from_is_err_and c.from_residual.result c.from_residual.ensures.1 in
     rw c.in-Aiger.is (stops _ _ _ _ _ _ _ (p.1 ∙ ap Err p.2) (planned_err _ _ _ _ _ _ c.in_err-watched-in-Aiger.ensures refl))
 
 pub returns-in_ok-watched-in-Aiger-clause-planned : goal.returns-in_ok-watched-in-Aiger-clause-planned

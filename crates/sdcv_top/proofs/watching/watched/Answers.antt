@@ -34,6 +34,11 @@ returns-in_err-text c =
     let p = err_from_is_err_and c.from_residual-in_err-text.result c.from_residual-in_err-text.ensures.1 in
     planned_by _ _ _ (p.1 ∙ ap Err p.2) (planned_memory _)
 
+pub returns-in_err-symbols : goal.returns-in_err-symbols
+returns-in_err-symbols c =
+    let p = err_from_is_err_and c.from_residual-in_err-symbols.result c.from_residual-in_err-symbols.ensures.1 in
+    planned_by _ _ _ (p.1 ∙ ap Err p.2) (planned_memory _)
+
 pub returns-in_err-plan : goal.returns-in_err-plan
 returns-in_err-plan c =
     let p = err_from_is_err_and c.from_residual-in_err-plan.result c.from_residual-in_err-plan.ensures.1 in
@@ -43,4 +48,4 @@ pub returns : goal.returns
 unfolding Watched
 returns c =
     let claim = rw c.as_slice-claims.ensures at (sym (sym (ap (option_map _) c.in-Some.is) ∙ c.numbered.ensures)) in
-    after_ok _ _ c.in-Some.claim.now _ claim (last_planned _ _ (c.in_ok-plan.ensures _ _ c.in_ok-text.ensures))
+    after_ok _ _ c.in-Some.claim.now _ claim (last_planned _ _ (c.in_ok-plan.ensures _ _ _ c.in_ok-text.ensures c.in_ok-symbols.ensures))

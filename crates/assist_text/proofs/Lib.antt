@@ -1,0 +1,9 @@
+pub mod Zips
+pub mod WordLemmas
+pub mod NameLemmas
+pub mod Saying
+pub mod Finding
+pub mod Ascending
+pub mod Naming
+pub mod Laws
+pub mod Worked

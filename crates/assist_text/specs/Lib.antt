@@ -1,0 +1,5 @@
+pub mod Lines
+pub mod Clauses
+pub mod Causes
+pub mod Registers
+pub mod Named

@@ -1,0 +1,2 @@
+pub mod Latches
+pub mod Symbols
