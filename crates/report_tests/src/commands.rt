@@ -123,19 +123,23 @@ fn named(alloc: Global, text: &str) -> Result<String, AllocError> {
 const BY_PLACE: &[(&str, &str)] = &[
     (
         "verify|v|builtin|s|--out|c",
-        "<v> <builtin> <s> plain lag 0 cycles 0 verify <c> json false depth 8 budget 20000 inv 1",
+        "<v> <builtin> <s> plain lag 0 cycles 0 verify <c> json false depth 8 budget 20000 inv 1 assist <->",
+    ),
+    (
+        "verify|v|builtin|s|--out|c|--assist|h",
+        "<v> <builtin> <s> plain lag 0 cycles 0 verify <c> json false depth 8 budget 20000 inv 1 assist <h>",
     ),
     (
         "verify|v|l|s|--out|c|--reset|rst=1",
-        "<v> <l> <s> plain lag 0 rst=true cycles 1 verify <c> json false depth 8 budget 20000 inv 1",
+        "<v> <l> <s> plain lag 0 rst=true cycles 1 verify <c> json false depth 8 budget 20000 inv 1 assist <->",
     ),
     (
         "verify|v|l|s|--json|--hazard|--lag|8|--reset|a=0,b=1|--reset-cycles|64|--depth|64|--budget|10000000|--inv-depth|8|--out|c",
-        "<v> <l> <s> hazard lag 8 a=false b=true cycles 64 verify <c> json true depth 64 budget 10000000 inv 8",
+        "<v> <l> <s> hazard lag 8 a=false b=true cycles 64 verify <c> json true depth 64 budget 10000000 inv 8 assist <->",
     ),
     (
         "verify|v|l|s|--out|c|--reset-cycles|2|--budget|01|--depth|0|--inv-depth|0",
-        "<v> <l> <s> plain lag 0 cycles 2 verify <c> json false depth 0 budget 1 inv 0",
+        "<v> <l> <s> plain lag 0 cycles 2 verify <c> json false depth 0 budget 1 inv 0 assist <->",
     ),
     (
         "check|v|l|s|c|--reset|a=b=1|--lag|02|--hazard",
@@ -180,15 +184,15 @@ const BY_PLACE: &[(&str, &str)] = &[
 const BY_CLAP: &[(&str, &str)] = &[
     (
         "verify|v|l|s|--out=c",
-        "<v> <l> <s> plain lag 0 cycles 0 verify <c> json false depth 8 budget 20000 inv 1",
+        "<v> <l> <s> plain lag 0 cycles 0 verify <c> json false depth 8 budget 20000 inv 1 assist <->",
     ),
     (
         "verify|--out|c|v|--json|l|s",
-        "<v> <l> <s> plain lag 0 cycles 0 verify <c> json true depth 8 budget 20000 inv 1",
+        "<v> <l> <s> plain lag 0 cycles 0 verify <c> json true depth 8 budget 20000 inv 1 assist <->",
     ),
     (
         "verify|--out|c|--|-v|l|s",
-        "<-v> <l> <s> plain lag 0 cycles 0 verify <c> json false depth 8 budget 20000 inv 1",
+        "<-v> <l> <s> plain lag 0 cycles 0 verify <c> json false depth 8 budget 20000 inv 1 assist <->",
     ),
     (
         "verify|v|l|s|--out=-c",
