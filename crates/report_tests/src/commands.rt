@@ -196,11 +196,11 @@ const BY_CLAP: &[(&str, &str)] = &[
     ),
     (
         "verify|v|l|s|--out=-c",
-        "<v> <l> <s> plain lag 0 cycles 0 verify <-c> json false depth 8 budget 20000 inv 1",
+        "<v> <l> <s> plain lag 0 cycles 0 verify <-c> json false depth 8 budget 20000 inv 1 assist <->",
     ),
     (
         "verify|v||s|--out=",
-        "<v> <> <s> plain lag 0 cycles 0 verify <> json false depth 8 budget 20000 inv 1",
+        "<v> <> <s> plain lag 0 cycles 0 verify <> json false depth 8 budget 20000 inv 1 assist <->",
     ),
     (
         "check|--hazard|v|-|s|c",
