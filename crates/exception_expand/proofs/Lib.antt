@@ -10,3 +10,4 @@ pub mod Naming
 pub mod Counting
 pub mod Stepping
 pub mod Adding
+pub mod OneSelection

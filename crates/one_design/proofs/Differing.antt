@@ -12,7 +12,7 @@ use Rattle.linked_types.specs.declared.options.LinkOptions.{LinkOptions}
 use Rattle.link_defs.specs.Circuits.{PortBit, data_bits, input_bits, output_bits}
 use Rattle.link_defs.specs.Faults.{Ports, StandsTwice, bit_names, IsCause, IsFaultless}
 use Rattle.link_defs.specs.Hierarchy.{tops}
-use Rattle.one_design.proofs.Keying.{IsKeyed}
+use Rattle.sdc_settings.proofs.Keying.{IsKeyed}
 
 -- an item at a place of what is kept of a list has a place in the list
 record IsKept {A : Type 0} (xs : List A) (x : A) : Type 0 where

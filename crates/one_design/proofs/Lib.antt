@@ -1,7 +1,6 @@
 pub mod Differing
 pub mod Finding
 pub mod Fixing
-pub mod Keying
 pub mod Linking
 pub mod Reading
 pub mod Selecting

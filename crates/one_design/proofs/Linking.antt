@@ -34,7 +34,7 @@ use Rattle.link_defs.specs.Links.{AreNames, IsLinked, IsSet}
 use Rattle.link_gates.proofs.OneGated as gated
 use Rattle.one_design.specs.Answers.{IsOneAnswer}
 use Rattle.one_design.proofs.Differing.{inputs_differ, faultless_only}
-use Rattle.one_design.proofs.Keying.{IsKeyed, same_items}
+use Rattle.sdc_settings.proofs.Keying.{IsKeyed, same_items}
 
 -- two rows that mark the nets of a clock tree
 module _ (c : Circuit) (x y : List Bool) (first : IsTree c x) (second : IsTree c y) where

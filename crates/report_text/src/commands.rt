@@ -20,7 +20,8 @@ fn command_text(alloc: Global, number: u64, command: &CommandLine) -> Result<Str
     format!(in alloc; "command {number} line {line} {what}{count}")
 }
 
-fn warning_line(alloc: Global, number: u64, warning: &Warning) -> Result<String, AllocError>
+/// A warning of the exception of this number, without its newline.
+pub fn warning_line(alloc: Global, number: u64, warning: &Warning) -> Result<String, AllocError>
     ensures { IfOk result (λ text. string_bytes text ≡ warning_line number warning.now) }
 {
     let warning = warning_text(alloc, warning)?;

@@ -17,9 +17,11 @@ mod tallies;
 mod words;
 
 pub use blocks::bits_text;
+pub use commands::warning_line;
 pub use laws::report_reads_back;
 pub use outcomes::{verdict_word, why_text};
+pub use pairs::{ends_text, found_text};
 pub use reports::write_report;
 pub use rows::{PairRow, row_at};
 pub use tallies::{Tally, tally_of};
-pub use words::{claim_text, mode_text, warning_text, what_text};
+pub use words::{asked_text, claim_text, mode_text, warning_text, what_text};

@@ -13,7 +13,8 @@ use selected_types::{PairLine, Selected};
 use std::alloc::{AllocError, Global};
 use verdict_types::{Cause, Verdict};
 
-fn ends_text(alloc: Global, pair: &PairLine) -> Result<String, AllocError>
+/// From where to where a pair leads, by the names of its start and its end.
+pub fn ends_text(alloc: Global, pair: &PairLine) -> Result<String, AllocError>
     ensures { IfOk result (λ text. string_bytes text ≡ ends_text pair.now) }
 {
     let start = &pair.start;
@@ -21,7 +22,8 @@ fn ends_text(alloc: Global, pair: &PairLine) -> Result<String, AllocError>
     format!(in alloc; "{start} -> {end}")
 }
 
-fn found_text(alloc: Global, limit: usize, verdict: &Verdict) -> Result<String, AllocError>
+/// What is found out about a pair, in a run whose greatest depth is `limit`.
+pub fn found_text(alloc: Global, limit: usize, verdict: &Verdict) -> Result<String, AllocError>
     ensures { IfOk result (λ text. string_bytes text ≡ found_text limit verdict.now) }
 {
     let word = verdict_word(verdict);

@@ -44,7 +44,7 @@ fn flag_text(word: &'static str, stands: bool) -> &'static str
 }
 
 /// What stands only where it is asked for, each with a space before it.
-pub(crate) fn asked_text(alloc: Global, options: &RunOptions) -> Result<String, AllocError>
+pub fn asked_text(alloc: Global, options: &RunOptions) -> Result<String, AllocError>
     ensures { IfOk result (λ text. string_bytes text ≡ asked_text options.now) }
 {
     let lag = lag_text(alloc, options.lag)?;

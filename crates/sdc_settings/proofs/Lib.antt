@@ -3,3 +3,5 @@ pub mod Naming
 pub mod Sourced
 pub mod Giving
 pub mod Fixing
+pub mod Keying
+pub mod OneSettings

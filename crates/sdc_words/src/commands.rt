@@ -52,9 +52,17 @@ impl<'a> Commands<'a> {
         }
     }
 
+    /// How many bytes of the text are left.
+    #[tactic(auto, unfolding(crate::specs::Commands::left_of))]
+    pub fn left(&self) -> usize
+        ensures { result ≡ length (left_of self.now) }
+    {
+        self.cursor.rest().len()
+    }
+
     /// The same text at the beginning of its next command, or at its end.
     #[tactic(auto, unfolding(crate::specs::Commands::text_of, crate::specs::Commands::left_of))]
-    fn at_command(&self) -> Commands<'a>
+    pub fn at_command(&self) -> Commands<'a>
         ensures text { text_of result ≡ text_of self.now }
         ensures left { left_of result ≡ after_blanks (left_of self.now) }
         ensures within { length (left_of result) ≤ length (left_of self.now) }
