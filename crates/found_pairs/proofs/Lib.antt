@@ -9,3 +9,4 @@ pub mod Limits
 pub mod Listing
 pub mod Holding
 pub mod Selecting
+mod Worked

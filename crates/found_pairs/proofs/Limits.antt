@@ -7,7 +7,7 @@ use Rattle.sdcv_base.specs.declared.limits.LimitName.{LimitName}
 use Rattle.sdcv_base.specs.declared.limits.LimitName.TheVariants as limit
 use Rattle.net_model.specs.declared.claims.Claim.{Claim}
 use Rattle.net_model.proofs.Members.{In, In-from_Contains}
-use Rattle.net_paths.specs.Those.{AreThose, All_seen, Taken, Left_out}
+use Rattle.net_paths.specs.Those.{AreThose}
 use Rattle.net_paths.proofs.Sifting.{those_same}
 use Rattle.linked_types.specs.declared.names.Linked.{Linked}
 use Rattle.script_types.specs.declared.scripts.Exception.{Exception}
@@ -21,30 +21,27 @@ use Rattle.exception_expand.specs.Causes.{HasMore, HasMoreJudged, HasManySets, I
 use Rattle.exception_expand.specs.Pairs.{is_judged}
 use Rattle.exception_expand.specs.Selections as spec
 use Rattle.exception_expand.specs.Selections.{Chosen}
-use Rattle.multicycle_text.specs.Lines.{FoundLine}
+use Rattle.exception_expand.proofs.OneSelection.{those_fewer}
+use Rattle.multicycle_text.specs.Lines.{CheckLine, Setup, Hold}
 use Rattle.multicycle_text.specs.Scripts.{exception_by, commands_from, script_by}
 
 -- no line has through sets
-no_sets : (number : ℕ) (lines : List FoundLine) (c : Command) (e : Exception) → In c (commands_from number lines) → c.what ≡ Claiming e → e.through ≡ []
+no_sets : (number : ℕ) (lines : List CheckLine) (c : Command) (e : Exception) → In c (commands_from number lines) → c.what ≡ Claiming e → e.through ≡ []
 no_sets number [] c e has is = absurd has
-no_sets number (x ∷ lines) c e (inl here) is =
-    let same : exception_by x ≡ Claiming e = ap (λ (d : Command). d.what) here ∙ is in
+no_sets number (Setup x ∷ lines) c e (inl here) is =
+    let same : exception_by (Setup x) ≡ Claiming e = ap (λ (d : Command). d.what) here ∙ is in
     cc
-no_sets number (x ∷ lines) c e (inr later) is = no_sets (number + 1) lines c e later is
+no_sets number (Hold x ∷ lines) c e (inl here) is =
+    let same : exception_by (Hold x) ≡ Claiming e = ap (λ (d : Command). d.what) here ∙ is in
+    absurd cc
+no_sets number (Setup x ∷ lines) c e (inr later) is = no_sets (number + 1) lines c e later is
+no_sets number (Hold x ∷ lines) c e (inr later) is = no_sets (number + 1) lines c e later is
 
 -- so none of their commands has too many
-few_sets : (lines : List FoundLine) → ¬ HasManySets (script_by lines)
+few_sets : (lines : List CheckLine) → ¬ HasManySets (script_by lines)
 few_sets lines many =
     let none = no_sets 1 lines many.command many.exception (In-from_Contains (commands_from 1 lines) many.command many.stands) many.claiming in
     omega (arith, many.more, ap (λ (xs : List _). length xs) none)
-
--- those of the first items are no more than those of all
-those_fewer : {A : Type 0} (P : A → Type 0) (xs ys found all : List A) → AreThose P xs found → AreThose P (xs ++ ys) all → length found ≤ length all
-those_fewer P _ ys _ all All_seen those = omega arith
-those_fewer P _ ys _ _ (Taken x xs found holds rest) (Taken x' xs' all holds' rest') = omega (arith, those_fewer P xs ys found all rest rest')
-those_fewer P _ ys _ all (Taken x xs found holds rest) (Left_out x' xs' all' not rest') = absurd (not holds)
-those_fewer P _ ys found _ (Left_out x xs found' not rest) (Taken x' xs' all holds rest') = absurd (not holds)
-those_fewer P _ ys found all (Left_out x xs found' not rest) (Left_out x' xs' all' not' rest') = those_fewer P xs ys found all rest rest'
 
 -- a script that selects few pairs does not select more than its limit of them
 few_pairs : (l : Linked) (script : Script) (chosen : List Chosen) → AreThose (spec.IsSelected l script) (spec.script_pairs l script) chosen
@@ -64,7 +61,7 @@ few_judged l script judging chosen those few many =
     omega (arith, many.more, few, claims, ap (λ (xs : List Chosen). length xs) same, count_by-le-length (is_judged l.design) many.claims)
 
 -- whatever limit
-within_limit : (l : Linked) (lines : List FoundLine) (judging : Judging) (chosen : List Chosen) (what : LimitName) (number : ℕ)
+within_limit : (l : Linked) (lines : List CheckLine) (judging : Judging) (chosen : List Chosen) (what : LimitName) (number : ℕ)
     → AreThose (spec.IsSelected l (script_by lines)) (spec.script_pairs l (script_by lines)) chosen → length chosen ≤ 10000
     → ¬ IsOverLimit l (script_by lines) judging what number
 within_limit l lines judging chosen limit.Through number those few is = few_sets lines is.1
@@ -79,7 +76,7 @@ within_limit l lines judging chosen limit.Pins number those few is = is
 within_limit l lines judging chosen limit.Hierarchy number those few is = is
 
 -- a script of few lines is refused for want of memory alone
-pub memory_alone : (l : Linked) (lines : List FoundLine) (judging : Judging) (chosen : List Chosen) (f : ExpandFault)
+pub memory_alone : (l : Linked) (lines : List CheckLine) (judging : Judging) (chosen : List Chosen) (f : ExpandFault)
     → AreThose (spec.IsSelected l (script_by lines)) (spec.script_pairs l (script_by lines)) chosen → length chosen ≤ 10000
     → IsExpandCause l (script_by lines) judging f → f ≡ fault.Memory
 memory_alone l lines judging chosen (fault.Limit what number) those few is = absurd (within_limit l lines judging chosen what number those few is)

@@ -1,12 +1,11 @@
 -- The pairs that were tried are pairs of registers, and those that are written have lines.
 use Rattle.std.proofs.Common.{arith, ◌≡◌, ◌∙◌, ℕ, zero, suc, ◌<◌, ◌≤◌, Bool, true, false, cond, ◌&&◌, List, [], ◌∷◌, ◌++◌, length, map, refl, sym, ap, subst}
-use Rattle.std.specs.Prelude.{Option, Some, slice_get, nat_le, filter, All}
+use Rattle.std.specs.Prelude.{Option, Some, slice_get, nat_le, filter}
 use Rattle.std.specs.List.{AllZip}
 use Rattle.std.specs.Option.{option_map}
 use Rattle.std.proofs.lemmas.Bool.{and_parts}
 use Rattle.std.proofs.lemmas.Bool.Decides.{nat_tests}
 use Rattle.std.proofs.lemmas.List.{length-map}
-use Rattle.std.proofs.lemmas.List.Elements.{All-nil, All-cons}
 use Rattle.std.proofs.lemmas.Option.{same_Some, slice_get-map, slice_get_within}
 use Rattle.sdcv_base.specs.declared.kinds.Kind.TheVariants.{Multi}
 use Rattle.sdcv_base.specs.declared.kinds.Edge.TheVariants.{Any}
@@ -30,7 +29,6 @@ use Rattle.mcp_detect.specs.declared.detections.Detected.{Detected}
 use Rattle.mcp_detect.specs.Detections.{AreDetected}
 use Rattle.mcp_detect.specs.Options.{AreInRange}
 use Rattle.mcp_detect.specs.Scripts.{registers_script, registers_command, registers_exception}
-use Rattle.multicycle_text.specs.Lines.{FoundLine}
 use Rattle.multicycle_text.specs.Names.{is_writable}
 use Rattle.multicycle_text.specs.Scripts.{IsReadable}
 use Rattle.found_pairs.specs.Lines.{is_written, line_of, lines_of}
@@ -103,12 +101,6 @@ pub written_fewer : (tried : List Tried) (pairs : List Pair) → length (written
 written_fewer [] pairs = omega arith
 written_fewer (t ∷ tried) [] = omega arith
 written_fewer (t ∷ tried) (p ∷ pairs) = omega (arith, written_fewer tried pairs, written_by (is_written t) p (written_of tried pairs))
-
--- all lines can be read
-pub all_readable : (l : Linked) (lines : List FoundLine) (pairs : List Pair) → AllZip (IsLineOf l) lines pairs → All IsReadable lines
-all_readable l [] pairs are = All-nil IsReadable
-all_readable l (x ∷ lines) [] are = absurd are
-all_readable l (x ∷ lines) (p ∷ pairs) (is, are) = All-cons IsReadable x lines is.readable (all_readable l lines pairs are)
 
 -- two lists, place by place
 zip_all : {A B : Type 0} (R : A → B → Type 0) (xs : List A) (ys : List B) → length xs ≡ length ys

@@ -11,3 +11,4 @@ pub mod NumberWords
 pub mod Numbers
 pub mod Parts
 pub mod ScriptReads
+mod Worked

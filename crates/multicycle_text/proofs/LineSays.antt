@@ -1,5 +1,5 @@
 -- What the words of a line say.
-use Rattle.std.proofs.Common.{◌≡◌, ℕ, false, List, [], ◌∷◌, refl, Some, Ok, codes}
+use Rattle.std.proofs.Common.{◌≡◌, ℕ, Bool, true, false, List, [], ◌∷◌, ◌++◌, refl, Some, Ok, codes}
 use Rattle.sdcv_base.specs.Steps.{after_all}
 use Rattle.script_types.specs.declared.objects.Class.TheVariants.{Cells}
 use Rattle.sdc_words.specs.declared.words.Piece.TheVariants.{Bytes}
@@ -50,21 +50,36 @@ unfolding nested_at enters name_at begins objects_at nested_kind lists_from
 nested_name vars line place first second name ws n =
     rw (bytes_value vars line first (codes "get_cells"), get_name vars line place second (codes "get_cells") name ws n, nested_at) refl
 
--- what they say
-abbrev pub said_after_name : (ℕ → ℕ) → List ℕ → List ℕ → List ℕ → List Said
-said_after_name at number start end =
-    record { offset = at 1; value = value.Text number }
-    ∷ record { offset = at 2; value = value.Text (codes "-from") }
+-- what the option says
+abbrev pub said_option : (ℕ → ℕ) → Bool → List Said
+said_option at false = []
+said_option at true = record { offset = at 10; value = value.Text (codes "-hold") } ∷ []
+
+-- what the two lists say
+abbrev pub said_lists : (ℕ → ℕ) → List ℕ → List ℕ → List Said
+said_lists at start end =
+    record { offset = at 2; value = value.Text (codes "-from") }
     ∷ record { offset = at 3; value = value.Objects (cell_named start) }
     ∷ record { offset = at 6; value = value.Text (codes "-to") }
     ∷ record { offset = at 7; value = value.Objects (cell_named end) }
     ∷ []
 
+-- what they say
+abbrev pub said_after_name : (ℕ → ℕ) → List ℕ → Bool → List ℕ → List ℕ → List Said
+said_after_name at number hold start end = record { offset = at 1; value = value.Text number } ∷ (said_option at hold ++ said_lists at start end)
+
 -- so a line says its number, its options and its cells
-pub line_said : (vars : Vars) (line : ℕ) (at : ℕ → ℕ) (number start end : List ℕ) → IsName start → IsName end
-    → said_words vars line (words_after_name at number start end) ≡ Ok (said_after_name at number start end)
+pub line_said : (vars : Vars) (line : ℕ) (at : ℕ → ℕ) (number : List ℕ) (hold : Bool) (start end : List ℕ) → IsName start → IsName end
+    → said_words vars line (words_after_name at number hold start end) ≡ Ok (said_after_name at number hold start end)
 unfolding said_from adds_word value_by after_all adds_piece
-line_said vars line at number start end s e =
+line_said vars line at number false start end s e =
+    rw (
+      nested_name vars line (at 3) (at 4) (at 5) start
+          (word_by (at 6) (codes "-to") ∷ Opens (at 7) ∷ word_by (at 8) (codes "get_cells") ∷ word_by (at 9) end ∷ Closes ∷ []) s,
+      nested_name vars line (at 7) (at 8) (at 9) end [] e,
+      said_from,
+    ) refl
+line_said vars line at number true start end s e =
     rw (
       nested_name vars line (at 3) (at 4) (at 5) start
           (word_by (at 6) (codes "-to") ∷ Opens (at 7) ∷ word_by (at 8) (codes "get_cells") ∷ word_by (at 9) end ∷ Closes ∷ []) s,

@@ -25,6 +25,12 @@ unfolding word_at text_at bare_at piece_at plain_at pieces_from is_over gap_len
 command_word total s = rw (not_empty (length (codes "et_multicycle_path " ++ s)), word_at) refl
 
 module _ (total n : ℕ) (found : List Word) where
+  -- `-hold`
+  pub hold_word : (s : List ℕ) → words_from (suc n) 0 found total (codes " -hold " ++ s)
+      ≡ words_from n 0 (found ++ word_by (place total (codes "-hold " ++ s)) (codes "-hold") ∷ []) total (32 ∷ s)
+  unfolding words_from word_at text_at bare_at piece_at plain_at pieces_from is_over gap_len after_gaps skipped
+  hold_word s = rw (not_empty (length (codes "hold " ++ s)), words_from) refl
+
   -- `-from`
   pub from_word : (s : List ℕ) → words_from (suc n) 0 found total (codes " -from [" ++ s)
       ≡ words_from n 0 (found ++ word_by (place total (codes "-from [" ++ s)) (codes "-from") ∷ []) total (codes " [" ++ s)

@@ -6,15 +6,20 @@ use Rattle.std.specs.List.{list_all, range_with_len}
 use Rattle.std.specs.Str.Parse.{digits_value}
 use Rattle.std.proofs.lemmas.Bool.{and_parts}
 use Rattle.std.proofs.lemmas.Bool.Decides.{nat_tests}
-use Rattle.sdc_text.specs.Numbers.{is_digits, multiplier}
+use Rattle.sdc_text.specs.Numbers.{is_digits, is_whole, multiplier}
 
--- a text is a number that is read as k
-pub record IsNumber (text : List ℕ) (k : ℕ) : Type 0 where
+-- what is read of a number: a multiplier; for the hold check, that it is one
+abbrev pub Says : Bool → ℕ → List ℕ → Type 0
+Says false k text = multiplier text ≡ Some k
+Says true k text = is_whole text ≡ true
+
+-- a text is a number that is read so
+pub record IsNumber (hold : Bool) (text : List ℕ) (k : ℕ) : Type 0 where
   pub head : ℕ
   pub tail : List ℕ
   pub is : text ≡ head ∷ tail
   pub digits : list_all is_ascii_digit (head ∷ tail) ≡ true
-  pub value : multiplier text ≡ Some k
+  pub value : Says hold k text
 
 -- a text of digits that is read as k, as a test that computes
 abbrev is_text_of : List ℕ → ℕ → Bool
@@ -38,7 +43,7 @@ unfolding digits
 first_sixteen = refl
 
 -- digits that are read as a multiplier are a number
-number_by : (text : List ℕ) (k : ℕ) → 1 ≤ k → k ≤ 16 → is_text_of text k ≡ true → IsNumber text k
+number_by : (text : List ℕ) (k : ℕ) → 1 ≤ k → k ≤ 16 → is_text_of text k ≡ true → IsNumber false text k
 unfolding multiplier
 number_by [] k some most e = absurd cc
 number_by (b ∷ s) k some most e =
@@ -50,5 +55,21 @@ number_by (b ∷ s) k some most e =
     record { head = b; tail = s; is = refl; digits = digits; value = rw (is, all, low, high) refl }
 
 -- the digits of a multiplier are read as it
-pub number_of : (k : ℕ) → 1 ≤ k → k ≤ 16 → IsNumber (decimal k) k
+pub number_of : (k : ℕ) → 1 ≤ k → k ≤ 16 → IsNumber false (decimal k) k
 number_of k some most = number_by (decimal k) k some most (in_range (λ n. is_text_of (decimal n) n) 16 1 k first_sixteen some (omega arith))
+
+-- the first seventeen are digits
+first_digits : list_all (λ k. is_digits (decimal k)) (range_with_len 0 17) ≡ true
+unfolding digits
+first_digits = refl
+
+-- digits are a number
+whole_by : (text : List ℕ) (k : ℕ) → is_digits text ≡ true → IsNumber true text k
+whole_by [] k e = absurd cc
+whole_by (b ∷ s) k e =
+    let (front, digits) = and_parts (not (length (b ∷ s) == 0)) (list_all is_ascii_digit (b ∷ s)) e in
+    record { head = b; tail = s; is = refl; digits = digits; value = rw e refl }
+
+-- and so are those of a number of a hold check
+pub whole_of : (number k : ℕ) → number ≤ 16 → IsNumber true (decimal number) k
+whole_of number k most = whole_by (decimal number) k (in_range (λ n. is_digits (decimal n)) 17 0 number first_digits (omega arith) (omega arith))

@@ -1,4 +1,4 @@
-//! SDC texts as tools write them, and layer by layer their rules: patterns, words, values and what scripts set, and the text of
+//! SDC texts as tools write them, and layer by layer their rules: patterns, words, pieces, values and what scripts set, and the text of
 //! multicycle pairs, against what is worked out by hand.
 //!
 //! This crate has tests alone.
@@ -10,6 +10,8 @@ mod expects;
 mod multicycles;
 #[cfg(test)]
 mod patterns;
+#[cfg(test)]
+mod pieces;
 #[cfg(test)]
 mod settings;
 #[cfg(test)]

@@ -1,0 +1,55 @@
+-- The lines of found pairs, worked out by hand.
+use Rattle.std.proofs.Common.{◌≡◌, ℕ, Bool, true, false, List, [], ◌∷◌, ◌++◌, None, refl}
+use Rattle.std.specs.Prelude.{codes}
+use Rattle.std.specs.Fmt.{digits}
+use Rattle.sdcv_base.specs.declared.kinds.Kind.TheVariants.{Multi}
+use Rattle.sdcv_base.specs.declared.kinds.Edge.TheVariants.{Any}
+use Rattle.mcp_detect.specs.declared.detections.Tried.{Tried}
+use Rattle.selected_types.specs.declared.selections.Listing.TheVariants.{Claiming, Hold}
+use Rattle.selected_types.specs.declared.selections.PairLine.{PairLine}
+use Rattle.exception_expand.specs.Selections.{command_line}
+use Rattle.multicycle_text.specs.Lines.{CheckLine, lines_text}
+use Rattle.found_pairs.specs.Lines.{lines_of, all_lines}
+use Rattle.found_pairs.specs.Laws.{pairs_listed, commands_listed}
+
+abbrev pair : List ℕ → List ℕ → ℕ → Tried
+pair start end k = record { start = start; end = end; k = k; next = None }
+
+-- two pairs of two cycles, between them one that is not found and one whose end can't be written
+abbrev tried : List Tried
+tried = pair (codes "r1") (codes "r1") 2 ∷ pair (codes "r1") (codes "a") 1 ∷ pair (codes "a") (codes "r*") 3 ∷ pair (codes "a") (codes "b") 2 ∷ []
+
+abbrev lines : Bool → List CheckLine
+lines hold = all_lines hold (lines_of tried)
+
+-- each hold line stands after the line of its pair, with one cycle less
+with_hold_lines : lines_text (lines true)
+    ≡ codes "set_multicycle_path 2 -from [get_cells {r1}] -to [get_cells {r1}]"
+    ++ 10 ∷ codes "set_multicycle_path 1 -hold -from [get_cells {r1}] -to [get_cells {r1}]"
+    ++ 10 ∷ codes "set_multicycle_path 2 -from [get_cells {a}] -to [get_cells {b}]"
+    ++ 10 ∷ codes "set_multicycle_path 1 -hold -from [get_cells {a}] -to [get_cells {b}]" ++ 10 ∷ []
+unfolding digits
+with_hold_lines = refl
+
+-- without the word there is none
+without_hold_lines : lines_text (lines false)
+    ≡ codes "set_multicycle_path 2 -from [get_cells {r1}] -to [get_cells {r1}]"
+    ++ 10 ∷ codes "set_multicycle_path 2 -from [get_cells {a}] -to [get_cells {b}]" ++ 10 ∷ []
+unfolding digits
+without_hold_lines = refl
+
+abbrev listed : ℕ → List ℕ → List ℕ → PairLine
+listed command start end = record { command = command; start = start; end = end }
+
+-- the pairs are those of the commands 1 and 3; without hold lines, of 1 and 2
+of_odd_commands : pairs_listed 1 (lines true) ≡ listed 1 (codes "r1") (codes "r1") ∷ listed 3 (codes "a") (codes "b") ∷ []
+of_odd_commands = refl
+
+of_all_commands : pairs_listed 1 (lines false) ≡ listed 1 (codes "r1") (codes "r1") ∷ listed 2 (codes "a") (codes "b") ∷ []
+of_all_commands = refl
+
+-- the other commands are listed as those of hold checks
+hold_between : commands_listed 1 (lines true)
+    ≡ command_line 1 (Claiming (Multi 2) Any 1) [] ∷ command_line 2 Hold []
+    ∷ command_line 3 (Claiming (Multi 2) Any 1) [] ∷ command_line 4 Hold [] ∷ []
+hold_between = refl
