@@ -1,0 +1,14 @@
+use Rattle.std.proofs.Common.{arith, ◌+◌}
+use Rattle.mend_groups.proofs.Rowing.{row_more, rows_over}
+use Rattle.mend_groups.proofs.rows.rows_from.Goals as goal
+
+pub loop-at-preserved : goal.loop-at-preserved
+loop-at-preserved c =
+    row_more c.args.spelled c.args.selected.now c.args.verdicts.now c.loop-at.at (c.args.place + c.args.count) c.loop-at.rows c.push.new.self _
+    c.row_at.result.pair.now c.row_at.result.claim.now c.row_at.result.verdict.now c.row_of.result (omega arith) c.row_at.ensures.pair c.row_at.ensures.claim
+    c.row_at.ensures.verdict c.row_of.ensures c.in_ok-push.ensures.ok c.loop-at.invariant
+
+pub returns : goal.returns
+returns c =
+    rows_over c.args.spelled c.args.selected.now c.args.verdicts.now c.loop-at.at (c.args.place + c.args.count) c.loop-at.rows _ (omega arith)
+    c.loop-at.invariant

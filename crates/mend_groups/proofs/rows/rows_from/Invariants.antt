@@ -1,0 +1,7 @@
+use Rattle.std.proofs.Common.{◌≡◌, ◌+◌, ◌-◌, ◌++◌}
+use Rattle.mend_groups.specs.Rows as spec
+use Rattle.mend_groups.proofs.rows.rows_from.Given as goal
+
+abbrev pub invariant-loop-at : goal.invariant-loop-at
+invariant-loop-at l =
+    l.rows ++ spec.rows_from l.spelled l.selected l.verdicts l.at (l.place + l.count - l.at) ≡ spec.rows_from l.spelled l.selected l.verdicts l.place l.count

@@ -1,0 +1,62 @@
+-- The pairs of an exception: which are kept, and which can be written.
+use Rattle.std.specs.Prelude.{ℕ, zero, suc, ◌+◌, ◌==◌, not, Bool, true, ◌&&◌, ◌||◌, List, [], ◌∷◌, ◌++◌, length, slice_get, Option, Some}
+use Rattle.std.specs.List.{list_all}
+use Rattle.texts.specs.Fronts.{first}
+use Rattle.net_model.specs.declared.claims.Claim.{Claim}
+use Rattle.script_types.specs.declared.objects.Object.{Object}
+use Rattle.script_types.specs.declared.objects.Object.TheVariants.{Named, AllInputs, AllOutputs, AllRegisters, AllClocks}
+use Rattle.script_types.specs.declared.scripts.Exception.{Exception}
+use Rattle.selected_types.specs.declared.selections.PairLine.{PairLine}
+use Rattle.selected_types.specs.declared.selections.Selected.{Selected}
+use Rattle.verdict_types.specs.declared.outcomes.Verdict.{Verdict}
+use Rattle.multicycle_text.specs.Names.{is_writable, is_name_byte}
+use Rattle.report_text.specs.Words.{is_justified}
+use Rattle.mend_groups.specs.declared.rows.Row.{Row}
+
+-- a byte that stands in a pattern of a list in braces as it is: one of a name that can be written, `*` or `?`
+abbrev pub is_pattern_byte : ℕ → Bool
+is_pattern_byte b = is_name_byte b || (b == 42 || b == 63)
+
+-- the pattern can be written: it is not empty, has such bytes alone, and does not begin with a `-`
+abbrev pub is_spellable : List ℕ → Bool
+is_spellable pattern = not (length pattern == 0) && (not (first pattern == 45) && list_all is_pattern_byte pattern)
+
+abbrev pub is_object_spellable : Object → Bool
+is_object_spellable (Named query) = is_spellable query.pattern
+is_object_spellable AllInputs = true
+is_object_spellable AllOutputs = true
+is_object_spellable AllRegisters = true
+is_object_spellable AllClocks = true
+
+-- each pattern of the through lists of an exception can be written
+abbrev pub can_spell : Exception → Bool
+can_spell e = list_all (λ (objects : List Object). list_all is_object_spellable objects) e.through
+
+-- a pair of an exception whose lists can be spelled or not: it is kept where it is justified, and written where it is kept and its names
+-- can be written too
+abbrev pub row_by : Bool → ℕ → PairLine → Claim → Verdict → Row
+row_by spelled place p claim verdict = record {
+  place = place;
+  start = claim.start;
+  edge = claim.edge;
+  end = claim.end;
+  kept = is_justified verdict;
+  written = is_justified verdict && (spelled && (is_writable p.start && is_writable p.end));
+}
+
+abbrev pub row_if : Bool → ℕ → Option PairLine → Option Claim → Option Verdict → List Row
+row_if spelled place (Some p) (Some claim) (Some verdict) = row_by spelled place p claim verdict ∷ []
+row_if spelled place _ _ _ = []
+
+-- the pair at a place, if there is one
+abbrev pub row_at : Bool → Selected → List Verdict → ℕ → List Row
+row_at spelled s verdicts place = row_if spelled place (slice_get s.pairs place) (slice_get s.claims place) (slice_get verdicts place)
+
+-- so many pairs from a place on
+unfoldable pub rows_from : Bool → Selected → List Verdict → ℕ → ℕ → List Row
+rows_from spelled s verdicts place zero = []
+rows_from spelled s verdicts place (suc n) = row_at spelled s verdicts place ++ rows_from spelled s verdicts (place + 1) n
+
+-- all pairs of an exception are kept
+abbrev pub are_kept : List Row → Bool
+are_kept rows = list_all (λ (r : Row). r.kept) rows

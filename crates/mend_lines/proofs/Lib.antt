@@ -1,0 +1,9 @@
+mod Rests
+mod Matching
+mod Following
+mod Counting
+mod Keeping
+mod Joined
+mod Bundling
+mod Adding
+mod Worked

@@ -1,0 +1,58 @@
+//! The starts and the ends of a group.
+ghost use Rattle.std.specs.Prelude.{◌≡◌, ◌++◌, ◌∷◌, [], if◌then◌else◌, filter, take, IfOk, OnOk};
+ghost use Rattle.mend_lines.specs.Lines as spec;
+
+use crate::counts::is_of_class;
+use mend_groups::{Group, Row};
+use sdcv_base::Seq;
+use std::alloc::{AllocError, Global};
+
+/// The first pair of each start of a group.
+pub(crate) fn heads(alloc: Global, group: &Group) -> Result<Seq<Row>, AllocError>
+    ensures { IfOk result (λ rows. rows ≡ spec.heads group.now.stars) }
+{
+    let mut rows = Seq::new(alloc);
+    for place in 0..group.stars.len() {
+        push_first(group.stars.item(place), &mut rows)?;
+    }
+    Ok(rows)
+}
+
+fn push_first(star: &Seq<Row>, rows: &mut Seq<Row>) -> Result<(), AllocError>
+    ensures { OnOk result (rows.new ≡ rows.old ++ take 1 star.now) }
+{
+    if star.len() != 0 {
+        rows.push(star.at(0))?;
+    }
+    Ok(())
+}
+
+/// The pairs of the first start of a group whose ends are registers, or outputs.
+pub(crate) fn ends_in(alloc: Global, regs: bool, group: &Group) -> Result<Seq<Row>, AllocError>
+    ensures { IfOk result (λ rows. rows ≡ spec.ends_in regs group.now) }
+{
+    if group.stars.len() == 0 {
+        Ok(Seq::new(alloc))
+    } else {
+        of_class(alloc, regs, group.stars.item(0))
+    }
+}
+
+fn of_class(alloc: Global, regs: bool, star: &Seq<Row>) -> Result<Seq<Row>, AllocError>
+    ensures { IfOk result (λ rows. rows ≡ spec.of_class regs star.now) }
+{
+    let mut rows = Seq::new(alloc);
+    for place in 0..star.len() {
+        push_if(regs, star.at(place), &mut rows)?;
+    }
+    Ok(rows)
+}
+
+fn push_if(regs: bool, row: Row, rows: &mut Seq<Row>) -> Result<(), AllocError>
+    ensures { OnOk result (rows.new ≡ rows.old ++ (if spec.is_of_class regs row then row ∷ [] else [])) }
+{
+    if is_of_class(regs, &row) {
+        rows.push(row)?;
+    }
+    Ok(())
+}

@@ -1,0 +1,6 @@
+pub mod Comparing
+pub mod ReadingBack
+pub mod Kept
+pub mod Telling
+pub mod Proving
+mod Worked

@@ -1,0 +1,7 @@
+use Rattle.std.proofs.Common.{◌≡◌, take}
+use Rattle.std.specs.List.{flat_map}
+use Rattle.mended_text.specs.Tellings.{parted_rows}
+use Rattle.mended_text.proofs.totals.parted_rows.Given as goal
+
+abbrev pub invariant-loop-part : goal.invariant-loop-part
+invariant-loop-part l = l.rows ≡ flat_map parted_rows (take l.part-index l.parts)

@@ -1,0 +1,4 @@
+pub mod Scenes
+pub mod Claims
+pub mod Mended
+pub mod Tellings

@@ -1,0 +1,50 @@
+//! The lines of a run, in order.
+ghost use Rattle.std.specs.Prelude.{◌≡◌, [], ◌∷◌, ◌++◌, OnOk, string_bytes};
+ghost use Rattle.witness_replay.specs.StimulusTexts.{line_of};
+ghost use Rattle.report_text.specs.Reports.{bytes_of_lines};
+
+use std::alloc::{AllocError, Global};
+use std::marker::Model;
+
+/// Lines, each with the newline that ends it.
+#[derive(Drop)]
+pub(crate) struct MendLines {
+    lines: Vec<Vec<u8>>,
+}
+
+impl Model for MendLines {
+    ghost use Rattle.std.specs.Prelude.{ℕ, List};
+    ghost use Rattle.report_text.specs.Reports.{bytes_of_lines};
+
+    ghost Value = { List (List ℕ) };
+
+    ghost view = { λ told. bytes_of_lines told.lines.items };
+}
+
+impl MendLines {
+    pub fn new(alloc: Global) -> MendLines
+        ensures { result ≡ [] }
+    {
+        MendLines {
+            lines: Vec::new(alloc),
+        }
+    }
+
+    /// Adds the line of a text.
+    pub fn add(&mut self, text: String) -> Result<(), AllocError>
+        ensures { OnOk result (self.new ≡ self.old ++ line_of (string_bytes text) ∷ []) }
+    {
+        let mut line = text.into_bytes();
+        line.push(b'\n')?;
+        self.lines.push(line)?;
+        Ok(())
+    }
+
+    /// The lines, which are not copied.
+    pub fn into_vec(self) -> Vec<Vec<u8>>
+        ensures { bytes_of_lines result.items ≡ self }
+    {
+        let MendLines { lines } = self;
+        lines
+    }
+}
