@@ -59,7 +59,7 @@ detect_row = record {
   name = codes "detect";
   positions = codes "V" ∷ codes "L" ∷ codes "S" ∷ [];
   options = needed (codes "out") ∷ flag (codes "hazard") ∷ valued (codes "reset") ∷ valued (codes "reset-cycles") ∷ valued (codes "depth")
-      ∷ valued (codes "budget") ∷ valued (codes "inv-depth") ∷ valued (codes "bound") ∷ [];
+      ∷ valued (codes "budget") ∷ valued (codes "inv-depth") ∷ valued (codes "bound") ∷ flag (codes "hold") ∷ [];
 }
 
 abbrev pub aiger_row : CommandRow
@@ -70,8 +70,16 @@ aiger_row = record {
       ∷ valued (codes "reset-cycles") ∷ [];
 }
 
+abbrev pub mend_row : CommandRow
+mend_row = record {
+  name = codes "mend";
+  positions = codes "V" ∷ codes "L" ∷ codes "S" ∷ [];
+  options = needed (codes "out") ∷ flag (codes "hazard") ∷ valued (codes "lag") ∷ valued (codes "reset") ∷ valued (codes "reset-cycles")
+      ∷ valued (codes "depth") ∷ valued (codes "budget") ∷ valued (codes "inv-depth") ∷ valued (codes "assist") ∷ [];
+}
+
 abbrev pub command_rows : List CommandRow
-command_rows = verify_row ∷ check_row ∷ replay_row ∷ demo_row ∷ detect_row ∷ aiger_row ∷ []
+command_rows = verify_row ∷ check_row ∷ replay_row ∷ demo_row ∷ detect_row ∷ aiger_row ∷ mend_row ∷ []
 
 -- a row of the program's table without its references
 abbrev pub seen_option : TheOptionRow → OptionRow

@@ -1,12 +1,13 @@
 -- The texts that `clap` finds in words for the arguments of a command.
-use Rattle.std.specs.Prelude.{List, [], ◌∷◌, map, Option, None, Some, codes, if◌then◌else◌}
-use Rattle.std.specs.List.{flat_map}
+use Rattle.std.specs.Prelude.{List, [], ◌∷◌, ◌++◌, map, fold, Option, None, Some, if◌then◌else◌}
+use Rattle.std.specs.List.{flat_map, list_any}
 use Rattle.std.specs.Option.{option_map}
+use Rattle.std.specs.Str.{bytes_eq}
 use Rattle.clap.specs.Walk.{is_empty}
 use Rattle.clap.specs.Words.{Row, fault_of, first_of, subcommand_of}
 use Rattle.clap_words.specs.declared.readings.Given.{Given as TheGiven}
 use Rattle.clap_words.specs.declared.readings.Reading.{Reading as TheReading}
-use Rattle.clap_words.specs.Commands.{Text}
+use Rattle.clap_words.specs.Commands.{CommandRow, OptionRow, Text, command_rows}
 use Rattle.clap_words.specs.Apps.{sdcv_app}
 
 -- the text of an argument: the word at a position, the value of an option, or `true` for a flag that stands
@@ -18,12 +19,17 @@ pub record Reading : Type 0 where
   pub name : Text
   pub given : List Given
 
+-- the ids of a command's arguments
+abbrev pub row_ids : CommandRow → List Text
+row_ids row = row.positions ++ map (λ (o : OptionRow). o.id) row.options
+
+-- ids, with one more where it is none of them
+abbrev pub with_id : List Text → Text → List Text
+with_id ids id = if list_any (bytes_eq id) ids then ids else ids ++ id ∷ []
+
+-- the ids of the arguments of all commands, each once
 abbrev pub argument_ids : List Text
-argument_ids =
-    codes "V" ∷ codes "L" ∷ codes "S" ∷ codes "CERT" ∷ codes "REPORT" ∷ codes "PAIR" ∷ codes "SEED" ∷ codes "SIZE"
-    ∷ codes "out" ∷ codes "hazard" ∷ codes "lag" ∷ codes "json" ∷ codes "reset" ∷ codes "reset-cycles"
-    ∷ codes "depth" ∷ codes "budget" ∷ codes "inv-depth" ∷ codes "bound"
-    ∷ codes "symbols" ∷ []
+argument_ids = fold with_id [] (flat_map row_ids command_rows)
 
 -- an argument with its text, if it has one
 abbrev pub given_as : Text → Option Text → List Given

@@ -215,6 +215,14 @@ const BOUND: OptionRow = OptionRow {
     sentence: "Try multipliers up to K, 2 to 16 (else 4)",
 };
 
+const HOLD_LINES: OptionRow = OptionRow {
+    id: "hold",
+    form: Flag,
+    value: "",
+    rule: ValueRule::Text,
+    sentence: "Save a hold line after each line",
+};
+
 const OUT_AIGER: OptionRow = OptionRow {
     id: "out",
     form: Needed,
@@ -231,7 +239,15 @@ const SYMBOLS: OptionRow = OptionRow {
     sentence: "Name the latches in the text, by a symbol for each",
 };
 
-const ROWS: [CommandRow; 6] = [
+const OUT_MENDED: OptionRow = OptionRow {
+    id: "out",
+    form: Needed,
+    value: "SDC",
+    rule: ValueRule::Text,
+    sentence: "Save the mended script",
+};
+
+const ROWS: [CommandRow; 7] = [
     CommandRow {
         name: "verify",
         sentence: "Judge each register pair that the exceptions select",
@@ -280,6 +296,7 @@ const ROWS: [CommandRow; 6] = [
             BUDGET,
             INV_DEPTH,
             BOUND,
+            HOLD_LINES,
         ],
     },
     CommandRow {
@@ -287,6 +304,22 @@ const ROWS: [CommandRow; 6] = [
         sentence: "Save the claim of a pair as an AIGER text, whose bad literal rises where it is violated",
         positions: &[V, L, S, WATCHED],
         options: &[OUT_AIGER, SYMBOLS, LAG, RESET, RESET_CYCLES],
+    },
+    CommandRow {
+        name: "mend",
+        sentence: "Save the script with the exceptions that are justified alone",
+        positions: &[V, L, S],
+        options: &[
+            OUT_MENDED,
+            HAZARD,
+            LAG,
+            RESET,
+            RESET_CYCLES,
+            DEPTH,
+            BUDGET,
+            INV_DEPTH,
+            ASSIST,
+        ],
     },
 ];
 

@@ -24,16 +24,11 @@ pub struct Reading<'a> {
     pub given: Vec<Given<'a>>,
 }
 
-// The ids of all arguments.
-const IDS: [&str; 19] = [
+// The ids of the arguments of all commands, each once, in the order of the table.
+const IDS: [&str; 21] = [
     "V",
     "L",
     "S",
-    "CERT",
-    "REPORT",
-    "PAIR",
-    "SEED",
-    "SIZE",
     "out",
     "hazard",
     "lag",
@@ -43,7 +38,14 @@ const IDS: [&str; 19] = [
     "depth",
     "budget",
     "inv-depth",
+    "assist",
+    "CERT",
+    "REPORT",
+    "PAIR",
+    "SEED",
+    "SIZE",
     "bound",
+    "hold",
     "symbols",
 ];
 

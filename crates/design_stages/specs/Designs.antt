@@ -31,6 +31,7 @@ use Rattle.fault_lines.specs.Designs.{link_line, expand_line}
 use Rattle.design_stages.specs.declared.designs.ReadTexts.{ReadTexts}
 use Rattle.run_options.specs.declared.resets.Reset.{Reset}
 use Rattle.design_stages.specs.declared.designs.Designed.{Designed}
+use Rattle.design_stages.specs.declared.designs.Settled.{Settled}
 use Rattle.design_stages.specs.Stages.{Found, Staged, ◌>>=◌}
 
 -- what its readers promise of texts
@@ -71,6 +72,13 @@ options_of s reset = record {
   free = [];
   cut_clocks = false;
 }
+
+-- the input bits of the top module and what a script sets of them, or the line of the first fault
+unfoldable pub Settles : ReadTexts → List Setting → Found Settled → Type 0
+Settles t resets = do
+  inputs ← Staged (HasInputs t.source) link_line
+  settings ← Staged (HasSettings t.script inputs resets) expand_line
+  λ found. found ≡ Ok (record { inputs = inputs; settings = settings })
 
 -- the design with its names, or the line of the first fault
 unfoldable pub LinksTo : ReadTexts → Reset → Found Linked → Type 0

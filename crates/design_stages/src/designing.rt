@@ -8,9 +8,9 @@ ghost use Rattle.linked_types.specs.Narrow.{IsNarrow};
 ghost use Rattle.linked_types.specs.Usable.{IsUsable};
 ghost use Rattle.fault_lines.specs.Designs.{link_line, expand_line};
 ghost use Rattle.design_stages.specs.Stages.{Finds, Staged};
-ghost use Rattle.design_stages.specs.Designs.{HasInputs, HasSettings, Links, Selects, LinksTo, Designs, AreLawful, CanBeJudged, options_of};
+ghost use Rattle.design_stages.specs.Designs.{HasInputs, HasSettings, Links, Selects, Settles, LinksTo, Designs, AreLawful, CanBeJudged, options_of};
 
-use crate::designs::{Designed, ReadTexts};
+use crate::designs::{Designed, ReadTexts, Settled};
 use crate::refusals::Refusal;
 use cell_types::Library;
 use exception_expand::expand;
@@ -54,6 +54,16 @@ pub fn linked(alloc: Global, texts: &ReadTexts, reset: Reset) -> Result<Linked, 
     let settings = settings_of(alloc, &texts.script, &inputs, &reset.ports)?;
     let options = options_of(alloc, settings, reset);
     linked_under(alloc, &texts.source, &texts.library, &options)
+}
+
+/// The input bits of the top module, and what the constraints set of them, where reset holds these ports.
+pub fn settled(alloc: Global, texts: &ReadTexts, resets: &Seq<Setting>) -> Result<Settled, Refusal>
+    requires { AreLawful texts.now }
+    ensures { Finds (Settles texts.now resets.now) result }
+{
+    let inputs = inputs(alloc, &texts.source)?;
+    let settings = settings_of(alloc, &texts.script, &inputs, resets)?;
+    Ok(Settled { inputs, settings })
 }
 
 /// What is set from outside.

@@ -1,5 +1,5 @@
 use sdcv_base::{Seq, Setting};
-use sdcv_words::{Command, Finding, Job, Options, Texts, command_of};
+use sdcv_words::{Command, Finding, Job, Mending, Options, Texts, command_of};
 use std::alloc::{AllocError, Global};
 
 /// The words between the bars.
@@ -65,7 +65,17 @@ fn finding_text(alloc: Global, finding: &Finding<'_>) -> Result<String, AllocErr
     let budget = finding.proving.budget;
     let inv = finding.proving.inv_depth;
     let bound = finding.bound;
-    format!(in alloc; "detect <{out}> depth {depth} budget {budget} inv {inv} bound {bound}")
+    let hold = if finding.hold { " hold" } else { "" };
+    format!(in alloc; "detect <{out}> depth {depth} budget {budget} inv {inv} bound {bound}{hold}")
+}
+
+fn mending_text(alloc: Global, mending: &Mending<'_>) -> Result<String, AllocError> {
+    let out = mending.out;
+    let depth = mending.proving.depth;
+    let budget = mending.proving.budget;
+    let inv = mending.proving.inv_depth;
+    let assist = mending.assist.unwrap_or("-");
+    format!(in alloc; "mend <{out}> depth {depth} budget {budget} inv {inv} assist <{assist}>")
 }
 
 fn texts_text(alloc: Global, texts: &Texts<'_>) -> Result<String, AllocError> {
@@ -105,6 +115,14 @@ fn told(alloc: Global, command: &Command<'_>) -> Result<String, AllocError> {
         } => {
             let finding = finding_text(alloc, finding)?;
             line(alloc, texts, options, finding.as_str())
+        }
+        Command::Mend {
+            texts,
+            options,
+            mending,
+        } => {
+            let mending = mending_text(alloc, mending)?;
+            line(alloc, texts, options, mending.as_str())
         }
         Command::Demo { seed, size } => format!(in alloc; "demo {seed} {size}"),
     }
@@ -166,6 +184,18 @@ const BY_PLACE: &[(&str, &str)] = &[
         "<v> <l> <s> hazard lag 0 rst=true cycles 1 detect <f> depth 0 budget 20000 inv 1 bound 16",
     ),
     (
+        "detect|v|builtin|s|--hold|--out|f",
+        "<v> <builtin> <s> plain lag 0 cycles 0 detect <f> depth 8 budget 20000 inv 1 bound 4 hold",
+    ),
+    (
+        "mend|v|builtin|s|--out|m",
+        "<v> <builtin> <s> plain lag 0 cycles 0 mend <m> depth 8 budget 20000 inv 1 assist <->",
+    ),
+    (
+        "mend|v|l|s|--assist|h|--hazard|--lag|8|--reset|a=0,b=1|--reset-cycles|64|--depth|64|--budget|10000000|--inv-depth|8|--out|m",
+        "<v> <l> <s> hazard lag 8 a=false b=true cycles 64 mend <m> depth 64 budget 10000000 inv 8 assist <h>",
+    ),
+    (
         "aiger|v|builtin|s|1|--out|a",
         "<v> <builtin> <s> plain lag 0 cycles 0 aiger <a> pair 1",
     ),
@@ -209,6 +239,18 @@ const BY_CLAP: &[(&str, &str)] = &[
     (
         "replay|--reset=a=0|v|l|s|r|2|--lag=1",
         "<v> <l> <s> plain lag 1 a=false cycles 1 replay <r> pair 2",
+    ),
+    (
+        "verify|--assist=h|v|l|s|--out=c",
+        "<v> <l> <s> plain lag 0 cycles 0 verify <c> json false depth 8 budget 20000 inv 1 assist <h>",
+    ),
+    (
+        "detect|--hold|v|l|s|--out=f",
+        "<v> <l> <s> plain lag 0 cycles 0 detect <f> depth 8 budget 20000 inv 1 bound 4 hold",
+    ),
+    (
+        "mend|--assist=h|v|l|s|--out=m",
+        "<v> <l> <s> plain lag 0 cycles 0 mend <m> depth 8 budget 20000 inv 1 assist <h>",
     ),
     (
         "aiger|--out=a|v|l|s|2|--lag=1",
@@ -296,6 +338,14 @@ const NONE: &[(&str, &str)] = &[
         "symbols with a value",
     ),
     ("verify|v|l|s|--out|c|--symbols", "symbols of no graph"),
+    ("mend|v|l|s", "no file is named for a mended script"),
+    ("mend|v|l|s|--out|m|--json", "a mended script as JSON"),
+    (
+        "mend|v|l|s|--out|m|--lag|9",
+        "a lag of a mended script past its range",
+    ),
+    ("detect|v|l|s|--out|f|--hold|--hold", "hold lines twice"),
+    ("demo|7|20|--hold", "hold lines of a generated design"),
     ("demo|7|0", "a design of no blocks"),
     ("demo|7|161", "a design past its size"),
     ("demo|-7|20", "a negative number"),

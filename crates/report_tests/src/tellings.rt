@@ -64,6 +64,10 @@ const BEGINNINGS: &[(&str, &str)] = &[
         "Save the claim of a pair as an AIGER text, whose bad literal rises where it is violated\n\nUsage: sdcv aiger [OPTIONS] --out <FILE> <V> <L> <S> <PAIR>\n",
     ),
     (
+        "help|mend",
+        "Save the script with the exceptions that are justified alone\n\nUsage: sdcv mend [OPTIONS] --out <SDC> <V> <L> <S>\n",
+    ),
+    (
         "verify|-h",
         "Judge each register pair that the exceptions select\n",
     ),

@@ -2,6 +2,8 @@ pub mod Alike
 pub mod FurtherClauses
 pub mod FurtherReads
 pub mod BuiltinLibrary
+pub mod ByVerdicts
+pub mod Copying
 pub mod Delivered
 pub mod Holding
 pub mod Repeats

@@ -1,7 +1,7 @@
 -- What a run is due to do, for its words and what its reads answered: its stages, the first one first.
 use Rattle.std.specs.Prelude.{◌≡◌, ℕ, true, false, [], ◌∷◌, codes, Option, None, Some}
 use Rattle.sdcv_words.specs.declared.commands.Options.{Options}
-use Rattle.sdcv_words.specs.Commands.{Texts, Job, Finding, Command, Over, Detect, Demo}
+use Rattle.sdcv_words.specs.Commands.{Texts, Job, Finding, Command, Over, Detect, Mend, Demo}
 use Rattle.sdcv_gen.specs.Draws.{drawn}
 use Rattle.sdcv_gen.specs.Texts.{verilog_text, sdc_text}
 use Rattle.run_options.specs.declared.options.RunOptions.{RunOptions}
@@ -17,6 +17,7 @@ use Rattle.sdcv_top.specs.Outcomes.{usage}
 use Rattle.sdcv_top.specs.Found.{Detects, IsFoundOut}
 use Rattle.sdcv_top.specs.Headline.{IsReported}
 use Rattle.sdcv_top.specs.Jobs.{IsDone, run_options}
+use Rattle.sdcv_top.specs.Mending.{MendsPairs}
 use Rattle.sdcv_top.specs.Stages.{Due, After, Last, ◌>>=◌}
 use Rattle.sdcv_top.specs.Texts.{AfterTexts, builtin_library}
 
@@ -43,7 +44,7 @@ FindsPairs files o f = do
   texts ← AfterTexts files
   linked ← After (LinksTo texts o.reset)
   detected ← After (Staged (Detects linked (detect_options o f)) detect_line)
-  Last (IsFoundOut f.out (detect_options o f) o.reset.len linked detected)
+  Last (IsFoundOut f.out f.hold (detect_options o f) o.reset.len linked detected)
 
 -- the reset of generated designs: its port is 1 in the first cycle
 abbrev pub demo_reset : Reset
@@ -70,4 +71,5 @@ abbrev pub IsDueFor : Option Command → Due
 IsDueFor None = Last (λ due. due ≡ usage)
 IsDueFor (Some (Over files o job)) = Worked files o job
 IsDueFor (Some (Detect files o f)) = FindsPairs files o f
+IsDueFor (Some (Mend files o m)) = MendsPairs files o m
 IsDueFor (Some (Demo seed size)) = Demonstrated seed size

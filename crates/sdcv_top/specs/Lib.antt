@@ -2,6 +2,8 @@ pub mod Due
 pub mod Headline
 pub mod Jobs
 pub mod Laws
+pub mod Mendables
+pub mod Mending
 pub mod Monitors
 pub mod Outcomes
 pub mod Plans

@@ -2,7 +2,7 @@
 use Rattle.std.specs.Prelude.{◌≡◌, ◌≤◌, ℕ, ◌-◌, ◌^◌, Bool, true, false, List, [], ◌∷◌, ◌++◌, length, take, map, codes, Option, None, Some, IfSome}
 use Rattle.std.specs.Str.{bytes_eq}
 use Rattle.sdcv_base.specs.Hosts.{Files, IsLonger}
-use Rattle.sdcv_words.specs.Commands.{Texts, Job, Verify, Check, Replay, Aiger, Command, Over, Detect, Demo}
+use Rattle.sdcv_words.specs.Commands.{Texts, Job, Verify, Check, Replay, Aiger, Command, Over, Detect, Mend, Demo}
 
 -- a file that may be read, and the most bytes that it may have
 pub record ReadOf : Type 0 where
@@ -59,6 +59,7 @@ abbrev pub reads_of : Option Command → List ReadOf
 reads_of None = []
 reads_of (Some (Over texts options job)) = text_reads texts (job_reads job)
 reads_of (Some (Detect texts options finding)) = text_reads texts []
+reads_of (Some (Mend texts options mending)) = text_reads texts (assist_reads mending.assist)
 reads_of (Some (Demo seed size)) = []
 
 -- a read answered with no more than the limit, and where the host tells its files, with what the name holds

@@ -39,6 +39,10 @@ Constraints = Unless origin.Sdc texts.Constraints
 abbrev pub Itself : List ℕ → Found (List ℕ) → Type 0
 Itself text found = found ≡ Ok text
 
+-- constraints that are kept as they are written
+abbrev pub ConstraintsText : Got → Found (List ℕ) → Type 0
+ConstraintsText = Unless origin.Sdc Itself
+
 abbrev pub CertText : Got → Found (List ℕ) → Type 0
 CertText = Unless origin.Cert Itself
 

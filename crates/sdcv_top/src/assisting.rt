@@ -59,8 +59,8 @@ pub fn assisted<'a, H: Host, P: Progress>(
     Ok(plan)
 }
 
-// Reads the clauses of an assisting text.
-fn clauses<H: Host>(
+/// Reads the clauses of an assisting text.
+pub fn clauses<H: Host>(
     alloc: Global,
     host: &mut H,
     linked: &Linked,

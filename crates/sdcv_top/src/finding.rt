@@ -55,7 +55,7 @@ pub fn found_out<'a, H: Host, P: Progress>(
     let reset_len = reset.len;
     let linked = linked(alloc, &texts, reset)?;
     let detected = detected(alloc, &linked, &trying, progress)?;
-    let plan = told(alloc, &linked, &trying, reset_len, finding.out, detected)?;
+    let plan = told(alloc, &linked, &trying, reset_len, finding, detected)?;
     Ok(plan)
 }
 
@@ -82,20 +82,23 @@ fn told<'a>(
     linked: &Linked,
     options: &DetectOptions,
     reset_len: usize,
-    out: &'a str,
+    finding: Finding<'a>,
     detected: Detected,
 ) -> Result<Plan<'a>, AllocError>
     requires linked { IsUsable linked.now }
     requires range { AreInRange options.now }
     requires found { AreDetected linked.now options.now detected }
-    ensures { IfOk result (λ plan. IsFoundOut out.entry.now options.now reset_len linked.now detected (outcome_of plan)) }
+    ensures { IfOk result (λ plan. IsFoundOut finding.entry.out.now finding.entry.hold options.now reset_len linked.now detected (outcome_of plan)) }
 {
-    found_is_selected(linked, options, &detected);
-    let bytes = found_text(alloc, &detected)?;
+    found_is_selected(linked, options, &detected, finding.hold);
+    let bytes = found_text(alloc, &detected, finding.hold)?;
     let lines = detected_lines(alloc, options, reset_len, &detected)?;
     Ok(Plan {
         ending: Ending::Done,
-        saved: Some(SavedFile { name: out, bytes }),
+        saved: Some(SavedFile {
+            name: finding.out,
+            bytes,
+        }),
         lines,
         judged: None,
         detected: Some(detected),

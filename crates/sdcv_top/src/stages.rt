@@ -14,6 +14,7 @@ use crate::assisting::assisted;
 use crate::checking::checked;
 use crate::demos::demonstrated;
 use crate::finding::found_out;
+use crate::mending::mended_out;
 use crate::plans::{Plan, Stop};
 use crate::readers::texts;
 use crate::replaying::replayed;
@@ -52,6 +53,11 @@ pub fn plan<'a, H: Host, P: Progress>(
             options,
             finding,
         } => found_out(alloc, host, texts, options, finding, progress),
+        Command::Mend {
+            texts,
+            options,
+            mending,
+        } => mended_out(alloc, host, texts, options, mending, progress),
         Command::Demo { seed, size } => Ok(demonstrated(alloc, seed, size, progress)?),
     }
 }
@@ -122,8 +128,8 @@ fn done<'a, H: Host, P: Progress>(
     }
 }
 
-// What a report tells of how the run was made.
-fn run_options(judging: Judging, reset_len: usize, proving: Proving) -> RunOptions
+/// What a report tells of how the run was made.
+pub fn run_options(judging: Judging, reset_len: usize, proving: Proving) -> RunOptions
     ensures { result ≡ run_options judging reset_len proving }
 {
     RunOptions {

@@ -6,7 +6,7 @@ ghost use Rattle.net_model.specs.Fits.{NamesRegs};
 ghost use Rattle.verdict_types.specs.Forms.{IsKeptClause};
 ghost use Rattle.design_stages.specs.Designs.{CanBeJudged};
 ghost use Rattle.judgements.specs.Judgements.{AreJudged, AreAllInForm};
-ghost use Rattle.sdcv_top.specs.Headline.{IsReported, IsSaved, ending_by, AreInRange};
+ghost use Rattle.sdcv_top.specs.Headline.{IsReported, IsSaved, ending_by, limits_of, AreInRange};
 ghost use Rattle.sdcv_top.specs.Plans.{outcome_of, saved_of};
 
 use crate::plans::{Plan, SavedFile};
@@ -49,13 +49,7 @@ pub fn verified<'a, P: Progress>(
         depth: options.depth,
         budget: options.budget,
     };
-    let design = &designed.linked.design;
-    let claims = &designed.selected.claims;
-    let search = InvSearch {
-        depth: options.inv_depth,
-        extra,
-    };
-    let judged = judge(alloc, design, claims, &search, &limits, progress)?;
+    let judged = judged(alloc, designed, &options, extra, progress)?;
     let saved = certified(alloc, designed, &limits, &judged, out)?;
     let lines = report(
         alloc,
@@ -71,6 +65,34 @@ pub fn verified<'a, P: Progress>(
         judged: Some(judged),
         detected: None,
     })
+}
+
+/// The verdicts on all selected pairs, with further clauses among those that are tried.
+pub fn judged<P: Progress>(
+    alloc: Global,
+    designed: &Designed,
+    options: &RunOptions,
+    extra: &[InvClause],
+    progress: &mut P,
+) -> Result<Judged, AllocError>
+    requires judged { CanBeJudged designed.now }
+    requires options { AreInRange options.now }
+    requires names { All (NamesRegs designed.now.linked.design) extra.now }
+    requires in_form { All IsKeptClause extra.now }
+    ensures judged { IfOk result (AreJudged designed.now.linked.design designed.now.selected.claims extra.now options.now.inv_depth (limits_of options.now)) }
+    ensures in_form { IfOk result AreAllInForm }
+{
+    let design = &designed.linked.design;
+    let claims = &designed.selected.claims;
+    let search = InvSearch {
+        depth: options.inv_depth,
+        extra,
+    };
+    let limits = Limits {
+        depth: options.depth,
+        budget: options.budget,
+    };
+    judge(alloc, design, claims, &search, &limits, progress)
 }
 
 // The certificate of the verdicts, where it has a name.

@@ -11,11 +11,11 @@ use Rattle.clap_words.specs.Readings.{Given, Reading, clap_reading}
 use Rattle.sdcv_words.specs.declared.commands.Options.{Options}
 use Rattle.run_options.specs.declared.proving.Proving.{Proving}
 use Rattle.run_options.specs.Judging.{CanJudge, judging_by}
-use Rattle.sdcv_words.specs.Commands.{Aiger, Command, Demo, Detect, Finding, Job, Check, Over, Replay, Text, Verify}
+use Rattle.sdcv_words.specs.Commands.{Aiger, Command, Demo, Detect, Finding, Job, Check, Mend, Mending, Over, Replay, Text, Verify}
 use Rattle.sdcv_words.specs.Givens.{stands}
 use Rattle.sdcv_words.specs.Numbers.{are_digits, number_in, number_or}
 use Rattle.sdcv_words.specs.Options.{default_cycles, lag_of, options_of, proving_of, resets_of}
-use Rattle.sdcv_words.specs.Jobs.{aiger_of, check_of, demo_of, detect_of, finding_of, job_of, judged_if, over_of, replay_of, texts_of, verify_of, watching_of, without_hazards}
+use Rattle.sdcv_words.specs.Jobs.{aiger_of, check_of, demo_of, detect_of, finding_of, job_of, judged_if, mend_of, mending_of, over_of, replay_of, texts_of, verify_of, watching_of, without_hazards}
 use Rattle.sdcv_words.specs.Places.{by_place}
 use Rattle.sdcv_words.specs.Words.{command, or_else}
 use Rattle.sdcv_words.specs.Ranges.{AreOptionsInRange, IsFindingInRange, IsInRange, IsJobInRange, IsProvingInRange}
@@ -137,7 +137,7 @@ finding_range given finding is =
     let (proving, of, with_proving) = bind_gave (proving_of given) _ finding with_out in
     let (bound, number, made) = bind_gave (number_or 4 2 16 (in_table given (codes "bound"))) _ finding with_proving in
     let range = bound_range given bound number in
-    let opened : Finding = record { out = out; proving = proving; bound = bound } in
+    let opened : Finding = record { out = out; proving = proving; bound = bound; hold = stands given (codes "hold") } in
     let same : opened ≡ finding = cc in
     subst IsFindingInRange same (record { proving = proving_range given proving of; some = range.0; most = range.1 })
 
@@ -148,6 +148,22 @@ detect_range given c is =
     let (options, set, made) = bind_gave (options_of given) _ c with_finding in
     let same : Detect texts options finding ≡ c = cc in
     subst IsInRange same (options_range given options set, finding_range given finding found)
+
+mending_range : (given : List Given) (mending : Mending) → mending_of given ≡ Some mending → IsProvingInRange mending.proving
+mending_range given mending is =
+    let (out, there, with_out) = bind_gave (in_table given (codes "out")) _ mending is in
+    let (proving, of, made) = bind_gave (proving_of given) _ mending with_out in
+    let opened : Mending = record { out = out; proving = proving; assist = in_table given (codes "assist") } in
+    let same : opened ≡ mending = cc in
+    subst (λ (m : Mending). IsProvingInRange m.proving) same (proving_range given proving of)
+
+mend_range : (given : List Given) (c : Command) → mend_of given ≡ Some c → IsInRange c
+mend_range given c is =
+    let (texts, files, with_texts) = bind_gave (texts_of given) _ c is in
+    let (mending, sought, with_mending) = bind_gave (mending_of given) _ c with_texts in
+    let (options, set, made) = bind_gave (options_of given) _ c with_mending in
+    let same : Mend texts options mending ≡ c = cc in
+    subst IsInRange same (options_range given options set, mending_range given mending sought)
 
 watching_range : (given : List Given) (job : Job) → watching_of given ≡ Some job → IsJobInRange false job
 watching_range given job is =
@@ -176,19 +192,20 @@ demo_range given c is =
     let (size, blocks, made) = bind_gave (number_in 1 160 second) _ c with_second in
     let same : Demo seed size ≡ c = cc in subst IsInRange same (number_in_range 1 160 size second blocks)
 
-judged_range : (demo detect aiger : Bool) (name : Text) (given : List Given) (c : Command)
-    → (if demo then demo_of given else (if detect then detect_of given else (if aiger then aiger_of given else over_of name given))) ≡ Some c
-    → IsInRange c
-judged_range true detect aiger name given c is = demo_range given c is
-judged_range false true aiger name given c is = detect_range given c is
-judged_range false false true name given c is = aiger_range given c is
-judged_range false false false name given c is = over_range name given c is
+judged_range : (demo detect aiger mend : Bool) (name : Text) (given : List Given) (c : Command)
+    → (if demo then demo_of given else (if detect then detect_of given else (if aiger then aiger_of given
+    else (if mend then mend_of given else over_of name given)))) ≡ Some c → IsInRange c
+judged_range true detect aiger mend name given c is = demo_range given c is
+judged_range false true aiger mend name given c is = detect_range given c is
+judged_range false false true mend name given c is = aiger_range given c is
+judged_range false false false true name given c is = mend_range given c is
+judged_range false false false false name given c is = over_range name given c is
 
 judged_if_range : (reading : Option Reading) (c : Command) → judged_if reading ≡ Some c → IsInRange c
 judged_if_range None c is = absurd cc
 judged_if_range (Some reading) c is =
     judged_range (bytes_eq reading.name (codes "demo")) (bytes_eq reading.name (codes "detect")) (bytes_eq reading.name (codes "aiger"))
-    reading.name reading.given c is
+    (bytes_eq reading.name (codes "mend")) reading.name reading.given c is
 
 or_else_range : (one other : Option Command) (c : Command) → ((x : Command) → one ≡ Some x → IsInRange x) → ((x : Command) → other ≡ Some x → IsInRange x)
     → or_else one other ≡ Some c → IsInRange c

@@ -5,7 +5,7 @@ use Rattle.texts.specs.Lookups.{in_table}
 use Rattle.texts.specs.Reads.{◌>>=◌}
 use Rattle.clap_words.specs.Readings.{Given, Reading}
 use Rattle.sdcv_words.specs.declared.commands.Options.{Options}
-use Rattle.sdcv_words.specs.Commands.{Aiger, Command, Demo, Detect, Finding, Job, Check, Over, Replay, Text, Texts, Verify}
+use Rattle.sdcv_words.specs.Commands.{Aiger, Command, Demo, Detect, Finding, Job, Check, Mend, Mending, Over, Replay, Text, Texts, Verify}
 use Rattle.sdcv_words.specs.Givens.{stands}
 use Rattle.sdcv_words.specs.Numbers.{number_in, number_or}
 use Rattle.sdcv_words.specs.Options.{options_of, proving_of}
@@ -52,7 +52,7 @@ finding_of given =
     in_table given (codes "out") >>= λ out.
     proving_of given >>= λ proving.
     number_or 4 2 16 (in_table given (codes "bound")) >>= λ bound.
-    Some (record { out = out; proving = proving; bound = bound })
+    Some (record { out = out; proving = proving; bound = bound; hold = stands given (codes "hold") })
 
 abbrev pub detect_of : List Given → Option Command
 detect_of given =
@@ -60,6 +60,19 @@ detect_of given =
     finding_of given >>= λ finding.
     options_of given >>= λ options.
     Some (Detect texts options finding)
+
+abbrev pub mending_of : List Given → Option Mending
+mending_of given =
+    in_table given (codes "out") >>= λ out.
+    proving_of given >>= λ proving.
+    Some (record { out = out; proving = proving; assist = in_table given (codes "assist") })
+
+abbrev pub mend_of : List Given → Option Command
+mend_of given =
+    texts_of given >>= λ texts.
+    mending_of given >>= λ mending.
+    options_of given >>= λ options.
+    Some (Mend texts options mending)
 
 abbrev pub watching_of : List Given → Option Job
 watching_of given =
@@ -91,7 +104,8 @@ abbrev pub judged : Reading → Option Command
 judged reading =
     if bytes_eq reading.name (codes "demo") then demo_of reading.given
     else (if bytes_eq reading.name (codes "detect") then detect_of reading.given
-    else (if bytes_eq reading.name (codes "aiger") then aiger_of reading.given else over_of reading.name reading.given))
+    else (if bytes_eq reading.name (codes "aiger") then aiger_of reading.given
+    else (if bytes_eq reading.name (codes "mend") then mend_of reading.given else over_of reading.name reading.given)))
 
 abbrev pub judged_if : Option Reading → Option Command
 judged_if None = None

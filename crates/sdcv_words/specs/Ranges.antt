@@ -3,7 +3,7 @@ use Rattle.std.specs.Prelude.{◌≡◌, ◌≤◌, Bool, false}
 use Rattle.sdcv_words.specs.declared.commands.Options.{Options}
 use Rattle.run_options.specs.declared.proving.Proving.{Proving}
 use Rattle.run_options.specs.Judging.{CanJudge}
-use Rattle.sdcv_words.specs.Commands.{Aiger, Command, Demo, Detect, Finding, Job, Check, Over, Replay, Verify}
+use Rattle.sdcv_words.specs.Commands.{Aiger, Command, Demo, Detect, Finding, Job, Check, Mend, Over, Replay, Verify}
 
 -- claims are proved up to a depth of 64, with at least one and at most ten million clauses for a query; kept clauses up to a depth of 8
 pub record IsProvingInRange (proving : Proving) : Type 0 where
@@ -34,4 +34,5 @@ pub record IsFindingInRange (finding : Finding) : Type 0 where
 abbrev pub IsInRange : Command → Type 0
 IsInRange (Over texts options job) = AreOptionsInRange options × IsJobInRange options.judging.hazard job
 IsInRange (Detect texts options finding) = AreOptionsInRange options × IsFindingInRange finding
+IsInRange (Mend texts options mending) = AreOptionsInRange options × IsProvingInRange mending.proving
 IsInRange (Demo seed size) = (1 ≤ size) × (size ≤ 160)

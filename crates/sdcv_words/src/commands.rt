@@ -18,12 +18,23 @@ pub struct Options {
     pub reset: Reset,
 }
 
-/// Where the found pairs are saved, how far their proofs are sought, and the largest multiplier that is tried.
+/// Where the found pairs are saved, how far their proofs are sought, the largest multiplier that is tried, and whether a hold
+/// line follows each line.
 #[derive(Clone, Copy)]
 pub struct Finding<'a> {
     pub out: &'a str,
     pub proving: Proving,
     pub bound: u8,
+    pub hold: bool,
+}
+
+/// Where the mended script is saved, and how far proofs are sought.
+#[derive(Clone, Copy)]
+pub struct Mending<'a> {
+    pub out: &'a str,
+    pub proving: Proving,
+    /// The name of a file whose clauses are tried too.
+    pub assist: Option<&'a str>,
 }
 
 /// What is done with the pairs that are selected.
@@ -66,6 +77,12 @@ pub enum Command<'a> {
         texts: Texts<'a>,
         options: Options,
         finding: Finding<'a>,
+    },
+    /// A verification whose exceptions are written again, with their justified pairs alone.
+    Mend {
+        texts: Texts<'a>,
+        options: Options,
+        mending: Mending<'a>,
     },
     /// A verification of generated texts.
     Demo {

@@ -2,11 +2,11 @@
 ghost use Rattle.std.specs.Prelude.{◌≡◌, IfOk, Some, map};
 ghost use Rattle.std.specs.Option.{option_map};
 ghost use Rattle.clap_words.specs.Readings.{seen_given, seen_reading};
-ghost use Rattle.sdcv_words.specs.Commands.{seen_command, seen_finding, seen_job, seen_texts};
+ghost use Rattle.sdcv_words.specs.Commands.{seen_command, seen_finding, seen_job, seen_mending, seen_texts};
 ghost use Rattle.sdcv_words.specs.Jobs.{aiger_of, check_of, demo_of, detect_of, finding_of, job_of};
-ghost use Rattle.sdcv_words.specs.Jobs.{judged, over_of, replay_of, texts_of, verify_of, watching_of, without_hazards};
+ghost use Rattle.sdcv_words.specs.Jobs.{judged, mend_of, mending_of, over_of, replay_of, texts_of, verify_of, watching_of, without_hazards};
 
-use crate::commands::{Command, Finding, Job, Options, Texts};
+use crate::commands::{Command, Finding, Job, Mending, Options, Texts};
 use crate::givens::{stands, text_of};
 use crate::numbers::{number_in, number_or};
 use crate::options::{options_of, proving_of};
@@ -96,6 +96,7 @@ fn finding_of<'a>(given: &[Given<'a>]) -> Option<Finding<'a>>
         out,
         proving,
         bound: bound as u8,
+        hold: stands(given, "hold"),
     })
 }
 
@@ -115,6 +116,35 @@ fn detect_of<'a>(alloc: Global, given: &[Given<'a>]) -> Result<Option<Command<'a
         texts,
         options,
         finding,
+    }))
+}
+
+fn mending_of<'a>(given: &[Given<'a>]) -> Option<Mending<'a>>
+    ensures { option_map seen_mending result ≡ mending_of (map seen_given given.now) }
+{
+    Some(Mending {
+        out: text_of(given, "out")?,
+        proving: proving_of(given)?,
+        assist: text_of(given, "assist"),
+    })
+}
+
+fn mend_of<'a>(alloc: Global, given: &[Given<'a>]) -> Result<Option<Command<'a>>, AllocError>
+    ensures { IfOk result (λ found. option_map seen_command found ≡ mend_of (map seen_given given.now)) }
+{
+    let Some(texts) = texts_of(given) else {
+        return Ok(None);
+    };
+    let Some(mending) = mending_of(given) else {
+        return Ok(None);
+    };
+    let Some(options) = options_of(alloc, given)? else {
+        return Ok(None);
+    };
+    Ok(Some(Command::Mend {
+        texts,
+        options,
+        mending,
     }))
 }
 
@@ -179,6 +209,7 @@ pub fn judged<'a>(alloc: Global, reading: &Reading<'a>) -> Result<Option<Command
         "demo" => Ok(demo_of(&reading.given)),
         "detect" => detect_of(alloc, &reading.given),
         "aiger" => aiger_of(alloc, &reading.given),
+        "mend" => mend_of(alloc, &reading.given),
         _ => over_of(alloc, reading.name, &reading.given),
     }
 }

@@ -17,7 +17,7 @@ mod settings;
 mod tellings;
 mod words;
 
-pub use commands::{Command, Finding, Job, Options, Texts};
+pub use commands::{Command, Finding, Job, Mending, Options, Texts};
 pub use settings::settings_of;
 pub use tellings::told;
 pub use words::command_of;
