@@ -1,7 +1,8 @@
 //! What is told of a formula.
-ghost use Rattle.std.specs.Prelude.{◌≡◌, ◌≢◌, ◌<◌, ◌^◌, IfOk};
+ghost use Rattle.std.specs.Prelude.{◌≡◌, ◌≢◌, ◌<◌, ◌+◌, ◌^◌, ◌++◌, IfOk, OnOk, string_bytes};
 ghost use Rattle.proof_log.specs.Formulas.{IsFormula, IsModel, HasNoModel};
 ghost use Rattle.proof_log.specs.Derivations.{Refutes};
+ghost use Rattle.solve_cnf.specs.Answers as spec;
 
 use proof_log::{Derivation, Formula, Model};
 use rup_check::{CheckFault, check};
@@ -20,29 +21,21 @@ pub struct Told {
 /// derivation is checked first.
 pub fn solved(alloc: Global, formula: &Formula, budget: u64) -> Result<Told, AllocError>
     requires { IsFormula formula.now }
+    ensures tells { IfOk result (spec.Tells formula.now budget) }
     ensures satisfiable { IfOk result (λ t. t.status ≡ 10 → (m : Model) × IsModel formula.now m) }
     ensures unsatisfiable { IfOk result (λ t. t.status ≡ 20 → HasNoModel formula.now) }
     ensures unknown { IfOk result (λ t. t.status ≢ 10 → t.status ≢ 20 → (t.status ≡ 0) × (budget < 3 ^ formula.now.vars)) }
 {
     let solved = solve_counted(alloc, formula, budget)?;
-    let counts = counts_text(alloc, solved.counts)?;
-    match solved.answer {
-        Answer::Sat(model) => Ok(Told {
-            text: model_text(counts, &model)?,
-            status: 10,
-        }),
-        Answer::Unsat(derivation) => {
-            checked(alloc, formula, &derivation)?;
-            Ok(Told {
-                text: refuted_text(counts, &derivation)?,
-                status: 20,
-            })
-        }
-        Answer::Spent(log) => Ok(Told {
-            text: spent_text(counts, &log)?,
-            status: 0,
-        }),
+    if let Answer::Unsat(derivation) = &solved.answer {
+        checked(alloc, formula, derivation)?;
     }
+    let counts = counts_text(alloc, solved.counts)?;
+    let answer = answer_text(alloc, &solved.answer)?;
+    Ok(Told {
+        text: format!(in alloc; "{counts}{answer}")?,
+        status: status_of(&solved.answer),
+    })
 }
 
 /// Checks a derivation of the solver's, which is accepted unless memory is wanted.
@@ -57,38 +50,75 @@ fn checked(alloc: Global, formula: &Formula, derivation: &Derivation) -> Result<
     }
 }
 
-fn counts_text(alloc: Global, counts: Counts) -> Result<String, AllocError> {
+fn counts_text(alloc: Global, counts: Counts) -> Result<String, AllocError>
+    ensures { IfOk result (λ text. string_bytes text ≡ spec.counts_text counts) }
+{
     let conflicts = counts.conflicts;
     let propagations = counts.propagations;
     format!(in alloc; "c conflicts {conflicts}\nc propagations {propagations}\n")
 }
 
-fn model_text(mut text: String, model: &Model) -> Result<String, AllocError> {
-    text.push_str("s SATISFIABLE\nv")?;
-    for (place, value) in model.values.as_slice().iter().enumerate() {
-        let sign = if *value { "" } else { "-" };
-        let var = place + 1;
-        write!(text, " {sign}{var}")?;
+fn status_of(answer: &Answer) -> u8
+    ensures { result ≡ spec.status_of answer.now }
+{
+    match answer {
+        Answer::Sat(_) => 10,
+        Answer::Unsat(_) => 20,
+        Answer::Spent(_) => 0,
     }
-    text.push_str(" 0\n")?;
+}
+
+fn answer_text(alloc: Global, answer: &Answer) -> Result<String, AllocError>
+    ensures { IfOk result (λ text. string_bytes text ≡ spec.answer_text answer.now) }
+{
+    match answer {
+        Answer::Sat(model) => model_text(alloc, model),
+        Answer::Unsat(derivation) => {
+            let steps = derivation.steps.len();
+            steps_text(alloc, steps.saturating_sub(1), steps, "UNSATISFIABLE")
+        }
+        Answer::Spent(log) => {
+            let steps = log.steps.len();
+            steps_text(alloc, steps, steps, "UNKNOWN")
+        }
+    }
+}
+
+fn model_text(alloc: Global, model: &Model) -> Result<String, AllocError>
+    ensures { IfOk result (λ text. string_bytes text ≡ spec.model_text model.now.values) }
+{
+    let literals = literals_text(alloc, model.values.as_slice())?;
+    format!(in alloc; "s SATISFIABLE\nv{literals} 0\n")
+}
+
+// The literals of all variables in order, each after a space.
+fn literals_text(alloc: Global, values: &[bool]) -> Result<String, AllocError>
+    ensures { IfOk result (λ text. string_bytes text ≡ spec.literals_text values.now) }
+{
+    let mut text = String::new(alloc);
+    for place in 0..values.len() {
+        push_literal(&mut text, place, values[place])?;
+    }
     Ok(text)
 }
 
-fn refuted_text(mut text: String, derivation: &Derivation) -> Result<String, AllocError> {
-    let steps = derivation.steps.len();
-    let learnt = steps.saturating_sub(1);
-    write!(
-        text,
-        "c clauses learnt {learnt}\nc steps {steps}\ns UNSATISFIABLE\n"
-    )?;
-    Ok(text)
+fn push_literal(text: &mut String, place: usize, value: bool) -> Result<(), AllocError>
+    requires { place + 1 < 2 ^ 64 }
+    ensures { OnOk result (string_bytes text.new ≡ string_bytes text.old ++ spec.literal_text place value) }
+{
+    let sign = if value { " " } else { " -" };
+    let var = place + 1;
+    write!(text, "{sign}{var}")?;
+    Ok(())
 }
 
-fn spent_text(mut text: String, log: &Derivation) -> Result<String, AllocError> {
-    let steps = log.steps.len();
-    write!(
-        text,
-        "c clauses learnt {steps}\nc steps {steps}\ns UNKNOWN\n"
-    )?;
-    Ok(text)
+fn steps_text(
+    alloc: Global,
+    learnt: usize,
+    steps: usize,
+    answer: &str,
+) -> Result<String, AllocError>
+    ensures { IfOk result (λ text. string_bytes text ≡ spec.steps_text learnt steps answer.now) }
+{
+    format!(in alloc; "c clauses learnt {learnt}\nc steps {steps}\ns {answer}\n")
 }
