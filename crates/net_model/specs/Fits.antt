@@ -1,5 +1,5 @@
 -- Claims and clauses whose places are those of a design.
-use Rattle.std.specs.Prelude.{◌≡◌, ℕ, ◌<◌, ◌≤◌, false, length, All, Some, slice_get}
+use Rattle.std.specs.Prelude.{◌≡◌, ℕ, ◌<◌, ◌≤◌, Bool, true, false, length, All, Some, slice_get}
 use Rattle.net_model.specs.declared.netlist.Design.{Design}
 use Rattle.net_model.specs.declared.netlist.Gate.{Gate}
 use Rattle.net_model.specs.declared.netlist.Reg.{Reg}
@@ -42,11 +42,17 @@ abbrev pub IsLagFit : Kind → ℕ → Type 0
 IsLagFit False lag = lag ≤ 8
 IsLagFit (Multi k) lag = lag ≡ 0
 
--- all places of the claim are in range, it is not of the early side, and it has at most four through sets
+-- only a false path has an early side, and that has no lag
+abbrev pub IsSideFit : Bool → Kind → ℕ → Type 0
+IsSideFit false kind lag = Unit {0}
+IsSideFit true False lag = lag ≡ 0
+IsSideFit true (Multi k) lag = ⊥
+
+-- all places of the claim are in range, its multiplier, lag and side are fit, and it has at most four through sets
 pub record Fits (d : Design) (claim : Claim) : Type 0 where
   pub kind : IsKindFit claim.kind
   pub lag : IsLagFit claim.kind claim.lag
-  pub early : claim.early ≡ false
+  pub side : IsSideFit claim.early claim.kind claim.lag
   pub start : IsStartIn d claim.start
   pub end_ : IsEndIn d claim.end
   pub pins : All (All (IsPinIn d)) claim.through

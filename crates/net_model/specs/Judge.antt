@@ -77,7 +77,19 @@ abbrev pub IsBadFor : Bool → Design → Claim → Bool → Cycle → Cycle →
 IsBadFor false d claim stale before c = IsBadPlain claim.kind claim.through d claim stale before c
 IsBadFor true d claim stale before c = IsBadHazard claim.kind claim.through d claim before c
 
--- the claim is violated at t: its start toggles at t, and cycle t + r of the run is bad for some judged r
+-- bad on the early side of a false path: had the start shown its new bit already in the cycle before its toggle, the capture
+-- of that cycle would differ; where hazards count: its ternary capture is unknown
+abbrev pub IsEarlyBad : Bool → Design → Claim → Cycle → Cycle → Type 0
+IsEarlyBad false d claim before c = DiffersLate d claim before (start_bit claim.start c)
+IsEarlyBad true d claim before c = MayGlitch d claim before
+
+-- bad for a claim of this side: of the early one by the cycle before the toggle, of the late one by the judged cycle
+abbrev pub IsBadOn : Bool → Bool → Design → Claim → Bool → Cycle → Cycle → Type 0
+IsBadOn false hazard d claim stale before c = IsBadFor hazard d claim stale before c
+IsBadOn true hazard d claim stale before c = IsEarlyBad hazard d claim before c
+
+-- the claim is violated at t: its start toggles at t, and cycle t + r of the run is bad for some judged r; a claim of the early
+-- side has r = 0 alone
 pub record IsViolatedAt (live : ℕ) (d : Design) (claim : Claim) (run : List Cycle) (t : ℕ) : Type 0 where
   pub stale : Bool
   pub toggles : Toggles live claim.edge claim.start run t stale
@@ -87,7 +99,7 @@ pub record IsViolatedAt (live : ℕ) (d : Design) (claim : Claim) (run : List Cy
   pub c : Cycle
   pub before_at : slice_get run (t + r - 1) ≡ Some before
   pub c_at : slice_get run (t + r) ≡ Some c
-  pub bad : IsBadFor claim.hazard d claim stale before c
+  pub bad : IsBadOn claim.early claim.hazard d claim stale before c
 
 -- the claim holds: no run from reset violates it at any t
 abbrev pub Holds : Design → Claim → Type 0

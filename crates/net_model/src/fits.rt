@@ -1,6 +1,6 @@
 //! Whether a claim's places are those of a design.
 ghost use Rattle.std.specs.Prelude.{◌↔◌, IsTrue, All};
-ghost use Rattle.net_model.specs.Fits.{IsStartIn, IsEndIn, IsPinIn, IsKindFit, IsLagFit, Fits};
+ghost use Rattle.net_model.specs.Fits.{IsStartIn, IsEndIn, IsPinIn, IsKindFit, IsLagFit, IsSideFit, Fits};
 
 use crate::claims::{Claim, End, PinRef, Start};
 use crate::limits::{MOST_CYCLES, MOST_LAG, MOST_SETS};
@@ -23,6 +23,15 @@ fn is_lag_fit(kind: Kind, lag: u8) -> bool
     match kind {
         Kind::False => lag <= MOST_LAG,
         Kind::Multi(_) => lag == 0,
+    }
+}
+
+fn is_side_fit(early: bool, kind: Kind, lag: u8) -> bool
+    ensures { IsTrue result ↔ IsSideFit early kind lag }
+{
+    match kind {
+        Kind::False => !early || lag == 0,
+        Kind::Multi(_) => !early,
     }
 }
 
@@ -70,13 +79,13 @@ fn are_pins_in(design: &Design, set: &PinSet) -> bool
 
 impl Claim {
     /// Whether all places of the claim are in range, its multiplier is from 1 to 16, its lag is at most 8 and that of a
-    /// multicycle path 0, it is not of the early side, and it has at most 4 through sets.
+    /// multicycle path 0, it is of the early side only as a false path without lag, and it has at most 4 through sets.
     pub fn fits(&self, design: &Design) -> bool
         ensures { IsTrue result ↔ Fits design.now self.now }
     {
         is_kind_fit(self.kind)
             && is_lag_fit(self.kind, self.lag)
-            && !self.early
+            && is_side_fit(self.early, self.kind, self.lag)
             && is_start_in(design, self.start)
             && is_end_in(design, self.end)
             && self.through.len() <= MOST_SETS

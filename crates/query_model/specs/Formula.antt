@@ -55,10 +55,19 @@ lone_change _ _ d c = []
 abbrev pub hazard_alternatives : Kind → List (List PinRef) → Design → ℕ → List (List KeyLit)
 hazard_alternatives kind sets d c = lone_change kind sets d c ++ (lit true (differ_key d c) ∷ []) ∷ []
 
--- each of them is a list of conditions under which cycle t + r is bad
-abbrev pub alternatives_at : Design → Claim → ℕ → ℕ → List (List KeyLit)
-alternatives_at d claim t r =
+-- the one way in which the cycle before a toggle at t is bad for a claim of the early side: the late capture differs in it, or
+-- where hazards count may be both
+abbrev pub early_alternatives : Design → ℕ → List (List KeyLit)
+early_alternatives d t = (lit true (differ_key d (t - 1)) ∷ []) ∷ []
+
+-- the ways in which cycle t + r may be bad for a claim of the late side
+abbrev pub late_alternatives : Design → Claim → ℕ → ℕ → List (List KeyLit)
+late_alternatives d claim t r =
     if claim.hazard then hazard_alternatives claim.kind claim.through d (t + r) else plain_alternatives claim.kind claim.through d (t + r) r
+
+-- each of them is a list of conditions under which a toggle at t is a violation by its r-th judged cycle
+abbrev pub alternatives_at : Design → Claim → ℕ → ℕ → List (List KeyLit)
+alternatives_at d claim t r = if claim.early then early_alternatives d t else late_alternatives d claim t r
 
 -- the ways in which a toggle at t is a violation: those of each judged cycle, in the order of the cycles
 abbrev pub alternatives : Design → Claim → ℕ → List (List KeyLit)

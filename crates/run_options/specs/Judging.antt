@@ -6,8 +6,7 @@ use Rattle.run_options.specs.declared.judging.Judging.{Judging}
 abbrev pub judging_by : Bool → ℕ → Judging
 judging_by hazard lag = record { hazard = hazard; lag = lag; hold = false; strict = false }
 
--- false paths are judged at most eight captures after the first, none on its hold side, and no script as for a sign-off
+-- false paths are judged at most eight captures after the first, and no script is judged as for a sign-off
 pub record CanJudge (judging : Judging) : Type 0 where
   pub lag : judging.lag ≤ 8
-  pub hold : judging.hold ≡ false
   pub strict : judging.strict ≡ false
