@@ -15,7 +15,7 @@ use Rattle.query_model.specs.Defined.{numbered, bad_key}
 use Rattle.net_model.specs.Queries.{live_of, only_in_step, claim_query}
 use Rattle.net_model.specs.declared.invariants.InvClause.{InvClause}
 use Rattle.net_model.specs.declared.queries.Phase.{Phase}
-use Rattle.query_model.specs.Formula.{plain_alternatives, hazard_alternatives, alternatives_at}
+use Rattle.query_model.specs.Formula.{plain_alternatives, hazard_alternatives, late_alternatives, alternatives_at}
 use Rattle.query_model.specs.Formula.{kept_in, clean_clauses, bad_clauses, asked_clauses}
 use Rattle.query_model.specs.declared.keys.KeyLit.{KeyLit}
 use Rattle.query_model.specs.Formula.{some_chosen, chosen_clauses, all_chosen}
@@ -50,9 +50,13 @@ hazard_few False sets d c = omega arith
 hazard_few (Multi k) [] d c = omega arith
 hazard_few (Multi k) (set ∷ sets) d c = omega arith
 
-at_few : (b : Bool) (d : Design) (claim : Claim) (t r : ℕ) → claim.hazard ≡ b → length (alternatives_at d claim t r) ≤ 2
-at_few true d claim t r e = rw e (hazard_few claim.kind claim.through d (t + r))
-at_few false d claim t r e = rw e (plain_few claim.kind claim.through d (t + r) r)
+late_few : (b : Bool) (d : Design) (claim : Claim) (t r : ℕ) → claim.hazard ≡ b → length (late_alternatives d claim t r) ≤ 2
+late_few true d claim t r e = rw e (hazard_few claim.kind claim.through d (t + r))
+late_few false d claim t r e = rw e (plain_few claim.kind claim.through d (t + r) r)
+
+at_few : (b : Bool) (d : Design) (claim : Claim) (t r : ℕ) → claim.early ≡ b → length (alternatives_at d claim t r) ≤ 2
+at_few true d claim t r e = rw e (omega arith)
+at_few false d claim t r e = rw e (late_few claim.hazard d claim t r refl)
 
 -- at most two alternatives a capture
 pub below_few : (d : Design) (claim : Claim) (t n : ℕ) → length (flat_map (alternatives_at d claim t) (below n)) ≤ 2 * n
@@ -63,7 +67,7 @@ below_few d claim t (suc n) =
       ap length (flat_map-append (alternatives_at d claim t) (below n) (n ∷ [])),
       length-append (flat_map (alternatives_at d claim t) (below n)) (alternatives_at d claim t n ++ []),
       ap length (append_nil (alternatives_at d claim t n)),
-      at_few claim.hazard d claim t n refl,
+      at_few claim.early d claim t n refl,
       below_few d claim t n,
     )
 

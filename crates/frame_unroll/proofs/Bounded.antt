@@ -18,7 +18,8 @@ use Rattle.query_model.specs.Keys.{lit, opposite, below}
 use Rattle.query_model.specs.Reads.{bit_key}
 use Rattle.net_model.specs.Queries.{claim_query, clause_query, live_of, only_in_step}
 use Rattle.query_model.specs.Defined.{numbered, extra, toggle_key, change_key, differ_key, stale_key, bad_key}
-use Rattle.query_model.specs.Formula.{state_lit, clause_in, stale_if_later, plain_alternatives, hazard_alternatives, alternatives_at, alternatives}
+use Rattle.query_model.specs.Formula.{state_lit, clause_in, stale_if_later, plain_alternatives, hazard_alternatives, late_alternatives}
+use Rattle.query_model.specs.Formula.{alternatives_at, alternatives}
 use Rattle.query_model.specs.Formula.{clean_clauses, bad_clauses, asked_clauses}
 use Rattle.query_model.specs.declared.keys.KeyLit.{KeyLit}
 use Rattle.query_model.specs.Formula.{kept_in, some_chosen, chosen_clauses, all_chosen}
@@ -97,17 +98,22 @@ hazard_within (Multi k) [] d cycles c le =
     (one d cycles (lit true (change_key d c)) (change_within d cycles c le)) (glitch_within d cycles c le)
 hazard_within (Multi k) (set ∷ sets) d cycles c le = glitch_within d cycles c le
 
-at_within : (b : Bool) (d : Design) (claim : Claim) (cycles t r : ℕ) → claim.hazard ≡ b → t + r ≤ cycles → r ≤ 15
+late_side_within : (b : Bool) (d : Design) (claim : Claim) (cycles t r : ℕ) → claim.hazard ≡ b → t + r ≤ cycles → r ≤ 15
+    → AreWithin d cycles (late_alternatives d claim t r)
+late_side_within true d claim cycles t r e le few = rw e (hazard_within claim.kind claim.through d cycles (t + r) le)
+late_side_within false d claim cycles t r e le few = rw e (plain_within claim.kind claim.through d cycles (t + r) r le few)
+
+at_within : (b : Bool) (d : Design) (claim : Claim) (cycles t r : ℕ) → claim.early ≡ b → t + r ≤ cycles → r ≤ 15
     → AreWithin d cycles (alternatives_at d claim t r)
-at_within true d claim cycles t r e le few = rw e (hazard_within claim.kind claim.through d cycles (t + r) le)
-at_within false d claim cycles t r e le few = rw e (plain_within claim.kind claim.through d cycles (t + r) r le few)
+at_within true d claim cycles t r e le few = rw e (glitch_within d cycles (t - 1) (omega (arith, le)))
+at_within false d claim cycles t r e le few = rw e (late_side_within claim.hazard d claim cycles t r refl le few)
 
 -- the conditions of a toggle, where the cycles judged are among these
 alternatives_within : (d : Design) (claim : Claim) (cycles t : ℕ) → Fits d claim → t + judged_count claim ≤ cycles
     → AreWithin d cycles (alternatives d claim t)
 alternatives_within d claim cycles t fits le =
     All-below (AreLitsWithin d cycles) (alternatives_at d claim t) (judged_count claim)
-    (λ r lt. at_within claim.hazard d claim cycles t r refl (omega (arith, le, lt)) (omega (arith, lt, judged_few d claim fits)))
+    (λ r lt. at_within claim.early d claim cycles t r refl (omega (arith, le, lt)) (omega (arith, lt, judged_few d claim fits)))
 
 clean_within : (d : Design) (claim : Claim) (cycles t : ℕ) → Fits d claim → t + judged_count claim ≤ cycles
     → AreWithin d cycles (clean_clauses d claim t)

@@ -1,11 +1,11 @@
-//! The conditions under which a cycle is bad for a claim.
-ghost use Rattle.std.specs.Prelude.{◌≡◌, ◌≤◌, ◌+◌, ◌++◌, ◌∷◌, ◌^◌, [], length, IfOk, OnOk};
+//! The conditions under which a toggle is a violation of a claim.
+ghost use Rattle.std.specs.Prelude.{◌≡◌, ◌≤◌, ◌+◌, ◌++◌, ◌∷◌, ◌^◌, true, [], length, IfOk, OnOk};
 ghost use Rattle.net_model.specs.Netlist.{IsSound};
 ghost use Rattle.net_model.specs.Fits.{Fits};
 ghost use Rattle.query_model.specs.Keys.{lit};
-ghost use Rattle.query_model.specs.Defined.{extra};
-ghost use Rattle.query_model.specs.Formula.{stale_if_later, plain_alternatives, hazard_alternatives, alternatives_at, alternatives};
-ghost use Rattle.query_model.specs.Formula.{lone_change};
+ghost use Rattle.query_model.specs.Defined.{extra, differ_key};
+ghost use Rattle.query_model.specs.Formula.{stale_if_later, plain_alternatives, hazard_alternatives, late_alternatives, alternatives_at};
+ghost use Rattle.query_model.specs.Formula.{lone_change, early_alternatives, alternatives};
 
 use net_model::{Claim, Design, Kind};
 use query_model::{Key, KeyLit};
@@ -98,6 +98,21 @@ fn push_change(
     Ok(())
 }
 
+/// That the late capture differs in a cycle, or may be both where hazards count.
+fn push_differ(
+    alloc: Global,
+    found: &mut Seq<Seq<KeyLit>>,
+    design: &Design,
+    cycle: usize,
+) -> Result<(), AllocError>
+    requires sound { IsSound design.now }
+    ensures { OnOk result (found.new ≡ found.old ++ (lit true (differ_key design.now cycle) ∷ []) ∷ []) }
+{
+    let differ = extra_lit(design, cycle, DIFFER, true);
+    found.push(Seq::one(alloc, differ)?)?;
+    Ok(())
+}
+
 /// The alternatives for a cycle to be bad where hazards count.
 fn push_hazard(
     alloc: Global,
@@ -110,12 +125,45 @@ fn push_hazard(
     ensures { OnOk result (found.new ≡ found.old ++ hazard_alternatives claim.now.kind claim.now.through design.now cycle) }
 {
     push_change(alloc, found, design, claim, cycle)?;
-    let differ = extra_lit(design, cycle, DIFFER, true);
-    found.push(Seq::one(alloc, differ)?)?;
+    push_differ(alloc, found, design, cycle)
+}
+
+/// The alternatives for a cycle to be bad on the late side, so many cycles after the toggle.
+fn push_late(
+    alloc: Global,
+    found: &mut Seq<Seq<KeyLit>>,
+    design: &Design,
+    claim: &Claim,
+    toggle: usize,
+    later: usize,
+) -> Result<(), AllocError>
+    requires sound { IsSound design.now }
+    requires toggle { toggle ≤ 2 ^ 32 }
+    requires later { later ≤ 15 }
+    ensures { OnOk result (found.new ≡ found.old ++ late_alternatives design.now claim.now toggle later) }
+{
+    let cycle = toggle + later;
+    if claim.hazard {
+        return push_hazard(alloc, found, design, claim, cycle);
+    }
+    found.push(plain_conditions(alloc, design, claim, cycle, later)?)?;
     Ok(())
 }
 
-/// The alternatives for a cycle to be bad, so many cycles after the toggle.
+/// The alternative of the early side: in the cycle before the toggle a start that shows its new bit is seen.
+fn push_early(
+    alloc: Global,
+    found: &mut Seq<Seq<KeyLit>>,
+    design: &Design,
+    toggle: usize,
+) -> Result<(), AllocError>
+    requires sound { IsSound design.now }
+    ensures { OnOk result (found.new ≡ found.old ++ early_alternatives design.now toggle) }
+{
+    push_differ(alloc, found, design, toggle.saturating_sub(1))
+}
+
+/// The alternatives of a claim's side, so many cycles after the toggle.
 fn push_alternatives(
     alloc: Global,
     found: &mut Seq<Seq<KeyLit>>,
@@ -129,15 +177,14 @@ fn push_alternatives(
     requires later { later ≤ 15 }
     ensures { OnOk result (found.new ≡ found.old ++ alternatives_at design.now claim.now toggle later) }
 {
-    let cycle = toggle + later;
-    if claim.hazard {
-        return push_hazard(alloc, found, design, claim, cycle);
+    if claim.early {
+        push_early(alloc, found, design, toggle)
+    } else {
+        push_late(alloc, found, design, claim, toggle, later)
     }
-    found.push(plain_conditions(alloc, design, claim, cycle, later)?)?;
-    Ok(())
 }
 
-/// All alternatives for the captures from a toggle on: each is a list of conditions under which one of them is bad.
+/// All alternatives for the captures that are judged of a toggle: each is a list of conditions under which one of them is bad.
 pub fn alternatives(
     alloc: Global,
     design: &Design,

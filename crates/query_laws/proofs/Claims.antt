@@ -43,11 +43,11 @@ use Rattle.query_laws.proofs.Clauses.{NamesRegs, Needed, IsModelBeside, model_to
 use Rattle.query_model.proofs.Codings.{primes_coding, rows_settle, primes_settle}
 use Rattle.query_laws.proofs.Meaning.{meaning, meaning_says}
 use Rattle.query_laws.proofs.HazyGates.{IsCoding}
-use Rattle.query_laws.proofs.Judged.{plain_decided}
+use Rattle.query_laws.proofs.EarlyClaims.{plain_decides, hazy_decides}
 use Rattle.query_laws.proofs.Violated.{IsAskedOf, TellsDiffer, SaysLate, SayingModel, claim_model_answers, claim_answer_models}
 use Rattle.query_laws.proofs.Decided.{IsDecided}
 use Rattle.query_laws.proofs.PlainClaims.{AreFlipped, differs_late_at, late_at, are_judged, plain_tells, plain_says, flipped_layer}
-use Rattle.query_laws.proofs.HazyClaims.{AreHazy, unknown_at, are_hazy_judged, hazy_decided, hazy_tells, hazy_says, hazy_layer}
+use Rattle.query_laws.proofs.HazyClaims.{AreHazy, unknown_at, are_hazy_judged, hazy_tells, hazy_says, hazy_layer}
 use Rattle.query_model.specs.declared.keys.Key.{Key}
 use Rattle.query_model.specs.declared.keys.KeyLit.{KeyLit}
 use Rattle.query_model.specs.declared.keys.Coding.{Coding}
@@ -260,13 +260,14 @@ claim_models coding d claim phase depth inv sound fits names keys clauses v run 
               let made = hazy_rows d claim run sound fits are.linked in
               let hazy = are_hazy d claim formula.moved run sound fits are.linked formula.are_moved hazard in
               told_where (unknown_at d claim run made.0)
-              (hazy_decided kind d claim run (unknown_at d claim run made.0) (are_hazy_judged d claim formula.moved run made.0 hazard asked hazy))
+              (hazy_decides kind d claim run (unknown_at d claim run made.0) fits.side
+              (are_hazy_judged d claim formula.moved run made.0 hazard asked hazy))
               (hazy_tells coding kind v d claim formula.moved run made.0 (coded coding) hazard asked hazy)
           | inr plain ↦
               let made = flipped_rows d claim run sound fits are.linked in
               let flips = are_flipped d claim formula.moved run sound fits are.linked formula.are_moved plain in
               told_where (differs_late_at d claim run made.0)
-              (plain_decided kind d claim run (late_at d claim run made.0) (differs_late_at d claim run made.0)
+              (plain_decides kind d claim run (late_at d claim run made.0) (differs_late_at d claim run made.0) fits.side
               (are_judged d claim formula.moved run made.0 plain asked flips))
               (plain_tells coding kind v d claim formula.moved run made.0 (coded coding).covers plain asked flips)
         ]
@@ -317,13 +318,14 @@ claim_answers coding d claim phase depth inv sound fits names keys clauses run f
               let rows = hazy_rows d claim run sound fits answer.cycles.linked in
               let hazy = are_hazy d claim formula.moved run sound fits answer.cycles.linked formula.are_moved hazard in
               said_where (hazy_layer d claim run rows.0) (unknown_at d claim run rows.0)
-              (hazy_decided AnyKey d claim run (unknown_at d claim run rows.0) (are_hazy_judged d claim formula.moved run rows.0 hazard asked hazy))
+              (hazy_decides AnyKey d claim run (unknown_at d claim run rows.0) fits.side
+              (are_hazy_judged d claim formula.moved run rows.0 hazard asked hazy))
               (hazy_says coding d claim formula.moved run rows.0 (coded coding) hazard asked hazy)
           | inr plain ↦
               let rows = flipped_rows d claim run sound fits answer.cycles.linked in
               let flips = are_flipped d claim formula.moved run sound fits answer.cycles.linked formula.are_moved plain in
               said_where (flipped_layer d claim run rows.0) (differs_late_at d claim run rows.0)
-              (plain_decided AnyKey d claim run (late_at d claim run rows.0) (differs_late_at d claim run rows.0)
+              (plain_decides AnyKey d claim run (late_at d claim run rows.0) (differs_late_at d claim run rows.0) fits.side
               (are_judged d claim formula.moved run rows.0 plain asked flips))
               (plain_says coding d claim formula.moved run rows.0 (coded coding).covers plain asked flips)
         ]

@@ -1,16 +1,17 @@
 -- Violations by toggles and alternatives, in either mode.
-use Rattle.std.proofs.Common.{◌≡◌, ◌≢◌, ℕ, ◌+◌, ◌-◌, ◌<◌, ◌≤◌, Bool, true, false, List, length, Some, refl, sym, ◌∙◌, arith, inl, inr, ◌⊎◌, subst}
+use Rattle.std.proofs.Common.{◌≡◌, ◌≢◌, ℕ, ◌+◌, ◌-◌, ◌<◌, ◌≤◌, Bool, true, false, List, [], ◌∷◌, length, Some, refl, sym, ◌∙◌, arith, inl, inr, ◌⊎◌, subst}
 use Rattle.std.specs.Prelude.{slice_get}
+use Rattle.std.proofs.lemmas.Bool.{cond-true, cond-false}
 use Rattle.net_model.specs.Form.{xor}
-use Rattle.net_model.specs.Judge.{judged_count, start_bit, IsEdge, IsBadFor, IsViolatedAt}
+use Rattle.net_model.specs.Judge.{judged_count, start_bit, IsEdge, IsBadOn, IsViolatedAt}
 use Rattle.net_model.specs.declared.netlist.Design.{Design}
 use Rattle.net_model.specs.declared.cycles.Cycle.{Cycle}
 use Rattle.net_model.specs.declared.claims.Claim.{Claim}
 use Rattle.sdcv_base.specs.declared.kinds.Edge.{Edge}
 use Rattle.sdcv_base.specs.declared.kinds.Edge.TheVariants.{Any, Rise, Fall}
-use Rattle.query_model.specs.Keys.{lit_value, below}
+use Rattle.query_model.specs.Keys.{lit, lit_value, below}
 use Rattle.query_model.specs.Defined.{toggle_key}
-use Rattle.query_model.specs.Formula.{alternatives_at, alternatives}
+use Rattle.query_model.specs.Formula.{early_alternatives, late_alternatives, alternatives_at, alternatives}
 use Rattle.net_model.proofs.Members.{In, In-flat, from_flat}
 use Rattle.query_model.proofs.Members.{In-below, below_less}
 use Rattle.query_model.proofs.Based.{get_within}
@@ -62,6 +63,17 @@ same_or_not false false = inl refl
 abbrev pub AllHold : (Key → Bool) → List KeyLit → Type 0
 AllHold v ls = (l : KeyLit) → In l ls → lit_value v l ≡ true
 
+pub lit_holds : (v : Key → Bool) (z : Key) (l : KeyLit) → lit true z ≡ l → v z ≡ true → lit_value v l ≡ true
+lit_holds v z l same e = subst (λ (m : KeyLit). lit_value v m ≡ true) same e
+
+pub only_holds : (v : Key → Bool) (z : Key) → v z ≡ true → AllHold v (lit true z ∷ [])
+only_holds v z e l (inl here) = lit_holds v z l here e
+only_holds v z e l (inr none) = absurd none
+
+pub first_in : {X : Type 0} {x y : X} → In x (y ∷ []) → y ≡ x
+first_in (inl here) = here
+first_in (inr none) = absurd none
+
 -- a toggle at t, and a judged cycle r later
 pub record Moment (claim : Claim) (run : List Cycle) (t r : ℕ) (a b before c : Cycle) : Type 0 where
   pub at_a : slice_get run (t - 1) ≡ Some a
@@ -74,13 +86,20 @@ pub record Moment (claim : Claim) (run : List Cycle) (t r : ℕ) (a b before c :
 abbrev pub KindOfAll : (Key → Type 0) → List (List KeyLit) → Type 0
 KindOfAll kind alts = (alt : List KeyLit) (l : KeyLit) → In alt alts → In l alt → kind l.key
 
+-- the alternatives of a claim by its side
+pub late_side : (d : Design) (claim : Claim) (t r : ℕ) → claim.early ≡ false → alternatives_at d claim t r ≡ late_alternatives d claim t r
+late_side d claim t r side = cond-false claim.early (early_alternatives d t) (late_alternatives d claim t r) side
+
+pub early_side : (d : Design) (claim : Claim) (t r : ℕ) → claim.early ≡ true → alternatives_at d claim t r ≡ early_alternatives d t
+early_side d claim t r side = cond-true claim.early (early_alternatives d t) (late_alternatives d claim t r) side
+
 -- the alternatives of a claim say which judged cycles are bad
 pub record IsDecided (kind : Key → Type 0) (d : Design) (claim : Claim) (run : List Cycle) (differs : ℕ → Bool) : Type 0 where
   pub bad : (v : Key → Bool) (t r : ℕ) (a b before c : Cycle) (alt : List KeyLit) → ExtrasTold kind v d claim run differs
       → Moment claim run t r a b before c → start_bit claim.start b ≢ start_bit claim.start a → KindOfAll kind (alternatives_at d claim t r)
-      → In alt (alternatives_at d claim t r) → AllHold v alt → IsBadFor claim.hazard d claim (start_bit claim.start a) before c
+      → In alt (alternatives_at d claim t r) → AllHold v alt → IsBadOn claim.early claim.hazard d claim (start_bit claim.start a) before c
   pub good : (t r : ℕ) (a b before c : Cycle) → Moment claim run t r a b before c → KindOfAll kind (alternatives_at d claim t r)
-      → IsBadFor claim.hazard d claim (start_bit claim.start a) before c → (alt : List KeyLit) × In alt (alternatives_at d claim t r)
+      → IsBadOn claim.early claim.hazard d claim (start_bit claim.start a) before c → (alt : List KeyLit) × In alt (alternatives_at d claim t r)
       × ((v : Key → Bool) → ExtrasTold kind v d claim run differs → AllHold v alt)
   pub some : (t r : ℕ) → (alt : List KeyLit) × In alt (alternatives_at d claim t r)
 
@@ -130,7 +149,7 @@ violated_holds kind d claim run differs live t is toggle_kind kinds bad =
     let at : Moment claim run t r tog.before tog.now bad.before bad.c =
     record { at_a = tog.before_at; at_b = tog.now_at; at_before = bad.before_at; at_c = bad.c_at; low = omega (arith, tog.is_live); judged = bad.judged } in
     let found = is.good t r tog.before tog.now bad.before bad.c at (kinds_at kind d claim t r bad.judged kinds)
-    (subst (λ (s : Bool). IsBadFor claim.hazard d claim s bad.before bad.c) (sym tog.stale_is) bad.bad) in (
+    (subst (λ (s : Bool). IsBadOn claim.early claim.hazard d claim s bad.before bad.c) (sym tog.stale_is) bad.bad) in (
       λ v extras. extras.toggle t tog.before tog.now tog.before_at tog.now_at toggle_kind ∙ ne_edge claim.edge (start_bit claim.start tog.now)
           (start_bit claim.start tog.before) ne (subst (IsEdge claim.edge) (sym tog.stale_is) tog.edge_is),
       (

@@ -8,7 +8,7 @@ use Rattle.net_model.specs.Cycles.{capture}
 use Rattle.net_model.specs.Layers.{net_at}
 use Rattle.net_model.specs.Ternary.{IsTernaryCapture}
 use Rattle.net_model.proofs.TernaryOnce.{tern_capture_over}
-use Rattle.net_model.specs.Judge.{start_bit, Changes, MayGlitch, IsBadHazard, IsBadFor}
+use Rattle.net_model.specs.Judge.{start_bit, Changes, MayGlitch, IsBadHazard, IsBadOn}
 use Rattle.net_model.proofs.TernaryOnce.{ternary_once, ternary_capture}
 use Rattle.net_model.specs.declared.netlist.Design.{Design}
 use Rattle.net_model.specs.declared.cycles.Cycle.{Cycle}
@@ -20,12 +20,12 @@ use Rattle.net_model.specs.declared.terns.Tern.{Tern}
 use Rattle.net_model.specs.declared.terns.Tern.TheVariants.{Zero, One, Unknown}
 use Rattle.query_model.specs.Keys.{key, lit, lit_value, AllTrue}
 use Rattle.query_model.specs.Defined.{Definition, both, extra_definitions, differ_definition, differ_key, change_key, late_capture_lit}
-use Rattle.query_model.specs.Formula.{alternatives_at, hazard_alternatives}
+use Rattle.query_model.specs.Formula.{plain_alternatives, hazard_alternatives, alternatives_at}
 use Rattle.net_model.proofs.Members.{In}
 use Rattle.query_model.proofs.Runs.{now_bits, Told, AnyKey}
 use Rattle.query_laws.proofs.Meaning.{meaning_says}
 use Rattle.query_laws.proofs.Extras.{ExtrasTold, both_told, both_true}
-use Rattle.query_laws.proofs.Decided.{xor_ne, ne_xor, AllHold, Moment, KindOfAll, IsDecided}
+use Rattle.query_laws.proofs.Decided.{xor_ne, ne_xor, AllHold, only_holds, first_in, Moment, KindOfAll, late_side, IsDecided}
 use Rattle.query_model.specs.Laws.{may_one, may_zero, rail_value}
 use Rattle.query_laws.proofs.Hazy.{IsHazy, LayerMay}
 use Rattle.query_laws.proofs.HazyGates.{IsCoding, SaysRails, layers_may, layers_may_said}
@@ -42,17 +42,6 @@ pub record IsHazyJudged (d : Design) (claim : Claim) (run : List Cycle) (differs
   pub hazard : claim.hazard ≡ true
   pub glitches : (t : ℕ) (c : Cycle) → slice_get run t ≡ Some c → differs t ≡ true → MayGlitch d claim c
   pub seen : (t : ℕ) (c : Cycle) → slice_get run t ≡ Some c → MayGlitch d claim c → differs t ≡ true
-
-first_in : {X : Type 0} {x y : X} → In x (y ∷ []) → y ≡ x
-first_in (inl here) = here
-first_in (inr none) = absurd none
-
-lit_holds : (v : Key → Bool) (z : Key) (l : KeyLit) → lit true z ≡ l → v z ≡ true → lit_value v l ≡ true
-lit_holds v z l same e = subst (λ (m : KeyLit). lit_value v m ≡ true) same e
-
-only_holds : (v : Key → Bool) (z : Key) → v z ≡ true → AllHold v (lit true z ∷ [])
-only_holds v z e l (inl here) = lit_holds v z l here e
-only_holds v z e l (inr none) = absurd none
 
 -- a condition that holds makes the cycle bad
 differ_bad : (kind : Key → Type 0) (v : Key → Bool) (d : Design) (claim : Claim) (run : List Cycle) (differs : ℕ → Bool) (t r : ℕ)
@@ -115,46 +104,47 @@ hazy_bad_alternative kind d claim run differs t r a b before c is at (Multi k) [
       ∙ ne_xor (capture d claim.end c) (capture d claim.end before) changes),
 )
 
-hazy_at : (d : Design) (claim : Claim) (t r : ℕ) → claim.hazard ≡ true → alternatives_at d claim t r ≡ hazard_alternatives claim.kind claim.through d (t + r)
-hazy_at d claim t r mode = by_mode _ claim.hazard mode
-  where
-    by_mode : (x : List (List KeyLit)) (h : Bool) → h ≡ true → cond h (hazard_alternatives claim.kind claim.through d (t + r)) x ≡ hazard_alternatives
-        claim.kind claim.through d (t + r)
-    by_mode x true e = refl
-    by_mode x false e = absurd cc
+hazy_at : (d : Design) (claim : Claim) (t r : ℕ) → claim.early ≡ false → claim.hazard ≡ true → alternatives_at d claim t r ≡ hazard_alternatives
+    claim.kind claim.through d (t + r)
+hazy_at d claim t r side mode =
+    late_side d claim t r side
+    ∙ cond-true claim.hazard (hazard_alternatives claim.kind claim.through d (t + r)) (plain_alternatives claim.kind claim.through d (t + r) r) mode
 
-bad_hazy : (h : Bool) (d : Design) (claim : Claim) (stale : Bool) (before c : Cycle) → h ≡ true → IsBadFor h d claim stale before c
+bad_hazy : (e h : Bool) (d : Design) (claim : Claim) (stale : Bool) (before c : Cycle) → e ≡ false → h ≡ true → IsBadOn e h d claim stale before c
     → IsBadHazard claim.kind claim.through d claim before c
-bad_hazy true d claim stale before c e bad = bad
-bad_hazy false d claim stale before c e bad = absurd cc
+bad_hazy false true d claim stale before c side mode bad = bad
+bad_hazy false false d claim stale before c side mode bad = absurd cc
+bad_hazy true h d claim stale before c side mode bad = absurd cc
 
-hazy_bad : (h : Bool) (d : Design) (claim : Claim) (stale : Bool) (before c : Cycle) → h ≡ true → IsBadHazard claim.kind claim.through d claim before
-    c → IsBadFor h d claim stale before c
-hazy_bad true d claim stale before c e bad = bad
-hazy_bad false d claim stale before c e bad = absurd cc
+hazy_bad : (e h : Bool) (d : Design) (claim : Claim) (stale : Bool) (before c : Cycle) → e ≡ false → h ≡ true
+    → IsBadHazard claim.kind claim.through d claim before c → IsBadOn e h d claim stale before c
+hazy_bad false true d claim stale before c side mode bad = bad
+hazy_bad false false d claim stale before c side mode bad = absurd cc
+hazy_bad true h d claim stale before c side mode bad = absurd cc
 
 one_hazy : (k : Kind) (sets : List (List PinRef)) (d : Design) (c : ℕ) → (alt : List KeyLit) × In alt (hazard_alternatives k sets d c)
 one_hazy False sets d c = (_, inl refl)
 one_hazy (Multi k) [] d c = (_, inl refl)
 one_hazy (Multi k) (set ∷ sets) d c = (_, inl refl)
 
--- the alternatives of such a claim decide
-pub hazy_decided : (kind : Key → Type 0) (d : Design) (claim : Claim) (run : List Cycle) (differs : ℕ → Bool) → IsHazyJudged d claim run differs
-    → IsDecided kind d claim run differs
-hazy_decided kind d claim run differs is =
+-- the alternatives of such a claim of the late side decide
+pub hazy_decided : (kind : Key → Type 0) (d : Design) (claim : Claim) (run : List Cycle) (differs : ℕ → Bool) → claim.early ≡ false
+    → IsHazyJudged d claim run differs → IsDecided kind d claim run differs
+hazy_decided kind d claim run differs side is =
     record {
       bad = λ v t r a b before c alt extras at ne kinds in_alts hold.
-          hazy_bad claim.hazard d claim (start_bit claim.start a) before c is.hazard
+          let at_r = hazy_at d claim t r side is.hazard in
+          hazy_bad claim.early claim.hazard d claim (start_bit claim.start a) before c side is.hazard
           (hazy_alternative_bad kind v d claim run differs t r a b before c is extras at claim.kind claim.through alt
-          (subst (KindOfAll kind) (hazy_at d claim t r is.hazard) kinds) (subst (In alt) (hazy_at d claim t r is.hazard) in_alts) hold);
+          (subst (KindOfAll kind) at_r kinds) (subst (In alt) at_r in_alts) hold);
       good = λ t r a b before c at kinds bad.
-          let found = hazy_bad_alternative kind d claim run differs t r a b before c is at claim.kind claim.through
-          (subst (KindOfAll kind) (hazy_at d claim t r is.hazard) kinds)
-          (bad_hazy claim.hazard d claim (start_bit claim.start a) before c is.hazard bad) in
-          (found.0, subst (In found.0) (sym (hazy_at d claim t r is.hazard)) found.1, found.2);
+          let at_r = hazy_at d claim t r side is.hazard in
+          let found = hazy_bad_alternative kind d claim run differs t r a b before c is at claim.kind claim.through (subst (KindOfAll kind) at_r kinds)
+          (bad_hazy claim.early claim.hazard d claim (start_bit claim.start a) before c side is.hazard bad) in
+          (found.0, subst (In found.0) (sym at_r) found.1, found.2);
       some = λ t r.
           let one = one_hazy claim.kind claim.through d (t + r) in
-          (one.0, subst (In one.0) (sym (hazy_at d claim t r is.hazard)) one.1);
+          (one.0, subst (In one.0) (sym (hazy_at d claim t r side is.hazard)) one.1);
     }
 
 -- each cycle of a run with its layers

@@ -1,13 +1,14 @@
 -- Alternatives whose conditions are true, and violations.
-use Rattle.std.proofs.Common.{◌≡◌, ◌≢◌, ℕ, zero, suc, ◌+◌, ◌-◌, ◌<◌, ◌≤◌, Bool, true, false, not, cond, List, [], ◌∷◌, Some, refl}
+use Rattle.std.proofs.Common.{◌≡◌, ◌≢◌, ℕ, zero, suc, ◌+◌, ◌-◌, ◌<◌, ◌≤◌, Bool, true, false, not, List, [], ◌∷◌, Some, refl}
 use Rattle.std.proofs.Common.{sym, ◌∙◌, arith, inl, inr, subst, add-one}
 use Rattle.std.specs.Prelude.{slice_get, ◌↔◌}
+use Rattle.std.proofs.lemmas.Bool.{cond-false}
 use Rattle.net_model.specs.Form.{xor}
 use Rattle.net_model.specs.Netlist.{IsSound}
 use Rattle.net_model.specs.Fits.{IsStartIn, IsEndIn}
 use Rattle.net_model.specs.Cycles.{capture, IsSettled, IsLinked}
 use Rattle.net_model.specs.Layers.{IsLateCapture}
-use Rattle.net_model.specs.Judge.{judged_count, start_bit, DiffersLate, IsBadPlain, IsBadFor}
+use Rattle.net_model.specs.Judge.{judged_count, start_bit, DiffersLate, IsBadPlain, IsBadOn}
 use Rattle.net_model.proofs.Settling.{All-at}
 use Rattle.net_model.proofs.Flipped.{late_by_flip}
 use Rattle.net_model.specs.declared.netlist.Design.{Design}
@@ -18,10 +19,10 @@ use Rattle.sdcv_base.specs.declared.kinds.Kind.{Kind}
 use Rattle.sdcv_base.specs.declared.kinds.Kind.TheVariants.{False, Multi}
 use Rattle.query_model.specs.Keys.{lit, lit_value}
 use Rattle.query_model.specs.Defined.{change_key, differ_key, stale_key}
-use Rattle.query_model.specs.Formula.{stale_if_later, plain_alternatives, alternatives_at}
+use Rattle.query_model.specs.Formula.{stale_if_later, plain_alternatives, hazard_alternatives, alternatives_at}
 use Rattle.net_model.proofs.Members.{In}
 use Rattle.query_laws.proofs.Extras.{ExtrasTold}
-use Rattle.query_laws.proofs.Decided.{xor_ne, ne_xor, AllHold, Moment, KindOfAll, IsDecided}
+use Rattle.query_laws.proofs.Decided.{xor_ne, ne_xor, AllHold, lit_holds, first_in, Moment, KindOfAll, late_side, IsDecided}
 use Rattle.query_model.specs.declared.keys.Key.{Key}
 use Rattle.query_model.specs.declared.keys.KeyLit.{KeyLit}
 
@@ -86,10 +87,6 @@ holds_stale kind v d claim run late differs t (suc r) a c extras at_a at_c lt lo
     subst (λ (m : KeyLit). lit_value v m ≡ true) here (says ∙ ne_xor (start_bit claim.start c) (start_bit claim.start a) ne)
 holds_stale kind v d claim run late differs t (suc r) a c extras at_a at_c lt low kinds ne l (inr none) = absurd none
 
-first_in : {X : Type 0} {x y : X} → In x (y ∷ []) → y ≡ x
-first_in (inl here) = here
-first_in (inr none) = absurd none
-
 -- the conditions of an alternative make the cycle bad
 pub alternative_bad : (kind : Key → Type 0) (v : Key → Bool) (d : Design) (claim : Claim) (run : List Cycle) (late differs : ℕ → Bool) (t r : ℕ)
     (a b before c : Cycle) → IsJudged d claim run late differs → ExtrasTold kind v d claim run differs → Moment claim run t r a b before c
@@ -121,9 +118,6 @@ alternative_bad kind v d claim run late differs t r a b before c is extras at ne
           (xor_ne (late (t + r)) (capture d claim.end c) (sym differ ∙ holds (lit true (differ_key d (t + r))) (inr (inl refl)))),
       xor_ne (capture d claim.end c) (capture d claim.end before) (sym change ∙ holds (lit true (change_key d (t + r))) (inl refl)),
     )
-
-lit_holds : (v : Key → Bool) (z : Key) (l : KeyLit) → lit true z ≡ l → v z ≡ true → lit_value v l ≡ true
-lit_holds v z l same e = subst (λ (m : KeyLit). lit_value v m ≡ true) same e
 
 -- and a bad cycle has an alternative whose conditions hold wherever the keys tell the run
 pub bad_alternative : (kind : Key → Type 0) (d : Design) (claim : Claim) (run : List Cycle) (late differs : ℕ → Bool) (t r : ℕ) (a b before c : Cycle)
@@ -170,44 +164,45 @@ bad_alternative kind d claim run late differs t r a b before c is at (Multi k) (
           ],
     )
 
-pub plain_at : (d : Design) (claim : Claim) (t r : ℕ) → claim.hazard ≡ false → alternatives_at d claim t r ≡ plain_alternatives claim.kind
-    claim.through d (t + r) r
-plain_at d claim t r mode = by_mode _ claim.hazard mode where
-  by_mode : (x : List (List KeyLit)) (h : Bool) → h ≡ false → cond h x (plain_alternatives claim.kind claim.through d (t + r) r) ≡ plain_alternatives
-      claim.kind claim.through d (t + r) r
-  by_mode x false e = refl
-  by_mode x true e = absurd cc
+plain_at : (d : Design) (claim : Claim) (t r : ℕ) → claim.early ≡ false → claim.hazard ≡ false → alternatives_at d claim t r ≡ plain_alternatives
+    claim.kind claim.through d (t + r) r
+plain_at d claim t r side mode =
+    late_side d claim t r side
+    ∙ cond-false claim.hazard (hazard_alternatives claim.kind claim.through d (t + r)) (plain_alternatives claim.kind claim.through d (t + r) r) mode
 
-bad_plain : (h : Bool) (d : Design) (claim : Claim) (stale : Bool) (before c : Cycle) → h ≡ false → IsBadFor h d claim stale before c
+bad_plain : (e h : Bool) (d : Design) (claim : Claim) (stale : Bool) (before c : Cycle) → e ≡ false → h ≡ false → IsBadOn e h d claim stale before c
     → IsBadPlain claim.kind claim.through d claim stale before c
-bad_plain false d claim stale before c e bad = bad
-bad_plain true d claim stale before c e bad = absurd cc
+bad_plain false false d claim stale before c side mode bad = bad
+bad_plain false true d claim stale before c side mode bad = absurd cc
+bad_plain true h d claim stale before c side mode bad = absurd cc
 
-plain_bad : (h : Bool) (d : Design) (claim : Claim) (stale : Bool) (before c : Cycle) → h ≡ false → IsBadPlain claim.kind claim.through d claim stale
-    before c → IsBadFor h d claim stale before c
-plain_bad false d claim stale before c e bad = bad
-plain_bad true d claim stale before c e bad = absurd cc
+plain_bad : (e h : Bool) (d : Design) (claim : Claim) (stale : Bool) (before c : Cycle) → e ≡ false → h ≡ false
+    → IsBadPlain claim.kind claim.through d claim stale before c → IsBadOn e h d claim stale before c
+plain_bad false false d claim stale before c side mode bad = bad
+plain_bad false true d claim stale before c side mode bad = absurd cc
+plain_bad true h d claim stale before c side mode bad = absurd cc
 
 one_plain : (k : Kind) (sets : List (List PinRef)) (d : Design) (c r : ℕ) → (alt : List KeyLit) × In alt (plain_alternatives k sets d c r)
 one_plain False sets d c r = (_, inl refl)
 one_plain (Multi k) [] d c r = (_, inl refl)
 one_plain (Multi k) (set ∷ sets) d c r = (_, inl refl)
 
--- the alternatives of a plain claim decide
-pub plain_decided : (kind : Key → Type 0) (d : Design) (claim : Claim) (run : List Cycle) (late differs : ℕ → Bool)
+-- the alternatives of a plain claim of the late side decide
+pub plain_decided : (kind : Key → Type 0) (d : Design) (claim : Claim) (run : List Cycle) (late differs : ℕ → Bool) → claim.early ≡ false
     → IsJudged d claim run late differs → IsDecided kind d claim run differs
-plain_decided kind d claim run late differs is =
+plain_decided kind d claim run late differs side is =
     record {
       bad = λ v t r a b before c alt extras at ne kinds in_alts hold.
-          plain_bad claim.hazard d claim (start_bit claim.start a) before c is.plain
+          let at_r = plain_at d claim t r side is.plain in
+          plain_bad claim.early claim.hazard d claim (start_bit claim.start a) before c side is.plain
           (alternative_bad kind v d claim run late differs t r a b before c is extras at ne claim.kind claim.through alt
-          (subst (KindOfAll kind) (plain_at d claim t r is.plain) kinds) (subst (In alt) (plain_at d claim t r is.plain) in_alts) hold);
+          (subst (KindOfAll kind) at_r kinds) (subst (In alt) at_r in_alts) hold);
       good = λ t r a b before c at kinds bad.
-          let found = bad_alternative kind d claim run late differs t r a b before c is at claim.kind claim.through
-          (subst (KindOfAll kind) (plain_at d claim t r is.plain) kinds)
-          (bad_plain claim.hazard d claim (start_bit claim.start a) before c is.plain bad) in
-          (found.0, subst (In found.0) (sym (plain_at d claim t r is.plain)) found.1, found.2);
+          let at_r = plain_at d claim t r side is.plain in
+          let found = bad_alternative kind d claim run late differs t r a b before c is at claim.kind claim.through (subst (KindOfAll kind) at_r kinds)
+          (bad_plain claim.early claim.hazard d claim (start_bit claim.start a) before c side is.plain bad) in
+          (found.0, subst (In found.0) (sym at_r) found.1, found.2);
       some = λ t r.
           let one = one_plain claim.kind claim.through d (t + r) r in
-          (one.0, subst (In one.0) (sym (plain_at d claim t r is.plain)) one.1);
+          (one.0, subst (In one.0) (sym (plain_at d claim t r side is.plain)) one.1);
     }

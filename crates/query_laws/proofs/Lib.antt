@@ -9,6 +9,7 @@ pub mod Story
 pub mod Violated
 pub mod PlainClaims
 pub mod HazyClaims
+pub mod EarlyClaims
 pub mod Worked
 pub mod Numbered
 pub mod Rails

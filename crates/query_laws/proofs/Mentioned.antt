@@ -36,7 +36,8 @@ use Rattle.query_model.specs.Defined.{input_definition, gate_definition, bit_def
 use Rattle.query_model.specs.Defined.{layer_definitions, with_own, late_key, late_reg, end_definition, start_lit, capture_lit, late_capture_lit}
 use Rattle.query_model.specs.Defined.{extra, toggle_key, change_key, differ_key, stale_key, bad_key, differ_definition, edge_definition, extra_definitions}
 use Rattle.query_model.specs.Defined.{claim_definitions}
-use Rattle.query_model.specs.Formula.{state_lit, clause_in, kept_clauses, alternatives, alternatives_at, plain_alternatives, hazard_alternatives}
+use Rattle.query_model.specs.Formula.{state_lit, clause_in, kept_clauses, alternatives, alternatives_at, early_alternatives}
+use Rattle.query_model.specs.Formula.{plain_alternatives, hazard_alternatives}
 use Rattle.query_model.specs.Formula.{stale_if_later, clean_clauses, bad_clauses, question_clauses, asked_clauses, question_definitions}
 use Rattle.query_model.specs.Formula.{cycle_definitions, definitions, Mentions, IsNeeded, Asked, Used}
 use Rattle.query_model.proofs.Members.{below_less}
@@ -473,12 +474,13 @@ hazard_alternatives_have P d base (Multi k) [] c alt (inr later) = one_alternati
 alternatives_have : (P : Key → Type 0) (d : Design) (base : BaseHas P d) (claim : Claim) (t : ℕ) → ClausesHave P (alternatives d claim t)
 alternatives_have P d base claim t alt has =
     let of = from_flat (alternatives_at d claim t) alt (below (judged_count claim)) has in
-    by_mode of.0 claim.hazard alt of.2
+    by_side of.0 claim.early claim.hazard alt of.2
   where
-    by_mode : (r : ℕ) (h : Bool) → ClausesHave P (cond h (hazard_alternatives claim.kind claim.through d (t + r))
-        (plain_alternatives claim.kind claim.through d (t + r) r))
-    by_mode r true = hazard_alternatives_have P d base claim.kind claim.through (t + r)
-    by_mode r false = plain_alternatives_have P d base claim.kind claim.through (t + r) r
+    by_side : (r : ℕ) (e h : Bool) → ClausesHave P (cond e (early_alternatives d t)
+        (cond h (hazard_alternatives claim.kind claim.through d (t + r)) (plain_alternatives claim.kind claim.through d (t + r) r)))
+    by_side r true h = one_alternative P _ (single_has P (differ_key d (t - 1)) (extra_has P d base (t - 1) 2))
+    by_side r false true = hazard_alternatives_have P d base claim.kind claim.through (t + r)
+    by_side r false false = plain_alternatives_have P d base claim.kind claim.through (t + r) r
 
 clean_have : (P : Key → Type 0) (d : Design) (base : BaseHas P d) (claim : Claim) (t : ℕ) → ClausesHave P (clean_clauses d claim t)
 clean_have P d base claim t c has =

@@ -82,11 +82,15 @@ moved = (false ∷ true ∷ false ∷ []) ∷ []
 abbrev keys : List Key
 keys = key 0 0 0 0 ∷ key 0 0 0 3 ∷ key 1 0 0 3 ∷ key 1 0 0 5 ∷ key 1 0 0 7 ∷ key 1 0 0 25 ∷ key 1 1 0 5 ∷ key 2 0 0 4 ∷ []
 
+-- the literal of the i-th of these keys, from 1
+abbrev of : Bool → List Key → ℕ → KeyLit
+of positive ks i = lit positive (Rattle.std.specs.Prelude.slice_index_or ks (Rattle.std.specs.Prelude.pred i) (key 9 9 9 9))
+
 abbrev p : ℕ → KeyLit
-p n = lit true (Rattle.std.specs.Prelude.slice_index_or keys (Rattle.std.specs.Prelude.pred n) (key 9 9 9 9))
+p i = of true keys i
 
 abbrev n : ℕ → KeyLit
-n i = lit false (Rattle.std.specs.Prelude.slice_index_or keys (Rattle.std.specs.Prelude.pred i) (key 9 9 9 9))
+n i = of false keys i
 
 -- the clauses of its step query at depth 0, before each is sorted
 step_clauses : formula_over (definitions Rows (claim_query design claim Step 0 []) moved) (asked_clauses (claim_query design claim Step 0 [])) keys ≡
@@ -102,3 +106,25 @@ rising_clauses = refl
 -- and of one that falls
 falling_clauses : (edge_definition Fall (key 1 0 0 5) (p 3) (p 2)).clauses ≡ (n 4 ∷ n 3 ∷ []) ∷ (n 4 ∷ p 2 ∷ []) ∷ (p 4 ∷ p 3 ∷ n 2 ∷ []) ∷ []
 falling_clauses = refl
+
+-- the same claim's early side
+abbrev early_claim : Claim
+early_claim = record { kind = False; edge = Any; lag = 0; hazard = false; early = true; start = RegStart 0; end = RegEnd 1; through = [] }
+
+-- the late capture is that of the cycle before the toggle, which register 1 shows in the toggle's own
+abbrev early_keys : List Key
+early_keys = key 0 0 0 0 ∷ key 0 0 0 3 ∷ key 0 0 0 7 ∷ key 0 1 0 5 ∷ key 1 0 0 3 ∷ key 1 0 0 4 ∷ key 1 0 0 5 ∷ key 1 0 0 25 ∷ []
+
+abbrev yes : ℕ → KeyLit
+yes i = of true early_keys i
+
+abbrev no : ℕ → KeyLit
+no i = of false early_keys i
+
+-- the clauses of its step query at depth 0
+early_clauses : formula_over (definitions Rows (claim_query design early_claim Step 0 []) moved) (asked_clauses (claim_query design early_claim Step 0 []))
+    early_keys ≡ (yes 1 ∷ no 5 ∷ []) ∷ (no 1 ∷ yes 5 ∷ []) ∷ (yes 2 ∷ no 6 ∷ []) ∷ (no 2 ∷ yes 6 ∷ []) ∷ (no 2 ∷ no 4 ∷ []) ∷ (yes 2 ∷ yes 4 ∷ [])
+    ∷ (no 3 ∷ yes 4 ∷ yes 6 ∷ []) ∷ (no 3 ∷ no 4 ∷ no 6 ∷ []) ∷ (yes 3 ∷ no 4 ∷ yes 6 ∷ []) ∷ (yes 3 ∷ yes 4 ∷ no 6 ∷ [])
+    ∷ (no 7 ∷ yes 5 ∷ yes 2 ∷ []) ∷ (no 7 ∷ no 5 ∷ no 2 ∷ []) ∷ (yes 7 ∷ no 5 ∷ yes 2 ∷ []) ∷ (yes 7 ∷ yes 5 ∷ no 2 ∷ [])
+    ∷ (yes 7 ∷ []) ∷ (yes 8 ∷ []) ∷ (no 8 ∷ yes 3 ∷ []) ∷ []
+early_clauses = refl

@@ -1,12 +1,12 @@
 -- What is known where the start is unknown: the captures, and so what violates a claim without hazards.
-use Rattle.std.proofs.Common.{◌≡◌, ℕ, ◌+◌, Bool, true, false, List, [], ◌∷◌, length, sym, ◌∙◌, subst, arith, inr}
+use Rattle.std.proofs.Common.{◌≡◌, ℕ, ◌+◌, ◌-◌, Bool, true, false, List, [], ◌∷◌, length, sym, ◌∙◌, subst, arith, inr}
 use Rattle.net_model.specs.Netlist.{IsSound}
 use Rattle.net_model.specs.Fits.{Fits}
 use Rattle.net_model.specs.Cycles.{shown, IsSettled, IsLinked}
 use Rattle.net_model.specs.Layers.{capture_over}
 use Rattle.net_model.specs.Ternary.{tern_of, Completes, IsTernaryCapture}
 use Rattle.net_model.proofs.TernaryOnce.{tern_capture_over, computed_capture}
-use Rattle.net_model.specs.Judge.{start_bit, DiffersLate, MayGlitch, IsBadPlain, IsBadHazard, IsViolatedAt, Holds}
+use Rattle.net_model.specs.Judge.{start_bit, DiffersLate, MayGlitch, IsBadPlain, IsBadHazard, IsBadOn, IsViolatedAt, Holds}
 use Rattle.net_model.proofs.Settling.{All-at}
 use Rattle.ternary_sim.specs.Hazards.{plain_of, hazard_of, IsSteady}
 use Rattle.ternary_sim.proofs.Completing.{AreBitsTo, completes_known, layers_complete, capture_completes}
@@ -70,6 +70,12 @@ plain_late d claim c stale differs =
 hazard_glitch : (d : Design) (claim : Claim) (c : Cycle) → MayGlitch d claim c → MayGlitch d (hazard_of claim) c
 hazard_glitch d claim c is = record { rows = is.rows; layers = is.layers; capture = is.capture }
 
+-- where the late capture of the claim without hazards differs, the end of the claim with hazards may glitch
+glitches_there : (d : Design) (claim : Claim) (c : Cycle) (stale : Bool) → IsSound d → Fits d claim → IsSettled d c
+    → DiffersLate d (plain_of claim) c stale → MayGlitch d (hazard_of claim) c
+glitches_there d claim c stale sound fits settled differs =
+    hazard_glitch d claim c (glitches d claim c stale sound fits settled (plain_late d claim c stale differs))
+
 bad_with_hazards : (kind : Kind) (sets : List (List PinRef)) (d : Design) (claim : Claim) (stale : Bool) (before c : Cycle)
     → (DiffersLate d (plain_of claim) c stale → MayGlitch d (hazard_of claim) c) → IsBadPlain kind sets d (plain_of claim) stale before c
     → IsBadHazard kind sets d (hazard_of claim) before c
@@ -77,10 +83,19 @@ bad_with_hazards False sets d claim stale before c glitch bad = glitch bad
 bad_with_hazards (Multi k) [] d claim stale before c glitch bad = inr bad
 bad_with_hazards (Multi k) (set ∷ sets) d claim stale before c glitch bad = glitch bad.0
 
+-- what is bad on a side without hazards is bad on it with them
+bad_on_side : (early : Bool) (d : Design) (claim : Claim) (stale : Bool) (before c : Cycle) → IsSound d → Fits d claim → IsSettled d before
+    → IsSettled d c → IsBadOn early false d (plain_of claim) stale before c → IsBadOn early true d (hazard_of claim) stale before c
+bad_on_side false d claim stale before c sound fits settled_before settled bad =
+    bad_with_hazards claim.kind claim.through d claim stale before c (glitches_there d claim c stale sound fits settled) bad
+bad_on_side true d claim stale before c sound fits settled_before settled bad =
+    glitches_there d claim before (start_bit claim.start c) sound fits settled_before bad
+
 -- what violates the claim without hazards violates it with them
 pub violated_too : (d : Design) (claim : Claim) (live : ℕ) (run : List Cycle) (t : ℕ) → IsSound d → Fits d claim → IsLinked d run
     → IsViolatedAt live d (plain_of claim) run t → IsViolatedAt live d (hazard_of claim) run t
 violated_too d claim live run t sound fits linked v =
+    let settled_before = All-at (IsSettled d) run (t + v.r - 1) v.before v.before_at linked.settled in
     let settled = All-at (IsSettled d) run (t + v.r) v.c v.c_at linked.settled in
     record {
       stale = v.stale;
@@ -91,8 +106,7 @@ violated_too d claim live run t sound fits linked v =
       c = v.c;
       before_at = v.before_at;
       c_at = v.c_at;
-      bad = bad_with_hazards claim.kind claim.through d claim v.stale v.before v.c
-          (λ differs. hazard_glitch d claim v.c (glitches d claim v.c v.stale sound fits settled (plain_late d claim v.c v.stale differs))) v.bad;
+      bad = bad_on_side claim.early d claim v.stale v.before v.c sound fits settled_before settled v.bad;
     }
 
 pub holds_too : (d : Design) (claim : Claim) → IsSound d → Fits d claim → Holds d (hazard_of claim) → Holds d (plain_of claim)

@@ -2,7 +2,7 @@
 use Rattle.std.proofs.Common.{◌≡◌, ◌≢◌, ℕ, ◌+◌, ◌-◌, ◌<◌, ◌≤◌, Bool, List, length, min, Some, ap, sym, ◌∙◌, subst, arith}
 use Rattle.std.specs.Prelude.{slice_get}
 use Rattle.std.proofs.lemmas.Option.{slice_get_within, same_Some}
-use Rattle.net_model.specs.Judge.{judged_count, start_bit, IsEdge, IsBadFor, IsViolatedAt}
+use Rattle.net_model.specs.Judge.{judged_count, start_bit, IsEdge, IsBadOn, IsViolatedAt}
 use Rattle.net_model.specs.declared.netlist.Design.{Design}
 use Rattle.net_model.specs.declared.cycles.Cycle.{Cycle}
 use Rattle.net_model.specs.declared.claims.Claim.{Claim}
@@ -13,22 +13,22 @@ pub record IsBadAt (d : Design) (claim : Claim) (run : List Cycle) (t : ℕ) (st
   pub c : Cycle
   pub before_at : slice_get run (t + r - 1) ≡ Some before
   pub c_at : slice_get run (t + r) ≡ Some c
-  pub bad : IsBadFor claim.hazard d claim stale before c
+  pub bad : IsBadOn claim.early claim.hazard d claim stale before c
 
 pub bad_at : (d : Design) (claim : Claim) (run : List Cycle) (t : ℕ) (stale : Bool) (r : ℕ) (before c : Cycle)
-    → slice_get run (t + r - 1) ≡ Some before → slice_get run (t + r) ≡ Some c → IsBadFor claim.hazard d claim stale before c
+    → slice_get run (t + r - 1) ≡ Some before → slice_get run (t + r) ≡ Some c → IsBadOn claim.early claim.hazard d claim stale before c
     → IsBadAt d claim run t stale r
 bad_at d claim run t stale r before c before_at c_at bad = record { before = before; c = c; before_at = before_at; c_at = c_at; bad = bad }
 
 -- the two cycles of a captured bit are those of the run
 pub bad_gives : (d : Design) (claim : Claim) (run : List Cycle) (t : ℕ) (stale : Bool) (r : ℕ) (before c : Cycle)
     → slice_get run (t + r - 1) ≡ Some before → slice_get run (t + r) ≡ Some c → IsBadAt d claim run t stale r
-    → IsBadFor claim.hazard d claim stale before c
+    → IsBadOn claim.early claim.hazard d claim stale before c
 bad_gives d claim run t stale r before c before_at c_at bad =
     let first : bad.before ≡ before = same_Some bad.before before (sym bad.before_at ∙ before_at) in
     let second : bad.c ≡ c = same_Some bad.c c (sym bad.c_at ∙ c_at) in
-    subst (λ (x : Cycle). IsBadFor claim.hazard d claim stale before x) second
-    (subst (λ (x : Cycle). IsBadFor claim.hazard d claim stale x bad.c) first bad.bad)
+    subst (λ (x : Cycle). IsBadOn claim.early claim.hazard d claim stale before x) second
+    (subst (λ (x : Cycle). IsBadOn claim.early claim.hazard d claim stale x bad.c) first bad.bad)
 
 pub not_live : (d : Design) (claim : Claim) (run : List Cycle) (t live : ℕ) → t ≤ live → ¬ IsViolatedAt live d claim run t
 not_live d claim run t live le v = omega (arith, v.toggles.is_live)
@@ -91,5 +91,5 @@ none_bad d claim run t live before stale count is before_at stale_is none v =
       c = v.c;
       before_at = v.before_at;
       c_at = v.c_at;
-      bad = subst (λ (bit : Bool). IsBadFor claim.hazard d claim bit v.before v.c) same v.bad;
+      bad = subst (λ (bit : Bool). IsBadOn claim.early claim.hazard d claim bit v.before v.c) same v.bad;
     })

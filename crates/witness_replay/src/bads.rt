@@ -130,8 +130,8 @@ fn is_bad_hazard(
     }
 }
 
-/// Whether a cycle, which comes after another, is bad for the claim, given the stale bit.
-pub fn is_bad(
+/// Whether a cycle is bad on the late side, given the stale bit.
+fn is_late_bad(
     design: &Design,
     claim: &Claim,
     stale: bool,
@@ -151,5 +151,53 @@ pub fn is_bad(
         is_bad_hazard(design, claim, before, cycle, rooms)
     } else {
         is_bad_plain(design, claim, stale, before, cycle, rooms)
+    }
+}
+
+/// Whether a toggle is bad on the early side: the cycle before it captures another bit where the start shows its new one.
+fn is_early_bad(
+    design: &Design,
+    claim: &Claim,
+    before: &Cycle,
+    cycle: &Cycle,
+    rooms: &mut Rooms,
+) -> bool
+    requires sound { IsSound design.now }
+    requires fits { Fits design.now claim.now }
+    requires before { IsSettled design.now before.now }
+    requires settled { IsSettled design.now cycle.now }
+    requires rooms { AreRoomsFor design.now rooms.old }
+    ensures means { IsTrue result ↔ judge.IsEarlyBad claim.now.hazard design.now claim.now before.now cycle.now }
+    ensures rooms { AreRoomsFor design.now rooms.new }
+{
+    if claim.hazard {
+        return may_glitch(design, claim, before, rooms);
+    }
+    let coming = cycle.start_bit(design, &claim.start);
+    differs_late(design, claim, before, coming, rooms)
+}
+
+/// Whether a cycle, which comes after another, is bad for the claim, given the stale bit. A claim of the early side judges the
+/// cycle before.
+pub fn is_bad(
+    design: &Design,
+    claim: &Claim,
+    stale: bool,
+    before: &Cycle,
+    cycle: &Cycle,
+    rooms: &mut Rooms,
+) -> bool
+    requires sound { IsSound design.now }
+    requires fits { Fits design.now claim.now }
+    requires before { IsSettled design.now before.now }
+    requires settled { IsSettled design.now cycle.now }
+    requires rooms { AreRoomsFor design.now rooms.old }
+    ensures means { IsTrue result ↔ judge.IsBadOn claim.now.early claim.now.hazard design.now claim.now stale before.now cycle.now }
+    ensures rooms { AreRoomsFor design.now rooms.new }
+{
+    if claim.early {
+        is_early_bad(design, claim, before, cycle, rooms)
+    } else {
+        is_late_bad(design, claim, stale, before, cycle, rooms)
     }
 }
