@@ -1,16 +1,19 @@
 -- Counts and lines of what one command adds.
 use Rattle.std.proofs.Common.{arith, ◌≡◌, ◌∙◌, ◌≢◌, ℕ, suc, ◌+◌, Bool, true, false, cond, List, [], ◌∷◌, ◌++◌, length, map, refl, sym, ap, subst, length-append}
-use Rattle.std.specs.Prelude.{Some, slice_get, count_by, ◌==◌}
+use Rattle.std.specs.Prelude.{if◌then◌else◌, Some, None, slice_get, count_by, ◌==◌}
 use Rattle.std.proofs.lemmas.Bool.Decides.{nat_tests}
 use Rattle.std.proofs.lemmas.List.Sums.{sum_by-append}
 use Rattle.linked_types.specs.declared.names.Linked.{Linked}
+use Rattle.script_types.specs.declared.scripts.Held.{Held}
 use Rattle.script_types.specs.declared.scripts.What.{What}
 use Rattle.script_types.specs.declared.scripts.What.TheVariants.{Clock, Case, Claiming, Hold, Aside, Passed, Unjudged, Scope, Generated, Delay}
 use Rattle.script_types.specs.declared.scripts.Command.{Command}
 use Rattle.script_types.specs.declared.scripts.Script.{Script}
 use Rattle.sdcv_base.specs.Seqs.{each_at}
-use Rattle.exception_expand.specs.declared.pairs.Pair.{Pair}
-use Rattle.exception_expand.specs.Selections.{Chosen, chosen_by, count_at, is_exception, lines_by, lines_at}
+use Rattle.exception_expand.specs.declared.sides.Side.{Side}
+use Rattle.exception_expand.specs.declared.sides.Sides.TheVariants.{Early}
+use Rattle.exception_expand.specs.Asking.{Asked, held, is_hold_side}
+use Rattle.exception_expand.specs.Selections.{Chosen, chosen_by, count_at, is_exception, lines_asked, lines_by, lines_at}
 
 count_cons : {A : Type 0} (p : A → Bool) (x : A) (xs : List A) → count_by p (x ∷ xs) ≡ cond (p x) 1 0 + count_by p xs
 count_cons p x xs =
@@ -21,14 +24,14 @@ pub count_append : {A : Type 0} (p : A → Bool) (xs ys : List A) → count_by p
 count_append p xs ys = sum_by-append (λ y. cond (p y) 1 0) xs ys
 
 -- all that a command adds is its own
-pub count_own : (k : ℕ) (ps : List Pair) → count_at (map (chosen_by k) ps) k ≡ length ps
+pub count_own : (k : ℕ) (ps : List Side) → count_at (map (chosen_by k) ps) k ≡ length ps
 count_own k [] = refl
 count_own k (p ∷ ps) =
     let yes : (k == k) ≡ true = grind (arith, nat_tests) in
     count_cons (λ (x : Chosen). x.command == k) (chosen_by k p) (map (chosen_by k) ps)
     ∙ ap (λ (b : Bool). cond b 1 0 + count_at (map (chosen_by k) ps) k) yes ∙ omega (arith, count_own k ps)
 
-pub count_other : (k place : ℕ) (ps : List Pair) → k ≢ place → count_at (map (chosen_by k) ps) place ≡ 0
+pub count_other : (k place : ℕ) (ps : List Side) → k ≢ place → count_at (map (chosen_by k) ps) place ≡ 0
 count_other k place [] other = refl
 count_other k place (p ∷ ps) other =
     let no : (k == place) ≡ false = grind (arith, nat_tests) in
@@ -47,26 +50,32 @@ each_at_same {A} {B} f g i (x ∷ xs) same =
     ap (λ (l : List B). l ++ each_at f (i + 1) xs) first ∙ ap (λ (l : List B). g i x ++ l) rest
 
 -- a command has one line where it is an exception, and else none
-line_count : (l : Linked) (script : Script) (count line : ℕ) (what : What) → length (lines_by l script count line what) ≡ cond (is_exception what) 1 0
-line_count l script count line (Clock name source) = refl
-line_count l script count line (Case value objects) = refl
-line_count l script count line (Claiming e) = refl
-line_count l script count line (Hold h) = refl
-line_count l script count line (Aside option) = refl
-line_count l script count line Passed = refl
-line_count l script count line (Unjudged name) = refl
-line_count l script count line (Scope name) = refl
-line_count l script count line (Generated name objects) = refl
-line_count l script count line (Delay output clocks objects) = refl
+hold_line : (l : Linked) (script : Script) (count line : ℕ) (h : Held) (by : Asked) (b : Bool)
+    → length (lines_asked l script count line (Hold h) (if b then Some by else None)) ≡ 1
+hold_line l script count line h by true = refl
+hold_line l script count line h by false = refl
 
-pub lines_count : (l : Linked) (script : Script) (chosen : List Chosen) (i : ℕ) (cs : List Command)
-    → length (each_at (lines_at l script chosen) i cs) ≡ count_by (λ (c : Command). is_exception c.what) cs
-lines_count l script chosen i [] = refl
-lines_count l script chosen i (c ∷ cs) =
-    let rest = lines_count l script chosen (i + 1) cs in
-    let one = line_count l script (count_at chosen i) c.line c.what in
-    length-append (lines_at l script chosen i c) (each_at (lines_at l script chosen) (i + 1) cs)
-    ∙ ap (λ (n : ℕ). n + length (each_at (lines_at l script chosen) (i + 1) cs)) one
+line_count : (l : Linked) (script : Script) (hold : Bool) (count line : ℕ) (what : What)
+    → length (lines_by l script hold count line what) ≡ cond (is_exception what) 1 0
+line_count l script hold count line (Clock name source) = refl
+line_count l script hold count line (Case value objects) = refl
+line_count l script hold count line (Claiming e) = refl
+line_count l script hold count line (Hold h) = hold_line l script count line h (record { exception = held h; sides = Early }) (is_hold_side hold h.number)
+line_count l script hold count line (Aside option) = refl
+line_count l script hold count line Passed = refl
+line_count l script hold count line (Unjudged name) = refl
+line_count l script hold count line (Scope name) = refl
+line_count l script hold count line (Generated name objects) = refl
+line_count l script hold count line (Delay output clocks objects) = refl
+
+pub lines_count : (l : Linked) (script : Script) (hold : Bool) (chosen : List Chosen) (i : ℕ) (cs : List Command)
+    → length (each_at (lines_at l script hold chosen) i cs) ≡ count_by (λ (c : Command). is_exception c.what) cs
+lines_count l script hold chosen i [] = refl
+lines_count l script hold chosen i (c ∷ cs) =
+    let rest = lines_count l script hold chosen (i + 1) cs in
+    let one = line_count l script hold (count_at chosen i) c.line c.what in
+    length-append (lines_at l script hold chosen i c) (each_at (lines_at l script hold chosen) (i + 1) cs)
+    ∙ ap (λ (n : ℕ). n + length (each_at (lines_at l script hold chosen) (i + 1) cs)) one
     ∙ ap (λ (n : ℕ). cond (is_exception c.what) 1 0 + n) rest
     ∙ sym (count_cons (λ (d : Command). is_exception d.what) c cs)
 

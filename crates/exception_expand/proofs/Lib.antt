@@ -5,9 +5,12 @@ pub mod Cutting
 pub mod Ranging
 pub mod Choosing
 pub mod Fitting
+pub mod Siding
+pub mod Asking
 pub mod Claiming
 pub mod Naming
 pub mod Counting
 pub mod Stepping
 pub mod Adding
 pub mod OneSelection
+mod Worked

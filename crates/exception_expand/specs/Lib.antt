@@ -1,5 +1,7 @@
 pub mod Points
 pub mod Pairs
+pub mod Sides
+pub mod Asking
 pub mod Naming
 pub mod Selections
 pub mod Causes

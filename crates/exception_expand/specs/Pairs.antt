@@ -1,5 +1,5 @@
 -- Pairs of a start and an end, the paths between them, and claims of them.
-use Rattle.std.specs.Prelude.{ℕ, Bool, true, false, not, ◌&&◌, ◌||◌, ◌==◌, nat_lt, List, map, flat_map}
+use Rattle.std.specs.Prelude.{ℕ, Bool, true, not, if◌then◌else◌, ◌&&◌, ◌||◌, ◌==◌, nat_lt, List, map, flat_map}
 use Rattle.std.specs.List.{list_any}
 use Rattle.net_model.specs.Judge.{judged_count}
 use Rattle.sdcv_base.specs.declared.kinds.Kind.{Kind}
@@ -16,6 +16,7 @@ use Rattle.net_model.specs.declared.claims.PinRef.{PinRef}
 use Rattle.net_model.specs.declared.claims.Claim.{Claim}
 use Rattle.run_options.specs.declared.judging.Judging.{Judging}
 use Rattle.exception_expand.specs.declared.pairs.Pair.{Pair}
+use Rattle.exception_expand.specs.declared.sides.Side.{Side}
 
 abbrev pub pair : Start → End → Pair
 pair start end = record { start = start; end = end }
@@ -32,21 +33,21 @@ pairs_between starts ends = flat_map (λ start. map (pair start) ends) starts
 abbrev pub IsConnected : Design → List (List PinRef) → Pair → Type 0
 IsConnected d sets p = HasPath d p.start p.end sets
 
--- the lag of a claim of this kind: a multicycle path has none
-abbrev pub lag_for : Kind → ℕ → ℕ
-lag_for False lag = lag
-lag_for (Multi k) lag = 0
+-- the lag of a claim of this kind, and of the early side or else of the late one: only the late side of a false path has one
+abbrev pub lag_for : Bool → Kind → ℕ → ℕ
+lag_for early False lag = if early then 0 else lag
+lag_for early (Multi k) lag = 0
 
--- a claim of a pair, by what the claims of an exception have in common
-abbrev pub claim_with : Kind → Edge → Judging → List (List PinRef) → Pair → Claim
-claim_with kind edge judging sets p = record {
+-- a claim of a side of a pair, by what the claims of an exception have in common
+abbrev pub claim_with : Kind → Edge → Judging → List (List PinRef) → Side → Claim
+claim_with kind edge judging sets s = record {
   kind = kind;
   edge = edge;
-  lag = lag_for kind judging.lag;
+  lag = lag_for s.early kind judging.lag;
   hazard = judging.hazard;
-  early = false;
-  start = p.start;
-  end = p.end;
+  early = s.early;
+  start = s.pair.start;
+  end = s.pair.end;
   through = sets;
 }
 

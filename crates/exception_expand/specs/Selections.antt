@@ -19,12 +19,16 @@ use Rattle.sdcv_base.specs.Seqs.{each_at}
 use Rattle.sdc_objects.specs.Standing.{pins_of, warnings, from_column, to_column, through_column}
 use Rattle.run_options.specs.declared.judging.Judging.{Judging}
 use Rattle.selected_types.specs.declared.selections.Listing.{Listing}
-use Rattle.selected_types.specs.declared.selections.Listing.TheVariants.{Claiming as ListsClaims, Hold as ListsHold, Aside as ListsAside}
+use Rattle.selected_types.specs.declared.selections.Listing.TheVariants.{Hold as ListsHold, Aside as ListsAside}
 use Rattle.selected_types.specs.declared.selections.CommandLine.{CommandLine}
 use Rattle.selected_types.specs.declared.selections.PairLine.{PairLine}
 use Rattle.selected_types.specs.declared.selections.Selected.{Selected}
 use Rattle.exception_expand.specs.declared.pairs.Pair.{Pair}
+use Rattle.exception_expand.specs.declared.sides.Side.{Side}
+use Rattle.exception_expand.specs.declared.sides.Sides.TheVariants.{Both}
 use Rattle.exception_expand.specs.Pairs.{pairs_between, claim_with, is_judged}
+use Rattle.exception_expand.specs.Sides.{sides_by, HasSide}
+use Rattle.exception_expand.specs.Asking.{Asked, asked, listing_of}
 use Rattle.exception_expand.specs.Points.{all_starts, all_ends, IsFrom, IsTo, given}
 use Rattle.exception_expand.specs.Naming.{start_name, end_name}
 
@@ -41,29 +45,37 @@ sets_of l script e = map (pins_of l script) e.through
 abbrev pub Selects : Linked → Script → Exception → Pair → Type 0
 Selects l script e p = (IsFrom l script e.edge e.from p.start × IsTo l script e.to p.end) × HasPath l.design p.start p.end (sets_of l script e)
 
--- the same of a command, which selects nothing where it claims nothing
-abbrev pub SelectsBy : Linked → Script → What → Pair → Type 0
-SelectsBy l script (Claiming e) p = Selects l script e p
-SelectsBy l script _ p = ⊥
+-- both sides of all pairs, pair by pair, late before early
+abbrev pub all_sides : Design → List Side
+all_sides d = flat_map (sides_by Both) (all_pairs d)
 
--- a pair, and the place of a command in its script
+-- what is asked is asked of this side, and selects its pair; nothing is selected where nothing is asked
+abbrev pub IsAskedOf : Linked → Script → Option Asked → Side → Type 0
+IsAskedOf l script None s = ⊥
+IsAskedOf l script (Some by) s = HasSide by.sides s.early × Selects l script by.exception s.pair
+
+-- the command claims something of the side of the pair, with hold sides or without
+abbrev pub SelectsBy : Linked → Script → Bool → What → Side → Type 0
+SelectsBy l script hold what s = IsAskedOf l script (asked hold what) s
+
+-- a side of a pair, and the place of a command in its script
 pub record Chosen : Type 0 where
   pub command : ℕ
-  pub pair : Pair
+  pub side : Side
 
-abbrev pub chosen_by : ℕ → Pair → Chosen
-chosen_by command p = record { command = command; pair = p }
+abbrev pub chosen_by : ℕ → Side → Chosen
+chosen_by command s = record { command = command; side = s }
 
--- all pairs once more for each command, command by command
+-- all sides once more for each command, command by command
 abbrev pub pairs_at : Design → ℕ → Command → List Chosen
-pairs_at d command c = map (chosen_by command) (all_pairs d)
+pairs_at d command c = map (chosen_by command) (all_sides d)
 
 abbrev pub script_pairs : Linked → Script → List Chosen
 script_pairs l script = each_at (pairs_at l.design) 0 script.commands
 
--- the command at its place selects the pair
-abbrev pub IsSelected : Linked → Script → Chosen → Type 0
-IsSelected l script x = (c : Command) × (slice_get script.commands x.command ≡ Some c) × SelectsBy l script c.what x.pair
+-- the command at its place claims something of the side of the pair
+abbrev pub IsSelected : Linked → Script → Bool → Chosen → Type 0
+IsSelected l script hold x = (c : Command) × (slice_get script.commands x.command ≡ Some c) × SelectsBy l script hold c.what x.side
 
 -- exceptions are numbered from 1, whether they claim anything or not
 abbrev pub is_exception : What → Bool
@@ -79,24 +91,30 @@ number_of script place = count_by (λ (c : Command). is_exception c.what) (take 
 abbrev pub pair_line : Linked → ℕ → Pair → PairLine
 pair_line l number p = record { command = number; start = start_name l p.start; end = end_name l p.end }
 
+abbrev pub side_line : Linked → ℕ → Side → PairLine
+side_line l number s = pair_line l number s.pair
+
 abbrev pub line_of : Linked → Script → Chosen → PairLine
-line_of l script x = pair_line l (number_of script x.command) x.pair
+line_of l script x = side_line l (number_of script x.command) x.side
 
--- what an exception claims of a pair
-abbrev pub claim : Linked → Script → Judging → Exception → Pair → Claim
-claim l script judging e p = claim_with e.kind e.edge judging (sets_of l script e) p
+-- what an exception claims of a side of a pair
+abbrev pub claim : Linked → Script → Judging → Exception → Side → Claim
+claim l script judging e s = claim_with e.kind e.edge judging (sets_of l script e) s
 
-abbrev pub claim_by : Linked → Script → Judging → Pair → What → Option Claim
-claim_by l script judging p (Claiming e) = Some (claim l script judging e p)
-claim_by l script judging p _ = None
+abbrev pub claim_asked : Linked → Script → Judging → Side → Option Asked → Option Claim
+claim_asked l script judging s None = None
+claim_asked l script judging s (Some by) = Some (claim l script judging by.exception s)
 
-abbrev pub claim_at : Linked → Script → Judging → Pair → Option Command → Option Claim
-claim_at l script judging p None = None
-claim_at l script judging p (Some c) = claim_by l script judging p c.what
+abbrev pub claim_by : Linked → Script → Judging → Side → What → Option Claim
+claim_by l script judging s what = claim_asked l script judging s (asked judging.hold what)
 
--- what the command at its place claims of a pair
+abbrev pub claim_at : Linked → Script → Judging → Side → Option Command → Option Claim
+claim_at l script judging s None = None
+claim_at l script judging s (Some c) = claim_by l script judging s c.what
+
+-- what the command at its place claims of a side of a pair
 abbrev pub claim_of : Linked → Script → Judging → Chosen → Option Claim
-claim_of l script judging x = claim_at l script judging x.pair (slice_get script.commands x.command)
+claim_of l script judging x = claim_at l script judging x.side (slice_get script.commands x.command)
 
 -- the warnings of the objects of an exception: those after `-from` or the like, after each `-through`, and after `-to`
 abbrev pub exception_warnings : Linked → Script → Exception → List Warning
@@ -107,24 +125,34 @@ exception_warnings l script e =
 abbrev pub command_line : ℕ → Listing → List Warning → CommandLine
 command_line line listing told = record { line = line; listing = listing; warnings = told }
 
--- an exception as it is listed, a claiming one with the number of its pairs; no other command is listed
-abbrev pub lines_by : Linked → Script → ℕ → ℕ → What → List CommandLine
-lines_by l script count line (Claiming e) = command_line line (ListsClaims e.kind e.edge count) (exception_warnings l script e) ∷ []
-lines_by l script count line (Hold held) = command_line line ListsHold [] ∷ []
-lines_by l script count line (Aside option) = command_line line (ListsAside option) [] ∷ []
-lines_by l script count line _ = []
+-- an exception that asks nothing as it is listed; no other command is listed
+abbrev pub lines_unasked : ℕ → What → List CommandLine
+lines_unasked line (Hold held) = command_line line ListsHold [] ∷ []
+lines_unasked line (Aside option) = command_line line (ListsAside option) [] ∷ []
+lines_unasked line _ = []
 
--- how many pairs the command at a place selects
+-- one that asks something, with the number of its claims and with the warnings of its objects
+abbrev pub lines_asked : Linked → Script → ℕ → ℕ → What → Option Asked → List CommandLine
+lines_asked l script count line what None = lines_unasked line what
+lines_asked l script count line what (Some by) = command_line line (listing_of by count) (exception_warnings l script by.exception) ∷ []
+
+abbrev pub lines_by : Linked → Script → Bool → ℕ → ℕ → What → List CommandLine
+lines_by l script hold count line what = lines_asked l script count line what (asked hold what)
+
+-- how many sides of pairs the command at a place selects
 abbrev pub count_at : List Chosen → ℕ → ℕ
 count_at chosen place = count_by (λ (x : Chosen). x.command == place) chosen
 
-abbrev pub lines_at : Linked → Script → List Chosen → ℕ → Command → List CommandLine
-lines_at l script chosen place c = lines_by l script (count_at chosen place) c.line c.what
+abbrev pub lines_at : Linked → Script → Bool → List Chosen → ℕ → Command → List CommandLine
+lines_at l script hold chosen place c = lines_by l script hold (count_at chosen place) c.line c.what
 
 -- a claiming command has at most four through sets
-abbrev pub HasFewSets : What → Type 0
-HasFewSets (Claiming e) = length e.through ≤ 4
-HasFewSets _ = Unit {0}
+abbrev pub AsksFewSets : Option Asked → Type 0
+AsksFewSets None = Unit {0}
+AsksFewSets (Some by) = length by.exception.through ≤ 4
+
+abbrev pub HasFewSets : Bool → What → Type 0
+HasFewSets hold what = AsksFewSets (asked hold what)
 
 -- each multiplier is from 1 to 16
 abbrev pub HasMultiplier : What → Type 0
@@ -134,15 +162,15 @@ HasMultiplier _ = Unit {0}
 abbrev pub HasMultipliers : Script → Type 0
 HasMultipliers script = All (λ (c : Command). HasMultiplier c.what) script.commands
 
--- exactly the selected pairs, command by command, by start and then by end, within the limits; each with a claim that fits
--- the design
+-- exactly the selected sides of pairs, command by command, by start and then by end, late before early, within the limits;
+-- each with a claim that fits the design
 pub record IsSelectionOf (l : Linked) (script : Script) (judging : Judging) (s : Selected) : Type 0 where
   pub chosen : List Chosen
-  pub those : AreThose (IsSelected l script) (script_pairs l script) chosen
+  pub those : AreThose (IsSelected l script judging.hold) (script_pairs l script) chosen
   pub pairs : s.pairs ≡ map (line_of l script) chosen
   pub claims : map Some s.claims ≡ map (claim_of l script judging) chosen
-  pub commands : s.commands ≡ each_at (lines_at l script chosen) 0 script.commands
-  pub sets : All (λ (c : Command). HasFewSets c.what) script.commands
+  pub commands : s.commands ≡ each_at (lines_at l script judging.hold chosen) 0 script.commands
+  pub sets : All (λ (c : Command). HasFewSets judging.hold c.what) script.commands
   pub few : length chosen ≤ 100000
   pub judged : count_by (is_judged l.design) s.claims ≤ 10000
   pub fit : All (Fits l.design) s.claims

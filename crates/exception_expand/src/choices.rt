@@ -3,14 +3,15 @@ ghost use Rattle.std.specs.Prelude.{IfOk, IfErr};
 ghost use Rattle.net_model.specs.Netlist.{IsSound};
 ghost use Rattle.net_paths.specs.Searches.{IsSearchOf};
 ghost use Rattle.sdc_objects.specs.Tables.{IsTablesOf};
+ghost use Rattle.exception_expand.specs.Asking.{asked_by};
 ghost use Rattle.exception_expand.specs.Choices.{ArePointsOf, IsChoiceOf, IsChoiceCause};
 
+use crate::asks::Ask;
 use crate::lists::lists_of;
 use crate::pairs::{Pair, connected};
 use crate::points::Points;
 use net_model::{MOST_SETS, PinSet};
 use net_paths::Search;
-use script_types::Exception;
 use sdc_objects::Scope;
 use sdcv_base::{LimitName, Seq};
 use selected_types::{ExpandFault, Warning};
@@ -29,7 +30,7 @@ pub fn choose(
     alloc: Global,
     scope: &Scope,
     points: &Points,
-    exception: &Exception,
+    ask: &Ask,
     search: &mut Search,
     most: usize,
 ) -> Result<Choice, ExpandFault>
@@ -37,15 +38,15 @@ pub fn choose(
     requires tables { IsTablesOf scope.now.linked.now scope.now.tables.now }
     requires points { ArePointsOf scope.now.linked.now.design points.now }
     requires search { IsSearchOf scope.now.linked.now.design search.old }
-    ensures ok { IfOk result (IsChoiceOf scope.now.linked.now scope.now.script.now exception.now most) }
-    ensures err { IfErr result (IsChoiceCause scope.now.linked.now scope.now.script.now exception.now most) }
+    ensures ok { IfOk result (IsChoiceOf scope.now.linked.now scope.now.script.now (asked_by ask.now).exception most) }
+    ensures err { IfErr result (IsChoiceCause scope.now.linked.now scope.now.script.now (asked_by ask.now).exception most) }
     ensures search { IsSearchOf scope.now.linked.now.design search.new }
 {
-    if exception.through.len() > MOST_SETS {
+    if ask.through.len() > MOST_SETS {
         return Err(ExpandFault::Limit(LimitName::Through, 5));
     }
     let mut warnings = Seq::new(alloc);
-    let lists = lists_of(alloc, scope, points, exception, &mut warnings)?;
+    let lists = lists_of(alloc, scope, points, ask, &mut warnings)?;
     let pairs = connected(alloc, &scope.linked.design, &lists, search, most)?;
     if pairs.len() > most {
         return Err(ExpandFault::Limit(LimitName::Pairs, 100_001));

@@ -1,9 +1,9 @@
 //! The claims of an exception.
-ghost use Rattle.std.specs.Prelude.{◌≡◌, ◌++◌, IfOk, OnOk, map};
+ghost use Rattle.std.specs.Prelude.{◌≡◌, if◌then◌else◌, ◌++◌, IfOk, OnOk, map};
 ghost use Rattle.exception_expand.specs.Pairs.{claim_with};
 ghost use Rattle.exception_expand.specs.Pairs as spec;
 
-use crate::pairs::Pair;
+use crate::sides::Side;
 use net_model::{Claim, Edge, Kind, PinSet};
 use run_options::Judging;
 use sdcv_base::Seq;
@@ -18,44 +18,50 @@ pub(crate) struct Terms<'a> {
     pub sets: &'a Seq<PinSet>,
 }
 
-/// Adds a claim of each pair.
+/// Adds a claim of each side of a pair.
 pub(crate) fn push_claims(
     alloc: Global,
     terms: &Terms,
-    pairs: &Seq<Pair>,
+    sides: &Seq<Side>,
     claims: &mut Seq<Claim>,
 ) -> Result<(), AllocError>
-    ensures { OnOk result (claims.new ≡ claims.old ++ map (claim_with terms.now.kind terms.now.edge terms.now.judging terms.now.sets.now) pairs.now) }
+    ensures { OnOk result (claims.new ≡ claims.old ++ map (claim_with terms.now.kind terms.now.edge terms.now.judging terms.now.sets.now) sides.now) }
 {
-    for k in 0..pairs.len() {
-        claims.push(claim_of(alloc, terms, pairs.at(k))?)?;
+    for k in 0..sides.len() {
+        claims.push(claim_of(alloc, terms, sides.at(k))?)?;
     }
     Ok(())
 }
 
-fn claim_of(alloc: Global, terms: &Terms, pair: Pair) -> Result<Claim, AllocError>
-    ensures { IfOk result (λ claim. claim ≡ claim_with terms.now.kind terms.now.edge terms.now.judging terms.now.sets.now pair) }
+fn claim_of(alloc: Global, terms: &Terms, side: Side) -> Result<Claim, AllocError>
+    ensures { IfOk result (λ claim. claim ≡ claim_with terms.now.kind terms.now.edge terms.now.judging terms.now.sets.now side) }
 {
     Ok(Claim {
         kind: terms.kind,
         edge: terms.edge,
-        lag: lag_for(terms.kind, terms.judging.lag),
+        lag: lag_for(side.early, terms.kind, terms.judging.lag),
         hazard: terms.judging.hazard,
-        early: false,
-        start: pair.start,
-        end: pair.end,
+        early: side.early,
+        start: side.pair.start,
+        end: side.pair.end,
         through: copied(alloc, terms.sets)?,
     })
 }
 
-// A multicycle path has no lag.
-fn lag_for(kind: Kind, lag: u8) -> u8
-    ensures { result ≡ spec.lag_for kind lag }
+// A multicycle path has no lag, and neither has the early side of a false path.
+fn lag_for(early: bool, kind: Kind, lag: u8) -> u8
+    ensures { result ≡ spec.lag_for early kind lag }
 {
     match kind {
-        Kind::False => lag,
+        Kind::False => late_lag(early, lag),
         Kind::Multi(_) => 0,
     }
+}
+
+fn late_lag(early: bool, lag: u8) -> u8
+    ensures { result ≡ (if early then 0 else lag) }
+{
+    if early { 0 } else { lag }
 }
 
 fn copied(alloc: Global, sets: &Seq<PinSet>) -> Result<Seq<PinSet>, AllocError>

@@ -1,14 +1,15 @@
 //! What the commands of a script select, command by command.
-ghost use Rattle.std.specs.Prelude.{◌≡◌, ◌++◌, ◌+◌, ◌∷◌, [], ◌≤◌, ◌<◌, All, IfOk, IfErr, OnOk, length, map};
+ghost use Rattle.std.specs.Prelude.{◌≡◌, ◌++◌, ◌+◌, ◌∷◌, [], ◌≤◌, ◌<◌, All, IfOk, IfErr, OnOk, length, map, flat_map};
 ghost use Rattle.net_model.specs.Netlist.{IsSound};
 ghost use Rattle.net_paths.specs.Searches.{IsSearchOf};
 ghost use Rattle.exception_expand.specs.Progress.{IsTask, IsUpTo, Adds, IsWhatCause};
+ghost use Rattle.exception_expand.specs.Asking.{asked_by, listing_of};
+ghost use Rattle.exception_expand.specs.Sides.{sides_by};
 ghost use Rattle.exception_expand.specs.Causes.{IsExpandCause};
 ghost use Rattle.exception_expand.specs.Pairs.{IsPairIn, claim_with};
 ghost use Rattle.exception_expand.specs.Selections as spec;
-ghost use Rattle.selected_types.specs.declared.selections.Listing.TheVariants as listings;
-ghost use Rattle.script_types.specs.declared.scripts.What.TheVariants as whats;
 
+use crate::asks::Ask;
 use crate::choices::{Choice, choose};
 use crate::claims::{Terms, push_claims};
 use crate::limits::MOST_PAIRS;
@@ -16,7 +17,7 @@ use crate::lines::{Names, push_lines};
 use crate::tasks::Task;
 use net_model::Design;
 use net_paths::Search;
-use script_types::{Command, Exception, What};
+use script_types::{Command, What};
 use sdcv_base::Seq;
 use selected_types::{CommandLine, ExpandFault, Listing, Selected};
 use std::alloc::{AllocError, Global};
@@ -91,61 +92,45 @@ impl Progress {
         ensures search { IsSearchOf task.now.scope.linked.now.design self.new.search }
         ensures ok { OnOk result
             (Adds task.now.scope.linked.now task.now.scope.script.now task.now.judging line what.now self.old.selected self.new.selected) }
-        ensures err { IfErr result (IsWhatCause task.now.scope.linked.now task.now.scope.script.now (length self.old.selected.claims) what.now) }
+        ensures err { IfErr result (IsWhatCause task.now.scope.linked.now task.now.scope.script.now task.now.judging.hold
+            (length self.old.selected.claims) what.now) }
     {
-        match what {
-            What::Claiming(exception) => self.add_exception(alloc, task, line, exception),
-            What::Hold(_) => Ok(add_line(alloc, &mut self.selected, line, Listing::Hold)?),
-            What::Aside(option) => {
-                let listing = Listing::Aside(option.copy(alloc)?);
-                Ok(add_line(alloc, &mut self.selected, line, listing)?)
-            }
-            What::Clock { name: _, source: _ }
-            | What::Case {
-                value: _,
-                objects: _,
-            }
-            | What::Passed
-            | What::Unjudged(_)
-            | What::Scope(_)
-            | What::Generated {
-                name: _,
-                objects: _,
-            }
-            | What::Delay {
-                output: _,
-                clocks: _,
-                objects: _,
-            } => Ok(()),
-        }
-    }
-
-    fn add_exception(
-        &mut self,
-        alloc: Global,
-        task: &Task,
-        line: u64,
-        exception: &Exception,
-    ) -> Result<(), ExpandFault>
-        requires task { IsTask task.now }
-        requires search { IsSearchOf task.now.scope.linked.now.design self.old.search }
-        requires few { length self.old.selected.claims ≤ 100000 }
-        ensures search { IsSearchOf task.now.scope.linked.now.design self.new.search }
-        ensures ok { OnOk result (Adds task.now.scope.linked.now task.now.scope.script.now task.now.judging line
-            (whats.Claiming exception.now) self.old.selected self.new.selected) }
-        ensures err { IfErr result (IsWhatCause task.now.scope.linked.now task.now.scope.script.now (length self.old.selected.claims)
-            (whats.Claiming exception.now)) }
-    {
-        let most = MOST_PAIRS - self.selected.claims.len();
+        let Some(ask) = Ask::of(what, task.judging.hold) else {
+            return Ok(add_unasked(alloc, &mut self.selected, line, what)?);
+        };
+        let most = ask
+            .sides
+            .most_pairs(MOST_PAIRS - self.selected.claims.len());
         let choice = choose(
             alloc,
             &task.scope,
             task.points,
-            exception,
+            &ask,
             &mut self.search,
             most,
         )?;
-        Ok(add_choice(alloc, &mut self.selected, task, line, exception, choice)?)
+        Ok(add_choice(alloc, &mut self.selected, task, line, &ask, choice)?)
+    }
+}
+
+// Adds a command that asks nothing: an exception has a line.
+fn add_unasked(
+    alloc: Global,
+    selected: &mut Selected,
+    line: u64,
+    what: &What,
+) -> Result<(), AllocError>
+    ensures commands { OnOk result (selected.new.commands ≡ selected.old.commands ++ spec.lines_unasked line what.now) }
+    ensures pairs { selected.new.pairs ≡ selected.old.pairs }
+    ensures claims { selected.new.claims ≡ selected.old.claims }
+{
+    match what {
+        What::Hold(_) => add_line(alloc, selected, line, Listing::Hold),
+        What::Aside(option) => {
+            let listing = Listing::Aside(option.copy(alloc)?);
+            add_line(alloc, selected, line, listing)
+        }
+        _ => Ok(()),
     }
 }
 
@@ -175,41 +160,41 @@ fn add_choice(
     selected: &mut Selected,
     task: &Task,
     line: u64,
-    exception: &Exception,
+    ask: &Ask,
     choice: Choice,
 ) -> Result<(), AllocError>
     requires task { IsTask task.now }
     requires pairs { All (IsPairIn task.now.scope.linked.now.design) choice.pairs }
-    ensures commands { OnOk result (selected.new.commands ≡ selected.old.commands
-        ++ spec.command_line line (listings.Claiming exception.now.kind exception.now.edge (length choice.pairs)) choice.warnings ∷ []) }
+    ensures commands { OnOk result (selected.new.commands ≡ selected.old.commands ++ spec.command_line line
+        (listing_of (asked_by ask.now) (length (flat_map (sides_by ask.now.sides) choice.pairs))) choice.warnings ∷ []) }
     ensures pairs { OnOk result (selected.new.pairs ≡ selected.old.pairs
-        ++ map (spec.pair_line task.now.scope.linked.now (length selected.new.commands)) choice.pairs) }
+        ++ map (spec.side_line task.now.scope.linked.now (length selected.new.commands)) (flat_map (sides_by ask.now.sides) choice.pairs)) }
     ensures claims { OnOk result (selected.new.claims ≡ selected.old.claims
-        ++ map (claim_with exception.now.kind exception.now.edge task.now.judging choice.sets) choice.pairs) }
+        ++ map (claim_with ask.now.kind ask.now.edge task.now.judging choice.sets) (flat_map (sides_by ask.now.sides) choice.pairs)) }
 {
     let Choice {
         pairs,
         sets,
         warnings,
     } = choice;
-    let (kind, edge) = (exception.kind, exception.edge);
-    let listing = Listing::Claiming(kind, edge, pairs.len() as u64);
+    let sides = ask.sides.of_pairs(alloc, &pairs)?;
+    let listing = ask.listing(sides.len() as u64);
     selected.commands.push(CommandLine {
         line,
         listing,
         warnings,
     })?;
-    let number = selected.commands.len() as u64;
     let names = Names {
         linked: task.scope.linked,
         cells: task.cells,
     };
-    push_lines(alloc, &names, number, &pairs, &mut selected.pairs)?;
+    let number = selected.commands.len() as u64;
+    push_lines(alloc, &names, number, &sides, &mut selected.pairs)?;
     let terms = Terms {
-        kind,
-        edge,
+        kind: ask.kind,
+        edge: ask.edge,
         judging: task.judging,
         sets: &sets,
     };
-    push_claims(alloc, &terms, &pairs, &mut selected.claims)
+    push_claims(alloc, &terms, &sides, &mut selected.claims)
 }

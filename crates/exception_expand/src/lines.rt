@@ -2,11 +2,13 @@
 ghost use Rattle.std.specs.Prelude.{◌≡◌, ◌++◌, All, IfOk, OnOk, map};
 ghost use Rattle.linked_types.specs.Usable.{IsUsable};
 ghost use Rattle.exception_expand.specs.Naming.{AreRegCells};
-ghost use Rattle.exception_expand.specs.Selections.{pair_line as line};
+ghost use Rattle.exception_expand.specs.Selections.{pair_line as line, side_line};
 ghost use Rattle.exception_expand.specs.Pairs.{IsPairIn};
+ghost use Rattle.exception_expand.specs.declared.sides.Side.{Side as SideRecord};
 
 use crate::names::{end_name, start_name};
 use crate::pairs::Pair;
+use crate::sides::Side;
 use linked_types::Linked;
 use sdcv_base::Seq;
 use selected_types::PairLine;
@@ -19,21 +21,21 @@ pub(crate) struct Names<'a> {
     pub cells: &'a Seq<Option<usize>>,
 }
 
-/// Adds a line for each pair of the exception of this number.
+/// Adds a line for each side of a pair of the exception of this number.
 pub(crate) fn push_lines(
     alloc: Global,
     names: &Names,
     number: u64,
-    pairs: &Seq<Pair>,
+    sides: &Seq<Side>,
     lines: &mut Seq<PairLine>,
 ) -> Result<(), AllocError>
     requires usable { IsUsable names.now.linked.now }
     requires cells { AreRegCells names.now.linked.now names.now.cells.now }
-    requires pairs { All (IsPairIn names.now.linked.now.design) pairs.now }
-    ensures { OnOk result (lines.new ≡ lines.old ++ map (line names.now.linked.now number) pairs.now) }
+    requires sides { All (λ (s : SideRecord). IsPairIn names.now.linked.now.design s.pair) sides.now }
+    ensures { OnOk result (lines.new ≡ lines.old ++ map (side_line names.now.linked.now number) sides.now) }
 {
-    for k in 0..pairs.len() {
-        lines.push(pair_line(alloc, names, number, pairs.at(k))?)?;
+    for k in 0..sides.len() {
+        lines.push(pair_line(alloc, names, number, sides.at(k).pair)?)?;
     }
     Ok(())
 }

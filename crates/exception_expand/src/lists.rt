@@ -3,13 +3,14 @@ ghost use Rattle.std.specs.Prelude.{◌≡◌, ◌++◌, IfOk, OnOk};
 ghost use Rattle.sdc_objects.specs.Tables.{IsTablesOf};
 ghost use Rattle.net_model.specs.Netlist.{IsSound};
 ghost use Rattle.exception_expand.specs.Choices.{ArePointsOf, AreListsOf};
+ghost use Rattle.exception_expand.specs.Asking.{asked_by};
 ghost use Rattle.exception_expand.specs.Selections.{exception_warnings};
 
+use crate::asks::Ask;
 use crate::marks::wanted;
 use crate::points::Points;
 use crate::sets::pin_sets;
 use net_model::{Edge, End, PinSet, Start};
-use script_types::Exception;
 use sdc_objects::Scope;
 use sdcv_base::Seq;
 use selected_types::Warning;
@@ -28,31 +29,17 @@ pub fn lists_of(
     alloc: Global,
     scope: &Scope,
     points: &Points,
-    exception: &Exception,
+    ask: &Ask,
     warnings: &mut Seq<Warning>,
 ) -> Result<Lists, AllocError>
     requires sound { IsSound scope.now.linked.now.design }
     requires tables { IsTablesOf scope.now.linked.now scope.now.tables.now }
     requires points { ArePointsOf scope.now.linked.now.design points.now }
-    ensures lists { IfOk result (AreListsOf scope.now.linked.now scope.now.script.now exception.now) }
-    ensures warnings { OnOk result (warnings.new ≡ warnings.old ++ exception_warnings scope.now.linked.now scope.now.script.now exception.now) }
+    ensures lists { IfOk result (AreListsOf scope.now.linked.now scope.now.script.now (asked_by ask.now).exception) }
+    ensures warnings { OnOk result (warnings.new ≡ warnings.old ++ exception_warnings scope.now.linked.now scope.now.script.now (asked_by ask.now).exception) }
 {
-    let starts = wanted(
-        alloc,
-        scope,
-        exception.edge,
-        &points.starts,
-        &exception.from,
-        warnings,
-    )?;
-    let sets = pin_sets(alloc, scope, &exception.through, warnings)?;
-    let ends = wanted(
-        alloc,
-        scope,
-        Edge::Any,
-        &points.ends,
-        &exception.to,
-        warnings,
-    )?;
+    let starts = wanted(alloc, scope, ask.edge, &points.starts, ask.from, warnings)?;
+    let sets = pin_sets(alloc, scope, ask.through, warnings)?;
+    let ends = wanted(alloc, scope, Edge::Any, &points.ends, ask.to, warnings)?;
     Ok(Lists { starts, sets, ends })
 }

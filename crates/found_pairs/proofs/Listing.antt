@@ -1,5 +1,5 @@
 -- The commands of a script of lines, as a report lists them: each selects one pair, and none has a warning.
-use Rattle.std.proofs.Common.{arith, ◌≡◌, ◌∙◌, ◌≢◌, ℕ, zero, suc, ◌+◌, ◌<◌, true, List, [], ◌∷◌, ◌++◌, refl, sym, ap, subst}
+use Rattle.std.proofs.Common.{arith, ◌≡◌, ◌∙◌, ◌≢◌, ℕ, zero, suc, ◌+◌, ◌<◌, true, false, List, [], ◌∷◌, ◌++◌, refl, sym, ap, subst}
 use Rattle.std.specs.Prelude.{Option, Some, slice_get, ◌==◌}
 use Rattle.std.proofs.lemmas.Option.{slice_get_within}
 use Rattle.sdcv_base.specs.declared.kinds.Kind.TheVariants.{Multi}
@@ -19,6 +19,7 @@ use Rattle.selected_types.specs.declared.warnings.Warning.{Warning}
 use Rattle.exception_expand.specs.declared.pairs.Pair.{Pair}
 use Rattle.selected_types.specs.declared.selections.CommandLine.{CommandLine}
 use Rattle.selected_types.specs.declared.selections.Listing.TheVariants.{Claiming as ListsClaims, Hold as ListsHold}
+use Rattle.exception_expand.specs.Sides.{side}
 use Rattle.exception_expand.specs.Selections as spec
 use Rattle.exception_expand.specs.Selections.{Chosen, chosen_by, count_at}
 use Rattle.exception_expand.proofs.Counting.{count_append, count_own, count_other}
@@ -38,8 +39,8 @@ none_before place other (Setup x ∷ lines) (p ∷ pairs) low =
     let differ : place ≢ other = omega (arith, low) in
     omega (
       arith,
-      count_append (λ (x : Chosen). x.command == other) (chosen_by place p ∷ []) (chosen_from (place + 1) lines pairs),
-      count_other place other (p ∷ []) differ,
+      count_append (λ (x : Chosen). x.command == other) (chosen_by place (side false p) ∷ []) (chosen_from (place + 1) lines pairs),
+      count_other place other (side false p ∷ []) differ,
       none_before (place + 1) other lines pairs (omega (arith, low)),
     )
 none_before place other (Hold x ∷ lines) pairs low = none_before (place + 1) other lines pairs (omega (arith, low))
@@ -54,8 +55,8 @@ one_each l place zero (Setup y ∷ lines) (p ∷ pairs) x are here =
     let one : count_at (chosen_from place (Setup y ∷ lines) (p ∷ pairs)) place ≡ 1 =
     omega (
       arith,
-      count_append (λ (x : Chosen). x.command == place) (chosen_by place p ∷ []) (chosen_from (place + 1) lines pairs),
-      count_own place (p ∷ []),
+      count_append (λ (x : Chosen). x.command == place) (chosen_by place (side false p) ∷ []) (chosen_from (place + 1) lines pairs),
+      count_own place (side false p ∷ []),
       none_before (place + 1) place lines pairs (omega arith),
     ) in
     ap (count_at (chosen_from place (Setup y ∷ lines) (p ∷ pairs))) at ∙ one
@@ -67,8 +68,8 @@ one_each l place (suc j) (Setup y ∷ lines) (p ∷ pairs) x are here =
     let later : count_at (chosen_from place (Setup y ∷ lines) (p ∷ pairs)) ((place + 1) + j) ≡ 1 =
     omega (
       arith,
-      count_append (λ (x : Chosen). x.command == (place + 1) + j) (chosen_by place p ∷ []) (chosen_from (place + 1) lines pairs),
-      count_other place ((place + 1) + j) (p ∷ []) differ,
+      count_append (λ (x : Chosen). x.command == (place + 1) + j) (chosen_by place (side false p) ∷ []) (chosen_from (place + 1) lines pairs),
+      count_other place ((place + 1) + j) (side false p ∷ []) differ,
       one_each l (place + 1) j lines pairs x are.1 here,
     ) in
     ap (count_at (chosen_from place (Setup y ∷ lines) (p ∷ pairs))) at ∙ later
@@ -118,7 +119,7 @@ ones_later chosen place y lines one j x here =
 -- the commands, where each but a hold line selects one pair
 pub lines_listed : (l : Linked) (script : Script) (chosen : List Chosen) (place number : ℕ) (lines : List CheckLine) (pairs : List Pair) → IsUsable l
     → AreLines l lines pairs → ((j : ℕ) (x : FoundLine) → slice_get lines j ≡ Some (Setup x) → count_at chosen (place + j) ≡ 1)
-    → each_at (spec.lines_at l script chosen) place (commands_from number lines) ≡ commands_listed number lines
+    → each_at (spec.lines_at l script false chosen) place (commands_from number lines) ≡ commands_listed number lines
 lines_listed l script chosen place number [] pairs usable are one = refl
 lines_listed l script chosen place number (Setup x ∷ lines) [] usable are one = absurd are
 lines_listed l script chosen place number (Setup x ∷ lines) (p ∷ pairs) usable (is, are) one =
@@ -127,7 +128,7 @@ lines_listed l script chosen place number (Setup x ∷ lines) (p ∷ pairs) usab
     let from = start_warns l script is.regs.first x.start usable is.readable.start (subst (IsRegCell l is.regs.first) (sym is.start) is.regs.start_cell) in
     let to = end_warns l script is.regs.second x.end usable is.readable.end (subst (IsRegCell l is.regs.second) (sym is.end_) is.regs.end_cell) in
     let told = λ (first last : List Warning). (first ++ []) ++ last in
-    let rest = each_at (spec.lines_at l script chosen) (place + 1) (commands_from (number + 1) lines) in
+    let rest = each_at (spec.lines_at l script false chosen) (place + 1) (commands_from (number + 1) lines) in
     let later = lines_listed l script chosen (place + 1) (number + 1) lines pairs usable are (ones_later chosen place (Setup x) lines one) in
     let line = λ (n : ℕ) (ws : List Warning). spec.command_line number (ListsClaims (Multi x.k) Any n) ws in
     let from_told = warnings (from_column Any) l script From (cell_named x.start) in

@@ -1,5 +1,5 @@
 -- A line selects the pair of registers whose cells it names, and no other.
-use Rattle.std.proofs.Common.{◌≡◌, ◌∙◌, ℕ, ◌<◌, true, List, [], ◌∷◌, ◌++◌, length, sym, ap, subst, inl, inr}
+use Rattle.std.proofs.Common.{◌≡◌, ◌∙◌, ℕ, ◌<◌, true, false, List, [], ◌∷◌, ◌++◌, length, sym, ap, subst, inl, inr}
 use Rattle.std.specs.Prelude.{Option, Some, Contains}
 use Rattle.net_model.specs.declared.claims.Start.{Start}
 use Rattle.net_model.specs.declared.claims.Start.TheVariants.{Reg as RegStart}
@@ -20,8 +20,11 @@ use Rattle.exception_expand.specs.declared.pairs.Pair.{Pair}
 use Rattle.exception_expand.specs.Naming.{start_name, end_name}
 use Rattle.exception_expand.specs.Pairs.{pair, IsConnected}
 use Rattle.exception_expand.specs.Points.{all_starts, all_ends, IsFrom, IsTo}
-use Rattle.exception_expand.specs.Selections.{all_pairs, SelectsBy}
+use Rattle.exception_expand.specs.Selections.{all_pairs, all_sides, SelectsBy}
+use Rattle.exception_expand.specs.declared.sides.Sides.TheVariants.{Late}
+use Rattle.exception_expand.specs.Sides.{side}
 use Rattle.exception_expand.proofs.Sharing.{those_pairs}
+use Rattle.exception_expand.proofs.Siding.{those_sides}
 use Rattle.multicycle_text.specs.Lines.{FoundLine, Setup}
 use Rattle.multicycle_text.specs.Names.{is_writable}
 use Rattle.multicycle_text.specs.Scripts.{cell_named, exception_by}
@@ -75,10 +78,10 @@ ends_meant l script r objects low is =
 abbrev IsListed : Linked → Script → FoundLine → Pair → Type 0
 IsListed l script x p = IsFrom l script Any (Some (cell_named x.start)) p.start × IsTo l script (Some (cell_named x.end)) p.end
 
--- a line of its names selects it alone
+-- a line of its names selects its late side alone
 pub line_selects : (l : Linked) (script : Script) (x : FoundLine) (p : Pair) → IsUsable l → is_writable x.start ≡ true → is_writable x.end ≡ true
     → x.start ≡ start_name l p.start → x.end ≡ end_name l p.end → IsRegPair l p
-    → AreThose (SelectsBy l script (exception_by (Setup x))) (all_pairs l.design) (p ∷ [])
+    → AreThose (SelectsBy l script false (exception_by (Setup x))) (all_sides l.design) (side false p ∷ [])
 line_selects l script x p usable can_start can_end start end_ is =
     let first = subst (IsRegCell l is.first) (sym start) is.start_cell in
     let second = subst (IsRegCell l is.second) (sym end_) is.end_cell in
@@ -92,5 +95,7 @@ line_selects l script x p usable can_start can_end start end_ is =
     those_pairs pair (IsFrom l script Any (Some (cell_named x.start))) (IsTo l script (Some (cell_named x.end))) (IsListed l script x)
     (all_starts l.design) (RegStart is.first ∷ []) (all_ends l.design) (RegEnd is.second ∷ []) (λ a b h k. (h, k)) (λ a b h. h.0) (λ a b h. h.1) starts ends in
     let path : IsConnected l.design [] one = subst (IsConnected l.design []) same is.path in
-    subst (λ (q : Pair). AreThose (SelectsBy l script (exception_by (Setup x))) (all_pairs l.design) (q ∷ [])) (sym same)
-    (those_within (IsListed l script x) (IsConnected l.design []) (all_pairs l.design) (one ∷ []) (one ∷ []) listed (Taken one [] [] path All_seen))
+    let those : AreThose (λ q. IsListed l script x q × IsConnected l.design [] q) (all_pairs l.design) (one ∷ []) =
+    those_within (IsListed l script x) (IsConnected l.design []) (all_pairs l.design) (one ∷ []) (one ∷ []) listed (Taken one [] [] path All_seen) in
+    subst (λ (q : Pair). AreThose (SelectsBy l script false (exception_by (Setup x))) (all_sides l.design) (side false q ∷ [])) (sym same)
+    (those_sides Late (λ q. IsListed l script x q × IsConnected l.design [] q) (all_pairs l.design) (one ∷ []) those)

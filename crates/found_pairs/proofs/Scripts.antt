@@ -19,6 +19,8 @@ use Rattle.run_options.specs.declared.judging.Judging.{Judging}
 use Rattle.exception_expand.specs.declared.pairs.Pair.{Pair}
 use Rattle.selected_types.specs.declared.selections.PairLine.{PairLine}
 use Rattle.exception_expand.specs.Naming.{start_name, end_name}
+use Rattle.exception_expand.specs.declared.sides.Side.{Side}
+use Rattle.exception_expand.specs.Sides.{side}
 use Rattle.exception_expand.specs.Pairs.{claim_with}
 use Rattle.exception_expand.specs.Selections as spec
 use Rattle.exception_expand.specs.Selections.{Chosen, chosen_by}
@@ -64,7 +66,7 @@ all_readable l (Hold x ∷ lines) pairs (is, are) = All-cons IsReadableLine (Hol
 abbrev pub chosen_from : ℕ → List CheckLine → List Pair → List Chosen
 chosen_from place [] pairs = []
 chosen_from place (Setup x ∷ lines) [] = []
-chosen_from place (Setup x ∷ lines) (p ∷ pairs) = chosen_by place p ∷ chosen_from (place + 1) lines pairs
+chosen_from place (Setup x ∷ lines) (p ∷ pairs) = chosen_by place (side false p) ∷ chosen_from (place + 1) lines pairs
 chosen_from place (Hold x ∷ lines) pairs = chosen_from (place + 1) lines pairs
 
 -- the commands of a script from a place on
@@ -84,16 +86,16 @@ stand_later script place c cs stand j =
     subst (λ (n : ℕ). slice_get script.commands n ≡ slice_get cs j) at (stand (suc j))
 
 -- what one command selects, with its place
-command_those : (l : Linked) (script : Script) (k : ℕ) (c : Command) (all more : List Pair) → slice_get script.commands k ≡ Some c
-    → AreThose (spec.SelectsBy l script c.what) all more → AreThose (spec.IsSelected l script) (map (chosen_by k) all) (map (chosen_by k) more)
+command_those : (l : Linked) (script : Script) (k : ℕ) (c : Command) (all more : List Side) → slice_get script.commands k ≡ Some c
+    → AreThose (spec.SelectsBy l script false c.what) all more → AreThose (spec.IsSelected l script false) (map (chosen_by k) all) (map (chosen_by k) more)
 command_those l script k c all more here those =
-    those_map (chosen_by k) (spec.SelectsBy l script c.what) (spec.IsSelected l script) all more (λ p sel. (c, here, sel))
-    (λ p sel. subst (λ (d : Command). spec.SelectsBy l script d.what p) (same_Some sel.0 c (sym sel.1 ∙ here)) sel.2) those
+    those_map (chosen_by k) (spec.SelectsBy l script false c.what) (spec.IsSelected l script false) all more (λ s sel. (c, here, sel))
+    (λ s sel. subst (λ (d : Command). spec.SelectsBy l script false d.what s) (same_Some sel.0 c (sym sel.1 ∙ here)) sel.2) those
 
 -- what the lines select
 pub lines_select : (l : Linked) (script : Script) (place number : ℕ) (lines : List CheckLine) (pairs : List Pair) → IsUsable l
     → AreLines l lines pairs → StandFrom script place (commands_from number lines)
-    → AreThose (spec.IsSelected l script) (each_at (spec.pairs_at l.design) place (commands_from number lines)) (chosen_from place lines pairs)
+    → AreThose (spec.IsSelected l script false) (each_at (spec.pairs_at l.design) place (commands_from number lines)) (chosen_from place lines pairs)
 lines_select l script place number [] [] usable are stand = All_seen
 lines_select l script place number [] (p ∷ pairs) usable are stand = absurd are
 lines_select l script place number (Setup x ∷ lines) [] usable are stand = absurd are
@@ -101,30 +103,30 @@ lines_select l script place number (Setup x ∷ lines) (p ∷ pairs) usable (is,
     let c : Command = record { line = number; what = exception_by (Setup x) } in
     let cs = commands_from (number + 1) lines in
     let one = line_selects l script x p usable is.readable.start is.readable.end is.start is.end_ is.regs in
-    those_append (spec.IsSelected l script) (map (chosen_by place) (spec.all_pairs l.design)) (chosen_by place p ∷ [])
+    those_append (spec.IsSelected l script false) (map (chosen_by place) (spec.all_sides l.design)) (chosen_by place (side false p) ∷ [])
     (each_at (spec.pairs_at l.design) (place + 1) cs) (chosen_from (place + 1) lines pairs)
-    (command_those l script place c (spec.all_pairs l.design) (p ∷ []) (stand_here script place c cs stand) one)
+    (command_those l script place c (spec.all_sides l.design) (side false p ∷ []) (stand_here script place c cs stand) one)
     (lines_select l script (place + 1) (number + 1) lines pairs usable are (stand_later script place c cs stand))
 lines_select l script place number (Hold x ∷ lines) pairs usable (is, are) stand =
     let c : Command = record { line = number; what = exception_by (Hold x) } in
     let cs = commands_from (number + 1) lines in
-    let none = those_none (spec.SelectsBy l script c.what) (spec.all_pairs l.design) (λ p selects. selects) in
-    those_append (spec.IsSelected l script) (map (chosen_by place) (spec.all_pairs l.design)) []
+    let none = those_none (spec.SelectsBy l script false c.what) (spec.all_sides l.design) (λ s selects. selects) in
+    those_append (spec.IsSelected l script false) (map (chosen_by place) (spec.all_sides l.design)) []
     (each_at (spec.pairs_at l.design) (place + 1) cs) (chosen_from (place + 1) lines pairs)
-    (command_those l script place c (spec.all_pairs l.design) [] (stand_here script place c cs stand) none)
+    (command_those l script place c (spec.all_sides l.design) [] (stand_here script place c cs stand) none)
     (lines_select l script (place + 1) (number + 1) lines pairs usable are (stand_later script place c cs stand))
 
 -- the claims of the pairs
 abbrev pub line_claims : Judging → List FoundLine → List Pair → List Claim
 line_claims judging [] pairs = []
 line_claims judging (x ∷ found) [] = []
-line_claims judging (x ∷ found) (p ∷ pairs) = claim_with (Multi x.k) Any judging [] p ∷ line_claims judging found pairs
+line_claims judging (x ∷ found) (p ∷ pairs) = claim_with (Multi x.k) Any judging [] (side false p) ∷ line_claims judging found pairs
 
 -- the claims of their lines
 abbrev check_claims : Judging → List CheckLine → List Pair → List Claim
 check_claims judging [] pairs = []
 check_claims judging (Setup x ∷ lines) [] = []
-check_claims judging (Setup x ∷ lines) (p ∷ pairs) = claim_with (Multi x.k) Any judging [] p ∷ check_claims judging lines pairs
+check_claims judging (Setup x ∷ lines) (p ∷ pairs) = claim_with (Multi x.k) Any judging [] (side false p) ∷ check_claims judging lines pairs
 check_claims judging (Hold x ∷ lines) pairs = check_claims judging lines pairs
 
 -- these are the same, with hold lines or without
@@ -133,10 +135,10 @@ same_claims : (judging : Judging) (hold : Bool) (found : List FoundLine) (pairs 
 same_claims judging hold [] pairs = refl
 same_claims judging false (x ∷ found) [] = refl
 same_claims judging false (x ∷ found) (p ∷ pairs) =
-    ap (λ (claims : List Claim). claim_with (Multi x.k) Any judging [] p ∷ claims) (same_claims judging false found pairs)
+    ap (λ (claims : List Claim). claim_with (Multi x.k) Any judging [] (side false p) ∷ claims) (same_claims judging false found pairs)
 same_claims judging true (x ∷ found) [] = refl
 same_claims judging true (x ∷ found) (p ∷ pairs) =
-    ap (λ (claims : List Claim). claim_with (Multi x.k) Any judging [] p ∷ claims) (same_claims judging true found pairs)
+    ap (λ (claims : List Claim). claim_with (Multi x.k) Any judging [] (side false p) ∷ claims) (same_claims judging true found pairs)
 
 -- what the commands claim
 checks_claim : (l : Linked) (script : Script) (judging : Judging) (place number : ℕ) (lines : List CheckLine) (pairs : List Pair)
@@ -147,9 +149,9 @@ checks_claim l script judging place number (Setup x ∷ lines) [] are stand = ab
 checks_claim l script judging place number (Setup x ∷ lines) (p ∷ pairs) (is, are) stand =
     let c : Command = record { line = number; what = exception_by (Setup x) } in
     let cs = commands_from (number + 1) lines in
-    ap (λ (o : Option Command). spec.claim_at l script judging p o ∷ map (spec.claim_of l script judging) (chosen_from (place + 1) lines pairs))
+    ap (λ (o : Option Command). spec.claim_at l script judging (side false p) o ∷ map (spec.claim_of l script judging) (chosen_from (place + 1) lines pairs))
     (stand_here script place c cs stand)
-    ∙ ap (λ (claims : List (Option Claim)). Some (claim_with (Multi x.k) Any judging [] p) ∷ claims)
+    ∙ ap (λ (claims : List (Option Claim)). Some (claim_with (Multi x.k) Any judging [] (side false p)) ∷ claims)
     (checks_claim l script judging (place + 1) (number + 1) lines pairs are (stand_later script place c cs stand))
 checks_claim l script judging place number (Hold x ∷ lines) pairs (is, are) stand =
     let c : Command = record { line = number; what = exception_by (Hold x) } in
@@ -180,7 +182,7 @@ lines_list l script place (Setup x ∷ lines) (p ∷ pairs) (is, are) number =
     let here : spec.number_of script place ≡ place + 1 =
     let at : place + 0 ≡ place = omega arith in subst (λ (n : ℕ). spec.number_of script n ≡ n + 1) at (number 0 (omega arith)) in
     let later = lines_list l script (place + 1) lines pairs are (numbers_later script place (length lines) number) in
-    let line : spec.line_of l script (chosen_by place p) ≡ record { command = place + 1; start = x.start; end = x.end } =
+    let line : spec.line_of l script (chosen_by place (side false p)) ≡ record { command = place + 1; start = x.start; end = x.end } =
     ap (λ (n : ℕ). spec.pair_line l n p) here
     ∙ ap (λ (s : List ℕ). record { command = place + 1; start = s; end = end_name l p.end }) (sym is.start)
     ∙ ap (λ (s : List ℕ). record { command = place + 1; start = x.start; end = s }) (sym is.end_) in

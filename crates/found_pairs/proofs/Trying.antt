@@ -16,10 +16,12 @@ use Rattle.script_types.specs.declared.scripts.Command.{Command}
 use Rattle.sdcv_base.specs.Seqs.{where_true}
 use Rattle.list_laws.proofs.Joining.{item_at}
 use Rattle.run_options.specs.declared.judging.Judging.{Judging}
+use Rattle.run_options.specs.Judging.{judging_by}
 use Rattle.exception_expand.specs.declared.pairs.Pair.{Pair}
 use Rattle.selected_types.specs.declared.selections.PairLine.{PairLine}
 use Rattle.selected_types.specs.declared.selections.Selected.{Selected}
 use Rattle.exception_expand.specs.Naming.{start_name, end_name}
+use Rattle.exception_expand.specs.Sides.{side}
 use Rattle.exception_expand.specs.Pairs.{claim_with}
 use Rattle.exception_expand.specs.Selections as spec
 use Rattle.exception_expand.specs.Selections.{Chosen, IsSelectionOf}
@@ -28,7 +30,7 @@ use Rattle.mcp_detect.specs.declared.detections.Tried.{Tried}
 use Rattle.mcp_detect.specs.declared.detections.Detected.{Detected}
 use Rattle.mcp_detect.specs.Detections.{AreDetected}
 use Rattle.mcp_detect.specs.Options.{AreInRange}
-use Rattle.mcp_detect.specs.Scripts.{registers_script, registers_command, registers_exception}
+use Rattle.mcp_detect.specs.Scripts.{registers_script, registers_command}
 use Rattle.multicycle_text.specs.Names.{is_writable}
 use Rattle.multicycle_text.specs.Scripts.{IsReadable}
 use Rattle.found_pairs.specs.Lines.{is_written, line_of, lines_of}
@@ -73,14 +75,14 @@ written_lines l (t ∷ tried) (p ∷ pairs) (is, are) = line_by l t tried p pair
 
 -- the claim of a pair of registers
 abbrev pub tried_claim : Judging → Pair → Claim
-tried_claim judging p = claim_with (Multi 2) Any judging [] p
+tried_claim judging p = claim_with (Multi 2) Any judging [] (side false p)
 
 -- one claim more, written or not
 claim_by : (judging : Judging) (t : Tried) (tried : List Tried) (p : Pair) (pairs : List Pair) (b : Bool)
     → line_claims judging (lines_of tried) (written_of tried pairs) ≡ written_claims tried (map (tried_claim judging) pairs)
     → line_claims judging (map line_of (cond b (t ∷ filter is_written tried) (filter is_written tried))) (where_true b p ++ written_of tried pairs)
-    ≡ where_true b (claim_with (Multi t.k) Any judging [] p) ++ written_claims tried (map (tried_claim judging) pairs)
-claim_by judging t tried p pairs true same = ap (λ (claims : List Claim). claim_with (Multi t.k) Any judging [] p ∷ claims) same
+    ≡ where_true b (claim_with (Multi t.k) Any judging [] (side false p)) ++ written_claims tried (map (tried_claim judging) pairs)
+claim_by judging t tried p pairs true same = ap (λ (claims : List Claim). claim_with (Multi t.k) Any judging [] (side false p) ∷ claims) same
 claim_by judging t tried p pairs false same = same
 
 -- the claims of the lines are those of the written pairs
@@ -124,23 +126,26 @@ the_command zero c here = same_Some registers_command c here
 the_command (suc n) c here = absurd (omega (arith, slice_get_within (registers_command ∷ []) (suc n) c here))
 
 -- which selects a pair of registers
-selected_pair : (l : Linked) (x : Chosen) → spec.IsSelected l registers_script x → IsRegPair l x.pair
+selected_pair : (l : Linked) (x : Chosen) → spec.IsSelected l registers_script false x → IsRegPair l x.side.pair
 selected_pair l x sel =
     let same : registers_command ≡ sel.0 = the_command x.command sel.0 sel.1 in
-    let by : spec.Selects l registers_script registers_exception x.pair =
-    subst (λ (c : Command). spec.SelectsBy l registers_script c.what x.pair) (sym same) sel.2 in
-    reg_pair l registers_script x.pair by.0.0 by.0.1 by.1
+    let by : spec.SelectsBy l registers_script false registers_command.what x.side =
+    subst (λ (c : Command). spec.SelectsBy l registers_script false c.what x.side) (sym same) sel.2 in
+    reg_pair l registers_script x.side.pair by.1.0.0 by.1.0.1 by.1.1
 
--- and claims that of it
-selected_claim : (l : Linked) (judging : Judging) (x : Chosen) → spec.IsSelected l registers_script x
-    → spec.claim_of l registers_script judging x ≡ Some (tried_claim judging x.pair)
+-- and claims that of its late side
+selected_claim : (l : Linked) (judging : Judging) (x : Chosen) → spec.IsSelected l registers_script false x
+    → spec.claim_of l registers_script judging x ≡ Some (tried_claim judging x.side.pair)
 selected_claim l judging x sel =
     let same : registers_command ≡ sel.0 = the_command x.command sel.0 sel.1 in
-    ap (spec.claim_at l registers_script judging x.pair) sel.1 ∙ ap (λ (c : Command). spec.claim_by l registers_script judging x.pair c.what) (sym same)
+    let by : spec.SelectsBy l registers_script false registers_command.what x.side =
+    subst (λ (c : Command). spec.SelectsBy l registers_script false c.what x.side) (sym same) sel.2 in
+    ap (spec.claim_at l registers_script judging x.side) sel.1 ∙ ap (λ (c : Command). spec.claim_by l registers_script judging x.side c.what) (sym same)
+    ∙ ap (λ (early : Bool). Some (claim_with (Multi 2) Any judging [] (side early x.side.pair))) by.0
 
 -- the pairs, without their command
 abbrev pub pairs_of : List Chosen → List Pair
-pairs_of chosen = map (λ (x : Chosen). x.pair) chosen
+pairs_of chosen = map (λ (x : Chosen). x.side.pair) chosen
 
 -- two lists of claims that are there are equal where they are as options
 pub some_same : {A : Type 0} (xs ys : List A) → map Some xs ≡ map Some ys → xs ≡ ys
@@ -154,36 +159,37 @@ some_same {A} (x ∷ xs) (y ∷ ys) same =
 
 -- the claims of what is selected
 chosen_claims : (l : Linked) (judging : Judging) (chosen : List Chosen)
-    → ((k : ℕ) (x : Chosen) → slice_get chosen k ≡ Some x → spec.IsSelected l registers_script x)
+    → ((k : ℕ) (x : Chosen) → slice_get chosen k ≡ Some x → spec.IsSelected l registers_script false x)
     → map (spec.claim_of l registers_script judging) chosen ≡ map Some (map (tried_claim judging) (pairs_of chosen))
 chosen_claims l judging [] each = refl
 chosen_claims l judging (x ∷ chosen) each =
     ap (λ (o : Option Claim). o ∷ map (spec.claim_of l registers_script judging) chosen) (selected_claim l judging x (each 0 x refl))
-    ∙ ap (λ (os : List (Option Claim)). Some (tried_claim judging x.pair) ∷ os) (chosen_claims l judging chosen (λ k y here. each (suc k) y here))
+    ∙ ap (λ (os : List (Option Claim)). Some (tried_claim judging x.side.pair) ∷ os) (chosen_claims l judging chosen (λ k y here. each (suc k) y here))
 
 -- the claims of all pairs of registers
-pub registers_claims : (l : Linked) (judging : Judging) (s : Selected) (is : IsSelectionOf l registers_script judging s)
-    → s.claims ≡ map (tried_claim judging) (pairs_of is.chosen)
-registers_claims l judging s is =
+pub registers_claims : (l : Linked) (hazard : Bool) (s : Selected) (is : IsSelectionOf l registers_script (judging_by hazard 0) s)
+    → s.claims ≡ map (tried_claim (judging_by hazard 0)) (pairs_of is.chosen)
+registers_claims l hazard s is =
+    let judging = judging_by hazard 0 in
     some_same s.claims (map (tried_claim judging) (pairs_of is.chosen)) (is.claims ∙ chosen_claims l judging is.chosen
-    (λ k x here. holds_at (spec.IsSelected l registers_script) (spec.script_pairs l registers_script) is.chosen k x is.those here))
+    (λ k x here. holds_at (spec.IsSelected l registers_script false) (spec.script_pairs l registers_script) is.chosen k x is.those here))
 
 -- the pair at a place is one of registers, with the names of its line
 tried_at : (l : Linked) (o : DetectOptions) (f : Detected) (is : AreDetected l o f) → AreInRange o → length is.selected.claims ≡ length is.pairs.chosen
     → (k : ℕ) (t : Tried) (p : Pair) → slice_get f.tried k ≡ Some t → slice_get (pairs_of is.pairs.chosen) k ≡ Some p → IsTriedPair l t p
 tried_at l o f is range long k t p here there =
     let chosen = is.pairs.chosen in
-    let low : k < length chosen = omega (arith, slice_get_within (pairs_of chosen) k p there, length-map chosen (λ (x : Chosen). x.pair)) in
+    let low : k < length chosen = omega (arith, slice_get_within (pairs_of chosen) k p there, length-map chosen (λ (x : Chosen). x.side.pair)) in
     let (x, at) = item_at chosen k low in
-    let pair_at : slice_get (pairs_of chosen) k ≡ Some x.pair =
-    slice_get-map (λ (y : Chosen). y.pair) chosen k ∙ ap (option_map (λ (y : Chosen). y.pair)) at in
-    let same : x.pair ≡ p = same_Some x.pair p (sym pair_at ∙ there) in
+    let pair_at : slice_get (pairs_of chosen) k ≡ Some x.side.pair =
+    slice_get-map (λ (y : Chosen). y.side.pair) chosen k ∙ ap (option_map (λ (y : Chosen). y.side.pair)) at in
+    let same : x.side.pair ≡ p = same_Some x.side.pair p (sym pair_at ∙ there) in
     let line_at : slice_get is.selected.pairs k ≡ Some (spec.line_of l registers_script x) =
     ap (λ (ls : List PairLine). slice_get ls k) is.pairs.pairs ∙ slice_get-map (spec.line_of l registers_script) chosen k
     ∙ ap (option_map (spec.line_of l registers_script)) at in
     let (claim, claim_at) = item_at is.selected.claims k (omega (arith, low, long)) in
     let tried = is.tried.each k (spec.line_of l registers_script x) claim t line_at claim_at here in
-    let regs = selected_pair l x (holds_at (spec.IsSelected l registers_script) (spec.script_pairs l registers_script) chosen k x is.pairs.those at) in
+    let regs = selected_pair l x (holds_at (spec.IsSelected l registers_script false) (spec.script_pairs l registers_script) chosen k x is.pairs.those at) in
     subst (IsTriedPair l t) same (record { start = tried.start; end_ = tried.end; most = omega (arith, tried.largest.most, range.most); regs = regs })
 
 -- each pair that was tried is one of registers
@@ -194,5 +200,5 @@ tried_pairs l o f is range =
     let long : length is.selected.claims ≡ length chosen =
     sym (length-map is.selected.claims Some) ∙ ap (λ (os : List (Option Claim)). length os) is.pairs.claims
     ∙ length-map chosen (spec.claim_of l registers_script (judging_of o)) in
-    zip_all (IsTriedPair l) f.tried (pairs_of chosen) (omega (arith, is.tried.as_many, long, length-map chosen (λ (x : Chosen). x.pair)))
+    zip_all (IsTriedPair l) f.tried (pairs_of chosen) (omega (arith, is.tried.as_many, long, length-map chosen (λ (x : Chosen). x.side.pair)))
     (tried_at l o f is range long)

@@ -1,5 +1,5 @@
 -- How many pairs are tried.
-use Rattle.std.proofs.Common.{arith, ◌≡◌, ◌∙◌, ℕ, ◌+◌, ◌≤◌, Bool, true, cond, List, [], ◌∷◌, ◌++◌, length, map, refl, sym, ap, subst, append-nil, inl, inr}
+use Rattle.std.proofs.Common.{arith, ◌≡◌, ◌∙◌, ℕ, ◌+◌, ◌≤◌, Bool, true, false, cond, List, [], ◌∷◌, ◌++◌, length, map, refl, sym, ap, subst, append-nil, inl, inr}
 use Rattle.std.specs.Prelude.{Option, Some, count_by}
 use Rattle.std.proofs.lemmas.List.{length-map}
 use Rattle.std.proofs.lemmas.List.Sums.{count_by-le-length, sum_by-append}
@@ -7,7 +7,7 @@ use Rattle.net_model.specs.declared.claims.Claim.{Claim}
 use Rattle.net_model.proofs.Members.{In}
 use Rattle.net_paths.specs.Those.{AreThose, All_seen, Taken, Left_out}
 use Rattle.linked_types.specs.declared.names.Linked.{Linked}
-use Rattle.run_options.specs.declared.judging.Judging.{Judging}
+use Rattle.run_options.specs.Judging.{judging_by}
 use Rattle.selected_types.specs.declared.selections.PairLine.{PairLine}
 use Rattle.selected_types.specs.declared.selections.Selected.{Selected}
 use Rattle.sdcv_base.specs.declared.limits.LimitName.{LimitName}
@@ -41,73 +41,75 @@ count_all p (x ∷ xs) each =
     omega (arith, one, rest, joined)
 
 -- there are as many claims and lines as pairs
-claims_chosen : (l : Linked) (judging : Judging) (chosen : List Chosen) (claims : List Claim)
-    → map Some claims ≡ map (spec.claim_of l registers_script judging) chosen → length claims ≡ length chosen
-claims_chosen l judging chosen claims is =
-    sym (length-map claims Some) ∙ ap (λ (xs : List (Option Claim)). length xs) is ∙ length-map chosen (spec.claim_of l registers_script judging)
+claims_chosen : (l : Linked) (hazard : Bool) (chosen : List Chosen) (claims : List Claim)
+    → map Some claims ≡ map (spec.claim_of l registers_script (judging_by hazard 0)) chosen → length claims ≡ length chosen
+claims_chosen l hazard chosen claims is =
+    sym (length-map claims Some) ∙ ap (λ (xs : List (Option Claim)). length xs) is ∙ length-map chosen (spec.claim_of l registers_script (judging_by hazard 0))
 
-pub as_many : (l : Linked) (judging : Judging) (s : Selected) → IsSelectionOf l registers_script judging s → length s.claims ≡ length s.pairs
-as_many l judging s is =
-    claims_chosen l judging is.chosen s.claims is.claims
+pub as_many : (l : Linked) (hazard : Bool) (s : Selected) → IsSelectionOf l registers_script (judging_by hazard 0) s → length s.claims ≡ length s.pairs
+as_many l hazard s is =
+    claims_chosen l hazard is.chosen s.claims is.claims
     ∙ sym (ap (λ (xs : List PairLine). length xs) is.pairs ∙ length-map is.chosen (spec.line_of l registers_script))
 
 -- at most 10,000
-pub few_claims : (l : Linked) (judging : Judging) (s : Selected) → IsSelectionOf l registers_script judging s → length s.claims ≤ 10000
-few_claims l judging s is =
+pub few_claims : (l : Linked) (hazard : Bool) (s : Selected) → IsSelectionOf l registers_script (judging_by hazard 0) s → length s.claims ≤ 10000
+few_claims l hazard s is =
     omega (
       arith,
       is.judged,
       count_all (is_judged l.design) s.claims
-          (λ claim has. (each_of_registers l judging is.chosen s.claims is.those is.claims claim has).judged),
+          (λ claim has. (each_of_registers l hazard is.chosen s.claims is.those is.claims claim has).judged),
     )
 
 -- a selection is not of too many pairs
-pub few_pairs : (l : Linked) (judging : Judging) (s : Selected) → IsSelectionOf l registers_script judging s → HasFewPairs l
-few_pairs l judging s is many =
-    let those : AreThose (spec.IsSelected l registers_script) (many.first ++ many.rest) is.chosen =
-    subst (λ (xs : List Chosen). AreThose (spec.IsSelected l registers_script) xs is.chosen) many.whole is.those in
+pub few_pairs : (l : Linked) (hazard : Bool) (s : Selected) → IsSelectionOf l registers_script (judging_by hazard 0) s → HasFewPairs l
+few_pairs l hazard s is many =
+    let those : AreThose (spec.IsSelected l registers_script false) (many.first ++ many.rest) is.chosen =
+    subst (λ (xs : List Chosen). AreThose (spec.IsSelected l registers_script false) xs is.chosen) many.whole is.those in
     omega (
       arith,
       many.more,
-      few_claims l judging s is,
-      claims_chosen l judging is.chosen s.claims is.claims,
-      those_fewer (spec.IsSelected l registers_script) many.first many.rest many.found is.chosen many.those those,
+      few_claims l hazard s is,
+      claims_chosen l hazard is.chosen s.claims is.claims,
+      those_fewer (spec.IsSelected l registers_script false) many.first many.rest many.found is.chosen many.those those,
     )
 
 -- a refusal for claims that need a verdict, or for pairs, is for more than 10,000 pairs
-judged_many : (l : Linked) (judging : Judging) → HasMoreJudged l registers_script judging 10000 → HasManyPairs l
-judged_many l judging has = record {
+judged_many : (l : Linked) (hazard : Bool) → HasMoreJudged l registers_script (judging_by hazard 0) 10000 → HasManyPairs l
+judged_many l hazard has = record {
   first = spec.script_pairs l registers_script;
   rest = [];
   whole = sym (append-nil (spec.script_pairs l registers_script));
   found = has.chosen;
   those = has.those;
-  more = omega (arith, has.more, count_by-le-length (is_judged l.design) has.claims, claims_chosen l judging has.chosen has.claims has.claimed);
+  more = omega (arith, has.more, count_by-le-length (is_judged l.design) has.claims, claims_chosen l hazard has.chosen has.claims has.claimed);
 }
 
-pairs_many : (l : Linked) → HasMore (spec.IsSelected l registers_script) (spec.script_pairs l registers_script) 100000 → HasManyPairs l
+pairs_many : (l : Linked) → HasMore (spec.IsSelected l registers_script false) (spec.script_pairs l registers_script) 100000 → HasManyPairs l
 pairs_many l has = record { first = has.first; rest = has.rest; whole = has.whole; found = has.found; those = has.those; more = omega (arith, has.more) }
 
 -- whatever limit is met
-cause_of_limit : (l : Linked) (judging : Judging) (what : LimitName) (number : ℕ) → expand.IsOverLimit l registers_script judging what number → HasManyPairs l
-cause_of_limit l judging limit.Through number is = absurd (few_sets is.1)
-cause_of_limit l judging limit.Pairs number is = pairs_many l is.1
-cause_of_limit l judging limit.Judged number is = judged_many l judging is.1
-cause_of_limit l judging limit.Nets number is = absurd is
-cause_of_limit l judging limit.Registers number is = absurd is
-cause_of_limit l judging limit.Inputs number is = absurd is
-cause_of_limit l judging limit.Outputs number is = absurd is
-cause_of_limit l judging limit.Instances number is = absurd is
-cause_of_limit l judging limit.Pins number is = absurd is
-cause_of_limit l judging limit.Hierarchy number is = absurd is
+cause_of_limit : (l : Linked) (hazard : Bool) (what : LimitName) (number : ℕ)
+    → expand.IsOverLimit l registers_script (judging_by hazard 0) what number → HasManyPairs l
+cause_of_limit l hazard limit.Through number is = absurd (few_sets is.1)
+cause_of_limit l hazard limit.Pairs number is = pairs_many l is.1
+cause_of_limit l hazard limit.Judged number is = judged_many l hazard is.1
+cause_of_limit l hazard limit.Nets number is = absurd is
+cause_of_limit l hazard limit.Registers number is = absurd is
+cause_of_limit l hazard limit.Inputs number is = absurd is
+cause_of_limit l hazard limit.Outputs number is = absurd is
+cause_of_limit l hazard limit.Instances number is = absurd is
+cause_of_limit l hazard limit.Pins number is = absurd is
+cause_of_limit l hazard limit.Hierarchy number is = absurd is
 
-pub cause_of_fault : (l : Linked) (judging : Judging) (f : ExpandFault) → expand.IsExpandCause l registers_script judging f → IsDetectCause l (fault_of f)
-cause_of_fault l judging (fault.Limit what number) is = (refl, cause_of_limit l judging what number is)
-cause_of_fault l judging fault.Memory is = tt
-cause_of_fault l judging (fault.TwoClocks first second) is = absurd is
-cause_of_fault l judging (fault.ClockNotPort line) is = absurd is
-cause_of_fault l judging (fault.CaseTwice first second) is = absurd is
-cause_of_fault l judging (fault.CaseOnReset line name) is = absurd is
-cause_of_fault l judging (fault.CaseOnPin line name) is = absurd is
-cause_of_fault l judging (fault.NoClock name) is = absurd is
-cause_of_fault l judging (fault.Generated line) is = absurd is
+pub cause_of_fault : (l : Linked) (hazard : Bool) (f : ExpandFault)
+    → expand.IsExpandCause l registers_script (judging_by hazard 0) f → IsDetectCause l (fault_of f)
+cause_of_fault l hazard (fault.Limit what number) is = (refl, cause_of_limit l hazard what number is)
+cause_of_fault l hazard fault.Memory is = tt
+cause_of_fault l hazard (fault.TwoClocks first second) is = absurd is
+cause_of_fault l hazard (fault.ClockNotPort line) is = absurd is
+cause_of_fault l hazard (fault.CaseTwice first second) is = absurd is
+cause_of_fault l hazard (fault.CaseOnReset line name) is = absurd is
+cause_of_fault l hazard (fault.CaseOnPin line name) is = absurd is
+cause_of_fault l hazard (fault.NoClock name) is = absurd is
+cause_of_fault l hazard (fault.Generated line) is = absurd is

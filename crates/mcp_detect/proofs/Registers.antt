@@ -1,6 +1,7 @@
--- What the one command selects: claims of registers, without a lag and without through sets.
-use Rattle.std.proofs.Common.{arith, ◌≡◌, ◌∙◌, ℕ, zero, suc, ◌+◌, true, List, [], ◌∷◌, length, map, refl, sym, ap, subst, inl, inr}
+-- What the one command selects: late claims of registers, without a lag and without through sets.
+use Rattle.std.proofs.Common.{arith, ◌≡◌, ◌∙◌, ℕ, zero, suc, ◌+◌, Bool, true, false, List, [], ◌∷◌, length, map, refl, sym, ap, subst, inl, inr}
 use Rattle.std.specs.Prelude.{Option, Some, None, slice_get, All}
+use Rattle.std.specs.Option.{option_map}
 use Rattle.std.proofs.lemmas.Option.{same_Some, slice_get_within}
 use Rattle.std.proofs.lemmas.List.Elements.{All-nil, All-cons}
 use Rattle.net_model.specs.declared.netlist.Design.{Design}
@@ -11,8 +12,6 @@ use Rattle.net_paths.specs.Those.{AreThose, All_seen, Taken, Left_out}
 use Rattle.linked_types.specs.declared.names.Linked.{Linked}
 use Rattle.linked_types.specs.declared.names.CellName.{CellName}
 use Rattle.script_types.specs.declared.objects.Object.TheVariants.{AllRegisters}
-use Rattle.script_types.specs.declared.scripts.Exception.{Exception}
-use Rattle.script_types.specs.declared.scripts.What.TheVariants.{Claiming}
 use Rattle.script_types.specs.declared.scripts.Command.{Command}
 use Rattle.sdcv_base.specs.declared.kinds.Edge.TheVariants.{Any}
 use Rattle.sdc_objects.specs.declared.things.Thing.{Thing}
@@ -20,9 +19,10 @@ use Rattle.sdc_objects.specs.declared.things.Thing.TheVariants as thing
 use Rattle.sdc_objects.specs.declared.things.Place.TheVariants.{From}
 use Rattle.sdc_objects.specs.Standing.{cell_at_row, reg_start, meant_by, meant_of, from_column}
 use Rattle.sdc_objects.specs.Things.{cell_of_reg, things_of}
-use Rattle.run_options.specs.declared.judging.Judging.{Judging}
+use Rattle.run_options.specs.Judging.{judging_by}
 use Rattle.exception_expand.specs.declared.pairs.Pair.{Pair}
 use Rattle.selected_types.specs.declared.selections.Selected.{Selected}
+use Rattle.exception_expand.specs.Asking.{Asked, asked}
 use Rattle.exception_expand.specs.Causes.{HasManySets}
 use Rattle.exception_expand.specs.Pairs.{is_free, is_judged}
 use Rattle.exception_expand.specs.Selections as spec
@@ -46,15 +46,14 @@ multipliers =
     All-cons has registers_command [] (omega arith, omega arith) (All-nil has)
 
 -- its exception has no through sets
-pub few_sets : ¬ HasManySets registers_script
+pub few_sets : ¬ HasManySets registers_script false
 unfolding registers_script
 few_sets many =
     elim (In-from_Contains (registers_command ∷ []) many.command many.stands) [
       | inl here ↦
-          let is : Claiming registers_exception ≡ Claiming many.exception = ap (λ (c : Command). c.what) here ∙ many.claiming in
-          let same : registers_exception ≡ many.exception = cc in
-          let none : 0 ≡ length many.exception.through = ap (λ (e : Exception). length e.through) same in
-          omega (arith, many.more, none)
+          let is : asked false registers_command.what ≡ Some many.by = ap (λ (c : Command). asked false c.what) here ∙ many.claiming in
+          let none : Some 0 ≡ Some (length many.by.exception.through) = ap (option_map (λ (a : Asked). length a.exception.through)) is in
+          omega (arith, many.more, same_Some 0 (length many.by.exception.through) none)
       | inr none ↦ absurd none
     ]
 
@@ -82,7 +81,7 @@ thing_free l t start has there =
     cell_free l.design (slice_get l.names.cells (0 + made.place)) start (subst (λ (u : Thing). In start (meant_by (from_column Any l u))) (sym is) there)
 
 -- a start of the command may toggle
-starts_free : (l : Linked) (p : Pair) → spec.SelectsBy l registers_script registers_command.what p → is_free l.design p.start ≡ true
+starts_free : (l : Linked) (p : Pair) → spec.Selects l registers_script registers_exception p → is_free l.design p.start ≡ true
 starts_free l p sel =
     let things = things_of l registers_script From AllRegisters in
     elim (In-cases p.start (meant_of (from_column Any l) things) [] (In-from_Contains _ p.start sel.0.0)) [
@@ -92,22 +91,22 @@ starts_free l p sel =
       | inr none ↦ absurd none
     ]
 
--- a claim of the command: it has no lag and no through sets, and needs a verdict
+-- a claim of the command: it is of the late side, it has no lag and no through sets, and needs a verdict
 pub record IsOfRegisters (d : Design) (claim : Claim) : Type 0 where
   pub bare : IsBare claim
   pub judged : is_judged d claim ≡ true
 
-claim_of_registers : (l : Linked) (judging : Judging) (x : Chosen) (claim : Claim) → spec.IsSelected l registers_script x
-    → spec.claim_of l registers_script judging x ≡ Some claim → IsOfRegisters l.design claim
-claim_of_registers l judging x claim sel is =
+claim_of_registers : (l : Linked) (hazard : Bool) (x : Chosen) (claim : Claim) → spec.IsSelected l registers_script false x
+    → spec.claim_of l registers_script (judging_by hazard 0) x ≡ Some claim → IsOfRegisters l.design claim
+claim_of_registers l hazard x claim sel is =
     let same : registers_command ≡ sel.0 = the_command x.command sel.0 sel.1 in
     let at : slice_get registers_script.commands x.command ≡ Some registers_command =
     subst (λ (c : Command). slice_get registers_script.commands x.command ≡ Some c) (sym same) sel.1 in
-    let selects : spec.SelectsBy l registers_script registers_command.what x.pair =
-    subst (λ (c : Command). spec.SelectsBy l registers_script c.what x.pair) (sym same) sel.2 in
-    let made = spec.claim l registers_script judging registers_exception x.pair in
-    let of : made ≡ claim = same_Some made claim (sym (ap (spec.claim_at l registers_script judging x.pair) at) ∙ is) in
-    subst (IsOfRegisters l.design) of (record { bare = record { lag = refl; through = refl }; judged = starts_free l x.pair selects })
+    let selects : spec.SelectsBy l registers_script false registers_command.what x.side =
+    subst (λ (c : Command). spec.SelectsBy l registers_script false c.what x.side) (sym same) sel.2 in
+    let made = spec.claim l registers_script (judging_by hazard 0) registers_exception x.side in
+    let of : made ≡ claim = same_Some made claim (sym (ap (spec.claim_at l registers_script (judging_by hazard 0) x.side) at) ∙ is) in
+    subst (IsOfRegisters l.design) of (record { bare = record { late = selects.0; lag = refl; through = refl }; judged = starts_free l x.side.pair selects.1 })
 
 -- it holds of each of those
 of_those : {A : Type 0} (P : A → Type 0) (xs ys : List A) (y : A) → AreThose P xs ys → In y ys → P y
@@ -116,16 +115,16 @@ of_those P _ _ y (Taken x xs ys holds rest) (inl here) = subst P here holds
 of_those P _ _ y (Taken x xs ys holds rest) (inr later) = of_those P xs ys y rest later
 of_those P _ _ y (Left_out x xs ys not rest) has = of_those P xs ys y rest has
 
-pub each_of_registers : (l : Linked) (judging : Judging) (chosen : List Chosen) (claims : List Claim)
-    → AreThose (spec.IsSelected l registers_script) (spec.script_pairs l registers_script) chosen
-    → map Some claims ≡ map (spec.claim_of l registers_script judging) chosen → (claim : Claim) → In claim claims → IsOfRegisters l.design claim
-each_of_registers l judging chosen claims those is claim has =
+pub each_of_registers : (l : Linked) (hazard : Bool) (chosen : List Chosen) (claims : List Claim)
+    → AreThose (spec.IsSelected l registers_script false) (spec.script_pairs l registers_script) chosen
+    → map Some claims ≡ map (spec.claim_of l registers_script (judging_by hazard 0)) chosen → (claim : Claim) → In claim claims → IsOfRegisters l.design claim
+each_of_registers l hazard chosen claims those is claim has =
     let some = In-map Some claim claims has in
-    let from = from_map (spec.claim_of l registers_script judging) (Some claim) chosen (subst (In (Some claim)) is some) in
-    claim_of_registers l judging from.0 claim
-    (of_those (spec.IsSelected l registers_script) (spec.script_pairs l registers_script) chosen from.0 those from.1) from.2
+    let from = from_map (spec.claim_of l registers_script (judging_by hazard 0)) (Some claim) chosen (subst (In (Some claim)) is some) in
+    claim_of_registers l hazard from.0 claim
+    (of_those (spec.IsSelected l registers_script false) (spec.script_pairs l registers_script) chosen from.0 those from.1) from.2
 
 -- the claims that are tried
-pub all_bare : (l : Linked) (judging : Judging) (s : Selected) → IsSelectionOf l registers_script judging s → All IsBare s.claims
-all_bare l judging s is =
-    all_from_in IsBare s.claims (λ claim has. (each_of_registers l judging is.chosen s.claims is.those is.claims claim has).bare)
+pub all_bare : (l : Linked) (hazard : Bool) (s : Selected) → IsSelectionOf l registers_script (judging_by hazard 0) s → All IsBare s.claims
+all_bare l hazard s is =
+    all_from_in IsBare s.claims (λ claim has. (each_of_registers l hazard is.chosen s.claims is.those is.claims claim has).bare)

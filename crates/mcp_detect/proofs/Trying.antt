@@ -1,9 +1,10 @@
 -- From multiplier to multiplier, and from pair to pair.
-use Rattle.std.proofs.Common.{arith, ◌≡◌, ◌∙◌, ℕ, ◌+◌, ◌≤◌, List, [], ◌∷◌, ◌++◌, refl, sym, subst, inl, inr, length-append}
+use Rattle.std.proofs.Common.{arith, ◌≡◌, ◌∙◌, ℕ, ◌+◌, ◌≤◌, Bool, List, [], ◌∷◌, ◌++◌, refl, sym, subst, inl, inr, length-append}
 use Rattle.std.specs.Prelude.{Some, slice_get}
 use Rattle.std.proofs.lemmas.Bool.{cases_eq}
 use Rattle.std.proofs.lemmas.Option.{same_Some}
-use Rattle.net_model.specs.Fits.{Fits}
+use Rattle.sdcv_base.specs.declared.kinds.Kind.TheVariants.{Multi}
+use Rattle.net_model.specs.Fits.{IsSideFit, Fits}
 use Rattle.net_model.specs.declared.netlist.Design.{Design}
 use Rattle.net_model.specs.declared.claims.Claim.{Claim}
 use Rattle.net_model.specs.declared.invariants.InvClause.{InvClause}
@@ -21,7 +22,15 @@ use Rattle.mcp_detect.specs.Detections.{AreTriedFirst, IsBare, IsFound, IsJustif
 -- the claim of a multiplier fits where the claim does
 pub fits_multiplier : (d : Design) (claim : Claim) (m : ℕ) → Fits d claim → IsBare claim → 1 ≤ m → m ≤ 16 → Fits d (with_multiplier m claim)
 fits_multiplier d claim m fits bare some most =
-    record { kind = (some, most); lag = bare.lag; early = fits.early; start = fits.start; end_ = fits.end_; pins = fits.pins; few = fits.few }
+    record {
+      kind = (some, most);
+      lag = bare.lag;
+      side = subst (λ (e : Bool). IsSideFit e (Multi m) claim.lag) (sym bare.late) tt;
+      start = fits.start;
+      end_ = fits.end_;
+      pins = fits.pins;
+      few = fits.few;
+    }
 
 -- a claim with a verdict that justifies it is found
 pub found_here : (d : Design) (o : DetectOptions) (kept : List InvClause) (claim : Claim) (verdict : Verdict) → IsRight d claim kept (limits_of o) verdict

@@ -1,5 +1,5 @@
 -- When pairs are too many to be tried. Want of memory alone is free.
-use Rattle.std.specs.Prelude.{◌≡◌, ℕ}
+use Rattle.std.specs.Prelude.{◌≡◌, ℕ, false}
 use Rattle.sdcv_base.specs.declared.limits.LimitName.{LimitName}
 use Rattle.sdcv_base.specs.declared.limits.LimitName.TheVariants.{Pairs}
 use Rattle.linked_types.specs.declared.names.Linked.{Linked}
@@ -13,7 +13,7 @@ use Rattle.mcp_detect.specs.Scripts.{registers_script}
 
 -- more than 10,000 pairs would have to be tried
 abbrev pub HasManyPairs : Linked → Type 0
-HasManyPairs l = HasMore (IsSelected l registers_script) (script_pairs l registers_script) 10000
+HasManyPairs l = HasMore (IsSelected l registers_script false) (script_pairs l registers_script) 10000
 
 abbrev pub HasFewPairs : Linked → Type 0
 HasFewPairs l = ¬ HasManyPairs l

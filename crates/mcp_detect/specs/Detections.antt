@@ -1,5 +1,5 @@
 -- What is found out about the pairs of a design.
-use Rattle.std.specs.Prelude.{◌≡◌, ℕ, ◌+◌, ◌<◌, ◌≤◌, List, [], length, Option, Some, None, slice_get}
+use Rattle.std.specs.Prelude.{◌≡◌, ℕ, ◌+◌, ◌<◌, ◌≤◌, false, List, [], length, Option, Some, None, slice_get}
 use Rattle.sdcv_base.specs.declared.kinds.Kind.TheVariants.{Multi}
 use Rattle.net_model.specs.Judge.{Holds}
 use Rattle.net_model.specs.declared.netlist.Design.{Design}
@@ -26,8 +26,9 @@ use Rattle.mcp_detect.specs.Scripts.{registers_script}
 abbrev pub with_multiplier : ℕ → Claim → Claim
 with_multiplier k claim = record claim { kind = Multi k }
 
--- the claim has no lag and no through sets
+-- the claim is of the late side, and has no lag and no through sets
 pub record IsBare (claim : Claim) : Type 0 where
+  pub late : claim.early ≡ false
   pub lag : claim.lag ≡ 0
   pub through : claim.through ≡ []
 

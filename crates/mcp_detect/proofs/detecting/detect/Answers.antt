@@ -3,7 +3,6 @@ use Rattle.std.specs.Prelude.{Result}
 use Rattle.std.proofs.lemmas.Result.{err_from_is_err_and}
 use Rattle.std.proofs.lemmas.List.Elements.{All-nil}
 use Rattle.net_model.specs.Fits.{NamesRegs}
-use Rattle.run_options.specs.Judging.{judging_by}
 use Rattle.verdict_types.specs.Forms.{IsKeptClause}
 use Rattle.mcp_detect.specs.Causes.{IsDetectCause}
 use Rattle.mcp_detect.specs.declared.detections.Detected.{Detected}
@@ -20,7 +19,7 @@ invariants-requires-clause-extra_form g c = All-nil IsKeptClause
 
 pub pairs_tried-requires-clause-bare : goal.pairs_tried-requires-clause-bare
 pairs_tried-requires-clause-bare g c =
-    all_bare c.args.linked.now (judging_by c.args.options.now.hazard 0) c.in_ok-selected.selected c.in_ok-selected.ensures.ok
+    all_bare c.args.linked.now c.args.options.now.hazard c.in_ok-selected.selected c.in_ok-selected.ensures.ok
 
 pub returns-clause-ok : goal.returns-clause-ok
 returns-clause-ok g c =
@@ -34,7 +33,7 @@ returns-clause-ok g c =
       invariants = c.in_ok-inv.ensures.kept;
       kept_hold = c.in_ok-inv.ensures.met;
       tried = all;
-      few = omega (arith, all.as_many, few_claims l (judging_by o.hazard 0) s c.in_ok-selected.ensures.ok);
+      few = omega (arith, all.as_many, few_claims l o.hazard s c.in_ok-selected.ensures.ok);
     }
 
 pub returns-in_err-tried-clause-err : goal.returns-in_err-tried-clause-err

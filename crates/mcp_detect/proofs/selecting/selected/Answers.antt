@@ -15,7 +15,7 @@ pub returns-in-Ok-clause-none : goal.returns-in-Ok-clause-none
 returns-in-Ok-clause-none c =
     let l = c.args.linked.now in
     let judging = judging_by c.args.hazard 0 in
-    few_pairs l judging c.in-Ok.selected
+    few_pairs l c.args.hazard c.in-Ok.selected
     (subst (λ (s : Script). IsSelectionOf l s judging c.in-Ok.selected) c.in_ok-script.ensures c.in-Ok.ensures.ok)
 
 pub returns-clause-err : goal.returns-clause-err
@@ -24,4 +24,4 @@ returns-clause-err c =
     let judging = judging_by c.args.hazard 0 in
     let fault = c.in-Err.fault in
     subst (IsDetectCause l) (sym c.fault_of.ensures)
-    (cause_of_fault l judging fault (subst (λ (s : Script). IsExpandCause l s judging fault) c.in_ok-script.ensures c.in-Err.ensures.err))
+    (cause_of_fault l c.args.hazard fault (subst (λ (s : Script). IsExpandCause l s judging fault) c.in_ok-script.ensures c.in-Err.ensures.err))
