@@ -12,8 +12,8 @@ use Rattle.net_model.specs.declared.claims.Start.{Start}
 use Rattle.sdcv_base.specs.declared.kinds.Edge.{Edge}
 use Rattle.sdcv_base.specs.declared.kinds.Kind.{Kind}
 use Rattle.sdcv_base.specs.declared.kinds.Kind.TheVariants.{False, Multi}
-use Rattle.claim_monitor.specs.Fronts.{start_place, toggle_place}
-use Rattle.claim_monitor.specs.Tells.{toggle_bit, toggled, some_stale, captured, IsBadNow, IsCaughtNow, has_late, changes_bit, DiffersFlipped, TellsLate, stale_bit}
+use Rattle.claim_monitor.specs.Fronts.{start_place, toggle_place, DiffersFlipped}
+use Rattle.claim_monitor.specs.Tells.{toggle_bit, toggled, some_stale, captured, IsBadNow, IsBadNowOn, IsCaughtNow, has_late, changes_bit, TellsLate, stale_bit}
 use Rattle.claim_monitor.specs.declared.sizes.Sizes.{Sizes}
 use Rattle.and_graphs.specs.Graphs.{Means, Keeps}
 use Rattle.and_graphs.specs.declared.graphs.AndGraph.{AndGraph}
@@ -67,32 +67,36 @@ stale_made s claim x c r false e toggles stale =
     ap (λ (b : Bool). toggled s claim.edge claim.start x c r && (if b then xor (start_bit claim.start c) (bit_at x (start_place s r)) else true)) e
     ∙ and_made (toggled s claim.edge claim.start x c r) true toggles refl
 
--- the bits of the parts tell that the run is caught
-pub caught_by_bits : (d : Design) (s : Sizes) (claim : Claim) (x : List Bool) (c : Cycle) (late : Bool) (r : ℕ) → r < s.judged
+-- the bits of the parts tell that the run is caught, for a claim of the late side
+pub caught_by_bits : (d : Design) (s : Sizes) (claim : Claim) (x : List Bool) (c : Cycle) (late : Bool) (r : ℕ) → claim.early ≡ false → r < s.judged
     → changes_bit claim.kind (capture d claim.end c) (captured s claim.end x c) ≡ true → late ≡ true → TellsLate d claim c late
     → stale_bit s claim x c r ≡ true → IsCaughtNow d s claim x c
-caught_by_bits d s claim x c late r low changes on tells stale =
+caught_by_bits d s claim x c late r side low changes on tells stale =
     let parts = stale_parts s claim x c r (has_late claim.kind claim.through) refl stale in
     record {
       r = r;
       judged = low;
       toggles = parts.0;
-      bad = bad_made claim.kind claim.through d s claim x c r changes (λ has. (tells.some has).0 on) parts.1;
+      bad = subst (λ (b : Bool). IsBadNowOn b d s claim x c r) (sym side)
+          (bad_made claim.kind claim.through d s claim x c r changes (λ has. (tells.some has).0 on) parts.1);
     }
 
-pub bits_of_caught : (d : Design) (s : Sizes) (claim : Claim) (x : List Bool) (c : Cycle) (late : Bool) → TellsLate d claim c late
+pub bits_of_caught : (d : Design) (s : Sizes) (claim : Claim) (x : List Bool) (c : Cycle) (late : Bool) → claim.early ≡ false → TellsLate d claim c late
     → (now : IsCaughtNow d s claim x c) → (changes_bit claim.kind (capture d claim.end c) (captured s claim.end x c) ≡ true) × (late ≡ true)
     × (stale_bit s claim x c now.r ≡ true)
-bits_of_caught d s claim x c late tells now =
+bits_of_caught d s claim x c late side tells now =
     let kind = claim.kind in
     let sets = claim.through in (
-      bad_changes kind sets d s claim x c now.r now.bad,
+      bad_changes kind sets d s claim x c now.r bad,
       is_late (has_late kind sets) refl,
-      stale_made s claim x c now.r (has_late kind sets) refl now.toggles (λ has. (bad_late kind sets d s claim x c now.r now.bad has).1),
+      stale_made s claim x c now.r (has_late kind sets) refl now.toggles (λ has. (bad_late kind sets d s claim x c now.r bad has).1),
     )
   where
+    bad : IsBadNow claim.kind claim.through d s claim x c now.r
+    bad = subst (λ (b : Bool). IsBadNowOn b d s claim x c now.r) side now.bad
+
     is_late : (has : Bool) → has_late claim.kind claim.through ≡ has → late ≡ true
-    is_late true e = (tells.some e).1 (bad_late claim.kind claim.through d s claim x c now.r now.bad e).0
+    is_late true e = (tells.some e).1 (bad_late claim.kind claim.through d s claim x c now.r bad e).0
     is_late false e = tells.none e
 
 -- a list of through sets that is not empty makes the late capture count

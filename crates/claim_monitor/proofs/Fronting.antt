@@ -1,6 +1,6 @@
 -- The bits in front of a run's cycles, one after another.
 use Rattle.std.proofs.Common.{◌≡◌, ◌≢◌, ℕ, zero, suc, ◌<◌, ◌+◌, ◌-◌, ◌==◌, Bool, true, false, if◌then◌else◌, List, Some, refl, ap, sym, ◌∙◌, subst, arith, inl, inr}
-use Rattle.std.specs.Prelude.{slice_get, nat_lt}
+use Rattle.std.specs.Prelude.{◌↔◌, slice_get, nat_lt}
 use Rattle.std.proofs.lemmas.Bool.{lt-ltb, le-ltb, cases_lt, ne_eqb}
 use Rattle.std.proofs.lemmas.Option.{same_Some}
 use Rattle.net_model.specs.Cycles.{bit_at, capture, IsRun}
@@ -8,7 +8,7 @@ use Rattle.net_model.specs.Judge.{judged_count, start_bit}
 use Rattle.net_model.specs.declared.netlist.Design.{Design}
 use Rattle.net_model.specs.declared.cycles.Cycle.{Cycle}
 use Rattle.net_model.specs.declared.claims.Claim.{Claim}
-use Rattle.claim_monitor.specs.Fronts.{sizes_of, live_place, reset_place, start_place, toggle_place, HasToggle, IsFront}
+use Rattle.claim_monitor.specs.Fronts.{sizes_of, live_place, reset_place, start_place, toggle_place, early_place, HasToggle, DiffersFlipped, IsFront}
 use Rattle.claim_monitor.specs.Shown.{is_live}
 use Rattle.claim_monitor.specs.Tells.{IsFirstFront, IsNextFront}
 use Rattle.claim_monitor.proofs.Toggling.{toggled_tells, toggled_told}
@@ -46,6 +46,7 @@ front_begun d claim run c x at first =
         λ has. absurd (none_first d claim run (0 - (k + 1)) (omega arith) has),
       );
       captured = λ before is positive. absurd (omega arith);
+      early = λ before is positive. absurd (omega arith);
     }
 
 live_next : (d : Design) (claim : Claim) (run : List Cycle) (t : ℕ) (c : Cycle) (x : List Bool) → IsFront d claim run t c x
@@ -89,6 +90,9 @@ front_goes_on d claim run t c next x y is front at on =
       captured = λ before has positive was.
           let same : c ≡ before = same_Some c before (sym front.at ∙ (ap (slice_get run) (sym here) ∙ was)) in
           on.captured has ∙ ap (capture d claim.end) same;
+      early = λ before has positive was.
+          let same : c ≡ before = same_Some c before (sym front.at ∙ (ap (slice_get run) (sym here) ∙ was)) in
+          subst (λ (z : Cycle). (bit_at y (early_place s) ≡ true) ↔ DiffersFlipped d claim z) same (on.early has);
     }
   where
     resets : (i : ℕ) → i < d.reset_len → bit_at y (reset_place (sizes_of d claim) i) ≡ nat_lt i (t + 1)

@@ -1,5 +1,5 @@
 -- Rows of literals that keep bits of the cycles before.
-use Rattle.std.proofs.Common.{◌≡◌, ◌≢◌, ℕ, zero, suc, ◌+◌, ◌-◌, Bool, false, List, [], ◌∷◌, ◌++◌, map, take, length, refl, ap, sym, ◌∙◌, arith}
+use Rattle.std.proofs.Common.{◌≡◌, ◌≢◌, ℕ, zero, suc, ◌+◌, ◌-◌, Bool, true, false, List, [], ◌∷◌, ◌++◌, map, take, length, refl, ap, sym, ◌∙◌, arith}
 use Rattle.std.proofs.Common.{below_more, append_assoc}
 use Rattle.std.specs.Prelude.{slice_get, Some}
 use Rattle.std.proofs.lemmas.List.{map-append, map_push, take_more, get_or_append_left, get_or_push, length_push}
@@ -65,3 +65,14 @@ latches_joined is_any start a b c d live starts toggles captures of_live of_star
     ∙ (ap (λ (ls : List Latch). a ++ ls) middle
     ∙ (ap (λ (ls : List Latch). ls ++ map f (starts ++ (toggles ++ captures))) of_live
     ∙ (append_assoc start (map f live) (map f (starts ++ (toggles ++ captures))) ∙ ap (λ (ls : List Latch). start ++ ls) whole))))))))
+
+-- the latches of registers, and after them two rows that begin with 0
+pub latches_all : (none regs middle new : List Latch) (captures rest last : List ℕ) → none ≡ [] → regs ≡ none ++ map (latch_of true) captures
+    → middle ≡ regs ++ map (latch_of false) rest → new ≡ middle ++ map (latch_of false) last
+    → new ≡ map (latch_of true) captures ++ map (latch_of false) (rest ++ last)
+latches_all none regs middle new captures rest last empty first then later =
+    let of_regs : regs ≡ map (latch_of true) captures = first ∙ ap (λ (ls : List Latch). ls ++ map (latch_of true) captures) empty in
+    later ∙ (ap (λ (ls : List Latch). ls ++ map (latch_of false) last) then
+    ∙ (append_assoc regs (map (latch_of false) rest) (map (latch_of false) last)
+    ∙ (ap (λ (ls : List Latch). regs ++ ls) (sym (map-append (latch_of false) rest last))
+    ∙ ap (λ (ls : List Latch). ls ++ map (latch_of false) (rest ++ last)) of_regs)))

@@ -118,12 +118,11 @@ none_ordered g none k line at =
     absurd (omega (arith, low, count))
 
 -- the graph with the latches of registers, whose first bits are any, and of histories
-pub aig_made : (g : AndGraph) (d : Design) (claim : Claim) (captures rest : List ℕ) (regs : List Latch) (a : Aig)
-    → length captures ≡ length d.regs → length (captures ++ rest) ≡ latch_count (sizes_of d claim) → regs ≡ [] ++ map (latch_of true) captures
-    → a.latches ≡ regs ++ map (latch_of false) rest → a.inputs ≡ (sizes_of d claim).inputs → a.lines ≡ g.lines
+pub aig_made : (g : AndGraph) (d : Design) (claim : Claim) (captures rest : List ℕ) (a : Aig)
+    → length captures ≡ length d.regs → length (captures ++ rest) ≡ latch_count (sizes_of d claim)
+    → a.latches ≡ map (latch_of true) captures ++ map (latch_of false) rest → a.inputs ≡ (sizes_of d claim).inputs → a.lines ≡ g.lines
     → IsAigOf g d claim (captures ++ rest) a.bad a
-aig_made g d claim captures rest regs a count all begun added inputs lines =
-    let latches : a.latches ≡ map (latch_of true) captures ++ map (latch_of false) rest = added ∙ ap (λ (ls : List Latch). ls ++ map (latch_of false) rest) begun in
+aig_made g d claim captures rest a count all latches inputs lines =
     let more : length rest ≡ latch_count (sizes_of d claim) - length d.regs = omega (arith, length-append captures rest, count, all) in
     record {
       inputs = inputs;

@@ -1,10 +1,11 @@
 -- A monitor watches its claim: at each step the bits in front show the run.
 use Rattle.std.proofs.Common.{◌≡◌, ℕ, zero, suc, ◌<◌, ◌+◌, ◌-◌, Bool, true, false, List, ◌++◌, length, replicate, Some, ap, sym, ◌∙◌, subst, arith}
 use Rattle.std.specs.Prelude.{◌↔◌, slice_get}
-use Rattle.std.proofs.lemmas.Option.{slice_get_within}
+use Rattle.std.proofs.lemmas.List.{length-append, get_or-append-add}
+use Rattle.std.proofs.lemmas.Option.{slice_get_within, slice_get-get_or}
 use Rattle.net_model.specs.Netlist.{IsSound}
 use Rattle.net_model.specs.Fits.{Fits}
-use Rattle.net_model.specs.Cycles.{IsSettled, IsRun}
+use Rattle.net_model.specs.Cycles.{bit_at, IsSettled, IsRun}
 use Rattle.net_model.specs.declared.netlist.Design.{Design}
 use Rattle.net_model.specs.declared.cycles.Cycle.{Cycle}
 use Rattle.net_model.specs.declared.claims.Claim.{Claim}
@@ -15,7 +16,7 @@ use Rattle.and_graphs.specs.Runs.{latches_at, bad_at}
 use Rattle.and_graphs.specs.declared.graphs.AndLine.{AndLine}
 use Rattle.and_graphs.specs.declared.graphs.AndGraph.{AndGraph}
 use Rattle.and_graphs.specs.declared.aigs.Aig.{Aig}
-use Rattle.claim_monitor.specs.Fronts.{sizes_of, latch_count, IsFront}
+use Rattle.claim_monitor.specs.Fronts.{sizes_of, latch_count, reg_place, IsFront}
 use Rattle.claim_monitor.specs.Shown.{shown_row, shown_cycle}
 use Rattle.claim_monitor.specs.Tells.{IsCaughtNow, IsFirstFront, IsNextFront}
 use Rattle.claim_monitor.specs.Watches.{IsCaughtAt, AreOfRun}
@@ -94,6 +95,20 @@ shows_each d claim a run any ins (suc t) next m b at =
     let within = slice_get_within run (suc t) next at in
     let c = item_at run t (omega arith) in
     shows_next d claim a run any ins t c.0 next m b (shows_each d claim a run any ins t c.0 m b c.1) at
+
+-- the first latches have the bits of the registers
+pub registers_shown : (d : Design) (claim : Claim) (a : Aig) (run : List Cycle) (any : List Bool) (ins : ℕ → List Bool) (t r : ℕ) (c : Cycle)
+    → Monitor d claim a → Beside d run any ins → slice_get run t ≡ Some c → r < length d.regs
+    → slice_get (latches_at a any ins t) r ≡ slice_get c.bits r
+registers_shown d claim a run any ins t r c m b at low =
+    let latches = latches_at a any ins t in
+    let front : IsFront d claim run t c (front_at a any ins t) = shows_each d claim a run any ins t c m b at in
+    let place : reg_place (sizes_of d claim) r ≡ length (ins t) + r = omega (arith, b.bits.count t) in
+    let bit : bit_at latches r ≡ bit_at c.bits r =
+    sym (ap (bit_at (ins t ++ latches)) place ∙ get_or-append-add (ins t) latches r false) ∙ front.regs r low in
+    let many : r < length latches = omega (arith, length-append (ins t) latches, front.count, b.bits.count t, low) in
+    let regs = (All-at (IsSettled d) run t c at b.is.linked.settled).shape.bits in
+    slice_get-get_or latches r false many ∙ (ap Some bit ∙ sym (slice_get-get_or c.bits r false (omega (arith, regs, low))))
 
 -- the bad literal of the graph with latches is that of the graph
 bad_is : (d : Design) (claim : Claim) (a : Aig) (any : List Bool) (ins : ℕ → List Bool) (t : ℕ) (m : Monitor d claim a)

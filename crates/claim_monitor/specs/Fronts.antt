@@ -1,6 +1,7 @@
 -- Which variables stand in front of a monitor, and what they show in a cycle of a run.
-use Rattle.std.specs.Prelude.{◌≡◌, ◌↔◌, ℕ, ◌+◌, ◌-◌, ◌<◌, ◌≤◌, Bool, true, false, if◌then◌else◌, List, length, Some, slice_get, nat_lt}
+use Rattle.std.specs.Prelude.{◌≡◌, ◌≢◌, ◌↔◌, ℕ, ◌+◌, ◌-◌, ◌<◌, ◌≤◌, Bool, true, false, not, if◌then◌else◌, List, length, Some, slice_get, nat_lt}
 use Rattle.net_model.specs.Cycles.{bit_at, capture}
+use Rattle.net_model.specs.Layers.{IsLateCapture}
 use Rattle.net_model.specs.Judge.{judged_count, start_bit, Toggles}
 use Rattle.net_model.specs.Held.{is_held, free_below}
 use Rattle.net_model.specs.declared.netlist.Design.{Design}
@@ -27,6 +28,7 @@ sizes_of d claim =
       resets = d.reset_len;
       judged = judged_count claim;
       has_capture = has_capture claim.kind claim.end;
+      has_early = claim.early;
     }
 
 -- the sizes speak of this design
@@ -44,7 +46,8 @@ pub record AreSmall (s : Sizes) : Type 0 where
 
 -- the places in front, from 0: the inputs, each by the number of those before it, then register r, then the latch that is 0 in the
 -- first cycles up to cycle i, the one that is 1 where the cycle before was live, the start's bit in the h-th cycle before the last
--- one, the toggle in the k-th cycle before the last one, and the capture of the cycle before
+-- one, the toggle in the k-th cycle before the last one, the capture of the cycle before, and whether that would have been another
+-- with the start flipped
 abbrev pub reg_place : Sizes → ℕ → ℕ
 reg_place s r = s.inputs + r
 
@@ -63,9 +66,12 @@ toggle_place s k = live_place s + 1 + s.judged + k
 abbrev pub capture_place : Sizes → ℕ
 capture_place s = live_place s + 1 + s.judged + (s.judged - 1)
 
+abbrev pub early_place : Sizes → ℕ
+early_place s = capture_place s + (if s.has_capture then 1 else 0)
+
 -- how many latches there are
 abbrev pub latch_count : Sizes → ℕ
-latch_count s = s.regs + s.resets + 1 + s.judged + (s.judged - 1) + (if s.has_capture then 1 else 0)
+latch_count s = s.regs + s.resets + 1 + s.judged + (s.judged - 1) + (if s.has_capture then 1 else 0) + (if s.has_early then 1 else 0)
 
 abbrev pub front_count : Sizes → ℕ
 front_count s = s.inputs + latch_count s
@@ -77,6 +83,11 @@ pub record AreFreeBits (d : Design) (c : Cycle) (x : List Bool) : Type 0 where
 -- the start toggles at t
 abbrev pub HasToggle : Design → Claim → List Cycle → ℕ → Type 0
 HasToggle d claim run t = (stale : Bool) × Toggles d.reset_len claim.edge claim.start run t stale
+
+-- the late capture with the start flipped differs
+abbrev pub DiffersFlipped : Design → Claim → Cycle → Type 0
+DiffersFlipped d claim c =
+    (late : Bool) × IsLateCapture d claim c (not (start_bit claim.start c)) late × (late ≢ capture d claim.end c)
 
 -- the bits in front show cycle t of a run, and what was before
 pub record IsFront (d : Design) (claim : Claim) (run : List Cycle) (t : ℕ) (c : Cycle) (x : List Bool) : Type 0 where
@@ -92,3 +103,5 @@ pub record IsFront (d : Design) (claim : Claim) (run : List Cycle) (t : ℕ) (c 
   pub toggles : (k : ℕ) → k + 1 < judged_count claim → (bit_at x (toggle_place (sizes_of d claim) k) ≡ true) ↔ HasToggle d claim run (t - (k + 1))
   pub captured : (before : Cycle) → has_capture claim.kind claim.end ≡ true → 0 < t → slice_get run (t - 1) ≡ Some before
       → bit_at x (capture_place (sizes_of d claim)) ≡ capture d claim.end before
+  pub early : (before : Cycle) → claim.early ≡ true → 0 < t → slice_get run (t - 1) ≡ Some before
+      → (bit_at x (early_place (sizes_of d claim)) ≡ true) ↔ DiffersFlipped d claim before

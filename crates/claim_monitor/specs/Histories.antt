@@ -7,7 +7,7 @@ use Rattle.net_model.specs.declared.claims.Claim.{Claim}
 use Rattle.and_graphs.specs.Graphs.{Means, bit_of}
 use Rattle.and_graphs.specs.declared.graphs.AndGraph.{AndGraph}
 use Rattle.and_graphs.specs.declared.aigs.Latch.{Latch}
-use Rattle.claim_monitor.specs.Fronts.{sizes_of, reset_place, start_place, toggle_place, capture_place}
+use Rattle.claim_monitor.specs.Fronts.{sizes_of, reset_place, start_place, toggle_place, capture_place, early_place}
 use Rattle.claim_monitor.specs.Shown.{AreIn, shown_row, shown_cycle}
 use Rattle.claim_monitor.specs.Tells.{toggle_bit}
 use Rattle.claim_monitor.specs.declared.bads.Judged.{Judged}
@@ -55,3 +55,17 @@ pub record AddsHistories (g : AndGraph) (s : Sizes) (judged : Judged) (old new :
   pub rest : List ℕ
   pub histories : AreHistories g s judged rest
   pub added : new ≡ old ++ map (latch_of false) rest
+
+-- the latch of a claim of the early side was added, where there is one
+pub record AddsEarly (g : AndGraph) (s : Sizes) (early : ℕ) (old new : List Latch) : Type 0 where
+  pub row : List ℕ
+  pub history : IsHistory g early (early_place s) (if s.has_early then 1 else 0) row
+  pub added : new ≡ old ++ map (latch_of false) row
+
+-- the latches of a monitor: those of registers, which begin with any bit, and those after them, which begin with 0
+pub record AreLatches (g : AndGraph) (s : Sizes) (captures : List ℕ) (judged : Judged) (early : ℕ) (latches : List Latch) : Type 0 where
+  pub rest : List ℕ
+  pub last : List ℕ
+  pub histories : AreHistories g s judged rest
+  pub history : IsHistory g early (early_place s) (if s.has_early then 1 else 0) last
+  pub made : latches ≡ map (latch_of true) captures ++ map (latch_of false) (rest ++ last)

@@ -15,7 +15,7 @@ use Rattle.sdcv_base.specs.declared.kinds.Edge.{Edge}
 use Rattle.sdcv_base.specs.declared.kinds.Edge.TheVariants.{Any, Rise, Fall}
 use Rattle.sdcv_base.specs.declared.kinds.Kind.{Kind}
 use Rattle.sdcv_base.specs.declared.kinds.Kind.TheVariants.{False, Multi}
-use Rattle.claim_monitor.specs.Fronts.{front_count, reg_place, reset_place, live_place, start_place, toggle_place, capture_place, AreFreeBits}
+use Rattle.claim_monitor.specs.Fronts.{front_count, reg_place, reset_place, live_place, start_place, toggle_place, capture_place, early_place, AreFreeBits, DiffersFlipped}
 use Rattle.claim_monitor.specs.Shown.{is_live}
 use Rattle.claim_monitor.specs.declared.sizes.Sizes.{Sizes}
 
@@ -57,12 +57,17 @@ IsBadNow False sets d s claim x c r = DiffersNow d s claim x c r
 IsBadNow (Multi k) [] d s claim x c r = ChangesNow d s claim x c
 IsBadNow (Multi k) (set ∷ sets) d s claim x c r = DiffersNow d s claim x c r × ChangesNow d s claim x c
 
+-- it is bad for a claim of this side; for one of the early side the capture of the cycle before is judged, as its latch tells
+abbrev pub IsBadNowOn : Bool → Design → Sizes → Claim → List Bool → Cycle → ℕ → Type 0
+IsBadNowOn false d s claim x c r = IsBadNow claim.kind claim.through d s claim x c r
+IsBadNowOn true d s claim x c r = bit_at x (early_place s) ≡ true
+
 -- it is bad for some toggle whose captures are judged
 pub record IsCaughtNow (d : Design) (s : Sizes) (claim : Claim) (x : List Bool) (c : Cycle) : Type 0 where
   pub r : ℕ
   pub judged : r < s.judged
   pub toggles : toggled s claim.edge claim.start x c r ≡ true
-  pub bad : IsBadNow claim.kind claim.through d s claim x c r
+  pub bad : IsBadNowOn claim.early d s claim x c r
 
 -- the bits in front of a run's first cycle: registers have the cycle's bits, and all other latches are 0
 pub record IsFirstFront (d : Design) (s : Sizes) (c : Cycle) (x : List Bool) : Type 0 where
@@ -83,6 +88,7 @@ pub record IsNextFront (d : Design) (claim : Claim) (s : Sizes) (x : List Bool) 
   pub starts : (h : ℕ) → h + 1 < s.judged → bit_at y (start_place s (h + 1)) ≡ bit_at x (start_place s h)
   pub toggles : (k : ℕ) → k + 1 < s.judged → bit_at y (toggle_place s k) ≡ toggled s claim.edge claim.start x c k
   pub captured : s.has_capture ≡ true → bit_at y (capture_place s) ≡ capture d claim.end c
+  pub early : s.has_early ≡ true → (bit_at y (early_place s) ≡ true) ↔ DiffersFlipped d claim c
 
 -- the late capture counts: for a false path, and where there are through sets
 abbrev pub has_late : Kind → List (List PinRef) → Bool
@@ -94,11 +100,6 @@ has_late (Multi k) (set ∷ sets) = true
 abbrev pub changes_bit : Kind → Bool → Bool → Bool
 changes_bit False now before = true
 changes_bit (Multi k) now before = xor now before
-
--- the late capture with the start flipped differs
-abbrev pub DiffersFlipped : Design → Claim → Cycle → Type 0
-DiffersFlipped d claim c =
-    (late : Bool) × IsLateCapture d claim c (not (start_bit claim.start c)) late × (late ≢ capture d claim.end c)
 
 -- a bit tells that it differs, where it counts, and is else 1
 pub record TellsLate (d : Design) (claim : Claim) (c : Cycle) (b : Bool) : Type 0 where

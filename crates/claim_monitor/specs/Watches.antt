@@ -6,7 +6,7 @@ use Rattle.net_model.specs.Judge.{IsViolatedAt}
 use Rattle.net_model.specs.declared.netlist.Design.{Design}
 use Rattle.net_model.specs.declared.cycles.Cycle.{Cycle}
 use Rattle.net_model.specs.declared.claims.Claim.{Claim}
-use Rattle.and_graphs.specs.Runs.{bad_at}
+use Rattle.and_graphs.specs.Runs.{latches_at, bad_at}
 use Rattle.and_graphs.specs.Texts.{HasForm}
 use Rattle.and_graphs.specs.declared.aigs.Latch.{Latch}
 use Rattle.and_graphs.specs.declared.aigs.Aig.{Aig}
@@ -22,11 +22,13 @@ pub record AreOfRun (d : Design) (run : List Cycle) (any : List Bool) (ins : ℕ
   pub count : (t : ℕ) → length (ins t) ≡ free_below d (length d.inputs)
   pub inputs : (t : ℕ) (c : Cycle) → slice_get run t ≡ Some c → AreFreeBits d c (ins t)
 
--- its inputs are the free inputs, its first latches the registers, whose first bits are any, and the bad literal is 1 in exactly
--- the steps in which the run is caught
+-- its inputs are the free inputs, its first latches the registers, whose first bits are any and which have the run's bits in each
+-- step, and the bad literal is 1 in exactly the steps in which the run is caught
 pub record Watches (d : Design) (claim : Claim) (a : Aig) : Type 0 where
   pub form : HasForm a
   pub inputs : a.inputs ≡ (sizes_of d claim).inputs
   pub latches : map (λ (x : Latch). x.is_any) a.latches ≡ replicate (length d.regs) true ++ replicate (latch_count (sizes_of d claim) - length d.regs) false
+  pub which : (run : List Cycle) (any : List Bool) (ins : ℕ → List Bool) (t r : ℕ) (c : Cycle) → IsRun d run → AreOfRun d run any ins
+      → slice_get run t ≡ Some c → r < length d.regs → slice_get (latches_at a any ins t) r ≡ slice_get c.bits r
   pub bad : (run : List Cycle) (any : List Bool) (ins : ℕ → List Bool) (t : ℕ) → IsRun d run → AreOfRun d run any ins → t < length run
       → (bad_at a any ins t ≡ true) ↔ IsCaughtAt d claim run t

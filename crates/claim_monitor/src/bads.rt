@@ -1,5 +1,5 @@
 //! Whether a run is caught in a cycle, as a literal.
-ghost use Rattle.std.specs.Prelude.{◌≡◌, ◌<◌, ◌&&◌, ℕ, true, Bool, List, OnOk, IfOk, length};
+ghost use Rattle.std.specs.Prelude.{◌≡◌, ◌<◌, ◌&&◌, ℕ, true, false, Bool, List, OnOk, IfOk, length};
 ghost use Rattle.net_model.specs.Form.{xor};
 ghost use Rattle.net_model.specs.Netlist.{IsSound};
 ghost use Rattle.net_model.specs.Fits.{Fits};
@@ -10,11 +10,11 @@ ghost use Rattle.net_model.specs.declared.claims.Start.{Start as StartRecord};
 ghost use Rattle.sdcv_base.specs.declared.kinds.Edge.{Edge as EdgeRecord};
 ghost use Rattle.and_graphs.specs.Graphs.{Means, Keeps};
 ghost use Rattle.and_graphs.specs.declared.graphs.AndGraph.{AndGraph as Graph};
-ghost use Rattle.claim_monitor.specs.Fronts.{AreSmall, front_count, live_place, start_place, sizes_of};
+ghost use Rattle.claim_monitor.specs.Fronts.{AreSmall, front_count, live_place, start_place, early_place, sizes_of};
 ghost use Rattle.claim_monitor.specs.Shown.{AreIn, AreLiteralsFor, shown_cycle};
 ghost use Rattle.claim_monitor.specs.Tells.{edge_bit, toggle_bit, toggled, captured, stale_bit, some_stale, changes_bit};
 ghost use Rattle.claim_monitor.specs.Tells as tells;
-ghost use Rattle.claim_monitor.specs.Judgings.{LateLiteral, BadLiteral};
+ghost use Rattle.claim_monitor.specs.Judgings.{LateLiteral, EarlyLiteral, BadLiteral};
 
 use crate::cycle_literals::Literals;
 use crate::lates::flipped_literal;
@@ -219,6 +219,75 @@ fn late_literal(
     Ok(differs)
 }
 
+/// The literal that tells, for a claim of the early side, whether the capture with the start flipped differs. Others have 0.
+pub(crate) fn early_literal(
+    alloc: Global,
+    design: &Design,
+    claim: &Claim,
+    literals: &Literals,
+    judged: &Judged,
+    graph: &mut AndGraph,
+) -> Result<u64, AllocError>
+    requires sound { IsSound design.now }
+    requires fits { Fits design.now claim.now }
+    requires literals { AreLiteralsFor graph.old design.now literals.now }
+    requires start { Means graph.old judged.now.start (λ x. start_bit claim.now.start (shown_cycle graph.old x literals.now)) }
+    requires capture { Means graph.old judged.now.capture (λ x. capture_of design.now claim.now.end (shown_cycle graph.old x literals.now)) }
+    ensures keeps { OnOk result (Keeps graph.old graph.new) }
+    ensures tells { IfOk result (EarlyLiteral graph.new design.now claim.now literals.now) }
+{
+    if !claim.early {
+        return Ok(bit_literal(false));
+    }
+    let differs = late_literal(alloc, design, claim, literals, judged, graph)?;
+    Ok(differs)
+}
+
+/// The literal that is 1 where the start toggles and the capture of the cycle before would have been another with the start flipped,
+/// that is with the bit that it has now.
+fn early_bad_literal(sizes: &Sizes, toggle: u64, graph: &mut AndGraph) -> Result<u64, AllocError>
+    requires small { AreSmall sizes.now }
+    requires front { graph.old.front ≡ front_count sizes.now }
+    requires early { sizes.now.has_early ≡ true }
+    ensures keeps { OnOk result (Keeps graph.old graph.new) }
+    ensures means { IfOk result (λ l. (f : List Bool → Bool) → Means graph.old toggle f
+        → Means graph.new l (λ x. f x && bit_at x (early_place sizes.now))) }
+{
+    let differed = graph.variable(sizes.early())?;
+    let bad = graph.both(toggle, differed)?;
+    Ok(bad)
+}
+
+/// The literal that tells, for a claim of the late side, whether the cycle is bad for a toggle before it.
+fn late_bad_literal(
+    alloc: Global,
+    design: &Design,
+    claim: &Claim,
+    literals: &Literals,
+    judged: &Judged,
+    graph: &mut AndGraph,
+) -> Result<u64, AllocError>
+    requires sound { IsSound design.now }
+    requires fits { Fits design.now claim.now }
+    requires late { claim.now.early ≡ false }
+    requires front { graph.old.front ≡ front_count (sizes_of design.now claim.now) }
+    requires literals { AreLiteralsFor graph.old design.now literals.now }
+    requires start { Means graph.old judged.now.start (λ x. start_bit claim.now.start (shown_cycle graph.old x literals.now)) }
+    requires toggle { 0 < judged_count claim.now → Means graph.old judged.now.toggle (λ x. toggle_bit (sizes_of design.now claim.now) claim.now.edge
+        claim.now.start x (shown_cycle graph.old x literals.now)) }
+    requires capture { Means graph.old judged.now.capture (λ x. capture_of design.now claim.now.end (shown_cycle graph.old x literals.now)) }
+    ensures keeps { OnOk result (Keeps graph.old graph.new) }
+    ensures tells { IfOk result (BadLiteral graph.new design.now claim.now literals.now) }
+{
+    let sizes = Sizes::of(design, claim);
+    let some = stale_literals(claim, judged, &sizes, graph)?;
+    let changes = change_literal(design, claim, literals, judged.capture, graph)?;
+    let late = late_literal(alloc, design, claim, literals, judged, graph)?;
+    let here = graph.both(changes, late)?;
+    let bad = graph.both(here, some)?;
+    Ok(bad)
+}
+
 /// The literal that tells whether the cycle is bad for a toggle before it.
 pub(crate) fn bad_literal(
     alloc: Global,
@@ -240,10 +309,10 @@ pub(crate) fn bad_literal(
     ensures tells { IfOk result (BadLiteral graph.new design.now claim.now literals.now) }
 {
     let sizes = Sizes::of(design, claim);
-    let some = stale_literals(claim, judged, &sizes, graph)?;
-    let changes = change_literal(design, claim, literals, judged.capture, graph)?;
-    let late = late_literal(alloc, design, claim, literals, judged, graph)?;
-    let here = graph.both(changes, late)?;
-    let bad = graph.both(here, some)?;
+    if sizes.has_early {
+        let bad = early_bad_literal(&sizes, judged.toggle, graph)?;
+        return Ok(bad);
+    }
+    let bad = late_bad_literal(alloc, design, claim, literals, judged, graph)?;
     Ok(bad)
 }

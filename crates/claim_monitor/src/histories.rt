@@ -2,7 +2,7 @@
 ghost use Rattle.std.specs.Prelude.{◌≡◌, ◌++◌, ◌+◌, ◌≤◌, ◌<◌, ◌^◌, OnOk, IfOk, map};
 ghost use Rattle.and_graphs.specs.Graphs.{IsIn, Means};
 ghost use Rattle.claim_monitor.specs.Fronts.{AreSmall, front_count};
-ghost use Rattle.claim_monitor.specs.Histories.{taken, IsHistory, AddsHistories, latch_of};
+ghost use Rattle.claim_monitor.specs.Histories.{taken, IsHistory, AddsHistories, AddsEarly, AreLatches, latch_of};
 
 use crate::bads::Judged;
 use crate::sizes::Sizes;
@@ -46,11 +46,7 @@ fn history(
 }
 
 /// Adds latches that take these literals next.
-pub(crate) fn push_latches(
-    nexts: &Seq<u64>,
-    is_any: bool,
-    latches: &mut Seq<Latch>,
-) -> Result<(), AllocError>
+fn push_latches(nexts: &Seq<u64>, is_any: bool, latches: &mut Seq<Latch>) -> Result<(), AllocError>
     ensures { OnOk result (latches.new ≡ latches.old ++ map (latch_of is_any) nexts.now) }
 {
     for k in 0..nexts.len() {
@@ -62,7 +58,7 @@ pub(crate) fn push_latches(
 
 /// Adds the latches after those of the registers: of the reset's cycles and the live one after them, of the start's bits, of its
 /// toggles, and of the end's capture. All begin with 0.
-pub(crate) fn push_histories(
+fn push_histories(
     alloc: Global,
     sizes: &Sizes,
     judged: &Judged,
@@ -102,4 +98,45 @@ pub(crate) fn push_histories(
     push_latches(&starts, false, latches)?;
     push_latches(&toggles, false, latches)?;
     push_latches(&captures, false, latches)
+}
+
+/// Adds the latch of a claim of the early side, which takes this literal next and begins with 0. For others there is none.
+fn push_early(
+    alloc: Global,
+    sizes: &Sizes,
+    early: u64,
+    graph: &AndGraph,
+    latches: &mut Seq<Latch>,
+) -> Result<(), AllocError>
+    requires small { AreSmall sizes.now }
+    requires front { graph.now.front ≡ front_count sizes.now }
+    requires early { IsIn graph.now early }
+    ensures { OnOk result (AddsEarly graph.now sizes.now early latches.old latches.new) }
+{
+    let row = history(alloc, graph, early, sizes.early(), sizes.early_count())?;
+    push_latches(&row, false, latches)
+}
+
+/// All latches: those of the registers, which begin with any bit and take these captures next, and those after them.
+pub(crate) fn latches_of(
+    alloc: Global,
+    sizes: &Sizes,
+    captures: &Seq<u64>,
+    judged: &Judged,
+    early: u64,
+    graph: &AndGraph,
+) -> Result<Seq<Latch>, AllocError>
+    requires small { AreSmall sizes.now }
+    requires front { graph.now.front ≡ front_count sizes.now }
+    requires start { IsIn graph.now judged.now.start }
+    requires toggle { 0 < sizes.now.judged → IsIn graph.now judged.now.toggle }
+    requires capture { IsIn graph.now judged.now.capture }
+    requires early { IsIn graph.now early }
+    ensures { IfOk result (AreLatches graph.now sizes.now captures.now judged.now early) }
+{
+    let mut latches = Seq::new(alloc);
+    push_latches(captures, true, &mut latches)?;
+    push_histories(alloc, sizes, judged, graph, &mut latches)?;
+    push_early(alloc, sizes, early, graph, &mut latches)?;
+    Ok(latches)
 }

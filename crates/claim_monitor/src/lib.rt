@@ -7,7 +7,8 @@
 //!
 //! `watch` joins `literals_of` (`cycle_literals.rt`), the literals of a cycle, those of what ends capture (`captures.rt`),
 //! `flipped_literal` (`lates.rt`, over `layers.rt`), that of a capture where the start comes late, `bad_literal` (`bads.rt`), which is 1
-//! exactly where the bits in front and the cycle tell that the run is caught, and the latches (`histories.rt`). `write_aiger`
+//! exactly where the bits in front and the cycle tell that the run is caught, and the latches (`histories.rt`). For a claim of the
+//! early side one latch more keeps whether the capture of the cycle before would have been another with the start flipped. `write_aiger`
 //! (`aiger_texts.rt`) watches a claim and gives the graph as an AIGER text, which `and_graphs` writes. Which claim is written, and
 //! where the text is saved, is left to the crate above.
 #![tactic(auto)]

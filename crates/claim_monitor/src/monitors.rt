@@ -9,10 +9,10 @@ ghost use Rattle.claim_monitor.specs.Captured.{AreCaptureLiterals};
 ghost use Rattle.claim_monitor.specs.Histories.{AreJudged};
 ghost use Rattle.claim_monitor.specs.Watches.{Watches};
 
-use crate::bads::{Judged, bad_literal, toggle_literal};
+use crate::bads::{Judged, bad_literal, early_literal, toggle_literal};
 use crate::captures::{end_literal, next_literals};
 use crate::cycle_literals::{Literals, literals_of, start_literal};
-use crate::histories::{push_histories, push_latches};
+use crate::histories::latches_of;
 use crate::sizes::Sizes;
 use and_graphs::{Aig, AndGraph};
 use net_model::{Claim, Design};
@@ -60,9 +60,8 @@ pub fn watch(alloc: Global, design: &Design, claim: &Claim) -> Result<Aig, Alloc
     let captures = next_literals(alloc, design, &literals, &mut graph)?;
     let judged = judged_literals(design, claim, &literals, &captures, &mut graph)?;
     let bad = bad_literal(alloc, design, claim, &literals, &judged, &mut graph)?;
-    let mut latches = Seq::new(alloc);
-    push_latches(&captures, true, &mut latches)?;
-    push_histories(alloc, &sizes, &judged, &graph, &mut latches)?;
+    let early = early_literal(alloc, design, claim, &literals, &judged, &mut graph)?;
+    let latches = latches_of(alloc, &sizes, &captures, &judged, early, &graph)?;
     let AndGraph { lines, .. } = graph;
     Ok(Aig {
         inputs: sizes.inputs,

@@ -8,7 +8,8 @@ use net_model::{Claim, Design, End, Fixed, Kind};
 use sdcv_base::Seq;
 
 /// How many variables of each kind stand in front: inputs that are neither fixed nor reset, registers, latches that count the
-/// reset's cycles, judged captures, and whether a latch keeps the capture of the cycle before.
+/// reset's cycles, judged captures, whether a latch keeps the capture of the cycle before, and whether one keeps that it would have
+/// been another with the start flipped.
 #[derive(Clone, Copy, Debug, PartialEq, Eq)]
 pub struct Sizes {
     pub inputs: u64,
@@ -16,6 +17,7 @@ pub struct Sizes {
     pub resets: u64,
     pub judged: u64,
     pub has_capture: bool,
+    pub has_early: bool,
 }
 
 /// Whether one of some settings is of an input.
@@ -66,6 +68,7 @@ impl Sizes {
             resets: design.reset_len as u64,
             judged: claim.judged_count() as u64,
             has_capture: has_capture(claim),
+            has_early: claim.early,
         }
     }
 
@@ -124,11 +127,26 @@ impl Sizes {
         u64::from(self.has_capture)
     }
 
+    /// The place of the latch that is 1 where the capture of the cycle before would have been another with the start flipped.
+    pub(crate) fn early(&self) -> u64
+        requires { fronts.AreSmall self.now }
+        ensures { result ≡ fronts.early_place self.now }
+    {
+        self.capture() + self.capture_count()
+    }
+
+    /// How many such latches there are.
+    pub(crate) fn early_count(&self) -> u64
+        ensures { result ≡ (if self.now.has_early then 1 else 0) }
+    {
+        u64::from(self.has_early)
+    }
+
     /// How many variables stand in front.
     pub(crate) fn front(&self) -> u64
         requires { fronts.AreSmall self.now }
         ensures { result ≡ fronts.front_count self.now }
     {
-        self.capture() + self.capture_count()
+        self.early() + self.early_count()
     }
 }

@@ -16,11 +16,12 @@ pub then_more : {X : Type 0} (now next all more rest : List X) (front : List X) 
 then_more now next all more rest front turn whole is =
     whole ∙ ap (λ l. l ++ rest) turn ∙ append_assoc now more rest ∙ ap (λ l. l ++ (more ++ rest)) is
 
--- six lists, joined from the left
-pub in_order : {X : Type 0} (n1 n2 n3 n4 n5 n6 a b c d e f : List X) → n1 ≡ a → n2 ≡ n1 ++ b → n3 ≡ n2 ++ c → n4 ≡ n3 ++ d → n5 ≡ n4 ++ e → n6 ≡ n5 ++ f
-    → n6 ≡ a ++ (b ++ (c ++ (d ++ (e ++ f))))
-in_order n1 n2 n3 n4 n5 n6 a b c d e f first second third fourth fifth sixth =
-    let last : n6 ≡ n4 ++ (e ++ f) = then_more n4 n5 n6 e f n4 fifth sixth refl in
-    let before : n6 ≡ n3 ++ (d ++ (e ++ f)) = then_more n3 n4 n6 d (e ++ f) n3 fourth last refl in
-    let middle : n6 ≡ n2 ++ (c ++ (d ++ (e ++ f))) = then_more n2 n3 n6 c (d ++ (e ++ f)) n2 third before refl in
-    then_more n1 n2 n6 b (c ++ (d ++ (e ++ f))) a second middle first
+-- seven lists, joined from the left
+pub in_order : {X : Type 0} (n1 n2 n3 n4 n5 n6 n7 a b c d e f g : List X) → n1 ≡ a → n2 ≡ n1 ++ b → n3 ≡ n2 ++ c → n4 ≡ n3 ++ d → n5 ≡ n4 ++ e
+    → n6 ≡ n5 ++ f → n7 ≡ n6 ++ g → n7 ≡ a ++ (b ++ (c ++ (d ++ (e ++ (f ++ g)))))
+in_order n1 n2 n3 n4 n5 n6 n7 a b c d e f g first second third fourth fifth sixth seventh =
+    let last : n7 ≡ n5 ++ (f ++ g) = then_more n5 n6 n7 f g n5 sixth seventh refl in
+    let late : n7 ≡ n4 ++ (e ++ (f ++ g)) = then_more n4 n5 n7 e (f ++ g) n4 fifth last refl in
+    let before : n7 ≡ n3 ++ (d ++ (e ++ (f ++ g))) = then_more n3 n4 n7 d (e ++ (f ++ g)) n3 fourth late refl in
+    let middle : n7 ≡ n2 ++ (c ++ (d ++ (e ++ (f ++ g)))) = then_more n2 n3 n7 c (d ++ (e ++ (f ++ g))) n2 third before refl in
+    then_more n1 n2 n7 b (c ++ (d ++ (e ++ (f ++ g)))) a second middle first

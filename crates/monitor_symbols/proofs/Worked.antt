@@ -13,7 +13,11 @@ cell name reg = record { name = name; reg = reg; outs = []; pins = [] }
 
 -- so many registers, cycles of reset and judged captures, and whether a multicycle path ends at a port
 abbrev sizes : ℕ → ℕ → ℕ → Bool → Sizes
-sizes regs resets judged port = record { inputs = 1; regs = regs; resets = resets; judged = judged; has_capture = port }
+sizes regs resets judged port = record { inputs = 1; regs = regs; resets = resets; judged = judged; has_capture = port; has_early = false }
+
+-- the same for the early side of a false path
+abbrev early_sizes : ℕ → ℕ → Sizes
+early_sizes regs resets = record { inputs = 1; regs = regs; resets = resets; judged = 1; has_capture = false; has_early = true }
 
 abbrev lines : List CellName → Sizes → List ℕ
 lines cells s = each_at symbol 0 (latch_names cells s)
@@ -62,3 +66,9 @@ a_port_captures = refl
 no_capture_is_judged : lines [] (sizes 0 0 0 true) ≡ codes "l0 sdcv.live" ⏎ codes "l1 sdcv.capture" ⏎ []
 unfolding digits
 no_capture_is_judged = refl
+
+-- the early side of a false path has one latch more, the last one
+an_early_claim_has_a_latch_more : lines (cell (codes "r") (Some 0) ∷ []) (early_sizes 1 1)
+    ≡ codes "l0 r" ⏎ codes "l1 sdcv.reset[0]" ⏎ codes "l2 sdcv.live" ⏎ codes "l3 sdcv.start[0]" ⏎ codes "l4 sdcv.early" ⏎ []
+unfolding digits
+an_early_claim_has_a_latch_more = refl

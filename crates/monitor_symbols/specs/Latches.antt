@@ -25,7 +25,8 @@ abbrev pub each_numbered : List ℕ → ℕ → List (List ℕ)
 each_numbered word count = map (numbered word) (range_with_len 0 count)
 
 -- the latches in their order: the registers, those that count the reset's cycles, the one that is 1 where the cycle before was live,
--- the start's bits and its toggles in the cycles before, and the capture of the cycle before
+-- the start's bits and its toggles in the cycles before, the capture of the cycle before, and whether that would have been another with
+-- the start flipped
 abbrev pub latch_names : List CellName → Sizes → List (List ℕ)
 latch_names cells s =
     map (reg_name cells) (range_with_len 0 s.regs)
@@ -33,7 +34,8 @@ latch_names cells s =
     ++ (codes "sdcv.live"
     ∷ (each_numbered (codes "sdcv.start") s.judged
     ++ (each_numbered (codes "sdcv.toggle") (s.judged - 1)
-    ++ where_true s.has_capture (codes "sdcv.capture")))))
+    ++ (where_true s.has_capture (codes "sdcv.capture")
+    ++ where_true s.has_early (codes "sdcv.early"))))))
 
 -- ---- what the functions that find the names say
 

@@ -25,6 +25,7 @@ pub fn latch_names(
     let toggles = sizes.judged.saturating_sub(1);
     add_numbered(alloc, &mut names, "sdcv.toggle", toggles)?;
     add_where(alloc, &mut names, "sdcv.capture", sizes.has_capture)?;
+    add_where(alloc, &mut names, "sdcv.early", sizes.has_early)?;
     Ok(names)
 }
 
