@@ -72,7 +72,7 @@ abbrev pub pair_data : ℕ → ℕ → PairLine → Claim → Verdict → Data
 pair_data limit n p claim v =
     object (member (codes "command") (count_data p.command)
     (member (codes "end") (string (shown p.end))
-    (member (codes "kind") (string (claim_text claim.kind claim.edge))
+    (member (codes "kind") (string (claim_text claim))
     (member (codes "number") (count_data n)
     (member (codes "start") (string (shown p.start))
     (member (codes "stimulus") (evidence_data v)

@@ -27,9 +27,9 @@ fn put_name(alloc: Global, object: &mut Object, key: &str, name: &Name) -> Resul
 }
 
 fn put_kind(alloc: Global, object: &mut Object, claim: &Claim) -> Result<(), AllocError>
-    ensures { OnOk result (made object.new ≡ with_member (codes "kind") (string (claim_text claim.now.kind claim.now.edge)) (made object.old)) }
+    ensures { OnOk result (made object.new ≡ with_member (codes "kind") (string (claim_text claim.now)) (made object.old)) }
 {
-    object.put_text(alloc, "kind", &claim_text(alloc, claim.kind, claim.edge)?)
+    object.put_text(alloc, "kind", &claim_text(alloc, claim)?)
 }
 
 fn put_evidence(alloc: Global, object: &mut Object, verdict: &Verdict) -> Result<(), AllocError>

@@ -33,7 +33,7 @@ use Rattle.witness_replay.proofs.WrittenLemmas.{inline_decimal}
 use Rattle.witness_replay.proofs.PassedLemmas.{passes, passes_block}
 use Rattle.run_options.specs.declared.options.RunOptions.{RunOptions}
 use Rattle.report_text.specs.Words.{mode_text, lag_text, number_text, flag_text, asked_text, header_text}
-use Rattle.report_text.specs.Words.{kind_text, edge_text, claim_text, what_text, count_text, command_text, warning_text, warning_line}
+use Rattle.report_text.specs.Words.{kind_text, edge_text, words_of, what_text, count_text, command_text, warning_text, warning_line}
 use Rattle.report_text.specs.Words.{verdict_word, proof_text, phase_text, cause_text, why_text, pair_text}
 use Rattle.report_text.specs.Reports.{command_texts, pair_texts, stimulus_texts}
 
@@ -63,9 +63,6 @@ inline_edge Any = refl
 inline_edge Rise = refl
 inline_edge Fall = refl
 
-inline_claim : (kind : Kind) (edge : Edge) → is_inline (claim_text kind edge) ≡ true
-inline_claim kind edge = simp (inline-append, inline_kind, inline_edge)
-
 inline_lag : (lag : ℕ) → is_inline (lag_text lag) ≡ true
 inline_lag lag =
     cond_both (lag == 0) [] (codes " lag " ++ decimal lag) (λ (text : List ℕ). is_inline text ≡ true) (λ none. refl) (λ some. inline_decimal lag)
@@ -78,11 +75,14 @@ inline_flag : (word : List ℕ) (stands : Bool) → is_inline word ≡ true → 
 inline_flag word true plain = plain
 inline_flag word false plain = refl
 
+inline_words : (kind : Kind) (early : Bool) (edge : Edge) → is_inline (words_of kind early edge) ≡ true
+inline_words kind early edge = let side = inline_flag (codes " hold") early refl in simp (inline-append, inline_kind, side, inline_edge)
+
 inline_what : (listing : Listing) → is_inline (what_text listing) ≡ true
-inline_what (Claiming kind edge pairs) = inline_claim kind edge
+inline_what (Claiming kind edge pairs) = inline_words kind false edge
 inline_what Hold = refl
 inline_what (Aside option) = inline_shown option
-inline_what (HoldSide edge pairs) = inline_edge edge
+inline_what (HoldSide edge pairs) = inline_words False true edge
 
 inline_count : (listing : Listing) → is_inline (count_text listing) ≡ true
 inline_count (Claiming kind edge pairs) = inline_decimal pairs
@@ -139,7 +139,9 @@ passes_warning : (number place : ℕ) (warning : Warning) → passes (title_of n
 passes_warning number place warning = simp (inline-append, inline_warning, inline_decimal)
 
 passes_pair : (number limit other : ℕ) (p : PairLine) (claim : Claim) (v : Verdict) → passes (title_of number) (pair_text limit other p claim v) ≡ true
-passes_pair number limit other p claim v = simp (inline-append, inline_kind, inline_edge, inline_shown, inline_word, inline_why, inline_decimal)
+passes_pair number limit other p claim v =
+    let side = inline_flag (codes " hold") claim.early refl in
+    simp (inline-append, inline_kind, side, inline_edge, inline_shown, inline_word, inline_why, inline_decimal)
 
 passes_warnings : (number place : ℕ) (warnings : List Warning) → list_all (passes (title_of number)) (map (warning_line place) warnings) ≡ true
 passes_warnings number place [] = refl

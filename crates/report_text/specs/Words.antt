@@ -68,16 +68,20 @@ edge_text Any = []
 edge_text Rise = codes " rise"
 edge_text Fall = codes " fall"
 
+-- what is claimed: its kind, whether it is the hold side, and the change of the start
+abbrev pub words_of : Kind → Bool → Edge → List ℕ
+words_of kind early edge = kind_text kind ⁀ flag_text (codes " hold") early ⁀ edge_text edge
+
 -- what is claimed of a pair
-abbrev pub claim_text : Kind → Edge → List ℕ
-claim_text kind edge = kind_text kind ⁀ edge_text edge
+abbrev pub claim_text : Claim → List ℕ
+claim_text claim = words_of claim.kind claim.early claim.edge
 
 -- what an exception does
 abbrev pub what_text : Listing → List ℕ
-what_text (Claiming kind edge pairs) = claim_text kind edge
+what_text (Claiming kind edge pairs) = words_of kind false edge
 what_text Hold = codes "hold"
 what_text (Aside option) = codes "aside " ⁀ shown option
-what_text (HoldSide edge pairs) = codes "false hold" ⁀ edge_text edge
+what_text (HoldSide edge pairs) = words_of False true edge
 
 -- how many pairs it claims something of
 abbrev pub count_text : Listing → List ℕ
@@ -139,7 +143,7 @@ found_text limit v = verdict_word v ⁀ codes " " ⁀ why_text limit v
 
 abbrev pub pair_text : ℕ → ℕ → PairLine → Claim → Verdict → List ℕ
 pair_text limit number p claim v =
-    codes "pair " ⁀ decimal number ⁀ codes " command " ⁀ decimal p.command ⁀ codes " " ⁀ claim_text claim.kind claim.edge ⁀ codes " "
+    codes "pair " ⁀ decimal number ⁀ codes " command " ⁀ decimal p.command ⁀ codes " " ⁀ claim_text claim ⁀ codes " "
     ⁀ ends_text p ⁀ codes " " ⁀ found_text limit v
 
 abbrev pub is_justified : Verdict → Bool

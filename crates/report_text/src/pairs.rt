@@ -36,7 +36,7 @@ fn pair_text(alloc: Global, limit: usize, row: &PairRow<'_>) -> Result<String, A
 {
     let number = row.number;
     let command = row.pair.command;
-    let claim = claim_text(alloc, row.claim.kind, row.claim.edge)?;
+    let claim = claim_text(alloc, row.claim)?;
     let ends = ends_text(alloc, row.pair)?;
     let found = found_text(alloc, limit, row.verdict)?;
     format!(in alloc; "pair {number} command {command} {claim} {ends} {found}")

@@ -1,8 +1,9 @@
 //! The words of an option, of an exception and of a warning.
 ghost use Rattle.std.specs.Prelude.{◌≡◌, IfOk, string_bytes};
 ghost use Rattle.report_text.specs.Words.{mode_text, lag_text, number_text, flag_text, asked_text};
-ghost use Rattle.report_text.specs.Words.{kind_text, edge_text, claim_text, what_text, count_text, warning_text};
+ghost use Rattle.report_text.specs.Words.{kind_text, edge_text, words_of, claim_text, what_text, count_text, warning_text};
 
+use net_model::Claim;
 use run_options::RunOptions;
 use sdcv_base::{Edge, Kind};
 use selected_types::{Listing, Warning};
@@ -77,13 +78,21 @@ fn edge_text(edge: Edge) -> &'static str
     }
 }
 
-/// What is claimed of a pair: the kind, with its multiplier, and which change of the start counts.
-pub fn claim_text(alloc: Global, kind: Kind, edge: Edge) -> Result<String, AllocError>
-    ensures { IfOk result (λ text. string_bytes text ≡ claim_text kind edge) }
+// What is claimed: the kind, whether it is the hold side (`early`), and which change of the start counts.
+fn words_of(alloc: Global, kind: Kind, early: bool, edge: Edge) -> Result<String, AllocError>
+    ensures { IfOk result (λ text. string_bytes text ≡ words_of kind early edge) }
 {
     let kind = kind_text(alloc, kind)?;
+    let side = flag_text(" hold", early);
     let edge = edge_text(edge);
-    format!(in alloc; "{kind}{edge}")
+    format!(in alloc; "{kind}{side}{edge}")
+}
+
+/// What is claimed of a pair: the kind, with its multiplier, whether it is the hold side, and which change of the start counts.
+pub fn claim_text(alloc: Global, claim: &Claim) -> Result<String, AllocError>
+    ensures { IfOk result (λ text. string_bytes text ≡ claim_text claim.now) }
+{
+    words_of(alloc, claim.kind, claim.early, claim.edge)
 }
 
 /// What an exception does.
@@ -91,13 +100,10 @@ pub fn what_text(alloc: Global, listing: &Listing) -> Result<String, AllocError>
     ensures { IfOk result (λ text. string_bytes text ≡ what_text listing.now) }
 {
     match listing {
-        Listing::Claiming(kind, edge, _pairs) => claim_text(alloc, *kind, *edge),
+        Listing::Claiming(kind, edge, _pairs) => words_of(alloc, *kind, false, *edge),
         Listing::Hold => String::from_str(alloc, "hold"),
         Listing::Aside(option) => format!(in alloc; "aside {option}"),
-        Listing::HoldSide(edge, _pairs) => {
-            let edge = edge_text(*edge);
-            format!(in alloc; "false hold{edge}")
-        }
+        Listing::HoldSide(edge, _pairs) => words_of(alloc, Kind::False, true, *edge),
     }
 }
 
