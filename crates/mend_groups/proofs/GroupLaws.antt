@@ -1,16 +1,18 @@
 -- What holds of the groups of some pairs.
-use Rattle.std.proofs.Common.{arith, ◌≡◌, ◌∙◌, ℕ, zero, suc, ◌+◌, ◌≤◌, Bool, true, List, [], ◌∷◌, ◌++◌, length, length-drop, take, drop, refl, sym, ap, subst, inl, inr}
-use Rattle.std.specs.Prelude.{All, count_by, flat_map, cond}
+use Rattle.std.proofs.Common.{arith, ◌≡◌, ◌∙◌, ℕ, zero, suc, ◌+◌, ◌≤◌, Bool, true, false, not, ◌&&◌, List, [], ◌∷◌, ◌++◌, length, length-drop, take, drop, refl, sym, ap, subst, inl, inr}
+use Rattle.std.specs.Prelude.{All, count_by, flat_map, cond, if◌then◌else◌}
 use Rattle.std.proofs.lemmas.Bool.{cases_Bool, and_parts}
 use Rattle.std.proofs.lemmas.List.{append-nil, take-append-drop}
-use Rattle.std.proofs.lemmas.List.Elements.{All-nil, All-cons, All-head, All-tail, All-append, All-push, All-take, All-drop, All-same, All-weaker}
+use Rattle.std.proofs.lemmas.List.Elements.{All-nil, All-cons, All-head, All-tail, All-append, All-push, All-take, All-drop, All-same, All-weaker, filter_passes}
 use Rattle.std.proofs.lemmas.Grind.{flat_map-append}
 use Rattle.std.proofs.lemmas.List.Sums.{sum_by-append}
 use Rattle.net_model.specs.declared.claims.Start.{Start}
+use Rattle.exception_expand.specs.declared.sides.Sides.{Sides}
+use Rattle.exception_expand.specs.declared.sides.Sides.TheVariants.{Late, Early, Both}
 use Rattle.mend_groups.specs.declared.rows.Row.{Row}
 use Rattle.mend_groups.specs.declared.groups.Group.{Group}
-use Rattle.mend_groups.specs.Laws.{IsStar, IsGroup, pairs_of, pairs_in}
-use Rattle.mend_groups.specs.Groups.{is_start, run_of, star_len, stars_from, stars_of, have_ends, are_alike, is_like, fits_in, group_of, with_star, grouped, written_of, groups_of}
+use Rattle.mend_groups.specs.Laws.{IsStar, IsGroup, IsSided, pairs_of, pairs_in}
+use Rattle.mend_groups.specs.Groups.{is_start, run_of, star_len, stars_from, stars_of, have_ends, are_alike, is_like, fits_in, group_of, with_star, grouped, written_of, is_written_as, written_as, groups_as, groups_of}
 
 -- what holds of each pair holds of those of each start
 stars_hold : (P : Row → Type 0) (n : ℕ) (rows : List Row) → All P rows → All (All P) (stars_from n rows)
@@ -45,10 +47,36 @@ grouped_hold P [] groups all here = all
 grouped_hold P (star ∷ stars) groups all here =
     grouped_hold P stars (with_star groups star) (star_holds P groups star all (All-head P star stars here)) (All-tail P star stars here)
 
--- what holds of each written pair holds of each pair of the groups
-pub groups_hold : (P : Row → Type 0) (rows : List Row) → All P (written_of rows) → All (λ (g : Group). All (All P) g.stars) (groups_of rows)
-groups_hold P rows all =
-    grouped_hold (All P) (stars_of (written_of rows)) [] (All-nil (Each (All P))) (stars_hold P (length (written_of rows)) (written_of rows) all)
+-- what holds of the groups whatever sides are written holds of all groups
+sides_hold : (Q : Group → Type 0) (rows : List Row) → ((sides : Sides) → All Q (groups_as sides rows)) → All Q (groups_of rows)
+sides_hold Q rows each =
+    All-append Q (groups_as Both rows) (groups_as Late rows ++ groups_as Early rows) (each Both)
+    (All-append Q (groups_as Late rows) (groups_as Early rows) (each Late) (each Early))
+
+-- what holds of each side that is written with just these holds of each in their groups
+as_hold : (P : Row → Type 0) (sides : Sides) (rows : List Row) → All P (written_as sides rows) → All (Each (All P)) (groups_as sides rows)
+as_hold P sides rows all =
+    grouped_hold (All P) (stars_of (written_as sides rows)) [] (All-nil (Each (All P)))
+    (stars_hold P (length (written_as sides rows)) (written_as sides rows) all)
+
+-- what holds of each written side holds of each of the groups
+pub groups_hold : (P : Row → Type 0) (rows : List Row) → ((sides : Sides) → All P (written_as sides rows))
+    → All (λ (g : Group). All (All P) g.stars) (groups_of rows)
+groups_hold P rows each = sides_hold (Each (All P)) rows (λ sides. as_hold P sides rows (each sides))
+
+-- of the pairs of a group the same sides are written
+pub groups_sided : (rows : List Row) → All IsSided (groups_of rows)
+groups_sided rows =
+    sides_hold IsSided rows (λ sides.
+    let Is : Row → Type 0 = λ (r : Row). is_written_as sides r ≡ true in
+    All-weaker (Each (All Is)) IsSided (λ g all. record { sides = sides; same = all }) (groups_as sides rows)
+    (as_hold Is sides rows (filter_passes (is_written_as sides) rows)))
+
+-- what is written with some sides is written
+pub written_by : (sides : Sides) (r : Row) → is_written_as sides r ≡ true → r.written ≡ true
+written_by Both r is = (and_parts r.written r.beside is).0
+written_by Late r is = (and_parts r.written (not r.beside && not r.early) is).0
+written_by Early r is = (and_parts r.written (not r.beside && r.early) is).0
 
 -- the first pairs that have a start have it
 run_same : (start : Start) (rows : List Row) → All (λ (r : Row). is_start start r.start ≡ true) (take (run_of start rows) rows)
@@ -75,7 +103,8 @@ stars_parted (suc n) (r ∷ rows) =
 
 pub groups_parted : (rows : List Row) → All (λ (g : Group). All IsStar g.stars) (groups_of rows)
 groups_parted rows =
-    grouped_hold IsStar (stars_of (written_of rows)) [] (All-nil (Each IsStar)) (stars_parted (length (written_of rows)) (written_of rows))
+    sides_hold (Each IsStar) rows (λ sides.
+    grouped_hold IsStar (stars_of (written_as sides rows)) [] (All-nil (Each IsStar)) (stars_parted (length (written_as sides rows)) (written_as sides rows)))
 
 -- lists with the same ends have as many pairs
 ends_count : (first second : List Row) → have_ends first second ≡ true → length first ≡ length second
@@ -126,7 +155,7 @@ grouped_are [] groups all = all
 grouped_are (star ∷ stars) groups all = grouped_are stars (with_star groups star) (star_joined groups star all)
 
 pub groups_are : (rows : List Row) → All IsGroup (groups_of rows)
-groups_are rows = grouped_are (stars_of (written_of rows)) [] (All-nil IsGroup)
+groups_are rows = sides_hold IsGroup rows (λ sides. grouped_are (stars_of (written_as sides rows)) [] (All-nil IsGroup))
 
 -- all starts of a group have as many pairs
 pub group_even : (g : Group) → IsGroup g → (n : ℕ) × All (λ (star : List Row). length star ≡ n) g.stars
@@ -188,13 +217,51 @@ count_grouped p (star ∷ stars) groups =
     let parts = both p star (pairs_of stars) in
     omega (arith, later, now, parts)
 
--- each written pair stands in the groups as often as among the pairs: whatever is asked of pairs, as many pass
-pub groups_count : (p : Row → Bool) (rows : List Row) → count_by p (pairs_in (groups_of rows)) ≡ count_by p (written_of rows)
-groups_count p rows =
-    let written : List Row = written_of rows in
+-- as often as among those that are written with just these sides
+as_count : (p : Row → Bool) (sides : Sides) (rows : List Row) → count_by p (pairs_in (groups_as sides rows)) ≡ count_by p (written_as sides rows)
+as_count p sides rows =
+    let written : List Row = written_as sides rows in
     let whole = ap (count_by p) (stars_whole (length written) written (omega arith)) in
     let made = count_grouped p (stars_of written) [] in
     omega (arith, whole, made)
+
+-- a side that is written is so with both sides, with the late one alone or with the early one alone
+parted : (written beside early : Bool) (n : ℕ) → cond (written && beside) n 0
+    + (cond (written && (not beside && not early)) n 0 + cond (written && (not beside && early)) n 0) ≡ cond written n 0
+parted false beside early n = omega arith
+parted true true early n = omega arith
+parted true false true n = omega arith
+parted true false false n = omega arith
+
+count_if : (p : Row → Bool) (b : Bool) (r : Row) (rest : List Row) → count_by p (if b then r ∷ rest else rest) ≡ cond b (cond (p r) 1 0) 0 + count_by p rest
+count_if p true r rest = let own = both p (r ∷ []) rest in omega (arith, own)
+count_if p false r rest = omega arith
+
+count_parted : (p : Row → Bool) (rows : List Row)
+    → count_by p (written_as Both rows) + (count_by p (written_as Late rows) + count_by p (written_as Early rows)) ≡ count_by p (written_of rows)
+count_parted p [] = refl
+count_parted p (r ∷ rows) =
+    let one = parted r.written r.beside r.early (cond (p r) 1 0) in
+    let two = count_if p (is_written_as Both r) r (written_as Both rows) in
+    let late = count_if p (is_written_as Late r) r (written_as Late rows) in
+    let early = count_if p (is_written_as Early r) r (written_as Early rows) in
+    let all = count_if p r.written r (written_of rows) in
+    omega (arith, one, two, late, early, all, count_parted p rows)
+
+-- each written side stands in the groups as often as among the sides: whatever is asked of them, as many pass
+pub groups_count : (p : Row → Bool) (rows : List Row) → count_by p (pairs_in (groups_of rows)) ≡ count_by p (written_of rows)
+groups_count p rows =
+    let gs : Sides → List Group = λ sides. groups_as sides rows in
+    let made = λ (xs ys : List Group). ap (count_by p) (flat_map-append (λ (g : Group). pairs_of g.stars) xs ys) ∙ both p (pairs_in xs) (pairs_in ys) in
+    omega (
+      arith,
+      made (gs Both) (gs Late ++ gs Early),
+      made (gs Late) (gs Early),
+      as_count p Both rows,
+      as_count p Late rows,
+      as_count p Early rows,
+      count_parted p rows,
+    )
 
 -- what holds of each item of what is made of each item holds of all that is made
 All-flat_map : {A B : Type 0} (P : B → Type 0) (f : A → List B) (xs : List A) → All (λ x. All P (f x)) xs → All P (flat_map f xs)

@@ -33,10 +33,10 @@ use Rattle.mend_groups.specs.Parts.{parts_from, parts_of}
 
 -- a kept pair that can be written, and one that is not kept
 abbrev written : ℕ → Start → End → Row
-written place start end = record { place = place; start = start; edge = Any; end = end; kept = true; written = true }
+written place start end = record { place = place; start = start; edge = Any; end = end; early = false; kept = true; written = true; beside = false }
 
 abbrev left : ℕ → Start → End → Row
-left place start end = record { place = place; start = start; edge = Any; end = end; kept = false; written = false }
+left place start end = record { place = place; start = start; edge = Any; end = end; early = false; kept = false; written = false; beside = false }
 
 abbrev between : ℕ → ℕ → ℕ → Row
 between place start end = written place (RegStart start) (RegEnd end)
@@ -148,25 +148,25 @@ abbrev listed_two : Listing
 listed_two = ListsClaims False Any 2
 
 -- where all pairs are justified, they stay, and no group is written
-whole : parts_of (of_one (false_path [])) (two_pairs listed_two (codes "c")) (Justified Single ∷ Justified Single ∷ [])
+whole : parts_of (of_one (false_path [])) false (two_pairs listed_two (codes "c")) (Justified Single ∷ Justified Single ∷ [])
     ≡ part (between 0 0 1 ∷ between 1 0 2 ∷ []) [] ∷ []
 unfolding parts_from rows_from
 whole = refl
 
 -- an undecided pair is left out, and the other one is written
-undecided : parts_of (of_one (false_path [])) (two_pairs listed_two (codes "c")) (Undecided Cut ∷ Justified Single ∷ [])
+undecided : parts_of (of_one (false_path [])) false (two_pairs listed_two (codes "c")) (Undecided Cut ∷ Justified Single ∷ [])
     ≡ part (left 0 (RegStart 0) (RegEnd 1) ∷ between 1 0 2 ∷ []) (group ((between 1 0 2 ∷ []) ∷ []) ∷ []) ∷ []
 unfolding parts_from rows_from run_of stars_from with_star grouped
 undecided = refl
 
 -- no pair is kept
-none_kept : parts_of (of_one (false_path [])) (two_pairs listed_two (codes "c")) (Undecided Cut ∷ Undecided Cut ∷ [])
+none_kept : parts_of (of_one (false_path [])) false (two_pairs listed_two (codes "c")) (Undecided Cut ∷ Undecided Cut ∷ [])
     ≡ part (left 0 (RegStart 0) (RegEnd 1) ∷ left 1 (RegStart 0) (RegEnd 2) ∷ []) [] ∷ []
 unfolding parts_from rows_from stars_from grouped
 none_kept = refl
 
 -- a kept pair whose end has a backslash in its name is not written
-backslash : parts_of (of_one (false_path [])) (two_pairs listed_two (codes "bin[0]\\DFFC")) (Undecided Cut ∷ Justified Single ∷ [])
+backslash : parts_of (of_one (false_path [])) false (two_pairs listed_two (codes "bin[0]\\DFFC")) (Undecided Cut ∷ Justified Single ∷ [])
     ≡ part (left 0 (RegStart 0) (RegEnd 1) ∷ record (between 1 0 2) { written = false } ∷ []) [] ∷ []
 unfolding parts_from rows_from stars_from grouped
 backslash = refl
@@ -175,13 +175,14 @@ backslash = refl
 abbrev through_a_blank : List (List Object)
 through_a_blank = (AllInputs ∷ []) ∷ (Named (record { class = Pins; hier = false; pattern = codes "u 1/Q" }) ∷ []) ∷ []
 
-unspelled : parts_of (of_one (false_path through_a_blank)) (two_pairs listed_two (codes "c")) (Undecided Cut ∷ Justified Single ∷ [])
+unspelled : parts_of (of_one (false_path through_a_blank)) false (two_pairs listed_two (codes "c")) (Undecided Cut ∷ Justified Single ∷ [])
     ≡ part (left 0 (RegStart 0) (RegEnd 1) ∷ record (between 1 0 2) { written = false } ∷ []) [] ∷ []
 unfolding parts_from rows_from stars_from grouped
 unspelled = refl
 
 -- an exception that selects nothing stays
-nothing_selected : parts_of (of_one (false_path [])) (two_pairs (ListsClaims False Any 0) (codes "c")) (Undecided Cut ∷ Undecided Cut ∷ []) ≡ part [] [] ∷ []
+nothing_selected : parts_of (of_one (false_path [])) false (two_pairs (ListsClaims False Any 0) (codes "c")) (Undecided Cut ∷ Undecided Cut ∷ [])
+    ≡ part [] [] ∷ []
 unfolding parts_from rows_from
 nothing_selected = refl
 
@@ -194,13 +195,58 @@ three_commands middle = record (two_pairs listed_two (codes "c")) {
 abbrev of_three : Script
 of_three = record { commands = on_line_1 (false_path []) ∷ on_line_1 hold ∷ on_line_1 Passed ∷ on_line_1 (false_path []) ∷ [] }
 
-each_its_own : parts_of of_three (three_commands ListsHold) (Justified Single ∷ Undecided Cut ∷ [])
+each_its_own : parts_of of_three false (three_commands ListsHold) (Justified Single ∷ Undecided Cut ∷ [])
     ≡ part (between 0 0 1 ∷ []) [] ∷ part [] [] ∷ part (left 1 (RegStart 0) (RegEnd 2) ∷ []) [] ∷ []
 unfolding parts_from rows_from stars_from grouped
 each_its_own = refl
 
--- the pairs of a hold command that claims something are passed over
-hold_pairs_between : parts_of of_three (three_commands (HoldSide Any 1)) (Justified Single ∷ Undecided Cut ∷ [])
+-- without hold sides the pairs of a hold command are passed over
+hold_pairs_between : parts_of of_three false (three_commands (HoldSide Any 1)) (Justified Single ∷ Undecided Cut ∷ [])
     ≡ part (between 0 0 1 ∷ []) [] ∷ part [] [] ∷ part [] [] ∷ []
 unfolding parts_from rows_from
 hold_pairs_between = refl
+
+-- both sides of two pairs of register 0: the early side stands after the late one
+abbrev early_to : ℕ → Claim
+early_to end = record (claim_to end) { early = true }
+
+abbrev sided : Listing → Selected
+sided listing = record {
+  commands = listed listing ∷ [];
+  pairs = pair_of (codes "b") ∷ pair_of (codes "b") ∷ pair_of (codes "c") ∷ pair_of (codes "c") ∷ [];
+  claims = claim_to 1 ∷ early_to 1 ∷ claim_to 2 ∷ early_to 2 ∷ [];
+}
+
+abbrev listed_four : Listing
+listed_four = ListsClaims False Any 4
+
+-- a side whose pair is written with both, and one of the early side
+abbrev with_other : Row → Row
+with_other r = record r { beside = true }
+
+abbrev early : Row → Row
+early r = record r { early = true }
+
+-- a pair of which both sides are kept stands before one of which the late side alone is
+both_before_late : parts_of (of_one (false_path [])) true (sided listed_four) (Justified Single ∷ Justified Single ∷ Justified Single ∷ Undecided Cut ∷ [])
+    ≡ part
+    (with_other (between 0 0 1) ∷ with_other (early (between 1 0 1)) ∷ between 2 0 2 ∷ with_other (early (left 3 (RegStart 0) (RegEnd 2))) ∷ [])
+    (group ((with_other (between 0 0 1) ∷ with_other (early (between 1 0 1)) ∷ []) ∷ []) ∷ group ((between 2 0 2 ∷ []) ∷ []) ∷ []) ∷ []
+unfolding parts_from rows_from run_of stars_from with_star grouped
+both_before_late = refl
+
+-- one of which the early side alone is kept stands last
+late_before_early : parts_of (of_one (false_path [])) true (sided listed_four) (Undecided Cut ∷ Justified Single ∷ Justified Single ∷ Undecided Cut ∷ [])
+    ≡ part
+    (with_other (left 0 (RegStart 0) (RegEnd 1)) ∷ early (between 1 0 1) ∷ between 2 0 2 ∷ with_other (early (left 3 (RegStart 0) (RegEnd 2))) ∷ [])
+    (group ((between 2 0 2 ∷ []) ∷ []) ∷ group ((early (between 1 0 1) ∷ []) ∷ []) ∷ []) ∷ []
+unfolding parts_from rows_from run_of stars_from with_star grouped
+late_before_early = refl
+
+-- the claims of a `set_false_path -hold`
+abbrev early_one : Selected
+early_one = record { commands = listed (HoldSide Any 1) ∷ []; pairs = pair_of (codes "b") ∷ []; claims = early_to 1 ∷ [] }
+
+hold_has_a_pair : parts_of (of_one hold) true early_one (Undecided Cut ∷ []) ≡ part (early (left 0 (RegStart 0) (RegEnd 1)) ∷ []) [] ∷ []
+unfolding parts_from rows_from stars_from grouped
+hold_has_a_pair = refl

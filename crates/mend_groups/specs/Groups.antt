@@ -1,11 +1,13 @@
 -- The groups in which the written pairs of an exception stand.
-use Rattle.std.specs.Prelude.{ℕ, zero, suc, ◌==◌, Bool, true, false, ◌&&◌, if◌then◌else◌, List, [], ◌∷◌, ◌++◌, filter, take, drop, length}
+use Rattle.std.specs.Prelude.{ℕ, zero, suc, ◌==◌, Bool, true, false, ◌&&◌, not, if◌then◌else◌, List, [], ◌∷◌, ◌++◌, filter, take, drop, length}
 use Rattle.sdcv_base.specs.declared.kinds.Edge.{Edge}
 use Rattle.sdcv_base.specs.declared.kinds.Edge.TheVariants.{Any, Rise, Fall}
 use Rattle.net_model.specs.declared.claims.Start.{Start}
 use Rattle.net_model.specs.declared.claims.Start.TheVariants.{Reg as RegStart, Input as InputStart}
 use Rattle.net_model.specs.declared.claims.End.{End}
 use Rattle.net_model.specs.declared.claims.End.TheVariants.{Reg as RegEnd, Output as OutputEnd}
+use Rattle.exception_expand.specs.declared.sides.Sides.{Sides}
+use Rattle.exception_expand.specs.declared.sides.Sides.TheVariants.{Late, Early, Both}
 use Rattle.mend_groups.specs.declared.rows.Row.{Row}
 use Rattle.mend_groups.specs.declared.groups.Group.{Group}
 
@@ -86,10 +88,23 @@ unfoldable pub grouped : List Group → List (List Row) → List Group
 grouped groups [] = groups
 grouped groups (star ∷ stars) = grouped (with_star groups star) stars
 
--- the pairs that are written again where their exception is not whole
+-- the sides that are written again where their exception is not whole
 abbrev pub written_of : List Row → List Row
 written_of rows = filter (λ (r : Row). r.written) rows
 
--- the groups of the written ones among these pairs
+-- of the side's pair just these are written: both, or one alone
+abbrev pub is_written_as : Sides → Row → Bool
+is_written_as Both r = r.written && r.beside
+is_written_as Late r = r.written && (not r.beside && not r.early)
+is_written_as Early r = r.written && (not r.beside && r.early)
+
+abbrev pub written_as : Sides → List Row → List Row
+written_as sides rows = filter (is_written_as sides) rows
+
+-- the groups of the pairs of which just these sides are written
+abbrev pub groups_as : Sides → List Row → List Group
+groups_as sides rows = grouped [] (stars_of (written_as sides rows))
+
+-- the groups of the written ones: of the pairs with both sides, then of those with the late one alone, then of those with the early one
 abbrev pub groups_of : List Row → List Group
-groups_of rows = grouped [] (stars_of (written_of rows))
+groups_of rows = groups_as Both rows ++ (groups_as Late rows ++ groups_as Early rows)

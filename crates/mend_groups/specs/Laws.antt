@@ -6,11 +6,12 @@ use Rattle.selected_types.specs.declared.selections.Selected.{Selected}
 use Rattle.verdict_types.specs.declared.outcomes.Proof.{Proof}
 use Rattle.verdict_types.specs.declared.outcomes.Verdict.{Verdict}
 use Rattle.verdict_types.specs.declared.outcomes.Verdict.TheVariants.{Justified}
+use Rattle.exception_expand.specs.declared.sides.Sides.{Sides}
 use Rattle.mend_groups.specs.declared.rows.Row.{Row}
 use Rattle.mend_groups.specs.declared.groups.Group.{Group}
 use Rattle.mend_groups.specs.declared.parts.Part.{Part}
 use Rattle.mend_groups.specs.Rows.{are_kept}
-use Rattle.mend_groups.specs.Groups.{is_start, are_alike, written_of}
+use Rattle.mend_groups.specs.Groups.{is_start, are_alike, written_of, is_written_as}
 
 -- the pair at a place is kept: its claim is there, and is justified
 pub record IsKeptAt (s : Selected) (verdicts : List Verdict) (place : ℕ) : Type 0 where
@@ -40,6 +41,11 @@ pairs_of stars = flat_map (λ (star : List Row). star) stars
 abbrev pub pairs_in : List Group → List Row
 pairs_in groups = flat_map (λ (g : Group). pairs_of g.stars) groups
 
+-- of each pair of the group the same sides are written
+pub record IsSided (g : Group) : Type 0 where
+  pub sides : Sides
+  pub same : All (All (λ (r : Row). is_written_as sides r ≡ true)) g.stars
+
 -- an exception that is whole has no groups; those of another one are products of starts and ends, their pairs are kept, and each of
 -- its written pairs stands in them once: whatever is asked of pairs, as many pass
 pub record AreItsGroups (s : Selected) (verdicts : List Verdict) (part : Part) : Type 0 where
@@ -47,4 +53,5 @@ pub record AreItsGroups (s : Selected) (verdicts : List Verdict) (part : Part) :
   pub stars : All (λ (g : Group). All IsStar g.stars) part.groups
   pub products : All IsGroup part.groups
   pub kept : All (λ (r : Row). IsKeptAt s verdicts r.place) (pairs_in part.groups)
+  pub sides : All IsSided part.groups
   pub once : are_kept part.rows ≡ false → (p : Row → Bool) → count_by p (pairs_in part.groups) ≡ count_by p (written_of part.rows)

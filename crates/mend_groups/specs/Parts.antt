@@ -1,7 +1,5 @@
 -- What becomes of the pairs of each exception.
-use Rattle.std.specs.Prelude.{ℕ, ◌+◌, if◌then◌else◌, List, [], ◌∷◌}
-use Rattle.script_types.specs.declared.scripts.What.{What}
-use Rattle.script_types.specs.declared.scripts.What.TheVariants.{Claiming}
+use Rattle.std.specs.Prelude.{ℕ, ◌+◌, Bool, Option, Some, None, if◌then◌else◌, List, [], ◌∷◌}
 use Rattle.script_types.specs.declared.scripts.Command.{Command}
 use Rattle.script_types.specs.declared.scripts.Script.{Script}
 use Rattle.selected_types.specs.declared.selections.Listing.{Listing}
@@ -9,39 +7,41 @@ use Rattle.selected_types.specs.declared.selections.Listing.TheVariants.{Claimin
 use Rattle.selected_types.specs.declared.selections.CommandLine.{CommandLine}
 use Rattle.selected_types.specs.declared.selections.Selected.{Selected}
 use Rattle.verdict_types.specs.declared.outcomes.Verdict.{Verdict}
+use Rattle.exception_expand.specs.Asking.{Asked, asked}
 use Rattle.exception_expand.specs.Selections.{is_exception}
 use Rattle.mend_groups.specs.declared.rows.Row.{Row}
 use Rattle.mend_groups.specs.declared.parts.Part.{Part}
-use Rattle.mend_groups.specs.Rows.{can_spell, rows_from, are_kept}
+use Rattle.mend_groups.specs.Rows.{can_spell, rows_from, rows_by, are_kept}
 use Rattle.mend_groups.specs.Groups.{groups_of}
 
--- how many pairs an exception selects, as it is listed
+-- how many claims an exception makes, as it is listed
 abbrev pub count_of : Listing → ℕ
 count_of (ListsClaims kind edge pairs) = pairs
 count_of ListsHold = 0
 count_of (ListsAside option) = 0
 count_of (HoldSide edge pairs) = pairs
 
--- the pairs of an exception that claims something; no other one has pairs
-abbrev pub rows_of : Selected → List Verdict → ℕ → ℕ → What → List Row
-rows_of s verdicts place count (Claiming e) = rows_from (can_spell e) s verdicts place count
-rows_of s verdicts place count _ = []
+-- the sides of the pairs of an exception that claims something; no other one has pairs
+abbrev pub rows_of : Selected → List Verdict → ℕ → ℕ → Option Asked → List Row
+rows_of s verdicts place count None = []
+rows_of s verdicts place count (Some by) = rows_by by.sides (rows_from (can_spell by.exception.through) s verdicts place count)
 
--- where some pair of an exception is not kept, the others are written in groups
+-- where some claim of an exception is not kept, the others are written in groups
 abbrev pub part_by : List Row → Part
 part_by rows = record { rows = rows; groups = if are_kept rows then [] else groups_of rows }
 
-abbrev pub part_of : Selected → List Verdict → ℕ → ℕ → What → Part
-part_of s verdicts place count what = part_by (rows_of s verdicts place count what)
+abbrev pub part_of : Selected → List Verdict → ℕ → ℕ → Option Asked → Part
+part_of s verdicts place count by = part_by (rows_of s verdicts place count by)
 
--- one part for each exception, in order; its pairs are the next ones of the selection, as many as it is listed with
-unfoldable pub parts_from : Selected → List Verdict → ℕ → List CommandLine → List Command → List Part
-parts_from s verdicts place lines [] = []
-parts_from s verdicts place [] (c ∷ commands) = []
-parts_from s verdicts place (line ∷ lines) (c ∷ commands) =
-    if is_exception c.what then part_of s verdicts place (count_of line.listing) c.what
-    ∷ parts_from s verdicts (place + count_of line.listing) lines commands
-    else parts_from s verdicts place (line ∷ lines) commands
+-- one part for each exception, in order, with hold sides or without; its claims are the next ones of the selection, as many as it is
+-- listed with
+unfoldable pub parts_from : Bool → Selected → List Verdict → ℕ → List CommandLine → List Command → List Part
+parts_from hold s verdicts place lines [] = []
+parts_from hold s verdicts place [] (c ∷ commands) = []
+parts_from hold s verdicts place (line ∷ lines) (c ∷ commands) =
+    if is_exception c.what then part_of s verdicts place (count_of line.listing) (asked hold c.what)
+    ∷ parts_from hold s verdicts (place + count_of line.listing) lines commands
+    else parts_from hold s verdicts place (line ∷ lines) commands
 
-abbrev pub parts_of : Script → Selected → List Verdict → List Part
-parts_of script s verdicts = parts_from s verdicts 0 s.commands script.commands
+abbrev pub parts_of : Script → Bool → Selected → List Verdict → List Part
+parts_of script hold s verdicts = parts_from hold s verdicts 0 s.commands script.commands

@@ -3,6 +3,7 @@ ghost use Rattle.std.specs.Prelude.{◌≡◌, ◌+◌, ◌<◌, ◌≤◌, ◌+
 ghost use Rattle.mend_groups.specs.Groups as spec;
 
 use crate::rows::Row;
+use exception_expand::Sides;
 use net_model::{End, Start};
 use sdcv_base::{Edge, Seq};
 use std::alloc::{AllocError, Global};
@@ -19,11 +20,23 @@ impl Drop for Group {
     }
 }
 
-/// The groups of the written ones among these pairs.
+/// The groups of the written ones: of the pairs with both sides, of those with the late one alone, and of those with the early one.
 pub(crate) fn groups_of(alloc: Global, rows: &[Row]) -> Result<Seq<Group>, AllocError>
     ensures { IfOk result (λ groups. groups ≡ spec.groups_of rows.now) }
 {
-    let written = written_of(alloc, rows)?;
+    let mut groups = groups_as(alloc, Sides::Both, rows)?;
+    let mut late = groups_as(alloc, Sides::Late, rows)?;
+    let mut early = groups_as(alloc, Sides::Early, rows)?;
+    late.append(&mut early)?;
+    groups.append(&mut late)?;
+    Ok(Seq::from_vec(groups))
+}
+
+// The groups of the pairs of which just these sides are written.
+fn groups_as(alloc: Global, sides: Sides, rows: &[Row]) -> Result<Vec<Group>, AllocError>
+    ensures { IfOk result (λ groups. groups.items ≡ spec.groups_as sides rows.now) }
+{
+    let written = written_as(alloc, sides, rows)?;
     let mut groups = Vec::new(alloc);
     let mut place = 0;
     while place < written.len() {
@@ -32,19 +45,30 @@ pub(crate) fn groups_of(alloc: Global, rows: &[Row]) -> Result<Seq<Group>, Alloc
         add_star(alloc, &mut groups, Seq::of(alloc, &rest[..count])?)?;
         place += count;
     }
-    Ok(Seq::from_vec(groups))
+    Ok(groups)
 }
 
-fn written_of(alloc: Global, rows: &[Row]) -> Result<Vec<Row>, AllocError>
-    ensures { IfOk result (λ written. written.items ≡ spec.written_of rows.now) }
+fn written_as(alloc: Global, sides: Sides, rows: &[Row]) -> Result<Vec<Row>, AllocError>
+    ensures { IfOk result (λ written. written.items ≡ spec.written_as sides rows.now) }
 {
     let mut written = Vec::new(alloc);
     for row in rows {
-        if row.written {
+        if is_written_as(sides, row) {
             written.push(*row)?;
         }
     }
     Ok(written)
+}
+
+// Whether of a side's pair just these sides are written.
+fn is_written_as(sides: Sides, row: &Row) -> bool
+    ensures { result ≡ spec.is_written_as sides row.now }
+{
+    match sides {
+        Sides::Both => row.written && row.beside,
+        Sides::Late => row.written && !row.beside && !row.early,
+        Sides::Early => row.written && !row.beside && row.early,
+    }
 }
 
 // How many of the first pairs have the start of the first one.

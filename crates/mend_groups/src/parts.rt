@@ -1,20 +1,24 @@
 //! What becomes of the pairs of each exception.
 ghost use Rattle.std.specs.Prelude.{◌≡◌, if◌then◌else◌, [], IfOk};
 ghost use Rattle.report_text.specs.Rows.{HasRows};
+ghost use Rattle.std.specs.Option.{option_map};
+ghost use Rattle.exception_expand.specs.Asking.{asked_by};
 ghost use Rattle.exception_expand.specs.Selections as selection;
 ghost use Rattle.mend_groups.specs.Rows as rows;
 ghost use Rattle.mend_groups.specs.Groups as groups;
 ghost use Rattle.mend_groups.specs.Parts as spec;
 
 use crate::groups::{Group, groups_of};
-use crate::rows::{Row, are_kept, can_spell, place_after, rows_from};
+use crate::rows::{Row, are_kept, can_spell, place_after, rows_by, rows_from};
+use exception_expand::Ask;
 use script_types::{Script, What};
 use sdcv_base::Seq;
 use selected_types::{Listing, Selected};
 use std::alloc::{AllocError, Global};
 use verdict_types::Verdict;
 
-/// The pairs of an exception, and the groups in which they are written again; an exception whose pairs are all kept has no group.
+/// The sides of the pairs of an exception, and the groups in which they are written again; an exception of which all are kept has no
+/// group.
 pub struct Part {
     pub rows: Seq<Row>,
     pub groups: Seq<Group>,
@@ -29,15 +33,16 @@ impl Drop for Part {
     }
 }
 
-/// What becomes of the pairs of each exception of a script, in their order.
+/// What becomes of the pairs of each exception of a script, in their order, where hold sides are judged or not.
 pub fn parts_of(
     alloc: Global,
     script: &Script,
+    hold: bool,
     selected: &Selected,
     verdicts: &[Verdict],
 ) -> Result<Seq<Part>, AllocError>
     requires { HasRows selected.now verdicts.now }
-    ensures { IfOk result (λ parts. parts ≡ spec.parts_of script.now selected.now verdicts.now) }
+    ensures { IfOk result (λ parts. parts ≡ spec.parts_of script.now hold selected.now verdicts.now) }
 {
     let mut parts = Seq::new(alloc);
     let mut listed = 0;
@@ -46,7 +51,8 @@ pub fn parts_of(
         let what = &script.commands.item(k).what;
         if is_exception(what) && listed < selected.commands.len() {
             let count = count_of(&selected.commands.item(listed).listing);
-            parts.push(part_of(alloc, selected, verdicts, place, count, what)?)?;
+            let ask = Ask::of(what, hold);
+            parts.push(part_of(alloc, selected, verdicts, place, count, &ask)?)?;
             listed += 1;
             place = place_after(place, count, verdicts.len());
         }
@@ -60,7 +66,7 @@ fn is_exception(what: &What) -> bool
     matches!(what, What::Claiming(_) | What::Hold(_) | What::Aside(_))
 }
 
-// How many pairs an exception selects.
+// How many claims an exception makes.
 fn count_of(listing: &Listing) -> u64
     ensures { result ≡ spec.count_of listing.now }
 {
@@ -77,12 +83,12 @@ fn part_of(
     verdicts: &[Verdict],
     place: usize,
     count: u64,
-    what: &What,
+    ask: &Option<Ask<'_>>,
 ) -> Result<Part, AllocError>
     requires { HasRows selected.now verdicts.now }
-    ensures { IfOk result (λ part. part ≡ spec.part_of selected.now verdicts.now place count what.now) }
+    ensures { IfOk result (λ part. part ≡ spec.part_of selected.now verdicts.now place count (option_map asked_by ask.now)) }
 {
-    let rows = rows_of(alloc, selected, verdicts, place, count, what)?;
+    let rows = rows_of(alloc, selected, verdicts, place, count, ask)?;
     let groups = groups_for(alloc, rows.as_slice())?;
     Ok(Part { rows, groups })
 }
@@ -93,16 +99,17 @@ fn rows_of(
     verdicts: &[Verdict],
     place: usize,
     count: u64,
-    what: &What,
+    ask: &Option<Ask<'_>>,
 ) -> Result<Seq<Row>, AllocError>
     requires { HasRows selected.now verdicts.now }
-    ensures { IfOk result (λ made. made ≡ spec.rows_of selected.now verdicts.now place count what.now) }
+    ensures { IfOk result (λ made. made ≡ spec.rows_of selected.now verdicts.now place count (option_map asked_by ask.now)) }
 {
-    let What::Claiming(exception) = what else {
+    let Some(ask) = ask else {
         return Ok(Seq::new(alloc));
     };
-    let spelled = can_spell(exception);
-    rows_from(alloc, spelled, selected, verdicts, place, count)
+    let spelled = can_spell(ask.through);
+    let rows = rows_from(alloc, spelled, selected, verdicts, place, count)?;
+    rows_by(alloc, ask.sides, rows)
 }
 
 // The groups of an exception that has these pairs.

@@ -1,30 +1,34 @@
 //! The pairs of an exception.
-ghost use Rattle.std.specs.Prelude.{◌≡◌, ◌+◌, min, IfOk};
+ghost use Rattle.std.specs.Prelude.{◌≡◌, ◌+◌, ◌<◌, ◌^◌, min, IfOk};
 ghost use Rattle.std.specs.List.{list_all};
 ghost use Rattle.report_text.specs.Rows.{HasRows};
 ghost use Rattle.report_text.specs.Words as report;
 ghost use Rattle.mend_groups.specs.Rows as spec;
 
+use exception_expand::Sides;
 use multicycle_text::writable;
 use net_model::{End, Start};
 use report_text::{PairRow, row_at};
-use script_types::{Exception, Object};
+use script_types::Object;
 use sdcv_base::{Edge, Seq};
 use selected_types::Selected;
 use std::alloc::{AllocError, Global};
 use texts::is_word;
 use verdict_types::Verdict;
 
-/// A selected pair: its place among the pairs of the selection, from 0, its start and its end, which changes of its start count,
-/// whether it is kept, and whether it is written again where its command is not whole.
+/// A selected side of a pair: its place among the claims of the selection, from 0, the pair's start and its end, which changes of
+/// its start count, whether it is the early side, whether it is kept, and whether it is written again where its command is not whole.
 #[derive(Clone, Copy)]
 pub struct Row {
     pub place: usize,
     pub start: Start,
     pub edge: Edge,
     pub end: End,
+    pub early: bool,
     pub kept: bool,
     pub written: bool,
+    /// Whether its command claims the other side of the pair too, and that is written again.
+    pub beside: bool,
 }
 
 /// So many pairs from this place on, of an exception whose through lists can be written or not.
@@ -66,11 +70,60 @@ fn row_of(spelled: bool, place: usize, found: &PairRow) -> Row
         start: found.claim.start,
         edge: found.claim.edge,
         end: found.claim.end,
+        early: found.claim.early,
         kept,
         written: kept
             && spelled
             && writable(found.pair.start.as_bytes())
             && writable(found.pair.end.as_bytes()),
+        beside: false,
+    }
+}
+
+/// The pairs of an exception that claims these sides: where it claims both, each with whether the other one is written too.
+pub(crate) fn rows_by(alloc: Global, sides: Sides, rows: Seq<Row>) -> Result<Seq<Row>, AllocError>
+    ensures { IfOk result (λ made. made ≡ spec.rows_by sides rows) }
+{
+    match sides {
+        Sides::Late | Sides::Early => Ok(rows),
+        Sides::Both => paired(alloc, &rows),
+    }
+}
+
+fn paired(alloc: Global, rows: &Seq<Row>) -> Result<Seq<Row>, AllocError>
+    ensures { IfOk result (λ made. made ≡ spec.paired rows.now) }
+{
+    let mut made = Seq::new(alloc);
+    for place in 0..rows.len() {
+        made.push(with_beside(rows, place, rows.at(place)))?;
+    }
+    Ok(made)
+}
+
+fn with_beside(rows: &Seq<Row>, place: usize, row: Row) -> Row
+    requires { place + 1 < 2 ^ 64 }
+    ensures { result ≡ spec.with_beside rows.now place row }
+{
+    Row {
+        beside: is_written_at(rows, other_place(place)),
+        ..row
+    }
+}
+
+// The sides of a pair stand together, the late one first.
+fn other_place(place: usize) -> usize
+    requires { place + 1 < 2 ^ 64 }
+    ensures { result ≡ spec.other_place place }
+{
+    if place % 2 == 0 { place + 1 } else { place - 1 }
+}
+
+fn is_written_at(rows: &Seq<Row>, place: usize) -> bool
+    ensures { result ≡ spec.is_written_at rows.now place }
+{
+    match rows.as_slice().get(place) {
+        Some(row) => row.written,
+        None => false,
     }
 }
 
@@ -90,12 +143,11 @@ pub(crate) fn are_kept(rows: &[Row]) -> bool
     rows.iter().all(|row| row.kept)
 }
 
-/// Whether each pattern of the through lists can be written.
-pub(crate) fn can_spell(exception: &Exception) -> bool
-    ensures { result ≡ spec.can_spell exception.now }
+/// Whether each pattern of these through lists can be written.
+pub(crate) fn can_spell(through: &Seq<Seq<Object>>) -> bool
+    ensures { result ≡ spec.can_spell through.now }
 {
-    exception
-        .through
+    through
         .as_slice()
         .iter()
         .all(|objects| are_spellable(objects.as_slice()))

@@ -1,5 +1,5 @@
 -- The commands of groups and the bodies of a script's commands, one at a time.
-use Rattle.std.proofs.Common.{◌≡◌, ◌∙◌, ℕ, ◌+◌, ◌≤◌, List, [], ◌∷◌, ◌++◌, length, take, drop, map, flat_map, ap, sym, append_assoc, append-nil}
+use Rattle.std.proofs.Common.{◌≡◌, ◌∙◌, ℕ, ◌+◌, ◌≤◌, Bool, List, [], ◌∷◌, ◌++◌, length, take, drop, map, flat_map, ap, sym, append_assoc, append-nil}
 use Rattle.std.specs.Prelude.{Option, Some, slice_get}
 use Rattle.std.proofs.lemmas.List.{map-append, drop_all}
 use Rattle.list_laws.proofs.Joining.{flat_next}
@@ -25,23 +25,23 @@ lines_next head pairs through groups k g here =
     ∙ map-append (line_after head) (flat_map (rests_of pairs through) (take k groups)) (rests_of pairs through g)
 
 -- a command more
-pub body_added : (depth : ℕ) (script : Script) (s : Selected) (verdicts : List Verdict) (parts : List Part) (place next k : ℕ)
+pub body_added : (depth : ℕ) (script : Script) (hold : Bool) (s : Selected) (verdicts : List Verdict) (parts : List Part) (place next k : ℕ)
     (commands : List Command) (c : Command) (all now new : List (Option (List ℕ))) → slice_get commands k ≡ Some c
-    → new ≡ now ++ body_of depth script s verdicts parts place c.what ∷ [] → next ≡ next_place place c.what
-    → all ≡ now ++ bodies_from depth script s verdicts parts place (drop k commands)
-    → all ≡ new ++ bodies_from depth script s verdicts parts next (drop (k + 1) commands)
+    → new ≡ now ++ body_of depth script hold s verdicts parts place c.what ∷ [] → next ≡ next_place place c.what
+    → all ≡ now ++ bodies_from depth script hold s verdicts parts place (drop k commands)
+    → all ≡ new ++ bodies_from depth script hold s verdicts parts next (drop (k + 1) commands)
 unfolding bodies_from
-body_added depth script s verdicts parts place next k commands c all now new here turn goes so_far =
-    let body = body_of depth script s verdicts parts place c.what in
-    let rest : ℕ → List (Option (List ℕ)) = λ p. bodies_from depth script s verdicts parts p (drop (k + 1) commands) in
-    so_far ∙ ap (λ (left : List Command). now ++ bodies_from depth script s verdicts parts place left) (drop_here commands k c here)
+body_added depth script hold s verdicts parts place next k commands c all now new here turn goes so_far =
+    let body = body_of depth script hold s verdicts parts place c.what in
+    let rest : ℕ → List (Option (List ℕ)) = λ p. bodies_from depth script hold s verdicts parts p (drop (k + 1) commands) in
+    so_far ∙ ap (λ (left : List Command). now ++ bodies_from depth script hold s verdicts parts place left) (drop_here commands k c here)
     ∙ sym (append_assoc now (body ∷ []) (rest (next_place place c.what)))
     ∙ ap (λ (bodies : List (Option (List ℕ))). bodies ++ rest (next_place place c.what)) (sym turn) ∙ ap (λ (p : ℕ). new ++ rest p) (sym goes)
 
 -- and no command
-pub bodies_done : (depth : ℕ) (script : Script) (s : Selected) (verdicts : List Verdict) (parts : List Part) (place k : ℕ)
+pub bodies_done : (depth : ℕ) (script : Script) (hold : Bool) (s : Selected) (verdicts : List Verdict) (parts : List Part) (place k : ℕ)
     (commands : List Command) (all now : List (Option (List ℕ))) → length commands ≤ k
-    → all ≡ now ++ bodies_from depth script s verdicts parts place (drop k commands) → now ≡ all
+    → all ≡ now ++ bodies_from depth script hold s verdicts parts place (drop k commands) → now ≡ all
 unfolding bodies_from
-bodies_done depth script s verdicts parts place k commands all now past so_far =
-    sym (so_far ∙ ap (λ (left : List Command). now ++ bodies_from depth script s verdicts parts place left) (drop_all k commands past) ∙ append-nil now)
+bodies_done depth script hold s verdicts parts place k commands all now past so_far =
+    sym (so_far ∙ ap (λ (left : List Command). now ++ bodies_from depth script hold s verdicts parts place left) (drop_all k commands past) ∙ append-nil now)

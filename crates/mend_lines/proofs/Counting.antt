@@ -5,7 +5,7 @@ use Rattle.std.specs.List.{list_any}
 use Rattle.std.proofs.lemmas.List.{length-append}
 use Rattle.mend_groups.specs.declared.rows.Row.{Row}
 use Rattle.mend_groups.specs.declared.groups.Group.{Group}
-use Rattle.mend_lines.specs.Lines.{heads, is_of_class, first_star, ends_in, rests_for, rests_of}
+use Rattle.mend_lines.specs.Lines.{heads, is_named, first_star, ends_in, rests_for, rests_of}
 
 -- the list has an item
 abbrev pub is_some : {A : Type 0} → List A → Bool
@@ -42,8 +42,8 @@ rests_count (r ∷ starts) (e ∷ ends) =
     ap one_if (ap (λ (b : Bool). b && true) (sym (some_more r starts)) ∙ ap (λ (b : Bool). is_some (r ∷ starts) && b) (sym (some_more e ends)))
 
 rests_both : (g : Group) → length (rests_of [] [] g) ≡
-    one_if (list_any (λ star. not (length star == 0)) g.stars && list_any (is_of_class true) (first_star g))
-    + one_if (list_any (λ star. not (length star == 0)) g.stars && list_any (is_of_class false) (first_star g))
+    one_if (list_any (λ star. not (length star == 0)) g.stars && list_any (is_named true) (first_star g))
+    + one_if (list_any (λ star. not (length star == 0)) g.stars && list_any (is_named false) (first_star g))
 rests_both g =
     let starts = heads g.stars in
     length-append (rests_for [] [] starts (ends_in true g)) (rests_for [] [] starts (ends_in false g))
@@ -51,16 +51,16 @@ rests_both g =
       rests_count starts (ends_in true g),
       rests_count starts (ends_in false g),
       heads_some g.stars,
-      filter_some (is_of_class true) (first_star g),
-      filter_some (is_of_class false) (first_star g),
+      filter_some (is_named true) (first_star g),
+      filter_some (is_named false) (first_star g),
     ) refl
 
 -- the commands of a group that has a start, and of one that has none
 pub group_counted : (g : Group) → list_any (λ star. not (length star == 0)) g.stars ≡ true → length (rests_of [] [] g) ≡
-    one_if (list_any (is_of_class true) (first_star g)) + one_if (list_any (is_of_class false) (first_star g))
+    one_if (list_any (is_named true) (first_star g)) + one_if (list_any (is_named false) (first_star g))
 group_counted g some =
-    rests_both g ∙ ap (λ (b : Bool). one_if (b && list_any (is_of_class true) (first_star g)) + one_if (b && list_any (is_of_class false) (first_star g))) some
+    rests_both g ∙ ap (λ (b : Bool). one_if (b && list_any (is_named true) (first_star g)) + one_if (b && list_any (is_named false) (first_star g))) some
 
 pub group_empty : (g : Group) → list_any (λ star. not (length star == 0)) g.stars ≡ false → length (rests_of [] [] g) ≡ 0
 group_empty g none =
-    rests_both g ∙ ap (λ (b : Bool). one_if (b && list_any (is_of_class true) (first_star g)) + one_if (b && list_any (is_of_class false) (first_star g))) none
+    rests_both g ∙ ap (λ (b : Bool). one_if (b && list_any (is_named true) (first_star g)) + one_if (b && list_any (is_named false) (first_star g))) none

@@ -14,7 +14,7 @@ use Rattle.script_types.specs.declared.objects.Class.TheVariants.{Cells, Pins, A
 use Rattle.script_types.specs.declared.objects.Object.{Object}
 use Rattle.script_types.specs.declared.objects.Object.TheVariants.{Named, AllInputs, AllRegisters}
 use Rattle.script_types.specs.declared.scripts.Checks.{Checks}
-use Rattle.script_types.specs.declared.scripts.Checks.TheVariants.{Unsaid, Setup, Both}
+use Rattle.script_types.specs.declared.scripts.Checks.TheVariants.{Unsaid, Setup, Both as BothChecks}
 use Rattle.script_types.specs.declared.scripts.Exception.{Exception}
 use Rattle.script_types.specs.declared.scripts.Held.{Held}
 use Rattle.script_types.specs.declared.scripts.What.{What}
@@ -27,6 +27,8 @@ use Rattle.verdict_types.specs.declared.outcomes.Proof.TheVariants.{Single}
 use Rattle.verdict_types.specs.declared.outcomes.Cause.TheVariants.{Depth as OpenAtDepth}
 use Rattle.verdict_types.specs.declared.outcomes.Verdict.{Verdict}
 use Rattle.verdict_types.specs.declared.outcomes.Verdict.TheVariants.{Justified, Refuted, Undecided}
+use Rattle.exception_expand.specs.declared.sides.Sides.TheVariants.{Late, Both}
+use Rattle.exception_expand.specs.Asking.{Asked}
 use Rattle.mend_groups.specs.declared.rows.Row.{Row}
 use Rattle.mend_groups.specs.declared.groups.Group.{Group}
 use Rattle.mend_groups.specs.declared.parts.Part.{Part}
@@ -45,7 +47,7 @@ abbrev selects : List PairLine → Selected
 selects pairs = record { commands = []; pairs = pairs; claims = [] }
 
 abbrev row : ℕ → Start → End → Bool → Row
-row place start end kept = record { place = place; start = start; edge = Any; end = end; kept = kept; written = kept }
+row place start end kept = record { place = place; start = start; edge = Any; end = end; early = false; kept = kept; written = kept; beside = false }
 
 abbrev group : List (List Row) → Group
 group stars = record { stars = stars }
@@ -63,6 +65,10 @@ abbrev exception : Kind → Checks → List (List Object) → Exception
 exception kind checks through =
     record { kind = kind; checks = checks; edge = Any; from = None; through = through; to = Some (AllRegisters ∷ []) }
 
+-- an exception of the late side alone
+abbrev setup : Exception → Asked
+setup e = record { exception = e; sides = Late }
+
 abbrev held : List ℕ → List (List Object) → Held
 held number through = record { number = Some number; edge = Any; from = None; through = through; to = Some (AllRegisters ∷ []) }
 
@@ -76,7 +82,7 @@ script commands = record { commands = commands }
 abbrev refuted_row : Row
 refuted_row = row 0 (RegStart 0) (RegEnd 1) false
 
-no_line_ends_with_a_newline : claim_body 8 (selects (pair (codes "a") (codes "b") ∷ [])) (refuted ∷ []) 1 (exception False Unsaid [])
+no_line_ends_with_a_newline : claim_body 8 (selects (pair (codes "a") (codes "b") ∷ [])) (refuted ∷ []) 1 (setup (exception False Unsaid []))
     (part (refuted_row ∷ []) []) ≡ codes "# sdcv: command 1 kept 0 of 1" ++ (10 ∷ codes "# pair 1 a -> b refuted offset 0" ++ (10 ∷ []))
 unfolding digits joined_by
 no_line_ends_with_a_newline = refl
@@ -112,13 +118,13 @@ abbrev new_hold : List ℕ
 new_hold =
     codes "# sdcv: command 2 with the multicycle path of its lists" ++ (10 ∷ codes "set_multicycle_path 1 -hold -from [get_ports {rst}] -to [get_cells {a b}]")
 
-port_keeps_its_pairs_and_the_hold_follows : bodies_of 8 two_commands four_pairs four_verdicts (two_of_four ∷ no_pairs ∷ []) ≡
+port_keeps_its_pairs_and_the_hold_follows : bodies_of 8 two_commands false four_pairs four_verdicts (two_of_four ∷ no_pairs ∷ []) ≡
     None ∷ Some new_claim ∷ Some new_hold ∷ []
 unfolding digits joined_by bodies_from companions_from are_same last_fate
 port_keeps_its_pairs_and_the_hold_follows = refl
 
 -- where all pairs are kept both commands stay
-all_kept_stays : bodies_of 8 two_commands four_pairs four_verdicts (part kept_rows [] ∷ no_pairs ∷ []) ≡ None ∷ None ∷ None ∷ []
+all_kept_stays : bodies_of 8 two_commands false four_pairs four_verdicts (part kept_rows [] ∷ no_pairs ∷ []) ≡ None ∷ None ∷ None ∷ []
 unfolding digits joined_by bodies_from companions_from are_same last_fate
 all_kept_stays = refl
 
@@ -141,7 +147,7 @@ hold_after_the_edge_stays = refl
 abbrev false_and_hold : Script
 false_and_hold = script (command (Claiming (exception False Unsaid [])) ∷ command (Hold (held (codes "1") [])) ∷ [])
 
-false_path_leaves_the_hold_out : bodies_of 8 false_and_hold four_pairs four_verdicts (part kept_rows [] ∷ no_pairs ∷ []) ≡ None ∷ None ∷ []
+false_path_leaves_the_hold_out : bodies_of 8 false_and_hold false four_pairs four_verdicts (part kept_rows [] ∷ no_pairs ∷ []) ≡ None ∷ None ∷ []
 unfolding digits joined_by bodies_from companions_from are_same last_fate
 false_path_leaves_the_hold_out = refl
 
@@ -177,7 +183,7 @@ two_groups =
 abbrev through_words : List ℕ
 through_words = codes " -through [list [get_pins {u1/Y u2/Y}] [all_inputs]] -through [get_cells -hierarchical {w*}]"
 
-lines_have_their_lists_in_order : lines_of four_pairs.pairs (exception (Multi 2) Both (first_through ∷ second_through ∷ [])) two_groups ≡
+lines_have_their_lists_in_order : lines_of four_pairs.pairs (setup (exception (Multi 2) BothChecks (first_through ∷ second_through ∷ []))) two_groups ≡
     (codes "set_multicycle_path 2 -setup -hold -from [get_ports {rst}]" ++ (through_words ++ codes " -to [get_cells {a}]"))
     ∷ (codes "set_multicycle_path 2 -setup -hold -from [get_cells {a}]" ++ (through_words ++ codes " -to [get_cells {a}]"))
     ∷ (codes "set_multicycle_path 2 -setup -hold -from [get_cells {a}]" ++ (through_words ++ codes " -to [get_ports {b}]")) ∷ []
@@ -189,9 +195,9 @@ lines_are_three = refl
 
 -- starts of one group stand in one list; the edge and the check are those of the claims and of the command
 abbrev rising : ℕ → ℕ → Row
-rising place start = record { place = place; start = RegStart start; edge = Rise; end = RegEnd 1; kept = true; written = true }
+rising place start = record { place = place; start = RegStart start; edge = Rise; end = RegEnd 1; early = false; kept = true; written = true; beside = false }
 
-edge_and_check_stay : lines_of four_pairs.pairs (exception False Setup []) (group ((rising 0 0 ∷ []) ∷ (rising 3 2 ∷ []) ∷ []) ∷ []) ≡
+edge_and_check_stay : lines_of four_pairs.pairs (setup (exception False Setup [])) (group ((rising 0 0 ∷ []) ∷ (rising 3 2 ∷ []) ∷ []) ∷ []) ≡
     codes "set_false_path -setup -rise_from [get_cells {a d}] -to [get_cells {b}]" ∷ []
 unfolding digits joined_by
 edge_and_check_stay = refl
@@ -221,3 +227,65 @@ open_pair_tells_the_depth = refl
 
 written_pair_has_no_comment : comment_of 8 four_pairs four_verdicts (row 1 (InputStart 1) (RegEnd 0) true) ≡ []
 written_pair_has_no_comment = refl
+
+-- the sides of pairs of a false path that takes both checks off: both kept, the late one alone, the early one alone
+abbrev side : ℕ → ℕ → Bool → Bool → Row
+side place start early beside =
+    record { place = place; start = RegStart start; edge = Any; end = RegEnd 1; early = early; kept = true; written = true; beside = beside }
+
+abbrev three_sides : List Group
+three_sides =
+    group ((side 0 0 false true ∷ side 1 0 true true ∷ []) ∷ [])
+    ∷ group ((side 2 1 false false ∷ []) ∷ [])
+    ∷ group ((side 3 2 true false ∷ []) ∷ []) ∷ []
+
+abbrev four_names : List PairLine
+four_names = pair (codes "a") (codes "b") ∷ pair (codes "a") (codes "b") ∷ pair (codes "c") (codes "b") ∷ pair (codes "d") (codes "b") ∷ []
+
+abbrev both_sides : Checks → Asked
+both_sides checks = record { exception = exception False checks []; sides = Both }
+
+-- each is written with the checks that are justified, and an end of both sides is named once
+sides_by_their_checks : lines_of four_names (both_sides Unsaid) three_sides ≡
+    codes "set_false_path -from [get_cells {a}] -to [get_cells {b}]"
+    ∷ codes "set_false_path -setup -from [get_cells {c}] -to [get_cells {b}]"
+    ∷ codes "set_false_path -hold -from [get_cells {d}] -to [get_cells {b}]" ∷ []
+unfolding joined_by
+sides_by_their_checks = refl
+
+both_checks_are_named_again : lines_of four_names (both_sides BothChecks) (group ((side 0 0 false true ∷ side 1 0 true true ∷ []) ∷ []) ∷ []) ≡
+    codes "set_false_path -setup -hold -from [get_cells {a}] -to [get_cells {b}]" ∷ []
+unfolding joined_by
+both_checks_are_named_again = refl
+
+sides_are_three_lines : line_count three_sides ≡ 3
+sides_are_three_lines = refl
+
+-- a false path of one pair that is refuted on the hold side
+abbrev hold_refuted : Row
+hold_refuted = record { place = 1; start = RegStart 0; edge = Any; end = RegEnd 1; early = true; kept = false; written = false; beside = true }
+
+abbrev both_of_one : Part
+both_of_one = part (side 0 0 false false ∷ hold_refuted ∷ []) (group ((side 0 0 false false ∷ []) ∷ []) ∷ [])
+
+abbrev one_pair : Selected
+one_pair = selects (pair (codes "a") (codes "b") ∷ pair (codes "a") (codes "b") ∷ [])
+
+late_side_stays_alone : bodies_of 8 (script (command (Claiming (exception False Unsaid [])) ∷ [])) true one_pair (justified ∷ refuted ∷ []) (both_of_one ∷ [])
+    ≡ Some (codes "# sdcv: command 1 kept 1 of 2" ++ (10 ∷ codes "# pair 2 hold a -> b refuted offset 0"
+    ++ (10 ∷ codes "set_false_path -setup -from [get_cells {a}] -to [get_cells {b}]"))) ∷ []
+unfolding digits joined_by bodies_from
+late_side_stays_alone = refl
+
+-- a `set_false_path -hold` claims with hold sides alone; without them it stays
+abbrev hold_alone : Script
+hold_alone = script (command (Hold (record { number = None; edge = Any; from = None; through = []; to = None })) ∷ [])
+
+hold_alone_loses_its_pair : bodies_of 8 hold_alone true one_pair (justified ∷ refuted ∷ []) (part (hold_refuted ∷ []) [] ∷ []) ≡
+    Some (codes "# sdcv: command 1 kept 0 of 1" ++ (10 ∷ codes "# pair 2 hold a -> b refuted offset 0" ++ newline)) ∷ []
+unfolding digits joined_by bodies_from
+hold_alone_loses_its_pair = refl
+
+hold_alone_stays_without_the_word : bodies_of 8 hold_alone false one_pair (justified ∷ refuted ∷ []) (part [] [] ∷ []) ≡ None ∷ []
+unfolding bodies_from
+hold_alone_stays_without_the_word = refl

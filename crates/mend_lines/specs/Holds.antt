@@ -107,6 +107,6 @@ abbrev pub fate_of : Script → List Part → Held → List ℕ → HoldFate
 fate_of script parts h number =
     if is_below_one number || list_all is_whole parts then Stays else fate_by parts (companions_from h number 0 script.commands)
 
--- a hold command of a false path stays
+-- a hold command of a false path stays, where it claims nothing
 abbrev pub hold_fate : Script → List Part → Held → HoldFate
 hold_fate script parts h = elim h.number [ None ↦ Stays | Some number ↦ fate_of script parts h number ]

@@ -17,8 +17,10 @@ use Rattle.script_types.specs.declared.objects.Object.{Object}
 use Rattle.script_types.specs.declared.objects.Object.TheVariants.{Named, AllInputs, AllOutputs, AllRegisters, AllClocks}
 use Rattle.script_types.specs.declared.scripts.Checks.{Checks}
 use Rattle.script_types.specs.declared.scripts.Checks.TheVariants.{Unsaid, Setup, Both}
-use Rattle.script_types.specs.declared.scripts.Exception.{Exception}
 use Rattle.selected_types.specs.declared.selections.PairLine.{PairLine}
+use Rattle.exception_expand.specs.declared.sides.Sides.{Sides}
+use Rattle.exception_expand.specs.declared.sides.Sides.TheVariants.{Late}
+use Rattle.exception_expand.specs.Asking.{Asked}
 use Rattle.mend_groups.specs.declared.rows.Row.{Row}
 use Rattle.mend_groups.specs.declared.groups.Group.{Group}
 
@@ -45,8 +47,18 @@ checks_words Unsaid = []
 checks_words Setup = codes " -setup"
 checks_words Both = codes " -setup -hold"
 
-abbrev pub head_text : Exception → List ℕ
-head_text e = kind_words e.kind ++ checks_words e.checks
+-- of a pair with one of its two sides written that one's check is named, and else those that the exception names
+abbrev pub alone_words : Bool → List ℕ
+alone_words early = if early then codes " -hold" else codes " -setup"
+
+abbrev pub sided_words : Checks → Row → List ℕ
+sided_words checks r = if r.beside then checks_words checks else alone_words r.early
+
+-- an exception of the late side alone names its checks; one that claims the early side is written by its first pair
+abbrev pub group_checks : Sides → Checks → List Row → List ℕ
+group_checks Late checks star = checks_words checks
+group_checks _ checks [] = []
+group_checks _ checks (r ∷ star) = sided_words checks r
 
 -- the option of a change
 abbrev pub from_word : Edge → List ℕ
@@ -205,8 +217,12 @@ rests_for pairs through _ _ = []
 abbrev pub first_star : Group → List Row
 first_star g = elim g.stars [ [] ↦ [] | star ∷ more ↦ star ]
 
+-- an end of the class is named once: by its late side where both are written
+abbrev pub is_named : Bool → Row → Bool
+is_named regs r = is_of_class regs r && not (r.early && r.beside)
+
 abbrev pub ends_in : Bool → Group → List Row
-ends_in regs g = of_class regs (first_star g)
+ends_in regs g = filter (is_named regs) (first_star g)
 
 abbrev pub rests_of : List PairLine → List (List Object) → Group → List (List ℕ)
 rests_of pairs through g = rests_for pairs through (heads g.stars) (ends_in true g) ++ rests_for pairs through (heads g.stars) (ends_in false g)
@@ -222,9 +238,16 @@ lines_of_group head pairs through g = map (line_after head) (rests_of pairs thro
 abbrev pub lines_after : List ℕ → List PairLine → List (List Object) → List Group → List (List ℕ)
 lines_after head pairs through groups = map (line_after head) (flat_map (rests_of pairs through) groups)
 
+-- the first words of a group's commands
+abbrev pub head_of : Asked → Group → List ℕ
+head_of by g = kind_words by.exception.kind ++ group_checks by.sides by.exception.checks (first_star g)
+
 -- the commands of an exception's groups
-abbrev pub lines_of : List PairLine → Exception → List Group → List (List ℕ)
-lines_of pairs e groups = lines_after (head_text e) pairs e.through groups
+abbrev pub lines_by : List PairLine → Asked → Group → List (List ℕ)
+lines_by pairs by g = lines_of_group (head_of by g) pairs by.exception.through g
+
+abbrev pub lines_of : List PairLine → Asked → List Group → List (List ℕ)
+lines_of pairs by groups = flat_map (lines_by pairs by) groups
 
 -- how many they are
 abbrev pub line_count : List Group → ℕ

@@ -17,6 +17,12 @@ fn unwritten_text(kept: bool) -> &'static str
     if kept { ", not written" } else { "" }
 }
 
+fn side_text(early: bool) -> &'static str
+    ensures { result.now ≡ spec.side_text early }
+{
+    if early { "hold " } else { "" }
+}
+
 fn comment_text(
     alloc: Global,
     depth: usize,
@@ -28,10 +34,11 @@ fn comment_text(
     ensures { IfOk result (λ text. string_bytes text ≡ spec.comment_by depth row.now (Some pair.now) (Some verdict.now)) }
 {
     let number = row.place as u64 + 1;
+    let side = side_text(row.early);
     let ends = ends_text(alloc, pair)?;
     let found = found_text(alloc, depth, verdict)?;
     let unwritten = unwritten_text(row.kept);
-    format!(in alloc; "# pair {number} {ends} {found}{unwritten}\n")
+    format!(in alloc; "# pair {number} {side}{ends} {found}{unwritten}\n")
 }
 
 // The comment about a pair that is not written again, if there is such a pair.

@@ -60,16 +60,22 @@ fn has_start(group: &Group) -> bool
 
 // Whether some end of the group is a register, or is an output.
 fn has_end(regs: bool, group: &Group) -> bool
-    ensures { result ≡ list_any (lines.is_of_class regs) (lines.first_star group.now) }
+    ensures { result ≡ list_any (lines.is_named regs) (lines.first_star group.now) }
 {
     match group.stars.as_slice().first() {
-        Some(star) => star.as_slice().iter().any(|row| is_of_class(regs, row)),
+        Some(star) => star.as_slice().iter().any(|row| is_named(regs, row)),
         None => false,
     }
 }
 
-/// Whether the end of a pair is a register, or is an output.
-pub(crate) fn is_of_class(regs: bool, row: &Row) -> bool
+/// Whether the end of a pair is named among the registers, or among the outputs.
+pub(crate) fn is_named(regs: bool, row: &Row) -> bool
+    ensures { result ≡ lines.is_named regs row.now }
+{
+    is_of_class(regs, row) && !(row.early && row.beside)
+}
+
+fn is_of_class(regs: bool, row: &Row) -> bool
     ensures { result ≡ lines.is_of_class regs row.now }
 {
     match row.end {

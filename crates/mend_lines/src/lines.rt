@@ -12,7 +12,7 @@ use sdcv_base::{Name, Seq};
 use selected_types::PairLine;
 use std::alloc::{AllocError, Global};
 
-/// What the commands of an exception's groups have in common: the words before their options of the start, the names of pairs, and the
+/// What the commands of a group have in common: the words before their options of the start, the names of pairs, and the
 /// through lists.
 #[derive(Clone, Copy)]
 pub(crate) struct Terms<'a> {
@@ -36,7 +36,8 @@ pub(crate) fn lines_after(
     Ok(lines)
 }
 
-fn push_group(
+/// Adds the commands of a group.
+pub(crate) fn push_group(
     alloc: Global,
     terms: &Terms<'_>,
     group: &Group,

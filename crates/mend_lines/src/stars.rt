@@ -2,7 +2,7 @@
 ghost use Rattle.std.specs.Prelude.{◌≡◌, ◌++◌, ◌∷◌, [], if◌then◌else◌, filter, take, IfOk, OnOk};
 ghost use Rattle.mend_lines.specs.Lines as spec;
 
-use crate::counts::is_of_class;
+use crate::counts::is_named;
 use mend_groups::{Group, Row};
 use sdcv_base::Seq;
 use std::alloc::{AllocError, Global};
@@ -27,19 +27,19 @@ fn push_first(star: &Seq<Row>, rows: &mut Seq<Row>) -> Result<(), AllocError>
     Ok(())
 }
 
-/// The pairs of the first start of a group whose ends are registers, or outputs.
+/// The pairs of the first start of a group whose ends are registers, or outputs, each once.
 pub(crate) fn ends_in(alloc: Global, regs: bool, group: &Group) -> Result<Seq<Row>, AllocError>
     ensures { IfOk result (λ rows. rows ≡ spec.ends_in regs group.now) }
 {
     if group.stars.len() == 0 {
         Ok(Seq::new(alloc))
     } else {
-        of_class(alloc, regs, group.stars.item(0))
+        named_in(alloc, regs, group.stars.item(0))
     }
 }
 
-fn of_class(alloc: Global, regs: bool, star: &Seq<Row>) -> Result<Seq<Row>, AllocError>
-    ensures { IfOk result (λ rows. rows ≡ spec.of_class regs star.now) }
+fn named_in(alloc: Global, regs: bool, star: &Seq<Row>) -> Result<Seq<Row>, AllocError>
+    ensures { IfOk result (λ rows. rows ≡ filter (spec.is_named regs) star.now) }
 {
     let mut rows = Seq::new(alloc);
     for place in 0..star.len() {
@@ -49,9 +49,9 @@ fn of_class(alloc: Global, regs: bool, star: &Seq<Row>) -> Result<Seq<Row>, Allo
 }
 
 fn push_if(regs: bool, row: Row, rows: &mut Seq<Row>) -> Result<(), AllocError>
-    ensures { OnOk result (rows.new ≡ rows.old ++ (if spec.is_of_class regs row then row ∷ [] else [])) }
+    ensures { OnOk result (rows.new ≡ rows.old ++ (if spec.is_named regs row then row ∷ [] else [])) }
 {
-    if is_of_class(regs, &row) {
+    if is_named(regs, &row) {
         rows.push(row)?;
     }
     Ok(())

@@ -1,9 +1,12 @@
 //! The words of a command.
 ghost use Rattle.std.specs.Prelude.{◌≡◌, IfOk, string_bytes};
+ghost use Rattle.exception_expand.specs.Asking.{asked_by};
 ghost use Rattle.mend_lines.specs.Lines as spec;
 
+use exception_expand::{Ask, Sides};
+use mend_groups::{Group, Row};
 use net_model::{End, Start};
-use script_types::{Checks, Class, Exception};
+use script_types::{Checks, Class};
 use sdcv_base::{Edge, Kind};
 use std::alloc::{AllocError, Global};
 
@@ -26,12 +29,55 @@ fn checks_words(checks: Checks) -> &'static str
     }
 }
 
-/// The command of an exception, with its number and the checks that it names.
-pub(crate) fn head_text(alloc: Global, exception: &Exception) -> Result<String, AllocError>
-    ensures { IfOk result (λ text. string_bytes text ≡ spec.head_text exception.now) }
+fn alone_words(early: bool) -> &'static str
+    ensures { result.now ≡ spec.alone_words early }
 {
-    let kind = kind_words(alloc, exception.kind)?;
-    let checks = checks_words(exception.checks);
+    if early { " -hold" } else { " -setup" }
+}
+
+fn sided_words(checks: Checks, row: &Row) -> &'static str
+    ensures { result.now ≡ spec.sided_words checks row.now }
+{
+    if row.beside {
+        checks_words(checks)
+    } else {
+        alone_words(row.early)
+    }
+}
+
+fn star_words(checks: Checks, star: &[Row]) -> &'static str
+    ensures { result.now ≡ spec.group_checks Sides.Both checks star.now }
+{
+    match star.first() {
+        Some(row) => sided_words(checks, row),
+        None => "",
+    }
+}
+
+fn group_checks(sides: Sides, checks: Checks, star: &[Row]) -> &'static str
+    ensures { result.now ≡ spec.group_checks sides checks star.now }
+{
+    match sides {
+        Sides::Late => checks_words(checks),
+        Sides::Early | Sides::Both => star_words(checks, star),
+    }
+}
+
+fn first_star(group: &Group) -> &[Row]
+    ensures { result.now ≡ spec.first_star group.now }
+{
+    match group.stars.as_slice().first() {
+        Some(star) => star.as_slice(),
+        None => &[],
+    }
+}
+
+/// The first words of a group's commands: those of the exception's kind, and the checks that they name.
+pub(crate) fn head_of(alloc: Global, ask: &Ask<'_>, group: &Group) -> Result<String, AllocError>
+    ensures { IfOk result (λ text. string_bytes text ≡ spec.head_of (asked_by ask.now) group.now) }
+{
+    let kind = kind_words(alloc, ask.kind)?;
+    let checks = group_checks(ask.sides, ask.checks, first_star(group));
     format!(in alloc; "{kind}{checks}")
 }
 

@@ -21,5 +21,5 @@ is_mended text scene f m rows proved parts bytes expected again =
       again = subst (λ (l : List Claim). SelectsExactly scene l m.bytes.items) claims again;
       hold =
           claims_hold scene.linked.design f.selected.claims f.verdicts (flat_map part_rows (parts_by f)) proved
-          (all_justified f.script f.selected f.verdicts);
+          (all_justified f.selected f.verdicts f.script f.hold);
     }

@@ -21,7 +21,8 @@ use Rattle.mended_text.specs.Claims.{mended_claims}
 use Rattle.mended_text.specs.Tellings.{header_text, part_text, fate_text, left_text, total_text, mend_line}
 
 row : ℕ → ℕ → End → Bool → Bool → Row
-row place start end kept written = record { place = place; start = RegStart start; edge = Any; end = end; kept = kept; written = written }
+row place start end kept written =
+    record { place = place; start = RegStart start; edge = Any; end = end; early = false; kept = kept; written = written; beside = false }
 
 -- both pairs of an exception are kept, so it stays
 whole : Part

@@ -18,13 +18,13 @@ use Rattle.mended_text.specs.declared.mending.Mended.{Mended}
 use Rattle.mended_text.specs.Scenes.{Scene, Findings}
 use Rattle.mended_text.specs.Claims.{mended_claims}
 
--- what becomes of the pairs of each exception
+-- what becomes of the claims of each exception
 abbrev pub parts_by : Findings → List Part
-parts_by f = parts_of f.script f.selected f.verdicts
+parts_by f = parts_of f.script f.hold f.selected f.verdicts
 
 -- the text without carriage returns before its newlines, with what stands in the place of each command
 abbrev pub text_by : List ℕ → Findings → List Part → List ℕ
-text_by text f parts = rewritten (cleaned text) (bodies_of f.depth f.script f.selected f.verdicts parts)
+text_by text f parts = rewritten (cleaned text) (bodies_of f.depth f.script f.hold f.selected f.verdicts parts)
 
 abbrev pub mended_text : List ℕ → Findings → List ℕ
 mended_text text f = text_by text f (parts_by f)

@@ -1,5 +1,5 @@
 -- What a script is mended by, as values.
-use Rattle.std.specs.Prelude.{◌≡◌, ℕ, List, Some, slice_get}
+use Rattle.std.specs.Prelude.{◌≡◌, ℕ, Bool, List, Some, slice_get}
 use Rattle.sdcv_base.specs.declared.settings.Setting.{Setting}
 use Rattle.net_model.specs.Judge.{Holds}
 use Rattle.net_model.specs.declared.claims.Claim.{Claim}
@@ -23,9 +23,10 @@ pub record Scene : Type 0 where
   pub settings : Settings
   pub judging : Judging
 
--- a script with what it selects, and what is found out about each pair in a run of this greatest depth
+-- a script with what it selects, with hold sides or without, and what is found out about each claim in a run of this greatest depth
 pub record Findings : Type 0 where
   pub script : Script
+  pub hold : Bool
   pub selected : Selected
   pub verdicts : List Verdict
   pub depth : ℕ
@@ -34,7 +35,7 @@ abbrev pub seen_scene : TheScene → Scene
 seen_scene s = record { linked = s.linked.now; inputs = s.inputs.now; resets = s.resets.now; settings = s.settings.now; judging = s.judging }
 
 abbrev pub seen_findings : TheFindings → Findings
-seen_findings f = record { script = f.script.now; selected = f.selected.now; verdicts = f.verdicts.now; depth = f.depth }
+seen_findings f = record { script = f.script.now; hold = f.hold; selected = f.selected.now; verdicts = f.verdicts.now; depth = f.depth }
 
 -- each claim that is justified holds in every run
 abbrev pub AreProved : Scene → Findings → Type 0

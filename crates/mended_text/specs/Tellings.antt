@@ -4,7 +4,7 @@ use Rattle.std.specs.Prelude.{Option, None, Some}
 use Rattle.std.specs.List.{flat_map}
 use Rattle.std.specs.Fmt.{decimal}
 use Rattle.script_types.specs.declared.scripts.What.{What}
-use Rattle.script_types.specs.declared.scripts.What.TheVariants.{Claiming, Hold}
+use Rattle.script_types.specs.declared.scripts.What.TheVariants.{Hold}
 use Rattle.script_types.specs.declared.scripts.Command.{Command}
 use Rattle.selected_types.specs.declared.selections.CommandLine.{CommandLine}
 use Rattle.selected_types.specs.declared.selections.PairLine.{PairLine}
@@ -13,6 +13,7 @@ use Rattle.verdict_types.specs.declared.outcomes.Verdict.{Verdict}
 use Rattle.run_options.specs.declared.options.RunOptions.{RunOptions}
 use Rattle.report_text.specs.Words.{◌⁀◌, mode_text, asked_text, claim_text, what_text, ends_text, found_text, warning_line}
 use Rattle.witness_replay.specs.StimulusTexts.{line_of}
+use Rattle.exception_expand.specs.Asking.{Asked, asked}
 use Rattle.exception_expand.specs.Selections.{is_exception}
 use Rattle.mend_groups.specs.declared.rows.Row.{Row}
 use Rattle.mend_groups.specs.declared.parts.Part.{Part}
@@ -56,10 +57,17 @@ fate_text parts Stays = codes " stays"
 fate_text parts LeftOut = codes " left"
 fate_text parts (Follows place) = codes " lines " ⁀ decimal (lines_at parts place)
 
+-- of a command that claims nothing
+abbrev pub unasked_text : Findings → List Part → What → List ℕ
+unasked_text f parts (Hold h) = fate_text parts (hold_fate f.script parts h)
+unasked_text f parts _ = []
+
+abbrev pub asked_outcome : Findings → List Part → ℕ → What → Option Asked → List ℕ
+asked_outcome f parts place what None = unasked_text f parts what
+asked_outcome f parts place what (Some by) = claiming_text (slice_get parts place)
+
 abbrev pub outcome_text : Findings → List Part → ℕ → What → List ℕ
-outcome_text f parts place (Claiming e) = claiming_text (slice_get parts place)
-outcome_text f parts place (Hold h) = fate_text parts (hold_fate f.script parts h)
-outcome_text f parts place _ = []
+outcome_text f parts place what = asked_outcome f parts place what (asked f.hold what)
 
 -- the exception at a place among the exceptions, from 0, as it is listed
 abbrev pub command_text : Findings → List Part → ℕ → CommandLine → What → List ℕ
@@ -70,7 +78,7 @@ command_text f parts place line what =
 abbrev pub left_text : ℕ → Row → PairLine → Claim → Verdict → List ℕ
 left_text depth r p claim v =
     (if r.kept then codes "unwritten" else codes "left") ⁀ codes " " ⁀ decimal (r.place + 1) ⁀ codes " command " ⁀ decimal p.command ⁀ codes " "
-    ⁀ claim_text claim.kind claim.edge ⁀ codes " " ⁀ ends_text p ⁀ codes " " ⁀ found_text depth v
+    ⁀ claim_text claim ⁀ codes " " ⁀ ends_text p ⁀ codes " " ⁀ found_text depth v
 
 abbrev pub left_by : ℕ → Row → Option PairLine → Option Claim → Option Verdict → List (List ℕ)
 left_by depth r (Some p) (Some claim) (Some v) = left_text depth r p claim v ∷ []

@@ -22,7 +22,7 @@ fn left_text(alloc: Global, depth: usize, row: &Row, at: &PairRow<'_>) -> Result
     let word = if row.kept { "unwritten" } else { "left" };
     let number = at.number;
     let command = at.pair.command;
-    let claim = claim_text(alloc, at.claim.kind, at.claim.edge)?;
+    let claim = claim_text(alloc, at.claim)?;
     let ends = ends_text(alloc, at.pair)?;
     let found = found_text(alloc, depth, at.verdict)?;
     format!(in alloc; "{word} {number} command {command} {claim} {ends} {found}")

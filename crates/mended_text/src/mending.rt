@@ -39,7 +39,13 @@ pub fn mend(
     ensures ok { IfOk result (spec.IsMended text.now (seen_scene scene.now) (seen_findings findings.now)) }
     ensures err { IfErr result (spec.IsMendCause text.now (seen_scene scene.now) (seen_findings findings.now)) }
 {
-    let parts = parts_of(alloc, findings.script, findings.selected, findings.verdicts)?;
+    let parts = parts_of(
+        alloc,
+        findings.script,
+        findings.hold,
+        findings.selected,
+        findings.verdicts,
+    )?;
     let bytes = text_by(alloc, text, findings, parts.as_slice())?;
     let rows = expected_rows(alloc, parts.as_slice())?;
     if !selects_exactly(
@@ -67,6 +73,7 @@ fn text_by<'a>(
     let clean = cleaned(alloc, text)?;
     let mending = Mending {
         script: findings.script,
+        hold: findings.hold,
         selected: findings.selected,
         verdicts: findings.verdicts,
         depth: findings.depth,

@@ -2,9 +2,10 @@
 ghost use Rattle.std.specs.Prelude.{◌≡◌, ◌+◌, ◌<◌, ◌^◌, IfOk, count_by, slice_get, string_bytes};
 ghost use Rattle.mend_groups.specs.declared.rows.Row.{Row as RowRecord};
 ghost use Rattle.mended_text.specs.Scenes.{seen_findings};
-ghost use Rattle.mended_text.specs.Tellings.{claiming_text, command_text, fate_text, lines_at, outcome_text, part_text};
+ghost use Rattle.mended_text.specs.Tellings.{claiming_text, command_text, fate_text, lines_at, outcome_text, part_text, unasked_text};
 
 use crate::scenes::Findings;
+use exception_expand::Ask;
 use mend_groups::{Part, Row};
 use mend_lines::{HoldFate, hold_fate, is_whole, kept_count, line_count};
 use report_text::what_text;
@@ -82,17 +83,26 @@ fn fate_text(alloc: Global, parts: &[Part], fate: HoldFate) -> Result<String, Al
     }
 }
 
-fn outcome_text(alloc: Global, told: &Told<'_>) -> Result<String, AllocError>
-    ensures { IfOk result (λ text. string_bytes text
-        ≡ outcome_text (seen_findings told.now.findings.now) told.now.parts.now told.now.place told.now.what.now) }
+// Of a command that claims nothing.
+fn unasked_text(alloc: Global, told: &Told<'_>) -> Result<String, AllocError>
+    ensures { IfOk result (λ text. string_bytes text ≡ unasked_text (seen_findings told.now.findings.now) told.now.parts.now told.now.what.now) }
 {
     match told.what {
-        What::Claiming(_) => claiming_text(alloc, told.parts, told.place),
         What::Hold(held) => {
             let fate = hold_fate(told.findings.script, told.parts, held);
             fate_text(alloc, told.parts, fate)
         }
         _ => Ok(String::new(alloc)),
+    }
+}
+
+fn outcome_text(alloc: Global, told: &Told<'_>) -> Result<String, AllocError>
+    ensures { IfOk result (λ text. string_bytes text
+        ≡ outcome_text (seen_findings told.now.findings.now) told.now.parts.now told.now.place told.now.what.now) }
+{
+    match Ask::of(told.what, told.findings.hold) {
+        Some(_) => claiming_text(alloc, told.parts, told.place),
+        None => unasked_text(alloc, told),
     }
 }
 

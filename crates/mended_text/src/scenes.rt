@@ -18,10 +18,12 @@ pub struct Scene<'a> {
     pub judging: Judging,
 }
 
-/// A script with what it selects, and what is found out about each pair in a run whose greatest depth is `depth`.
+/// A script with what it selects, where hold sides are judged or not, and what is found out about each claim in a run whose greatest
+/// depth is `depth`.
 #[derive(Clone, Copy)]
 pub struct Findings<'a> {
     pub script: &'a Script,
+    pub hold: bool,
     pub selected: &'a Selected,
     pub verdicts: &'a [Verdict],
     pub depth: usize,

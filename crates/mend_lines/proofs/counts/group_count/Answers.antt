@@ -1,7 +1,7 @@
 use mir.Val.{bool_byte}
 use Rattle.std.proofs.Common.{◌≡◌, ◌∙◌, ◌+◌, ◌≤◌, ℕ, Bool, true, false, ap, sym, refl, arith}
 use Rattle.std.specs.List.{list_any}
-use Rattle.mend_lines.specs.Lines.{is_of_class, first_star}
+use Rattle.mend_lines.specs.Lines.{is_named, first_star}
 use Rattle.mend_lines.proofs.Counting.{group_counted, one_if}
 use Rattle.mend_lines.proofs.counts.group_count.Goals as goal
 
@@ -16,8 +16,8 @@ at_most false = omega arith
 pub returns-then-has_start : goal.returns-then-has_start
 returns-then-has_start c =
     let g = c.args.group.now in
-    let regs = list_any (is_of_class true) (first_star g) in
-    let outs = list_any (is_of_class false) (first_star g) in
+    let regs = list_any (is_named true) (first_star g) in
+    let outs = list_any (is_named false) (first_star g) in
     let first : c.from.result ≡ one_if regs = c.from.ensures ∙ bit c.has_end.result ∙ ap one_if c.has_end.ensures in
     let second : c.from-then-has_start.result ≡ one_if outs =
     c.from-then-has_start.ensures ∙ bit c.has_end-then-has_start.result ∙ ap one_if c.has_end-then-has_start.ensures in

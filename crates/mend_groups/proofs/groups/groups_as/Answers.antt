@@ -1,6 +1,6 @@
-use Rattle.std.proofs.Common.{arith, ◌∙◌, ◌-◌, ◌<◌, length, drop, length-drop, length-take, ap}
+use Rattle.std.proofs.Common.{arith, ◌-◌, ◌<◌, length, drop, length-drop, length-take, ap}
 use Rattle.mend_groups.proofs.Starring.{star_added, stars_over}
-use Rattle.mend_groups.proofs.groups.groups_of.Goals as goal
+use Rattle.mend_groups.proofs.groups.groups_as.Goals as goal
 
 pub loop-place-preserved : goal.loop-place-preserved
 loop-place-preserved c =
@@ -18,4 +18,4 @@ loop-place-preserved c =
 
 pub returns : goal.returns
 returns c =
-    c.from_vec.ensures ∙ stars_over c.in_ok-written.written.items c.loop-place.place c.loop-place.groups.items _ (omega arith) c.loop-place.invariant.made
+    stars_over c.in_ok-written.written.items c.loop-place.place c.loop-place.groups.items _ (omega arith) c.loop-place.invariant.made

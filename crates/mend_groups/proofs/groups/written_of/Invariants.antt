@@ -1,6 +1,0 @@
-use Rattle.std.proofs.Common.{◌≡◌, take}
-use Rattle.mend_groups.specs.Groups.{written_of}
-use Rattle.mend_groups.proofs.groups.written_of.Given as goal
-
-abbrev pub invariant-loop-row : goal.invariant-loop-row
-invariant-loop-row l = l.written.items ≡ written_of (take l.row-index l.rows)
