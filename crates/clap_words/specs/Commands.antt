@@ -32,23 +32,23 @@ abbrev pub verify_row : CommandRow
 verify_row = record {
   name = codes "verify";
   positions = codes "V" ∷ codes "L" ∷ codes "S" ∷ [];
-  options = needed (codes "out") ∷ flag (codes "hazard") ∷ valued (codes "lag") ∷ flag (codes "json") ∷ valued (codes "reset")
-      ∷ valued (codes "reset-cycles") ∷ valued (codes "depth") ∷ valued (codes "budget") ∷ valued (codes "inv-depth")
-      ∷ valued (codes "assist") ∷ [];
+  options = needed (codes "out") ∷ flag (codes "hazard") ∷ valued (codes "lag") ∷ flag (codes "hold") ∷ flag (codes "json")
+      ∷ valued (codes "reset") ∷ valued (codes "reset-cycles") ∷ valued (codes "depth") ∷ valued (codes "budget")
+      ∷ valued (codes "inv-depth") ∷ valued (codes "assist") ∷ [];
 }
 
 abbrev pub check_row : CommandRow
 check_row = record {
   name = codes "check";
   positions = codes "V" ∷ codes "L" ∷ codes "S" ∷ codes "CERT" ∷ [];
-  options = flag (codes "hazard") ∷ valued (codes "lag") ∷ valued (codes "reset") ∷ valued (codes "reset-cycles") ∷ [];
+  options = flag (codes "hazard") ∷ valued (codes "lag") ∷ flag (codes "hold") ∷ valued (codes "reset") ∷ valued (codes "reset-cycles") ∷ [];
 }
 
 abbrev pub replay_row : CommandRow
 replay_row = record {
   name = codes "replay";
   positions = codes "V" ∷ codes "L" ∷ codes "S" ∷ codes "REPORT" ∷ codes "PAIR" ∷ [];
-  options = flag (codes "hazard") ∷ valued (codes "lag") ∷ valued (codes "reset") ∷ valued (codes "reset-cycles") ∷ [];
+  options = flag (codes "hazard") ∷ valued (codes "lag") ∷ flag (codes "hold") ∷ valued (codes "reset") ∷ valued (codes "reset-cycles") ∷ [];
 }
 
 abbrev pub demo_row : CommandRow
@@ -66,7 +66,7 @@ abbrev pub aiger_row : CommandRow
 aiger_row = record {
   name = codes "aiger";
   positions = codes "V" ∷ codes "L" ∷ codes "S" ∷ codes "PAIR" ∷ [];
-  options = needed (codes "out") ∷ flag (codes "symbols") ∷ valued (codes "lag") ∷ valued (codes "reset")
+  options = needed (codes "out") ∷ flag (codes "symbols") ∷ valued (codes "lag") ∷ flag (codes "hold") ∷ valued (codes "reset")
       ∷ valued (codes "reset-cycles") ∷ [];
 }
 
@@ -74,8 +74,9 @@ abbrev pub mend_row : CommandRow
 mend_row = record {
   name = codes "mend";
   positions = codes "V" ∷ codes "L" ∷ codes "S" ∷ [];
-  options = needed (codes "out") ∷ flag (codes "hazard") ∷ valued (codes "lag") ∷ valued (codes "reset") ∷ valued (codes "reset-cycles")
-      ∷ valued (codes "depth") ∷ valued (codes "budget") ∷ valued (codes "inv-depth") ∷ valued (codes "assist") ∷ [];
+  options = needed (codes "out") ∷ flag (codes "hazard") ∷ valued (codes "lag") ∷ flag (codes "hold") ∷ valued (codes "reset")
+      ∷ valued (codes "reset-cycles") ∷ valued (codes "depth") ∷ valued (codes "budget") ∷ valued (codes "inv-depth")
+      ∷ valued (codes "assist") ∷ [];
 }
 
 abbrev pub command_rows : List CommandRow

@@ -215,6 +215,14 @@ const BOUND: OptionRow = OptionRow {
     sentence: "Try multipliers up to K, 2 to 16 (else 4)",
 };
 
+const HOLD: OptionRow = OptionRow {
+    id: "hold",
+    form: Flag,
+    value: "",
+    rule: ValueRule::Text,
+    sentence: "Judge the hold side of false paths too",
+};
+
 const HOLD_LINES: OptionRow = OptionRow {
     id: "hold",
     form: Flag,
@@ -256,6 +264,7 @@ const ROWS: [CommandRow; 7] = [
             OUT,
             HAZARD,
             LAG,
+            HOLD,
             JSON,
             RESET,
             RESET_CYCLES,
@@ -269,13 +278,13 @@ const ROWS: [CommandRow; 7] = [
         name: "check",
         sentence: "Check a certificate, without the search that made it",
         positions: &[V, L, S, CERT],
-        options: &[HAZARD, LAG, RESET, RESET_CYCLES],
+        options: &[HAZARD, LAG, HOLD, RESET, RESET_CYCLES],
     },
     CommandRow {
         name: "replay",
         sentence: "Run the stimulus of a refuted pair again",
         positions: &[V, L, S, REPORT, PAIR],
-        options: &[HAZARD, LAG, RESET, RESET_CYCLES],
+        options: &[HAZARD, LAG, HOLD, RESET, RESET_CYCLES],
     },
     CommandRow {
         name: "demo",
@@ -303,7 +312,7 @@ const ROWS: [CommandRow; 7] = [
         name: "aiger",
         sentence: "Save the claim of a pair as an AIGER text, whose bad literal rises where it is violated",
         positions: &[V, L, S, WATCHED],
-        options: &[OUT_AIGER, SYMBOLS, LAG, RESET, RESET_CYCLES],
+        options: &[OUT_AIGER, SYMBOLS, LAG, HOLD, RESET, RESET_CYCLES],
     },
     CommandRow {
         name: "mend",
@@ -313,6 +322,7 @@ const ROWS: [CommandRow; 7] = [
             OUT_MENDED,
             HAZARD,
             LAG,
+            HOLD,
             RESET,
             RESET_CYCLES,
             DEPTH,

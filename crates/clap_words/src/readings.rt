@@ -32,6 +32,7 @@ const IDS: [&str; 21] = [
     "out",
     "hazard",
     "lag",
+    "hold",
     "json",
     "reset",
     "reset-cycles",
@@ -45,7 +46,6 @@ const IDS: [&str; 21] = [
     "SEED",
     "SIZE",
     "bound",
-    "hold",
     "symbols",
 ];
 

@@ -6,13 +6,12 @@ use Rattle.net_model.specs.declared.claims.Claim.{Claim}
 use Rattle.net_model.proofs.Members.{In, In-map, from_map}
 use Rattle.net_model.proofs.Settling.{All-at}
 use Rattle.linked_types.specs.declared.names.Linked.{Linked}
-use Rattle.script_types.specs.declared.scripts.What.{What}
-use Rattle.script_types.specs.declared.scripts.What.TheVariants.{Clock, Case, Claiming, Hold, Aside, Passed, Unjudged, Scope, Generated, Delay}
 use Rattle.script_types.specs.declared.scripts.Command.{Command}
 use Rattle.script_types.specs.declared.scripts.Script.{Script}
 use Rattle.run_options.specs.declared.judging.Judging.{Judging}
-use Rattle.exception_expand.specs.declared.pairs.Pair.{Pair}
+use Rattle.exception_expand.specs.declared.sides.Side.{Side}
 use Rattle.selected_types.specs.declared.selections.Selected.{Selected}
+use Rattle.exception_expand.specs.Asking.{Asked, asked}
 use Rattle.exception_expand.specs.Selections as spec
 use Rattle.exception_expand.specs.Selections.{IsSelectionOf}
 use Rattle.exception_expand.proofs.Ranging.{all_from_in}
@@ -26,23 +25,16 @@ use Rattle.design_stages.specs.Stages.{Then}
 abbrev pub AreAlike : Bool → List Claim → Type 0
 AreAlike hazard claims = All (λ (claim : Claim). claim.hazard ≡ hazard) claims
 
-by_what : (l : Linked) (script : Script) (judging : Judging) (p : Pair) (what : What) (claim : Claim)
-    → Some claim ≡ spec.claim_by l script judging p what → claim.hazard ≡ judging.hazard
-by_what l script judging p (Claiming e) claim is = ap (λ (c : Claim). c.hazard) (same_Some claim (spec.claim l script judging e p) is)
-by_what l script judging p (Clock name source) claim is = absurd cc
-by_what l script judging p (Case value objects) claim is = absurd cc
-by_what l script judging p (Hold h) claim is = absurd cc
-by_what l script judging p (Aside option) claim is = absurd cc
-by_what l script judging p Passed claim is = absurd cc
-by_what l script judging p (Unjudged name) claim is = absurd cc
-by_what l script judging p (Scope name) claim is = absurd cc
-by_what l script judging p (Generated name objects) claim is = absurd cc
-by_what l script judging p (Delay output clocks objects) claim is = absurd cc
+by_ask : (l : Linked) (script : Script) (judging : Judging) (side : Side) (o : Option Asked) (claim : Claim)
+    → Some claim ≡ spec.claim_asked l script judging side o → claim.hazard ≡ judging.hazard
+by_ask l script judging side None claim is = absurd cc
+by_ask l script judging side (Some by) claim is =
+    ap (λ (c : Claim). c.hazard) (same_Some claim (spec.claim l script judging by.exception side) is)
 
-by_command : (l : Linked) (script : Script) (judging : Judging) (p : Pair) (at : Option Command) (claim : Claim)
-    → Some claim ≡ spec.claim_at l script judging p at → claim.hazard ≡ judging.hazard
-by_command l script judging p None claim is = absurd cc
-by_command l script judging p (Some c) claim is = by_what l script judging p c.what claim is
+by_command : (l : Linked) (script : Script) (judging : Judging) (side : Side) (at : Option Command) (claim : Claim)
+    → Some claim ≡ spec.claim_at l script judging side at → claim.hazard ≡ judging.hazard
+by_command l script judging side None claim is = absurd cc
+by_command l script judging side (Some c) claim is = by_ask l script judging side (asked judging.hold c.what) claim is
 
 -- the claims of a selection
 all_alike : (l : Linked) (script : Script) (judging : Judging) (s : Selected) → IsSelectionOf l script judging s → AreAlike judging.hazard s.claims
@@ -50,7 +42,7 @@ all_alike l script judging s is =
     all_from_in (λ (claim : Claim). claim.hazard ≡ judging.hazard) s.claims (λ claim has.
     let some = In-map Some claim s.claims has in
     let from = from_map (spec.claim_of l script judging) (Some claim) is.chosen (subst (In (Some claim)) is.claims some) in
-    by_command l script judging from.0.pair (slice_get script.commands from.0.command) claim (sym from.2))
+    by_command l script judging from.0.side (slice_get script.commands from.0.command) claim (sym from.2))
 
 -- those that are selected in the design of texts
 pub designs_alike : (t : ReadTexts) (reset : Reset) (judging : Judging) (d : Designed) → Designs t reset judging (Ok d)

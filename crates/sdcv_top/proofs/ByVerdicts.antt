@@ -12,7 +12,8 @@ use Rattle.sdcv_top.specs.declared.mendables.Mendable.{Mendable}
 use Rattle.sdcv_top.specs.Mending.{Mends, findings_of, scene_of}
 
 abbrev pub findings_by : Mendable → RunOptions → List Verdict → Findings
-findings_by m o verdicts = record { script = m.script; selected = m.designed.selected; verdicts = verdicts; depth = o.depth }
+findings_by m o verdicts =
+    record { script = m.script; hold = m.judging.hold; selected = m.designed.selected; verdicts = verdicts; depth = o.depth }
 
 -- by the verdicts that are handed out
 pub mends_by : (m : Mendable) (o : RunOptions) (j : Judged) (verdicts : List Verdict) (result : Result Mended Refusal) → verdicts ≡ j.verdicts

@@ -35,7 +35,8 @@ scene_of m = record {
 
 -- a script with what is found out about its pairs
 abbrev pub findings_of : Mendable → RunOptions → Judged → Findings
-findings_of m o judged = record { script = m.script; selected = m.designed.selected; verdicts = judged.verdicts; depth = o.depth }
+findings_of m o judged =
+    record { script = m.script; hold = m.judging.hold; selected = m.designed.selected; verdicts = judged.verdicts; depth = o.depth }
 
 -- each selected pair has its verdict, with further clauses among those that are tried: those that are justified hold in all runs
 abbrev pub Judges : RunOptions → List InvClause → Designed → Found Judged → Type 0

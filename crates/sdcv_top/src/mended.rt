@@ -50,6 +50,7 @@ pub fn mended<'a, P: Progress>(
     let judged = judged(alloc, &mendable.designed, &options, extra, progress)?;
     let findings = Findings {
         script: &mendable.script,
+        hold: mendable.judging.hold,
         selected: &mendable.designed.selected,
         verdicts: judged.verdicts.as_slice(),
         depth: options.depth,

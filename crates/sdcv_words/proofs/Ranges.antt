@@ -10,12 +10,12 @@ use Rattle.texts.proofs.ReadLemmas.{bind_gave}
 use Rattle.clap_words.specs.Readings.{Given, Reading, clap_reading}
 use Rattle.sdcv_words.specs.declared.commands.Options.{Options}
 use Rattle.run_options.specs.declared.proving.Proving.{Proving}
-use Rattle.run_options.specs.Judging.{CanJudge, judging_by}
+use Rattle.run_options.specs.Judging.{CanJudge}
 use Rattle.sdcv_words.specs.Commands.{Aiger, Command, Demo, Detect, Finding, Job, Check, Mend, Mending, Over, Replay, Text, Verify}
 use Rattle.sdcv_words.specs.Givens.{stands}
 use Rattle.sdcv_words.specs.Numbers.{are_digits, number_in, number_or}
-use Rattle.sdcv_words.specs.Options.{default_cycles, lag_of, options_of, proving_of, resets_of}
-use Rattle.sdcv_words.specs.Jobs.{aiger_of, check_of, demo_of, detect_of, finding_of, job_of, judged_if, mend_of, mending_of, over_of, replay_of, texts_of, verify_of, watching_of, without_hazards}
+use Rattle.sdcv_words.specs.Options.{default_cycles, judging_of, lag_of, options_of, proving_of, resets_of}
+use Rattle.sdcv_words.specs.Jobs.{aiger_of, check_of, demo_of, detect_of, finding_of, job_of, judged_if, late_only, mend_of, mending_of, over_of, replay_of, texts_of, verify_of, watching_of, without_hazards}
 use Rattle.sdcv_words.specs.Places.{by_place}
 use Rattle.sdcv_words.specs.Words.{command, or_else}
 use Rattle.sdcv_words.specs.Ranges.{AreOptionsInRange, IsFindingInRange, IsInRange, IsJobInRange, IsProvingInRange}
@@ -61,8 +61,8 @@ pub lag_range : (given : List Given) (lag : ℕ) → lag_of given ≡ Some lag �
 lag_range given lag is = (number_or_range 0 0 8 lag (in_table given (codes "lag")) (omega arith) (omega arith) is).1
 
 -- so claims can be judged
-can_judge : (hazard : Bool) (lag : ℕ) → lag ≤ 8 → CanJudge (judging_by hazard lag)
-can_judge hazard lag few = record { lag = few; hold = refl; strict = refl }
+can_judge : (given : List Given) (lag : ℕ) → lag ≤ 8 → CanJudge (judging_of given lag)
+can_judge given lag few = record { lag = few; strict = refl }
 
 options_range : (given : List Given) (options : Options) → options_of given ≡ Some options → AreOptionsInRange options
 options_range given options is =
@@ -72,10 +72,9 @@ options_range given options is =
     let (lag, late, with_lag) = bind_gave (lag_of given) _ options rest in
     let (resets, of, made) = bind_gave (resets_of list) _ options with_lag in
     let range = number_or_range (default_cycles list) 0 64 cycles (in_table given (codes "reset-cycles")) (omega arith) (few_cycles list) held in
-    let judging = judging_by (stands given (codes "hazard")) lag in
-    let opened : Options = record { judging = judging; reset = record { ports = resets; len = cycles } } in
+    let opened : Options = record { judging = judging_of given lag; reset = record { ports = resets; len = cycles } } in
     let same : opened ≡ options = cc in
-    subst AreOptionsInRange same (record { judging = can_judge (stands given (codes "hazard")) lag (lag_range given lag late); reset_len = range.1 })
+    subst AreOptionsInRange same (record { judging = can_judge given lag (lag_range given lag late); reset_len = range.1 })
 
 -- how far proofs are sought
 proving_range : (given : List Given) (proving : Proving) → proving_of given ≡ Some proving → IsProvingInRange proving
@@ -146,8 +145,10 @@ detect_range given c is =
     let (texts, files, with_texts) = bind_gave (texts_of given) _ c is in
     let (finding, found, with_finding) = bind_gave (finding_of given) _ c with_texts in
     let (options, set, made) = bind_gave (options_of given) _ c with_finding in
-    let same : Detect texts options finding ≡ c = cc in
-    subst IsInRange same (options_range given options set, finding_range given finding found)
+    let same : Detect texts (late_only options) finding ≡ c = cc in
+    let range = options_range given options set in
+    let judging : CanJudge (late_only options).judging = record { lag = range.judging.lag; strict = range.judging.strict } in
+    subst IsInRange same (record { judging = judging; reset_len = range.reset_len }, finding_range given finding found)
 
 mending_range : (given : List Given) (mending : Mending) → mending_of given ≡ Some mending → IsProvingInRange mending.proving
 mending_range given mending is =
@@ -181,7 +182,7 @@ aiger_range given c is =
     let same : Over texts (without_hazards options) job ≡ c = cc in
     let range = options_range given options set in
     let judging : CanJudge (without_hazards options).judging =
-    record { lag = range.judging.lag; hold = range.judging.hold; strict = range.judging.strict } in
+    record { lag = range.judging.lag; strict = range.judging.strict } in
     subst IsInRange same (record { judging = judging; reset_len = range.reset_len }, watching_range given job done)
 
 demo_range : (given : List Given) (c : Command) → demo_of given ≡ Some c → IsInRange c

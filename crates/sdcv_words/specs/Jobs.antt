@@ -54,12 +54,16 @@ finding_of given =
     number_or 4 2 16 (in_table given (codes "bound")) >>= λ bound.
     Some (record { out = out; proving = proving; bound = bound; hold = stands given (codes "hold") })
 
+-- pairs are found by their late side; the word asks for hold lines there
+abbrev pub late_only : Options → Options
+late_only o = record { judging = record o.judging { hold = false }; reset = o.reset }
+
 abbrev pub detect_of : List Given → Option Command
 detect_of given =
     texts_of given >>= λ texts.
     finding_of given >>= λ finding.
     options_of given >>= λ options.
-    Some (Detect texts options finding)
+    Some (Detect texts (late_only options) finding)
 
 abbrev pub mending_of : List Given → Option Mending
 mending_of given =

@@ -1,12 +1,12 @@
 -- The options of a run over texts.
-use Rattle.std.specs.Prelude.{ℕ, List, [], codes, Option, None, Some}
+use Rattle.std.specs.Prelude.{ℕ, false, List, [], codes, Option, None, Some}
 use Rattle.texts.specs.Lookups.{in_table}
 use Rattle.texts.specs.Reads.{◌>>=◌}
 use Rattle.sdcv_base.specs.declared.settings.Setting.{Setting}
 use Rattle.clap_words.specs.Readings.{Given}
 use Rattle.sdcv_words.specs.declared.commands.Options.{Options}
 use Rattle.run_options.specs.declared.proving.Proving.{Proving}
-use Rattle.run_options.specs.Judging.{judging_by}
+use Rattle.run_options.specs.declared.judging.Judging.{Judging}
 use Rattle.sdcv_words.specs.Givens.{stands}
 use Rattle.sdcv_words.specs.Numbers.{number_or}
 use Rattle.sdcv_words.specs.Settings.{settings_of}
@@ -24,13 +24,17 @@ default_cycles (Some text) = 1
 abbrev pub lag_of : List Given → Option ℕ
 lag_of given = number_or 0 0 8 (in_table given (codes "lag"))
 
+-- how claims are judged, by the flags that stand
+abbrev pub judging_of : List Given → ℕ → Judging
+judging_of given lag = record { hazard = stands given (codes "hazard"); lag = lag; hold = stands given (codes "hold"); strict = false }
+
 abbrev pub options_of : List Given → Option Options
 options_of given =
     let list = in_table given (codes "reset") in
     number_or (default_cycles list) 0 64 (in_table given (codes "reset-cycles")) >>= λ cycles.
     lag_of given >>= λ lag.
     resets_of list >>= λ resets.
-    Some (record { judging = judging_by (stands given (codes "hazard")) lag; reset = record { ports = resets; len = cycles } })
+    Some (record { judging = judging_of given lag; reset = record { ports = resets; len = cycles } })
 
 abbrev pub proving_of : List Given → Option Proving
 proving_of given =

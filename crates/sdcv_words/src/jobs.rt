@@ -3,7 +3,7 @@ ghost use Rattle.std.specs.Prelude.{◌≡◌, IfOk, Some, map};
 ghost use Rattle.std.specs.Option.{option_map};
 ghost use Rattle.clap_words.specs.Readings.{seen_given, seen_reading};
 ghost use Rattle.sdcv_words.specs.Commands.{seen_command, seen_finding, seen_job, seen_mending, seen_texts};
-ghost use Rattle.sdcv_words.specs.Jobs.{aiger_of, check_of, demo_of, detect_of, finding_of, job_of};
+ghost use Rattle.sdcv_words.specs.Jobs.{aiger_of, check_of, demo_of, detect_of, finding_of, job_of, late_only};
 ghost use Rattle.sdcv_words.specs.Jobs.{judged, mend_of, mending_of, over_of, replay_of, texts_of, verify_of, watching_of, without_hazards};
 
 use crate::commands::{Command, Finding, Job, Mending, Options, Texts};
@@ -100,6 +100,18 @@ fn finding_of<'a>(given: &[Given<'a>]) -> Option<Finding<'a>>
     })
 }
 
+fn late_only(options: Options) -> Options
+    ensures { result ≡ late_only options }
+{
+    let Options { judging, reset } = options;
+    let judging = Judging {
+        hold: false,
+        ..judging
+    };
+    Options { judging, reset }
+}
+
+// Pairs are found by their late side.
 fn detect_of<'a>(alloc: Global, given: &[Given<'a>]) -> Result<Option<Command<'a>>, AllocError>
     ensures { IfOk result (λ found. option_map seen_command found ≡ detect_of (map seen_given given.now)) }
 {
@@ -112,6 +124,7 @@ fn detect_of<'a>(alloc: Global, given: &[Given<'a>]) -> Result<Option<Command<'a
     let Some(options) = options_of(alloc, given)? else {
         return Ok(None);
     };
+    let options = late_only(options);
     Ok(Some(Command::Detect {
         texts,
         options,

@@ -48,7 +48,7 @@ pub fn options_of(alloc: Global, given: &[Given<'_>]) -> Result<Option<Options>,
     let judging = Judging {
         hazard: stands(given, "hazard"),
         lag,
-        hold: false,
+        hold: stands(given, "hold"),
         strict: false,
     };
     let reset = Reset {
