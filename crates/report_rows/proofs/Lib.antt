@@ -1,6 +1,7 @@
 mod Lists
 mod Decimals
 mod Parts
-mod Steps
+pub mod Steps
 mod LineSteps
 mod Worked
+mod Causes

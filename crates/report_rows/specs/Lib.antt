@@ -1,6 +1,7 @@
 pub mod Words
 pub mod Rows
 pub mod Heads
+pub mod Totals
 pub mod Lines
 pub mod LineReports
 pub mod Members

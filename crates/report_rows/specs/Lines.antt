@@ -1,5 +1,5 @@
 -- A report by lines.
-use Rattle.std.specs.Prelude.{ℕ, ◌+◌, ◌-◌, ◌==◌, ◌&&◌, ◌||◌, Bool, true, false, nat_lt, List, [], ◌∷◌, length, drop, codes, Option, Some, None, if◌then◌else◌}
+use Rattle.std.specs.Prelude.{ℕ, ◌+◌, ◌-◌, ◌==◌, ◌&&◌, ◌||◌, Bool, nat_lt, List, length, drop, codes, Option, Some, None, if◌then◌else◌}
 use Rattle.std.specs.List.{position_from}
 use Rattle.std.specs.Str.{bytes_eq}
 use Rattle.texts.specs.Reads.{◌>>=◌}
@@ -11,6 +11,7 @@ use Rattle.report_rows.specs.declared.reports.Said.TheVariants.{Does, Warns}
 use Rattle.report_rows.specs.declared.reports.ScriptRow.{ScriptRow}
 use Rattle.report_rows.specs.declared.reports.PairRow.{PairRow}
 use Rattle.report_rows.specs.declared.reports.Report.{Report}
+use Rattle.report_rows.specs.declared.totals.Tally.{Tally}
 
 -- an exception of which nothing is claimed: one for hold checks, or one that is set aside
 abbrev pub claims_nothing : List (List ℕ) → Bool
@@ -94,14 +95,19 @@ with_line found ws =
     else (if is_word ws 0 (codes "pair") then with_pair_line found ws
     else (if is_stimulus ws then Some found else None)))
 
+-- the line begins as the last one does
+abbrev pub begins_total : List (List ℕ) → Bool
+begins_total ws = is_word ws 0 (codes "total")
+
 -- the words of the last line but for its numbers
 abbrev pub has_totals : List (List ℕ) → Bool
-has_totals ws = is_word ws 0 (codes "total") && (is_word ws 2 (codes "justified") && (is_word ws 4 (codes "refuted") && (is_word ws 6 (codes "undecided") && length ws == 8)))
+has_totals ws = begins_total ws && (is_word ws 2 (codes "justified") && (is_word ws 4 (codes "refuted") && (is_word ws 6 (codes "undecided") && length ws == 8)))
 
-abbrev pub is_count : Option ℕ → ℕ → Bool
-is_count None n = false
-is_count (Some m) n = m == n
-
--- the last line: `total N justified J refuted R undecided U`, where N pairs have a row
-unfoldable pub is_total : Report → List (List ℕ) → Bool
-is_total found ws = has_totals ws && is_count (number_in (word_at ws 1)) (length found.pairs)
+-- the totals of the last line: `total N justified J refuted R undecided U`
+unfoldable pub total_of : List (List ℕ) → Option Tally
+total_of ws =
+    if has_totals ws then
+    (number_in (word_at ws 1) >>= λ pairs. number_in (word_at ws 3) >>= λ justified. number_in (word_at ws 5) >>= λ refuted.
+    number_in (word_at ws 7) >>= λ undecided.
+    Some (record { pairs = pairs; justified = justified; refuted = refuted; undecided = undecided }))
+    else None

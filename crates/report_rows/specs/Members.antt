@@ -12,6 +12,8 @@ use Rattle.report_rows.specs.declared.reports.Said.TheVariants.{Does, Warns}
 use Rattle.report_rows.specs.declared.reports.ScriptRow.{ScriptRow}
 use Rattle.report_rows.specs.declared.reports.PairRow.{PairRow}
 use Rattle.report_rows.specs.declared.reports.Report.{Report}
+use Rattle.report_rows.specs.declared.totals.Tally.{Tally}
+use Rattle.report_rows.specs.declared.totals.Totalled.{Totalled}
 
 -- the values of an array in order
 abbrev pub list_of : Items → List Data
@@ -100,8 +102,19 @@ head_in d =
     flag_asked (codes "hold") d >>= λ hold. asked_in d >>= λ asked.
     Some (record { hazard = hazard; reset = reset; lag = lag; hold = hold; asked = asked })
 
--- the report that an object is
+-- the totals of an object
+unfoldable pub total_in : Data → Option Tally
+total_in d =
+    get (codes "total") d >>= λ total. count_in (codes "pairs") total >>= λ pairs. count_in (codes "justified") total >>= λ justified.
+    count_in (codes "refuted") total >>= λ refuted. count_in (codes "undecided") total >>= λ undecided.
+    Some (record { pairs = pairs; justified = justified; refuted = refuted; undecided = undecided })
+
+-- the rows of an object
 unfoldable pub report_in : Data → Option Report
 report_in d =
     head_in d >>= λ head. list_in (codes "commands") d >>= λ commands. list_in (codes "pairs") d >>= λ pairs.
     with_all with_command_data (rowless head) commands >>= λ more. with_all with_pair_data more pairs
+
+-- what an object says: its rows, and its totals
+unfoldable pub totalled_in : Data → Option Totalled
+totalled_in d = report_in d >>= λ report. total_in d >>= λ total. Some (record { report = report; total = total })

@@ -12,6 +12,7 @@ use crate::json_pairs::add_pair_value;
 use crate::json_scripts::add_command_value;
 use crate::members::{count_in, flag_asked, lag_in, list_in, number_asked, text_in};
 use crate::reports::Report;
+use crate::totals::{Tally, Totalled};
 use crate::verdicts::hazard_in;
 use serde_json::{Category, Value};
 use std::alloc::{AllocError, Global};
@@ -73,7 +74,25 @@ fn add_pairs(alloc: Global, found: &mut Report, values: &[Value]) -> Result<bool
     Ok(true)
 }
 
-// The report that a value is.
+// The totals of a value.
+#[tactic(auto, unfolding(crate::specs::Members::total_in))]
+fn total_in(value: &Value) -> Option<Tally>
+    ensures { result ≡ spec.total_in (view value.now) }
+{
+    let total = value.get("total")?;
+    let pairs = count_in(total, "pairs")?;
+    let justified = count_in(total, "justified")?;
+    let refuted = count_in(total, "refuted")?;
+    let undecided = count_in(total, "undecided")?;
+    Some(Tally {
+        pairs,
+        justified,
+        refuted,
+        undecided,
+    })
+}
+
+// The rows of a value.
 #[tactic(auto, unfolding(crate::specs::Members::report_in))]
 fn report_in(alloc: Global, value: &Value) -> Result<Option<Report>, AllocError>
     ensures { IfOk result (λ report. report ≡ spec.report_in (view value.now)) }
@@ -97,6 +116,20 @@ fn report_in(alloc: Global, value: &Value) -> Result<Option<Report>, AllocError>
     Ok(Some(found))
 }
 
+// What a value says: its rows, and its totals.
+#[tactic(auto, unfolding(crate::specs::Members::totalled_in))]
+fn totalled_in(alloc: Global, value: &Value) -> Result<Option<Totalled>, AllocError>
+    ensures { IfOk result (λ found. found ≡ spec.totalled_in (view value.now)) }
+{
+    let Some(report) = report_in(alloc, value)? else {
+        return Ok(None);
+    };
+    match total_in(value) {
+        Some(total) => Ok(Some(Totalled { report, total })),
+        None => Ok(None),
+    }
+}
+
 /// The value that a JSON text stands for; `Json` where it is none.
 pub(crate) fn value_of(alloc: Global, text: &[u8]) -> Result<Value, ReportFault>
     ensures ok { IfOk result (λ value. IsValueOf text.now (view value)) }
@@ -111,11 +144,11 @@ pub(crate) fn value_of(alloc: Global, text: &[u8]) -> Result<Value, ReportFault>
     }
 }
 
-/// The report that a JSON text is.
-pub(crate) fn read_json(alloc: Global, text: &[u8]) -> Result<Report, ReportFault>
+/// What a JSON text says.
+pub(crate) fn read_json(alloc: Global, text: &[u8]) -> Result<Totalled, ReportFault>
     ensures ok { IfOk result (IsJsonReport text.now) }
     ensures err { IfErr result (IsJsonFault text.now) }
 {
     let value = value_of(alloc, text)?;
-    report_in(alloc, &value)?.ok_or(ReportFault::Json)
+    totalled_in(alloc, &value)?.ok_or(ReportFault::Json)
 }

@@ -1,9 +1,9 @@
 //! A report by lines.
-ghost use Rattle.std.specs.Prelude.{◌≡◌, IfOk, IfErr, Ok, Err, map};
+ghost use Rattle.std.specs.Prelude.{◌≡◌, ◌+◌, ◌<◌, ◌^◌, IfOk, IfErr, Ok, Err, map};
 ghost use Rattle.report_rows.specs.Words.{texts, when};
 ghost use Rattle.report_rows.specs.Words as cut;
 ghost use Rattle.report_rows.specs.Lines as spec;
-ghost use Rattle.report_rows.specs.LineReports.{is_end, with_lines, of_lines, IsLineFault};
+ghost use Rattle.report_rows.specs.LineReports.{is_end, with_total, with_lines, of_lines, IsLineFault};
 
 use crate::cuts::{is_word, number_at, pieces, rest_from, words};
 use crate::faults::ReportFault;
@@ -11,6 +11,7 @@ use crate::heads::head_of;
 use crate::pair_lines::add_pair_line;
 use crate::reports::Report;
 use crate::script_lines::{add_command, add_warning};
+use crate::totals::{Tally, Totalled};
 use std::alloc::{AllocError, Global};
 
 fn is_stimulus(words: &[&[u8]]) -> bool
@@ -38,28 +39,40 @@ fn add_line(alloc: Global, found: &mut Report, words: &[&[u8]]) -> Result<bool, 
     }
 }
 
+fn begins_total(words: &[&[u8]]) -> bool
+    ensures { result ≡ spec.begins_total (texts words.now) }
+{
+    is_word(words, 0, b"total")
+}
+
 fn has_totals(words: &[&[u8]]) -> bool
     ensures { result ≡ spec.has_totals (texts words.now) }
 {
-    is_word(words, 0, b"total")
+    begins_total(words)
         && is_word(words, 2, b"justified")
         && is_word(words, 4, b"refuted")
         && is_word(words, 6, b"undecided")
         && words.len() == 8
 }
 
-// Whether the words are those of the totals, where as many pairs have a row.
-#[tactic(auto, unfolding(crate::specs::Lines::is_total))]
-fn is_total(found: &Report, words: &[&[u8]]) -> bool
-    ensures { result ≡ spec.is_total found.now (texts words.now) }
+// The totals of the last line.
+#[tactic(auto, unfolding(crate::specs::Lines::total_of))]
+fn total_of(words: &[&[u8]]) -> Option<Tally>
+    ensures { result ≡ spec.total_of (texts words.now) }
 {
     if !has_totals(words) {
-        return false;
+        return None;
     }
-    match number_at(words, 1) {
-        Some(count) => count == found.pairs.len() as u64,
-        None => false,
-    }
+    let pairs = number_at(words, 1)?;
+    let justified = number_at(words, 3)?;
+    let refuted = number_at(words, 5)?;
+    let undecided = number_at(words, 7)?;
+    Some(Tally {
+        pairs,
+        justified,
+        refuted,
+        undecided,
+    })
 }
 
 // Whether no text is left.
@@ -72,31 +85,52 @@ fn is_end(lines: &[&[u8]]) -> bool
     }
 }
 
+// The rows with the totals that the line of this number gives, after which these lines come.
+fn with_total(
+    report: Report,
+    number: u64,
+    words: &[&[u8]],
+    others: &[&[u8]],
+) -> Result<Totalled, ReportFault>
+    requires { number + 1 < 2 ^ 64 }
+    ensures ok { IfOk result (λ found. with_total number report (texts words.now) (texts others.now) ≡ Ok found) }
+    ensures err { IfErr result (IsLineFault (with_total number report (texts words.now) (texts others.now))) }
+{
+    let Some(total) = total_of(words) else {
+        return Err(ReportFault::Line(number));
+    };
+    if is_end(others) {
+        Ok(Totalled { report, total })
+    } else {
+        Err(ReportFault::Line(number + 1))
+    }
+}
+
 // Adds what the lines from the second on say.
-fn add_lines(alloc: Global, mut found: Report, lines: &[&[u8]]) -> Result<Report, ReportFault>
-    ensures ok { IfOk result (λ report. with_lines 2 found (texts lines.now) ≡ Ok report) }
+fn add_lines(alloc: Global, mut found: Report, lines: &[&[u8]]) -> Result<Totalled, ReportFault>
+    ensures ok { IfOk result (λ all. with_lines 2 found (texts lines.now) ≡ Ok all) }
     ensures err { IfErr result (IsLineFault (with_lines 2 found (texts lines.now))) }
 {
     for place in 0..lines.len() {
+        let others = rest_from(lines, place + 1);
+        if others.is_empty() {
+            return Err(ReportFault::Ends);
+        }
         let words = words(alloc, lines[place])?;
-        if is_total(&found, &words) {
-            return if is_end(rest_from(lines, place + 1)) {
-                Ok(found)
-            } else {
-                Err(ReportFault::Line(place as u64 + 3))
-            };
+        if begins_total(&words) {
+            return with_total(found, place as u64 + 2, &words, others);
         }
         if !add_line(alloc, &mut found, &words)? {
             return Err(ReportFault::Line(place as u64 + 2));
         }
     }
-    Err(ReportFault::Line(lines.len() as u64 + 2))
+    Err(ReportFault::Ends)
 }
 
-/// The report that a text is by its lines.
+/// What a text says by its lines.
 #[tactic(auto, unfolding(crate::specs::LineReports::of_lines))]
-pub(crate) fn read_lines(alloc: Global, text: &[u8]) -> Result<Report, ReportFault>
-    ensures ok { IfOk result (λ report. of_lines (cut.pieces text.now) ≡ Ok report) }
+pub(crate) fn read_lines(alloc: Global, text: &[u8]) -> Result<Totalled, ReportFault>
+    ensures ok { IfOk result (λ found. of_lines (cut.pieces text.now) ≡ Ok found) }
     ensures err { IfErr result (IsLineFault (of_lines (cut.pieces text.now))) }
 {
     let lines = pieces(alloc, text)?;

@@ -1,5 +1,5 @@
 -- The run of a stimulus that was replayed.
-use Rattle.std.proofs.Common.{◌≡◌, ℕ, ◌<◌, List, length, sym, subst, arith}
+use Rattle.std.proofs.Common.{◌≡◌, ℕ, ◌+◌, ◌<◌, Bool, true, false, List, length, sym, subst, arith}
 use Rattle.std.proofs.lemmas.Option.{slice_get_within}
 use Rattle.net_model.specs.Cycles.{IsLinked, IsRun}
 use Rattle.net_model.specs.Judge.{IsViolatedAt}
@@ -12,7 +12,7 @@ use Rattle.net_sim.proofs.Running.{lawful_run}
 use Rattle.witness_replay.specs.Replays.{IsFirstViolation, IsReplay}
 use Rattle.witness_replay.specs.declared.outcomes.Replay.{Replay}
 use Rattle.witness_replay.specs.declared.outcomes.Replay.TheVariants.{Violated}
-use Rattle.run_views.specs.Violations.{IsFirstBad, IsShowable, IsViolation}
+use Rattle.run_views.specs.Violations.{judged_cycle, IsFirstBad, IsShowable, IsViolation}
 use Rattle.run_views.specs.declared.outcomes.Violation.{Violation}
 
 -- the run of a lawful stimulus, whose first violation was replayed
@@ -47,14 +47,20 @@ pub violation_of : (d : Design) (claim : Claim) (s : Stimulus) (v : Violation) �
 violation_of d claim s v is bad =
     record { lawful = is.lawful; is_run = is.is_run; stands = is.stands; first = is.first; judged = bad }
 
+-- the cycle whose capture is judged is in the run
+judged_in : (early : Bool) (toggle r cycle len : ℕ) → toggle + r < len → cycle ≡ judged_cycle early toggle r → cycle < len
+judged_in false toggle r cycle len low is = omega arith
+judged_in true toggle r cycle len low is = omega arith
+
 -- such a run can be shown
 pub showable : (d : Design) (claim : Claim) (s : Stimulus) (v : Violation) → IsReplayed d claim s v.run v.toggle
     → IsFirstBad d claim v.run v.toggle v.judged → IsShowable d v
-showable d claim s v is bad =
-    let v_at : IsViolatedAt d.reset_len d claim v.run v.toggle = is.first.0 in
+showable d claim s v is first =
+    let toggle = toggle_in d claim s v.run v.toggle is in
+    let within = slice_get_within v.run (v.toggle + first.r) first.bad.now first.bad.now_at in
     record {
       settled = is.is_run.linked.settled;
-      after = omega (arith, v_at.toggles.is_live);
-      from_toggle = bad.bad.from_toggle;
-      in_run = slice_get_within v.run v.judged bad.bad.now bad.bad.now_at;
+      after = toggle.0;
+      toggle_in = toggle.1;
+      judged_in = judged_in claim.early v.toggle first.r v.judged (length v.run) within first.cycle_is;
     }

@@ -1,7 +1,7 @@
 //! The run of a refutation.
 //!
 //! A stimulus stands for one run of a design. `violation` gives that run, its first toggle that violates the claim, and the
-//! first cycle after it whose capture is bad, in the words of `net_model` and `witness_replay`.
+//! first cycle whose capture is judged of it and bad, in the words of `net_model` and `witness_replay`.
 #![tactic(auto)]
 
 mod outcomes;

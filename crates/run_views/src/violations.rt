@@ -1,11 +1,12 @@
 //! The run that violates a claim, and where.
-ghost use Rattle.std.specs.Prelude.{◌≡◌, ◌<◌, ◌≤◌, IfOk, IfErr, IfSome, MatchOption, All, length};
+ghost use Rattle.std.specs.Prelude.{◌≡◌, ◌+◌, ◌^◌, ◌<◌, IfOk, IfErr, IfSome, MatchOption, All, length};
 ghost use Rattle.net_model.specs.Netlist.{IsSound};
 ghost use Rattle.net_model.specs.Fits.{Fits};
 ghost use Rattle.net_model.specs.Cycles.{IsSettled};
 ghost use Rattle.net_model.specs.Judge.{IsViolatedAt};
 ghost use Rattle.witness_replay.specs.Replays.{IsReplayCause};
 ghost use Rattle.witness_replay.specs.Rooms.{AreRoomsFor};
+ghost use Rattle.run_views.specs.Violations as spec;
 ghost use Rattle.run_views.specs.Violations.{IsFirstBad, IsShowable, IsViolation, NeverViolated};
 
 use crate::outcomes::Violation;
@@ -15,7 +16,20 @@ use sdcv_base::Seq;
 use std::alloc::Global;
 use witness_replay::{Replay, ReplayFault, Rooms, is_bad, replay};
 
-/// The first cycle whose capture is bad, from a toggle that violates the claim on.
+/// The cycle whose capture is judged as the one that is `r` cycles after a toggle.
+fn judged_cycle(claim: &Claim, toggle: usize, r: usize) -> usize
+    requires { toggle + r < 2 ^ 64 }
+    ensures { result ≡ spec.judged_cycle claim.now.early toggle r }
+{
+    let cycle = toggle + r;
+    if claim.early {
+        cycle.saturating_sub(1)
+    } else {
+        cycle
+    }
+}
+
+/// The first cycle whose capture is bad, of a toggle that violates the claim.
 fn first_bad(
     design: &Design,
     claim: &Claim,
@@ -37,14 +51,14 @@ fn first_bad(
         let before = run.item(toggle + r - 1);
         let cycle = run.item(toggle + r);
         if is_bad(design, claim, stale, before, cycle, rooms) {
-            return Some(toggle + r);
+            return Some(judged_cycle(claim, toggle, r));
         }
     }
     None
 }
 
-/// The one run of a stimulus, its first toggle that violates the claim, and the first cycle whose capture is bad from there
-/// on; `None` where the run violates the claim at no toggle.
+/// The one run of a stimulus, its first toggle that violates the claim, and the first cycle whose capture is judged of that
+/// toggle and bad; `None` where the run violates the claim at no toggle.
 ///
 /// `Shape` where the stimulus's numbers of bits are not the design's, `NotReset` with the first cycle in which a reset or
 /// fixed input has another value.

@@ -40,10 +40,10 @@ IsTernaryIf false d claim c value = value ≡ None
 IsTernaryIf true d claim c None = ⊥
 IsTernaryIf true d claim c (Some value) = IsTernaryCapture d claim c value
 
--- what is late in a cycle, given the cycle before the start changed: the start's bit then, which is the stale bit, the late
--- capture with it, the ternary capture, and a path if one is told
-pub record IsLateIn (l : Linked) (claim : Claim) (old now : Cycle) (t : Late) : Type 0 where
-  pub stale_is : t.stale ≡ start_bit claim.start old
-  pub is_late : IsLateCapture l.design claim now t.stale t.captured
+-- what is late in a cycle, given one across the start's change: the start's bit there, the late capture with it, the ternary
+-- capture, and a path if one is told
+pub record IsLateIn (l : Linked) (claim : Claim) (across now : Cycle) (t : Late) : Type 0 where
+  pub other_is : t.other ≡ start_bit claim.start across
+  pub is_late : IsLateCapture l.design claim now t.other t.captured
   pub is_ternary : IsTernaryIf claim.hazard l.design claim now t.ternary
-  pub is_path : IfSome t.path (IsNamedPath l claim now t.stale)
+  pub is_path : IfSome t.path (IsNamedPath l claim now t.other)

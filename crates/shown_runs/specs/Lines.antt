@@ -48,14 +48,21 @@ state_lines regs = if list_any is_set regs then flat_map set_lines regs else all
 unfoldable pub capture_text : ℕ → Bool → List ℕ
 capture_text cycle bit = codes "capture of cycle " ⁀ decimal cycle ⁀ codes ": " ⁀ bit_text bit
 
--- the captures of the judged cycle and of the one before it
-unfoldable pub settled_lines : ShownRun → List (List ℕ)
-settled_lines s =
-    capture_text (s.judged - 1) (bit_at s.captured (s.judged - 1)) ∷ (capture_text s.judged (bit_at s.captured s.judged) ∷ [])
+abbrev pub capture_line : ShownRun → ℕ → List (List ℕ)
+capture_line s cycle = capture_text cycle (bit_at s.captured cycle) ∷ []
 
-unfoldable pub late_text : ℕ → Late → List ℕ
-late_text cycle t =
-    codes "capture of cycle " ⁀ decimal cycle ⁀ codes " with the old value " ⁀ bit_text t.stale ⁀ codes " of the start: " ⁀ bit_text t.captured
+-- the captures of the cycle before the judged one, which says nothing of the early side, and of the judged one
+unfoldable pub settled_lines : ShownRun → List (List ℕ)
+settled_lines s = (if s.early then [] else capture_line s (s.judged - 1)) ++ capture_line s s.judged
+
+-- which value of the start is tried: the one before its change, or on the early side the one after it
+abbrev pub side_text : Bool → List ℕ
+side_text early = if early then codes "new" else codes "old"
+
+unfoldable pub late_text : Bool → ℕ → Late → List ℕ
+late_text early cycle t =
+    codes "capture of cycle " ⁀ decimal cycle ⁀ codes " with the " ⁀ side_text early ⁀ codes " value " ⁀ bit_text t.other ⁀ codes " of the start: "
+    ⁀ bit_text t.captured
 
 -- a bit as a digit, and `?` where it is unknown
 abbrev pub tern_text : Tern → List ℕ
@@ -78,9 +85,9 @@ unfoldable pub path_text : Option (List (List ℕ)) → List ℕ
 path_text None = codes "path none"
 path_text (Some names) = codes "path" ⁀ flat_map step_text names
 
--- what is captured with the start's old value, and while it settles; and a path that carries the change
-unfoldable pub late_lines : ℕ → Late → List (List ℕ)
-late_lines cycle t = late_text cycle t ∷ (ternary_lines cycle t.ternary ++ path_text t.path ∷ [])
+-- what is captured with the start's other value, and while it settles; and a path that carries that value
+unfoldable pub late_lines : Bool → ℕ → Late → List (List ℕ)
+late_lines early cycle t = late_text early cycle t ∷ (ternary_lines cycle t.ternary ++ path_text t.path ∷ [])
 
 abbrev pub capture_lines : ShownRun → List (List ℕ)
-capture_lines s = settled_lines s ++ late_lines s.judged s.late
+capture_lines s = settled_lines s ++ late_lines s.early s.judged s.late

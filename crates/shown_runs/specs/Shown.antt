@@ -1,5 +1,5 @@
 -- What is shown of a run that violates a claim.
-use Rattle.std.specs.Prelude.{◌≡◌, ◌-◌, Bool, List, length, flat_map, Option, Some, None, slice_get, IsPermutation}
+use Rattle.std.specs.Prelude.{◌≡◌, ℕ, ◌-◌, Bool, true, false, List, length, flat_map, Option, Some, None, slice_get, IsPermutation}
 use Rattle.net_model.specs.declared.netlist.Design.{Design}
 use Rattle.net_model.specs.declared.cycles.Cycle.{Cycle}
 use Rattle.net_model.specs.declared.claims.Claim.{Claim}
@@ -13,6 +13,7 @@ use Rattle.run_views.specs.declared.outcomes.Violation.{Violation}
 use Rattle.shown_runs.specs.Watches.{watched_bits}
 use Rattle.shown_runs.specs.Lates.{IsLateIn}
 use Rattle.shown_runs.specs.declared.watches.Watched.TheVariants.{Start, State, Capture}
+use Rattle.shown_runs.specs.declared.lates.Late.{Late}
 use Rattle.shown_runs.specs.declared.runs.ShownRun.{ShownRun}
 
 -- the states of an end that is a register, and none of an output
@@ -20,18 +21,24 @@ abbrev pub AreEndStates : Design → List Cycle → End → Option (List Bool) �
 AreEndStates d run (RegEnd r) states = states ≡ Some (watched_bits d (State r) run)
 AreEndStates d run (OutputEnd o) states = states ≡ None
 
--- the cycle before the toggle, and the judged cycle, with what is late in it
-pub record IsLateShown (l : Linked) (claim : Claim) (v : Violation) (s : ShownRun) : Type 0 where
-  pub old : Cycle
-  pub now : Cycle
-  pub old_at : slice_get v.run (v.toggle - 1) ≡ Some old
-  pub now_at : slice_get v.run v.judged ≡ Some now
-  pub is_late : IsLateIn l claim old now s.late
+-- the cycle whose bit of the start the judged one is tried with: the cycle before the toggle, or on the early side the toggle's
+abbrev pub cycle_across : Bool → ℕ → ℕ
+cycle_across false toggle = toggle - 1
+cycle_across true toggle = toggle
 
--- all that is shown is what the run has: its cycles, the toggle and the judged cycle; the inputs in port order; the bits of the
+-- that cycle, and the judged one with what is late in it
+pub record IsLateShown (l : Linked) (claim : Claim) (v : Violation) (t : Late) : Type 0 where
+  pub across : Cycle
+  pub now : Cycle
+  pub across_at : slice_get v.run (cycle_across claim.early v.toggle) ≡ Some across
+  pub now_at : slice_get v.run v.judged ≡ Some now
+  pub is_late : IsLateIn l claim across now t
+
+-- all that is shown is what the run has: its cycles, the side, the toggle and the judged cycle; the inputs in port order; the bits of the
 -- start, of the end and of the captures; each register once; and what is late
 pub record IsShown (l : Linked) (claim : Claim) (v : Violation) (s : ShownRun) : Type 0 where
   pub count : s.cycles ≡ length v.run
+  pub side_is : s.early ≡ claim.early
   pub toggle_is : s.toggle ≡ v.toggle
   pub judged_is : s.judged ≡ v.judged
   pub ins : flat_map bits_of s.inputs ≡ input_bits (input_names l.names) v.run
@@ -39,4 +46,4 @@ pub record IsShown (l : Linked) (claim : Claim) (v : Violation) (s : ShownRun) :
   pub ends : AreEndStates l.design v.run claim.end s.end
   pub captures : s.captured ≡ watched_bits l.design (Capture claim.end) v.run
   pub registers : IsPermutation (reg_bits l.names.cells v.run) (flat_map bits_of s.regs)
-  pub lates : IsLateShown l claim v s
+  pub lates : IsLateShown l claim v s.late

@@ -24,14 +24,22 @@ fn capture_text(alloc: Global, cycle: usize, bit: bool) -> Result<String, AllocE
     format!(in alloc; "capture of cycle {cycle}: {bit}")
 }
 
-#[tactic(auto, unfolding(crate::specs::Lines::late_text))]
-fn late_text(alloc: Global, cycle: usize, late: &Late) -> Result<String, AllocError>
-    ensures { IfOk result (λ text. string_bytes text ≡ spec.late_text cycle late.now) }
+/// Which value of the start is tried: the one before its change, or on the early side the one after it.
+fn side_text(early: bool) -> &'static str
+    ensures { result.now ≡ spec.side_text early }
 {
-    let stale = bit_text(late.stale);
+    if early { "new" } else { "old" }
+}
+
+#[tactic(auto, unfolding(crate::specs::Lines::late_text))]
+fn late_text(alloc: Global, early: bool, cycle: usize, late: &Late) -> Result<String, AllocError>
+    ensures { IfOk result (λ text. string_bytes text ≡ spec.late_text early cycle late.now) }
+{
+    let side = side_text(early);
+    let other = bit_text(late.other);
     let captured = bit_text(late.captured);
     format!(in alloc;
-        "capture of cycle {cycle} with the old value {stale} of the start: {captured}"
+        "capture of cycle {cycle} with the {side} value {other} of the start: {captured}"
     )
 }
 
@@ -96,30 +104,42 @@ fn path_text(alloc: Global, path: &Option<Seq<Name>>) -> Result<Name, AllocError
     Ok(Name::from_vec(text))
 }
 
-/// Adds the captures of the judged cycle and of the one before it.
+/// Adds the capture of a cycle.
+fn add_capture(
+    alloc: Global,
+    shown: &ShownRun,
+    cycle: usize,
+    lines: &mut Seq<Name>,
+) -> Result<(), AllocError>
+    ensures { OnOk result (lines.new ≡ lines.old ++ spec.capture_line shown.now cycle) }
+{
+    let bit = bit_at(&shown.captured, cycle);
+    add_text(lines, capture_text(alloc, cycle, bit)?)
+}
+
+/// Adds the captures of the cycle before the judged one, but not on the early side, and of the judged one.
 #[tactic(auto, unfolding(crate::specs::Lines::settled_lines))]
 fn add_settled(alloc: Global, shown: &ShownRun, lines: &mut Seq<Name>) -> Result<(), AllocError>
     ensures { OnOk result (lines.new ≡ lines.old ++ spec.settled_lines shown.now) }
 {
-    let judged = shown.judged;
-    let before = judged.saturating_sub(1);
-    let first = bit_at(&shown.captured, before);
-    add_text(lines, capture_text(alloc, before, first)?)?;
-    let second = bit_at(&shown.captured, judged);
-    add_text(lines, capture_text(alloc, judged, second)?)
+    if !shown.early {
+        add_capture(alloc, shown, shown.judged.saturating_sub(1), lines)?;
+    }
+    add_capture(alloc, shown, shown.judged, lines)
 }
 
 /// Adds what of the judged cycle is late.
 #[tactic(auto, unfolding(crate::specs::Lines::late_lines))]
 fn add_late(
     alloc: Global,
+    early: bool,
     cycle: usize,
     late: &Late,
     lines: &mut Seq<Name>,
 ) -> Result<(), AllocError>
-    ensures { OnOk result (lines.new ≡ lines.old ++ spec.late_lines cycle late.now) }
+    ensures { OnOk result (lines.new ≡ lines.old ++ spec.late_lines early cycle late.now) }
 {
-    add_text(lines, late_text(alloc, cycle, late)?)?;
+    add_text(lines, late_text(alloc, early, cycle, late)?)?;
     add_ternary(alloc, cycle, late.ternary, lines)?;
     lines.push(path_text(alloc, &late.path)?)?;
     Ok(())
@@ -134,5 +154,5 @@ pub(crate) fn add_captures(
     ensures { OnOk result (lines.new ≡ lines.old ++ spec.capture_lines shown.now) }
 {
     add_settled(alloc, shown, lines)?;
-    add_late(alloc, shown.judged, &shown.late, lines)
+    add_late(alloc, shown.early, shown.judged, &shown.late, lines)
 }

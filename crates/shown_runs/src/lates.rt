@@ -14,11 +14,11 @@ use sdcv_base::{Name, Seq};
 use std::alloc::{AllocError, Global};
 use ternary_sim::{Layers3, capture3};
 
-/// The start's bit before it changed, and what the end captures where the start still has it; where hazards count, what the
-/// end captures while the start settles; and the nets of a path that carries the change, where one is told.
+/// The start's bit on the other side of its change, and what the end captures where the start has that one; where hazards
+/// count, what the end captures while the start settles; and the nets of a path that carries that bit, where one is told.
 #[derive(Drop)]
 pub struct Late {
-    pub stale: bool,
+    pub other: bool,
     pub captured: bool,
     pub ternary: Option<Tern>,
     pub path: Option<Seq<Name>>,
@@ -59,26 +59,26 @@ fn ternary_capture(
     Ok(Some(capture3(design, claim, cycle, &mut layers)))
 }
 
-/// What is late in a settled cycle, given the cycle before the start changed.
+/// What is late in a settled cycle, given a cycle with the start's bit on the other side of its change.
 pub(crate) fn late_of(
     alloc: Global,
     linked: &Linked,
     claim: &Claim,
-    old: &Cycle,
+    across: &Cycle,
     cycle: &Cycle,
 ) -> Result<Late, AllocError>
     requires sound { IsSound linked.now.design }
     requires fits { Fits linked.now.design claim.now }
-    requires old { IsSettled linked.now.design old.now }
+    requires across { IsSettled linked.now.design across.now }
     requires settled { IsSettled linked.now.design cycle.now }
-    ensures { IfOk result (IsLateIn linked.now claim.now old.now cycle.now) }
+    ensures { IfOk result (IsLateIn linked.now claim.now across.now cycle.now) }
 {
     let design = &linked.design;
-    let stale = old.start_bit(design, &claim.start);
+    let other = across.start_bit(design, &claim.start);
     Ok(Late {
-        stale,
-        captured: late_capture(alloc, design, claim, cycle, stale)?,
+        other,
+        captured: late_capture(alloc, design, claim, cycle, other)?,
         ternary: ternary_capture(alloc, design, claim, cycle)?,
-        path: named_path(alloc, linked, claim, cycle, stale)?,
+        path: named_path(alloc, linked, claim, cycle, other)?,
     })
 }

@@ -1,9 +1,10 @@
 //! The values of a run that is shown.
-ghost use Rattle.std.specs.Prelude.{IfOk, All};
+ghost use Rattle.std.specs.Prelude.{◌≡◌, IfOk, All};
 ghost use Rattle.net_model.specs.Netlist.{IsSound};
 ghost use Rattle.net_model.specs.Fits.{Fits};
 ghost use Rattle.net_model.specs.Cycles.{IsSettled};
 ghost use Rattle.run_views.specs.Violations.{IsShowable};
+ghost use Rattle.shown_runs.specs.Shown as spec;
 ghost use Rattle.shown_runs.specs.Shown.{IsShown, AreEndStates};
 
 use crate::lates::{Late, late_of};
@@ -16,11 +17,12 @@ use sdcv_base::Seq;
 use std::alloc::{AllocError, Global};
 use wave_signals::Signal;
 
-/// What is shown of a run: how many cycles it has, the cycle of the toggle and the judged one; the inputs, the start, the end
+/// What is shown of a run: how many cycles it has, the side of its claim, the cycle of the toggle and the judged one; the inputs, the start, the end
 /// where that is a register, and the end's captures, each with its bits by cycles; the registers; and what is late.
 #[derive(Drop)]
 pub struct ShownRun {
     pub cycles: usize,
+    pub early: bool,
     pub toggle: usize,
     pub judged: usize,
     pub inputs: Seq<Signal>,
@@ -48,6 +50,36 @@ fn end_states(
     }
 }
 
+/// The cycle whose bit of the start the judged one is tried with.
+fn cycle_across(early: bool, toggle: usize) -> usize
+    ensures { result ≡ spec.cycle_across early toggle }
+{
+    if early {
+        toggle
+    } else {
+        toggle.saturating_sub(1)
+    }
+}
+
+/// What is late in the judged cycle of a run that violates a claim.
+fn late_shown(
+    alloc: Global,
+    linked: &Linked,
+    claim: &Claim,
+    violation: &Violation,
+) -> Result<Late, AllocError>
+    requires sound { IsSound linked.now.design }
+    requires fits { Fits linked.now.design claim.now }
+    requires showable { IsShowable linked.now.design violation.now }
+    ensures { IfOk result (spec.IsLateShown linked.now claim.now violation.now) }
+{
+    let across = violation
+        .run
+        .item(cycle_across(claim.early, violation.toggle));
+    let judged = violation.run.item(violation.judged);
+    late_of(alloc, linked, claim, across, judged)
+}
+
 /// What is shown of a run that violates a claim.
 pub(crate) fn shown_run(
     alloc: Global,
@@ -64,10 +96,9 @@ pub(crate) fn shown_run(
     let run = violation.run.as_slice();
     let inputs = input_signals(alloc, linked, run)?;
     let regs = reg_signals(alloc, linked, run)?;
-    let old = violation.run.item(violation.toggle - 1);
-    let now = violation.run.item(violation.judged);
     Ok(ShownRun {
         cycles: run.len(),
+        early: claim.early,
         toggle: violation.toggle,
         judged: violation.judged,
         inputs: Seq::from_vec(inputs),
@@ -75,6 +106,6 @@ pub(crate) fn shown_run(
         end: end_states(alloc, design, run, &claim.end)?,
         captured: watched_bits(alloc, design, run, Watched::Capture(claim.end))?,
         regs: Seq::from_vec(regs),
-        late: late_of(alloc, linked, claim, old, now)?,
+        late: late_shown(alloc, linked, claim, violation)?,
     })
 }

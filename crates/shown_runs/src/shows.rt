@@ -61,7 +61,8 @@ fn lines_of(alloc: Global, heading: &Heading, shown: &ShownRun) -> Result<Seq<Na
 /// The text of a run that violates the claim of a pair: the pair, where its start changes and which capture is judged; by
 /// cycles the inputs, the start, the end where it is a register, and the captures; the registers that are not 0 at first; the
 /// captures of the judged cycle and of the one before it, what would be captured with the start's old value, and where hazards
-/// count while the start settles; and a path that carries the change, where one is told.
+/// count while the start settles; and a path that carries that value, where one is told. Of a claim of the early side the start's
+/// new value is tried, and the cycle before the judged one says nothing.
 pub fn show(
     alloc: Global,
     heading: &Heading,

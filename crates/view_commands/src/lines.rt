@@ -4,6 +4,10 @@ use report_rows::ReportFault;
 use std::alloc::{AllocError, Global};
 use witness_replay::{ReplayFault, StimFault};
 
+fn pairs_word(count: u64) -> &'static str {
+    if count == 1 { "pair" } else { "pairs" }
+}
+
 /// The line of a text that is no report. `name` is that of its file.
 pub(crate) fn report_line(
     alloc: Global,
@@ -14,7 +18,13 @@ pub(crate) fn report_line(
         ReportFault::Line(line) => {
             format!(in alloc; "{name}: line {line} is no line of a report")
         }
+        ReportFault::Ends => format!(in alloc; "{name} ends before its total"),
         ReportFault::Json => format!(in alloc; "{name}: it is no JSON of a report"),
+        ReportFault::Pairs(command, count, says) => {
+            let pairs = pairs_word(count);
+            format!(in alloc; "{name}: command {command} has {count} {pairs}, it says {says}")
+        }
+        ReportFault::Total => format!(in alloc; "{name}: its total is not that of its pairs"),
         ReportFault::Memory => Err(AllocError),
     }
 }

@@ -66,9 +66,7 @@ fn check_refuted(alloc: Global, words: &PairWords<'_>, row: &PairRow) -> Result<
 
 // What the first line asks for beside what can be shown here, where it asks for any of it.
 fn unknown_word(head: &Head) -> Option<&'static str> {
-    if head.hold {
-        Some("hold")
-    } else if head.asked.free.is_some() {
+    if head.asked.free.is_some() {
         Some("free")
     } else if head.asked.assumed.is_some() {
         Some("assumed")
@@ -98,7 +96,7 @@ fn judging_of(alloc: Global, name: &str, head: &Head) -> Result<Judging, Stop>
         return Ok(Judging {
             hazard: head.hazard,
             lag: head.lag as u8,
-            hold: false,
+            hold: head.hold,
             strict: false,
         });
     }

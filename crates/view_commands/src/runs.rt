@@ -44,7 +44,7 @@ fn said_of(alloc: Global, row: &PairRow) -> Result<String, AllocError> {
 
 // What is claimed of a pair here, in the words of a report.
 fn claimed_of(alloc: Global, claim: &Claim, line: &PairLine) -> Result<String, AllocError> {
-    let kind = claim_text(alloc, claim.kind, claim.edge)?;
+    let kind = claim_text(alloc, claim)?;
     let PairLine { start, end, .. } = line;
     format!(in alloc; "{kind} {start} -> {end}")
 }

@@ -8,12 +8,11 @@ loop-r-preserved c =
     let d = c.args.design.now in
     let claim = c.args.claim.now in
     let run = c.args.run.now in
-    let at = c.args.toggle + c.loop-r.r in
     record {
       rooms = c.is_bad.ensures.rooms;
       none = none_more d claim run c.args.toggle c.loop-r.r c.loop-r.invariant.none
-          (not_bad d claim run c.args.toggle at c.is_bad.result
-          (tested d claim run c.args.toggle at c.is_bad.result c.start_bit-stale.result c.item.result.now c.item-before.result.now
+          (not_bad d claim run c.args.toggle c.loop-r.r c.is_bad.result
+          (tested d claim run c.args.toggle c.loop-r.r c.is_bad.result c.start_bit-stale.result c.item.result.now c.item-before.result.now
           c.item-cycle.result.now c.item.ensures c.item-before.ensures c.item-cycle.ensures c.start_bit-stale.ensures c.is_bad.ensures.means)
           c.if-is_bad.false);
     }
