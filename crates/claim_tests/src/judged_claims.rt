@@ -5,7 +5,7 @@ use crate::wants::Said::{Fixed, Justified, Refuted, Single, Spends, Stays};
 use crate::wants::Want::Says;
 use net_model::Phase;
 use net_model::PinRef::Net;
-use net_samples::Ask::{From, Hazard, In, Multi, Out, To, Via};
+use net_samples::Ask::{Early, From, Hazard, In, Multi, Out, To, Via};
 use net_samples::{BOTH, CELL, GATES, PORTS, RESET, TWO};
 
 const MUCH: u64 = 20_000;
@@ -58,6 +58,10 @@ pub const VERDICTS: &[Row] = &[
     Row(GATES, &[&[]], Says(0, 8, MUCH, Justified(0))),
     Row(GATES, &[&[Hazard]], Says(0, 8, MUCH, Refuted(0, 2))),
     Row(CELL, &[&[Hazard]], Says(0, 8, MUCH, Justified(0))),
+    // A register that takes another one captures an early bit in the cycle before the toggle.
+    Row(RESET, &[&[Early]], Says(0, 8, MUCH, Refuted(0, 3))),
+    // A bit and its complement are never both 1, be they early or late.
+    Row(BOTH, &[&[Early]], Says(0, 8, MUCH, Justified(0))),
     // The late bit and the complement of the new one are both 1.
     Row(BOTH, &[&[]], Says(0, 8, MUCH, Justified(0))),
     Row(BOTH, &[&[Via(Net(1))]], Says(0, 8, MUCH, Refuted(0, 2))),

@@ -13,7 +13,7 @@ use net_model::Phase::{Base, Step};
 use net_model::PinRef::{GateIn as G, Net as N, OutPort as O, RegIn as R};
 use net_model::{Claim, Cycle, Design, InvClause, Phase, Stimulus};
 use net_samples::Ask::{
-    Either, Fails, Falls, From, Hazard, In, Keeps, Lag, Multi, Out, Rises, To, Via,
+    Early, Either, Fails, Falls, From, Hazard, In, Keeps, Lag, Multi, Out, Rises, To, Via,
 };
 use net_samples::{
     Ask, BOTH, CELL, CHAIN, CLEAR, Case, FLIPS, FORK, GATES, KEEPS, LOOP, Lits, PORTS, Part, RESET,
@@ -379,6 +379,23 @@ const EDGES: &[Row] = &[
     Row(CHAIN, &[In(0), Out(0), Multi(2), Falls], Base, 1, 4, 8),
 ];
 
+const EARLY: &[Row] = &[
+    Row(TWO, &[Early], Step, 1, 3, 8),
+    Row(RESET, &[Early, Falls], Base, 1, 4, 16),
+    Row(KEEPS, &[Early, Keeps(IMPLIED)], Step, 1, 3, 12),
+    Row(FORK, &[Early, Via(N(4))], Step, 0, 2, 16),
+    Row(GATES, &[Early, Hazard], Step, 0, 2, 16),
+    Row(CHAIN, &[In(0), Out(0), Early], Base, 1, 4, 16),
+    Row(
+        CHAIN,
+        &[Early, Hazard, Either(N(4), G(1, 0))],
+        Step,
+        1,
+        3,
+        8,
+    ),
+];
+
 fn check_rows(rt: &impl Abort, alloc: Global, rows: &[Row]) -> Result<(), AllocError> {
     for (place, row) in rows.iter().enumerate() {
         let found = count_row(rt, alloc, row)?;
@@ -405,6 +422,11 @@ fn models_are_the_answers_where_hazards_count(rt: HostRuntime) -> Result<(), All
 #[test]
 fn models_are_the_answers_of_edges_and_lags(rt: HostRuntime) -> Result<(), AllocError> {
     check_rows(&rt, rt.alloc(), EDGES)
+}
+
+#[test]
+fn models_are_the_answers_of_early_claims(rt: HostRuntime) -> Result<(), AllocError> {
+    check_rows(&rt, rt.alloc(), EARLY)
 }
 
 fn push_keys(text: &mut String, problem: &Problem) -> Result<(), AllocError> {

@@ -20,6 +20,8 @@ pub enum Ask {
     Falls,
     /// Judged over so many cycles of lag.
     Lag(u8),
+    /// On its early side.
+    Early,
     Hazard,
     /// Through this pin.
     Via(PinRef),
@@ -60,6 +62,7 @@ fn add_ask(alloc: Global, case: &mut Case, ask: &Ask) -> Result<(), AllocError> 
         Ask::Rises => claim.edge = Edge::Rise,
         Ask::Falls => claim.edge = Edge::Fall,
         Ask::Lag(cycles) => claim.lag = cycles,
+        Ask::Early => claim.early = true,
         Ask::Hazard => claim.hazard = true,
         Ask::Via(pin) => claim.through.push(PinSet::of(alloc, &[pin])?)?,
         Ask::Either(first, second) => claim.through.push(PinSet::of(alloc, &[first, second])?)?,

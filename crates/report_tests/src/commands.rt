@@ -30,8 +30,9 @@ fn options_text(alloc: Global, options: &Options) -> Result<String, AllocError> 
     };
     let resets = resets_text(alloc, &options.reset.ports)?;
     let lag = options.judging.lag;
+    let hold = if options.judging.hold { " hold" } else { "" };
     let cycles = options.reset.len;
-    format!(in alloc; "{mode} lag {lag}{resets} cycles {cycles}")
+    format!(in alloc; "{mode} lag {lag}{hold}{resets} cycles {cycles}")
 }
 
 fn job_text(alloc: Global, job: &Job<'_>) -> Result<String, AllocError> {
@@ -160,6 +161,26 @@ const BY_PLACE: &[(&str, &str)] = &[
         "<v> <l> <s> plain lag 0 cycles 2 verify <c> json false depth 0 budget 1 inv 0 assist <->",
     ),
     (
+        "verify|v|l|s|--hold|--hazard|--out|c",
+        "<v> <l> <s> hazard lag 0 hold cycles 0 verify <c> json false depth 8 budget 20000 inv 1 assist <->",
+    ),
+    (
+        "check|v|l|s|c|--hold|--lag|2",
+        "<v> <l> <s> plain lag 2 hold cycles 0 check <c>",
+    ),
+    (
+        "replay|v|l|s|r|1|--hold",
+        "<v> <l> <s> plain lag 0 hold cycles 0 replay <r> pair 1",
+    ),
+    (
+        "mend|v|l|s|--out|m|--hold",
+        "<v> <l> <s> plain lag 0 hold cycles 0 mend <m> depth 8 budget 20000 inv 1 assist <->",
+    ),
+    (
+        "aiger|v|l|s|2|--hold|--out|a",
+        "<v> <l> <s> plain lag 0 hold cycles 0 aiger <a> pair 2",
+    ),
+    (
         "check|v|l|s|c|--reset|a=b=1|--lag|02|--hazard",
         "<v> <l> <s> hazard lag 2 a=b=true cycles 1 check <c>",
     ),
@@ -253,6 +274,10 @@ const BY_CLAP: &[(&str, &str)] = &[
         "<v> <l> <s> plain lag 0 cycles 0 mend <m> depth 8 budget 20000 inv 1 assist <h>",
     ),
     (
+        "replay|--hold|v|l|s|r|2",
+        "<v> <l> <s> plain lag 0 hold cycles 0 replay <r> pair 2",
+    ),
+    (
         "aiger|--out=a|v|l|s|2|--lag=1",
         "<v> <l> <s> plain lag 1 cycles 0 aiger <a> pair 2",
     ),
@@ -287,6 +312,9 @@ const NONE: &[(&str, &str)] = &[
     ("replay|v|l|s|r|1|--lag", "no value for a lag"),
     ("check|v|l|s|c|--lag|1|--lag|1", "a lag twice"),
     ("demo|7|20|--lag|1", "a lag of a generated design"),
+    ("demo|7|20|--hold", "the hold side of a generated design"),
+    ("check|v|l|s|c|--hold|--hold", "the hold side twice"),
+    ("check|v|l|s|c|--hold=true", "the hold side with a value"),
     ("verify|v|l|s|--out|c|--depth|+1", "a sign"),
     ("verify|v|l|s|--out|c|--depth|", "a number without digits"),
     (

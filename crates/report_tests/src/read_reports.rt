@@ -1,6 +1,6 @@
 //! Reports read back, and texts that are none.
 use crate::read_cases::{NOTES, SAMPLER};
-use report_rows::ReportFault::{self, Json, Line};
+use report_rows::ReportFault::{self, Ends, Json, Line, Pairs, Total};
 use report_rows::{Said, Word, read_report};
 use std::alloc::{AllocError, Global};
 use std::process::Abort;
@@ -8,25 +8,61 @@ use std::test;
 
 const HEAD: &str = "sdcv 1 mode plain reset 1 depth 8 budget 20000 inv 1\n";
 
-// What follows the first line, and the line at which that is no report.
-const NONE: &[(&str, u64)] = &[
-    ("", 2),
-    ("\n", 2),
-    ("total 0 justified 0 refuted 0 undecided 0", 3),
-    ("total 0 justified 0 refuted 0 undecided 0\n\n", 3),
-    ("total 1 justified 1 refuted 0 undecided 0\n", 2),
-    ("total 0 justified 0 refuted 0 unde\n", 2),
-    ("command 1 line 1 false\n", 2),
-    ("command 1 line 1 false pairs 18446744073709551616\n", 2),
-    ("warning command 1 nothing x\n", 2),
-    ("command 1 line 1 hold\nwarning command 2 nothing x\n", 3),
-    ("pair 2 command 1 false a -> b justified fixed\n", 2),
-    ("pair 1 command 1 false a -> b justif\n", 2),
-    ("pair 1 command 1 false a -> b justified\n", 2),
-    ("pair 1 command 1 a -> b justified fixed\n", 2),
-    ("pair 1 command 1 false a -> b justified fixed\r\n", 2),
-    ("found a -> b multi 4\n", 2),
-    ("refused sdc 1 Syntax 12\n", 2),
+// What follows the first line, and why that is no report.
+const NONE: &[(&str, ReportFault)] = &[
+    ("", Ends),
+    ("\n", Line(2)),
+    ("total 0 justified 0 refuted 0 undecided 0", Ends),
+    ("total 0 justified 0 refuted 0 undecided 0\n\n", Line(3)),
+    ("total 0 justified 0 refuted 0 unde\n", Line(2)),
+    ("total 0 justified 0 refuted 0 undecided x\n", Line(2)),
+    ("command 1 line 1 false\n", Line(2)),
+    (
+        "command 1 line 1 false pairs 18446744073709551616\n",
+        Line(2),
+    ),
+    ("warning command 1 nothing x\n", Line(2)),
+    (
+        "command 1 line 1 hold\nwarning command 2 nothing x\n",
+        Line(3),
+    ),
+    ("pair 2 command 1 false a -> b justified fixed\n", Line(2)),
+    ("pair 1 command 1 false a -> b justif\n", Line(2)),
+    ("pair 1 command 1 false a -> b justified\n", Line(2)),
+    ("pair 1 command 1 a -> b justified fixed\n", Line(2)),
+    ("pair 1 command 1 false a -> b justified fixed\r\n", Line(2)),
+    ("pair 1 command 1 false a -> b justified fixed", Ends),
+    ("pair 1 command 1 false a -> b justified fixed\n", Ends),
+    ("found a -> b multi 4\n", Line(2)),
+    ("refused sdc 1 Syntax 12\n", Line(2)),
+];
+
+// Reports after their first line that have other numbers of pairs than they say.
+const MISCOUNTED: &[(&str, ReportFault)] = &[
+    ("total 1 justified 1 refuted 0 undecided 0\n", Total),
+    ("total 0 justified 1 refuted 0 undecided 0\n", Total),
+    (
+        "command 1 line 2 false pairs 9\ntotal 0 justified 0 refuted 0 undecided 0\n",
+        Pairs(1, 0, 9),
+    ),
+    // A start and an end with the name of the arrow: what is read is no pair of these totals.
+    (
+        "command 1 line 2 multi 2 pairs 1
+pair 1 command 1 multi 2 -> -> justified refuted offset 0
+total 1 justified 0 refuted 1 undecided 0
+",
+        Total,
+    ),
+    // The first of two exceptions.
+    (
+        "command 1 line 2 false pairs 0
+command 2 line 3 false hold pairs 0
+pair 1 command 1 false a -> b justified fixed
+pair 2 command 2 false hold a -> b justified fixed
+total 0 justified 0 refuted 0 undecided 0
+",
+        Pairs(1, 1, 0),
+    ),
 ];
 
 fn fault_after_head(alloc: Global, rest: &str) -> Result<Option<ReportFault>, AllocError> {
@@ -36,9 +72,20 @@ fn fault_after_head(alloc: Global, rest: &str) -> Result<Option<ReportFault>, Al
 
 #[test]
 fn the_first_line_that_is_none_of_a_report_is_told(rt: HostRuntime) -> Result<(), AllocError> {
-    for (rest, line) in NONE {
+    for (rest, want) in NONE {
         let fault = fault_after_head(rt.alloc(), rest)?;
-        assert_eq!(rt; fault, Some(Line(*line)), "{rest}");
+        assert_eq!(rt; fault, Some(*want), "{rest}");
+    }
+    Ok(())
+}
+
+#[test]
+fn a_report_with_other_numbers_of_pairs_than_it_says_is_refused(
+    rt: HostRuntime,
+) -> Result<(), AllocError> {
+    for (rest, want) in MISCOUNTED {
+        let fault = fault_after_head(rt.alloc(), rest)?;
+        assert_eq!(rt; fault, Some(*want), "{rest}");
     }
     Ok(())
 }
@@ -72,6 +119,22 @@ const NO_REPORTS: &[(&str, ReportFault)] = &[
     (
         r#"{"mode":"plain","reset":-1,"commands":[],"pairs":[]}"#,
         Json,
+    ),
+    (
+        r#"{"mode":"plain","reset":0,"commands":[],"pairs":[]}"#,
+        Json,
+    ),
+    (
+        r#"{"mode":"plain","reset":0,"commands":[],"pairs":[],"total":{"justified":0,"pairs":0,"refuted":0}}"#,
+        Json,
+    ),
+    (
+        r#"{"mode":"plain","reset":0,"commands":[],"pairs":[],"total":{"justified":0,"pairs":0,"refuted":0,"undecided":1}}"#,
+        Total,
+    ),
+    (
+        r#"{"mode":"plain","reset":0,"commands":[{"line":1,"number":7,"pairs":2,"warnings":[],"what":"false"}],"pairs":[],"total":{"justified":0,"pairs":0,"refuted":0,"undecided":0}}"#,
+        Pairs(7, 0, 2),
     ),
 ];
 

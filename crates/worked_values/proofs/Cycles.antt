@@ -12,7 +12,7 @@ use Rattle.net_model.specs.Cycles.{IsSettled, IsNext, IsRun, AreFixedKept, AreRe
 use Rattle.worked_values.specs.Designs.{flop, buffer, looped}
 
 -- a cycle in which the register is 1, the input 0, and net 2 this
-abbrev cycle : Bool → Cycle
+abbrev pub cycle : Bool → Cycle
 cycle net = record { bits = true ∷ []; ins = false ∷ []; nets = false ∷ true ∷ net ∷ [] }
 
 -- the input's net has the input's bit
@@ -40,7 +40,7 @@ buffer_is_settled zero g at =
 buffer_is_settled (suc k) g at = absurd cc
 
 -- so the cycle is settled
-cycle_with_the_buffered_bit_is_settled : IsSettled looped (cycle true)
+pub cycle_with_the_buffered_bit_is_settled : IsSettled looped (cycle true)
 cycle_with_the_buffered_bit_is_settled = record {
   shape = record { bits = refl; ins = refl; nets = refl };
   inputs = input_is_shown;

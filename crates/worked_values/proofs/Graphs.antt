@@ -1,10 +1,14 @@
 -- What an and-inverter graph with latches does (AIGER 1.9), and how the latches of a monitor begin.
-use Rattle.std.proofs.Common.{◌≡◌, ℕ, Bool, true, false, List, [], ◌∷◌, None, refl}
-use Rattle.std.specs.Prelude.{codes}
+use Rattle.std.proofs.Common.{◌≡◌, ℕ, zero, suc, ◌+◌, ◌<◌, Bool, true, false, List, [], ◌∷◌, None, Some, refl, ap, subst, arith}
+use Rattle.std.specs.Prelude.{codes, slice_get}
+use Rattle.std.proofs.lemmas.List.Elements.{All-nil, All-cons}
 use Rattle.std.specs.Fmt.{digits}
 use Rattle.net_model.specs.Form.{PinForm}
 use Rattle.sdcv_base.specs.declared.kinds.Kind.TheVariants.{False}
 use Rattle.sdcv_base.specs.declared.kinds.Edge.TheVariants.{Any}
+use Rattle.net_model.specs.Held.{free_below}
+use Rattle.net_model.specs.Cycles.{bit_at, IsSettled, IsNext, IsRun}
+use Rattle.net_model.specs.declared.cycles.Cycle.{Cycle}
 use Rattle.net_model.specs.declared.netlist.Design.{Design}
 use Rattle.net_model.specs.declared.netlist.Reg.{Reg}
 use Rattle.net_model.specs.declared.claims.Claim.{Claim}
@@ -16,7 +20,9 @@ use Rattle.and_graphs.specs.declared.aigs.Aig.{Aig}
 use Rattle.and_graphs.specs.Graphs.{literal_bit, bits_after, all_bits}
 use Rattle.and_graphs.specs.Runs.{first_bits, latches_at, bad_at}
 use Rattle.and_graphs.specs.Texts.{aiger_text, input_rows, rows_from}
-use Rattle.claim_monitor.specs.Watches.{Watches}
+use Rattle.claim_monitor.specs.Watches.{AreOfRun, Watches}
+use Rattle.worked_values.specs.Designs.{looped}
+use Rattle.worked_values.proofs.Cycles.{cycle, cycle_with_the_buffered_bit_is_settled}
 
 -- a latch that takes this literal next, and begins with any bit or with 0
 abbrev latch : ℕ → Bool → Latch
@@ -76,14 +82,78 @@ abbrev flop : Reg
 flop = record { next = PinForm 0; clear = None; preset = None; both = false; ins = 0 ∷ []; outs = (record { net = 0; inverted = false }) ∷ [] }
 
 -- that register alone, on net 0
-abbrev design : Design
+abbrev pub design : Design
 design = record { nets = 1; gates = []; regs = flop ∷ []; inputs = []; outputs = []; fixed = []; resets = []; reset_len = 0 }
 
 -- the register is its own start and end
 abbrev claim : Claim
 claim = record { kind = False; edge = Any; lag = 0; hazard = false; early = false; start = RegStart 0; end = RegEnd 0; through = [] }
 
+-- and so it is of the early side
+abbrev pub early_claim : Claim
+early_claim = record { kind = False; edge = Any; lag = 0; hazard = false; early = true; start = RegStart 0; end = RegEnd 0; through = [] }
+
 -- no graph watches it whose register begins at 0
 graph_whose_register_begins_at_0_watches_nothing : (rest : List Latch) (lines : List AndLine) (bad : ℕ)
     → ¬ Watches design claim (record { inputs = 0; latches = latch 2 false ∷ rest; lines = lines; bad = bad })
 graph_whose_register_begins_at_0_watches_nothing rest lines bad watches = let e = watches.latches in cc
+
+-- nor does one watch the early side of a false path that has no latch for the capture of the cycle before
+graph_without_its_latch_watches_no_early_side : (lines : List AndLine) (bad : ℕ)
+    → ¬ Watches design early_claim (record { inputs = 0; latches = latch 2 true ∷ latch 1 false ∷ latch 2 false ∷ []; lines = lines; bad = bad })
+graph_without_its_latch_watches_no_early_side lines bad watches = let e = watches.latches in cc
+
+-- in the worked design a register reads itself through a buffer: in two cycles it has its 1
+abbrev two : List Cycle
+two = cycle true ∷ cycle true ∷ []
+
+cycle_of_two : (t : ℕ) (c : Cycle) → slice_get two t ≡ Some c → cycle true ≡ c
+cycle_of_two zero c at = cc
+cycle_of_two (suc zero) c at = cc
+cycle_of_two (suc (suc t)) c at = absurd cc
+
+one_is_kept : IsNext looped (cycle true) (cycle true)
+one_is_kept zero low = refl
+one_is_kept (suc r) low = absurd (omega (arith, low))
+
+two_are_a_run : IsRun looped two
+two_are_a_run =
+    record {
+      linked =
+          record {
+            some = omega arith;
+            settled = All-cons (IsSettled looped) (cycle true) (cycle true ∷ []) cycle_with_the_buffered_bit_is_settled
+                (All-cons (IsSettled looped) (cycle true) [] cycle_with_the_buffered_bit_is_settled (All-nil (IsSettled looped)));
+            next = λ t before c at then.
+                subst (λ (x : Cycle). IsNext looped x c) (cycle_of_two t before at)
+                (subst (IsNext looped (cycle true)) (cycle_of_two (t + 1) c then) one_is_kept);
+            fixed = λ k c low f d below. absurd (omega (arith, below));
+          };
+      resets = λ t c at f d below. absurd (omega (arith, below));
+    }
+
+-- beside it the one input is 0 in each step
+abbrev zeros : ℕ → List Bool
+zeros t = false ∷ []
+
+zero_is_shown : (c : Cycle) → cycle true ≡ c → (i : ℕ) → i < 1 → bit_at (false ∷ []) (free_below looped i) ≡ bit_at c.ins i
+unfolding free_below
+zero_is_shown c same zero low = ap (λ (x : Cycle). bit_at x.ins 0) same
+zero_is_shown c same (suc i) low = absurd (omega (arith, low))
+
+zeros_are_of_two : AreOfRun looped two (true ∷ []) zeros
+unfolding free_below
+zeros_are_of_two =
+    record {
+      first = λ c at. ap (λ (x : Cycle). x.bits) (cycle_of_two 0 c at);
+      count = λ t. refl;
+      inputs = λ t c at.
+          record { each = λ i low free. zero_is_shown c (cycle_of_two t c at) i low };
+    }
+
+-- so no graph watches a claim of that design whose register takes 0
+graph_whose_register_takes_0_watches_nothing : (rest : List Latch) (bad : ℕ)
+    → ¬ Watches looped claim (record { inputs = 1; latches = latch 0 true ∷ rest; lines = []; bad = bad })
+unfolding latches_at first_bits bits_after
+graph_whose_register_takes_0_watches_nothing rest bad watches =
+    let e = watches.which two (true ∷ []) zeros 1 0 (cycle true) two_are_a_run zeros_are_of_two refl (omega arith) in cc

@@ -24,3 +24,4 @@ pub mod Formulas
 pub mod Attributes
 pub mod Names
 pub mod Detections
+pub mod EarlySides

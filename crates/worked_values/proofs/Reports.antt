@@ -1,15 +1,21 @@
 -- The texts of a report, of names that are written, and of signals.
-use Rattle.std.proofs.Common.{◌≡◌, true, false, [], ◌∷◌, refl}
+use Rattle.std.proofs.Common.{◌≡◌, Bool, true, false, [], ◌∷◌, refl}
 use Rattle.std.specs.Prelude.{codes}
 use Rattle.std.specs.Fmt.{digits}
 use Rattle.sdcv_base.specs.Shown.{shown}
+use Rattle.sdcv_base.specs.declared.kinds.Kind.{Kind}
 use Rattle.sdcv_base.specs.declared.kinds.Kind.TheVariants.{False, Multi}
-use Rattle.sdcv_base.specs.declared.kinds.Edge.TheVariants.{Any, Rise}
+use Rattle.sdcv_base.specs.declared.kinds.Edge.{Edge}
+use Rattle.sdcv_base.specs.declared.kinds.Edge.TheVariants.{Any, Rise, Fall}
+use Rattle.net_model.specs.declared.claims.Claim.{Claim}
+use Rattle.net_model.specs.declared.claims.Start.TheVariants.{Reg}
+use Rattle.net_model.specs.declared.claims.End.TheVariants.{Reg as RegEnd}
+use Rattle.selected_types.specs.declared.selections.Listing.TheVariants.{HoldSide}
 use Rattle.selected_types.specs.declared.warnings.Warning.TheVariants.{Nothing, Dropped}
 use Rattle.verdict_types.specs.declared.outcomes.Cause.TheVariants.{Depth as Stays, Cut}
 use Rattle.verdict_types.specs.declared.outcomes.Proof.TheVariants.{Single, Fixed}
-use Rattle.verdict_types.specs.declared.outcomes.Verdict.TheVariants.{Justified, Undecided}
-use Rattle.report_text.specs.Words.{mode_text, claim_text, lag_text, found_text, total_text, warning_line}
+use Rattle.verdict_types.specs.declared.outcomes.Verdict.TheVariants.{Justified, Refuted, Undecided}
+use Rattle.report_text.specs.Words.{mode_text, claim_text, what_text, lag_text, found_text, pair_text, total_text, warning_line}
 use Rattle.multicycle_text.specs.Lines.{Setup, Hold, line_text}
 use Rattle.multicycle_text.specs.Names.{is_writable}
 use Rattle.wave_signals.specs.declared.signals.Span.TheVariants.{Whole, Up, Down}
@@ -23,14 +29,37 @@ byte_that_is_not_printed_is_a_question_mark = refl
 hazard_mode_is_told : mode_text true ≡ codes "hazard"
 hazard_mode_is_told = refl
 
+-- a claim from a register to another
+abbrev from_a_to_b : Kind → Bool → Edge → Claim
+from_a_to_b kind early edge =
+    record { kind = kind; edge = edge; lag = 0; hazard = false; early = early; start = Reg 0; end = RegEnd 1; through = [] }
+
 -- a multicycle path of a rising start
-claim_tells_its_multiplier_and_edge : claim_text (Multi 3) Rise ≡ codes "multi 3 rise"
+claim_tells_its_multiplier_and_edge : claim_text (from_a_to_b (Multi 3) false Rise) ≡ codes "multi 3 rise"
 unfolding digits
 claim_tells_its_multiplier_and_edge = refl
 
 -- a false path of any edge
-false_path_of_any_edge_tells_no_edge : claim_text False Any ≡ codes "false"
+false_path_of_any_edge_tells_no_edge : claim_text (from_a_to_b False false Any) ≡ codes "false"
 false_path_of_any_edge_tells_no_edge = refl
+
+-- its hold side is told before the edge
+hold_side_is_told_before_the_edge : claim_text (from_a_to_b False true Fall) ≡ codes "false hold fall"
+hold_side_is_told_before_the_edge = refl
+
+-- and no word is said of the other side
+late_side_has_no_word_of_its_own : claim_text (from_a_to_b False false Fall) ≡ codes "false fall"
+late_side_has_no_word_of_its_own = refl
+
+-- an exception for hold sides does what its claims say
+exception_for_hold_sides_says_so : what_text (HoldSide Rise 4) ≡ claim_text (from_a_to_b False true Rise)
+exception_for_hold_sides_says_so = refl
+
+-- the line of a hold side that fails
+failing_hold_side_has_a_line : pair_text 8 8 (record { command = 2; start = codes "a"; end = codes "b" }) (from_a_to_b False true Rise)
+    (Refuted 3 (record { state = []; inputs = [] })) ≡ codes "pair 8 command 2 false hold rise a -> b refuted offset 3"
+unfolding digits
+failing_hold_side_has_a_line = refl
 
 -- a lag is told where there is one
 lag_of_two_is_told : lag_text 2 ≡ codes " lag 2"
