@@ -1,7 +1,7 @@
 #!/usr/bin/env python3
 """A second checker for the certificates of sdcv, in plain Python.
 
-    check_cert.py V S CERT [--reset LIST] [--reset-cycles N]
+    check_cert.py V S CERT [--hold] [--reset LIST] [--reset-cycles N]
 
 It shares no line with sdcv: docs/CERTIFICATE.md and docs/REFERENCE.md are all
 that it was written from, and the comments name their sections. V is a netlist
@@ -822,15 +822,16 @@ class Claim:
     multicycle: bool
     e: int
     edge: str
+    sides: tuple        # of its pairs: the late side, the hold side, or both
     starts: object      # a word, or None for each start
     ends: object
 
 
 class Script:
-    """The clock, the case analyses and the claims of the script."""
+    """The clock, the case analyses and the claims of the script; with `hold` also those of hold sides."""
 
-    def __init__(self, text):
-        self.clock, self.cases, self.claims = None, [], []
+    def __init__(self, text, hold):
+        self.clock, self.cases, self.claims, self.hold = None, [], [], hold
         for name, *words in commands_of(text):
             if name == "create_clock":
                 self.create_clock(words)
@@ -884,10 +885,17 @@ class Script:
         if rest or len(origins) > 1:
             raise NotUnderstood(f"the words of {name}")
         edge = origins[0][1:5] if origins and origins[0] != "-from" else ""
-        if "-hold" in options and "-setup" not in options:
-            return      # a claim for hold checks alone is none
-        self.claims.append(Claim(multicycle, e, edge, options.get(origins[0]) if origins else None,
-                                 options.get("-to")))
+        sides = self.sides(multicycle, "-setup" in options, "-hold" in options)
+        if sides:
+            self.claims.append(Claim(multicycle, e, edge, sides, options.get(origins[0]) if origins else None,
+                                     options.get("-to")))
+
+    def sides(self, multicycle, setup, hold):
+        """The sides that a command claims; a command for hold checks alone has a hold side or none."""
+        judged = self.hold and not multicycle
+        if hold and not setup:
+            return ("hold",) if judged else ()
+        return ("late", "hold") if judged and hold == setup else ("late",)
 
 
 def names_in(objects):
@@ -959,6 +967,7 @@ class Names:
 @dataclass
 class Pair:
     claim: Claim
+    side: str
     start: int
     end: int
     moved: frozenset        # the nets that are moved in layer 1 (section 7)
@@ -995,7 +1004,8 @@ def pairs_of(design, names, claims):
         if claim.ends is not None:
             ends = names.look_up(claim.ends, "ends")
         for start in starts:
-            pairs += [Pair(claim, start, end, moved(start)) for end in ends if has_path(design, moved(start), end)]
+            pairs += [Pair(claim, side, start, end, moved(start)) for end in ends if has_path(design, moved(start), end)
+                      for side in claim.sides]
     return pairs
 
 
@@ -1214,6 +1224,8 @@ class Query:
     def alternatives(self, t):
         """The captures that may be bad; without sets and hazard each alternative has one condition."""
         claim = self.pair.claim
+        if self.pair.side == "hold":
+            return [((t - 1, 0, 0, self.dif), 1)]
         point = self.chg if claim.multicycle else self.dif
         return [((t + r, 0, 0, point), 1) for r in range(claim.e)]
 
@@ -1337,9 +1349,9 @@ def check_forms(design, run, pairs, sections):
             raise Rejected(f"pair {number} is not {kind}")
 
 
-def check(netlist, script, certificate, reset=(), cycles=None):
+def check(netlist, script, certificate, hold=False, reset=(), cycles=None):
     """The answer's lines."""
-    walk, script = Walk(NetlistText(netlist).modules()), Script(script)
+    walk, script = Walk(NetlistText(netlist).modules()), Script(script, hold)
     names = Names(walk, script)
     design = Design(walk, names.inputs[names.clock])
     pairs = pairs_of(design, names, script.claims)
@@ -1401,6 +1413,7 @@ def main():
     words.add_argument("V", help="the netlist, of built-in cells")
     words.add_argument("S", help="the script")
     words.add_argument("CERT", help="the certificate")
+    words.add_argument("--hold", action="store_true", help="the hold sides of false paths have numbers too")
     words.add_argument("--reset", type=reset_list, action="append", default=[], metavar="LIST")
     words.add_argument("--reset-cycles", type=reset_cycles, action="append", default=[], metavar="N")
     given = words.parse_args()
@@ -1415,7 +1428,7 @@ def main():
             print(f"{name}: {error.strerror}", file=sys.stderr)
             return 5
     try:
-        print("\n".join(check(*texts, sum(given.reset, []), *given.reset_cycles)))
+        print("\n".join(check(*texts, given.hold, sum(given.reset, []), *given.reset_cycles)))
         return 0
     except Rejected as why:
         print(f"rejected {why}")

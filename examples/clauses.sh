@@ -1,7 +1,7 @@
 #!/bin/sh
 # Clauses by which the pairs that are undecided by depth may be justified: clauses.sh V L S [OPTION ..]
-# Takes the options of the run that aiger has: --reset, --reset-cycles, --lag, and those that say what is read and selected. Wants
-# sdcv, yosys and berkeley-abc.
+# Takes the options of the run that aiger has: --reset, --reset-cycles, --lag, --hold, and those that say what is read and
+# selected. Wants sdcv, yosys and berkeley-abc.
 set -e
 here=$(dirname "$0")
 v=$1 l=$2 s=$3
