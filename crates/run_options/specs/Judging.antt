@@ -6,7 +6,6 @@ use Rattle.run_options.specs.declared.judging.Judging.{Judging}
 abbrev pub judging_by : Bool → ℕ → Judging
 judging_by hazard lag = record { hazard = hazard; lag = lag; hold = false; strict = false }
 
--- false paths are judged at most eight captures after the first, and no script is judged as for a sign-off
+-- false paths are judged at most eight captures after the first
 pub record CanJudge (judging : Judging) : Type 0 where
   pub lag : judging.lag ≤ 8
-  pub strict : judging.strict ≡ false

@@ -1,12 +1,14 @@
-//! What the words of a run set: how claims are judged, how runs begin, how far a proof is sought, and the options that a
-//! report's header tells.
+//! What the words of a run set: how a script is read, how claims are judged, how runs begin, how far a proof is sought, and the
+//! options that a report's header tells.
 #![tactic(auto)]
 
+mod forms;
 mod judging;
 mod options;
 mod proving;
 mod resets;
 
+pub use forms::ScriptForm;
 pub use judging::Judging;
 pub use options::RunOptions;
 pub use proving::Proving;

@@ -59,8 +59,8 @@ impl Drop for Held {
     }
 }
 
-/// What a command says. No reader makes an `Unjudged`, a `Scope`, a `Generated` or a `Delay` yet, and whoever meets one
-/// treats it as `Passed`.
+/// What a command says. An `Unjudged`, a `Scope`, a `Generated` and a `Delay` come of a wide script alone, and whoever has no
+/// use for one treats it as `Passed`.
 pub enum What {
     Clock {
         name: Option<Name>,

@@ -7,7 +7,7 @@ use std::alloc::{AllocError, AllocFailed};
 use thiserror::Error;
 
 /// Why a script gives no settings, or selects no pairs. Lines count from 1, and are those of the commands' first bytes. No
-/// call tells a `NoClock` or a `Generated` yet.
+/// call tells a `NoClock` yet.
 #[derive(Debug, Drop, Error)]
 pub enum ExpandFault {
     /// These are the first two clocks that have a source.

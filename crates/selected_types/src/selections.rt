@@ -3,7 +3,7 @@ use crate::warnings::Warning;
 use net_model::Claim;
 use sdcv_base::{Edge, Kind, Name, Seq};
 
-/// What an exception does. None is listed as a `HoldSide` yet.
+/// What an exception does.
 #[derive(Drop)]
 pub enum Listing {
     /// It claims something of so many pairs, at these changes of their starts.

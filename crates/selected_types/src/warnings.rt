@@ -1,7 +1,7 @@
 //! What a user is told of the objects of an exception.
 use sdcv_base::Name;
 
-/// What the objects of an exception leave open. No call tells a `Several`, a `Crossed` or a `Beyond` yet.
+/// What the objects of an exception leave open. No call tells a `Crossed` or a `Beyond` yet.
 #[derive(Drop)]
 pub enum Warning {
     /// Nothing goes by this pattern.

@@ -1,0 +1,10 @@
+//! How a script is read.
+use sdcv_base::{Name, Seq};
+
+/// How the text of a script is read: by the rules of each run, or wide, with some more forms, and with commands of these names
+/// passed over that have no reading.
+#[derive(Drop)]
+pub enum ScriptForm {
+    Narrow,
+    Wide(Seq<Name>),
+}

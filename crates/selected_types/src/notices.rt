@@ -1,0 +1,26 @@
+//! What a user is told of a script beside its exceptions.
+use sdcv_base::{Name, Seq};
+
+/// So many commands of this name are passed over.
+#[derive(Drop)]
+pub struct Skipped {
+    pub name: Name,
+    pub count: u64,
+}
+
+/// A command that a timing analyser obeys, and of whose effect no verdict speaks: the line of its first byte, from 1, and its
+/// name.
+#[derive(Drop)]
+pub struct Unjudged {
+    pub line: u64,
+    pub name: Name,
+}
+
+/// What is told of a script: which commands are passed over, where any may be; which are not judged; and how many false paths
+/// take hold checks off that are not judged.
+#[derive(Drop)]
+pub struct Notices {
+    pub skipped: Option<Seq<Skipped>>,
+    pub unjudged: Seq<Unjudged>,
+    pub hold_commands: u64,
+}
