@@ -10,6 +10,7 @@ use Rattle.sdc_words.specs.Commands.{command_at}
 use Rattle.sdc_words.specs.Lines.{cleaned, newlines, line_of}
 use Rattle.sdc_words.specs.declared.words.RawCommand.{RawCommand}
 use Rattle.sdc_words.proofs.BlankLemmas.{skipped_stop}
+use Rattle.run_options.specs.declared.forms.ScriptForm.TheVariants.{Narrow}
 use Rattle.sdc_text.specs.declared.progresses.Progress.{Progress}
 use Rattle.sdc_text.specs.Progresses.{fresh, after_command, with_command}
 use Rattle.sdc_text.specs.Scripts.{next_at, progress_from, script_of}
@@ -57,14 +58,14 @@ command_read text s number hold start end rest k n first second begins =
 
 -- a command that is read and taken is the next
 next_is : (text s left : List ℕ) (p more : Progress) (command : RawCommand) → command_at text s ≡ Ok (Some command, left)
-    → after_command p command ≡ Ok more → next_at text p s ≡ Ok ((true, more), left)
+    → after_command Narrow p command ≡ Ok more → next_at Narrow text p s ≡ Ok ((true, more), left)
 unfolding next_at
 next_is text s left p more command read taken = rw (read, taken) refl
 
 -- the parts of a line add its exception
 path_read : (text s : List ℕ) (p : Progress) (number : List ℕ) (hold : Bool) (k : ℕ) (start end rest : List ℕ) → IsNumber hold number k
     → IsName start → IsName end → after_blanks s ≡ whole_line number hold start end rest
-    → next_at text p s
+    → next_at Narrow text p s
     ≡ Ok ((true, with_command p (line_of text (whole_line number hold start end rest)) (exception_with number k hold start end)), 10 ∷ rest)
 path_read text s p number hold k start end rest n first second begins =
     let command : RawCommand = command_by text number hold start end rest in
@@ -82,7 +83,7 @@ hold_parts x rest = simp append_assoc
 
 -- a line adds the command that is meant
 next_read : (text s rest : List ℕ) (p : Progress) (x : CheckLine) → IsReadableLine x → after_blanks s ≡ line_text x ++ rest
-    → next_at text p s ≡ Ok ((true, with_command p (line_of text (line_text x ++ rest)) (exception_by x)), 10 ∷ rest)
+    → next_at Narrow text p s ≡ Ok ((true, with_command p (line_of text (line_text x ++ rest)) (exception_by x)), 10 ∷ rest)
 next_read text s rest p (Setup x) is begins =
     let parts = setup_parts x rest in
     path_read text s p (decimal x.k) false x.k x.start x.end rest (number_of x.k is.some is.most) (name_of_writable x.start is.start)
@@ -98,7 +99,7 @@ next_read text s rest p (Hold x) is begins =
 -- all lines that are left add their commands, where those before them end in this many newlines
 progress_read : (lines : List CheckLine) → AllByRecursion IsReadableLine lines → (n : ℕ) → length lines < n → (text done s : List ℕ) (p : Progress)
     → text ≡ done ++ lines_text lines → after_blanks s ≡ lines_text lines
-    → progress_from n text p s ≡ Ok (record p { commands = p.commands ++ commands_from (1 + newlines done) lines })
+    → progress_from n Narrow text p s ≡ Ok (record p { commands = p.commands ++ commands_from (1 + newlines done) lines })
 unfolding progress_from next_at command_at
 progress_read [] all zero few text done s p is begins = absurd (omega arith)
 progress_read [] all (suc m) few text done s p is begins = rw (begins, append-nil p.commands) refl
@@ -126,7 +127,7 @@ cleaned_lines [] all = refl
 cleaned_lines (x ∷ more) (here, later) = cleaned_line x (lines_text more) here ∙ ap (λ (s : List ℕ). line_text x ++ s) (cleaned_lines more later)
 
 -- the script of some lines is the one that is meant
-pub lines_read : (lines : List CheckLine) → All IsReadableLine lines → script_of (lines_text lines) ≡ Ok (script_by lines)
+pub lines_read : (lines : List CheckLine) → All IsReadableLine lines → script_of Narrow (lines_text lines) ≡ Ok (script_by lines)
 unfolding script_of
 lines_read lines all =
     let each = recursion_from_All IsReadableLine lines all in

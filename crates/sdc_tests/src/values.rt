@@ -1,5 +1,7 @@
 use crate::expects::same;
-use sdc_values::{Class, Loan, Object, Said, SdcFault, Value, Variables, objects_of, said_words};
+use sdc_values::{
+    Class, Loan, Nesting, Object, Said, SdcFault, Value, Variables, objects_of, said_words,
+};
 use sdc_words::{Commands, RawCommand};
 use sdcv_base::{Name, Seq};
 use std::alloc::{AllocError, Global};
@@ -66,7 +68,13 @@ fn command_objects(
     vars: &Variables,
     command: &RawCommand,
 ) -> Result<Seq<Object>, SdcFault> {
-    let said = said_words(alloc, vars, command.line, command.words.as_slice())?;
+    let said = said_words(
+        alloc,
+        Nesting::Narrow,
+        vars,
+        command.line,
+        command.words.as_slice(),
+    )?;
     let mut found = Seq::new(alloc);
     for word in said.as_slice() {
         push_objects(alloc, &mut found, word)?;

@@ -1,1 +1,3 @@
+pub mod DelayLemmas
 pub mod ScriptLemmas
+mod Worked

@@ -1,5 +1,5 @@
 -- One turn of the loop over the commands of a text, and faults that go through.
-use Rattle.std.proofs.Common.{◌≡◌, ◌∙◌, ℕ, zero, suc, ◌+◌, ◌<◌, true, false, List, [], ◌∷◌, take, drop, Option, Some, None, Result, Ok, Err, refl, ap, arith}
+use Rattle.std.proofs.Common.{◌≡◌, ◌∙◌, ℕ, zero, suc, ◌+◌, ◌<◌, true, false, List, [], ◌∷◌, take, drop, Option, Some, None, IfSome, Result, Ok, Err, refl, ap, arith}
 use Rattle.std.specs.Option.{option_map}
 use Rattle.texts.specs.Rules.{◌>>=◌}
 use Rattle.sdc_words.specs.declared.faults.WordFault.{WordFault}
@@ -10,7 +10,8 @@ use Rattle.sdc_words.specs.declared.words.RawCommand.{RawCommand}
 use Rattle.sdc_words.specs.Reads as words
 use Rattle.sdc_words.specs.Commands.{command_at, line_at, IsFront}
 use Rattle.sdc_words.proofs.ReadLemmas.{value_or}
-use Rattle.script_types.specs.declared.scripts.What.TheVariants as what
+use Rattle.run_options.specs.declared.forms.ScriptForm.{ScriptForm}
+use Rattle.script_types.specs.declared.scripts.What.{What}
 use Rattle.sdc_values.specs.Variables.{Vars}
 use Rattle.sdc_values.specs.Lines.{command_name}
 use Rattle.script_types.specs.declared.faults.SdcFault.{SdcFault}
@@ -18,31 +19,32 @@ use Rattle.script_types.specs.declared.faults.SdcFault.TheVariants as fault
 use Rattle.sdc_words.specs.Faults.{of_words}
 use Rattle.sdc_values.specs.Told.{Fails}
 use Rattle.sdc_text.specs.declared.progresses.Progress.{Progress}
+use Rattle.sdc_text.specs.declared.kinds.CommandKind.{CommandKind}
 use Rattle.sdc_text.specs.declared.kinds.CommandKind.TheVariants as kind
 use Rattle.sdc_text.specs.Kinds.{command_kind}
-use Rattle.sdc_text.specs.Progresses.{with_command, after_kind, after_command, IsPassedOver}
+use Rattle.sdc_text.specs.Progresses.{with_command, after_kind, after_command, passed_as, IsPassedOver}
 use Rattle.sdc_text.specs.Scripts.{lifted, next_at, PassesNext, progress_from, placed, placed_fault}
 
 of_lifted : {A : Type 0} (r : Result A WordFault) (x : A) → lifted r ≡ Ok x → r ≡ Ok x
 of_lifted (Ok y) x e = cc
 of_lifted (Err why) x e = absurd cc
 
-module _ (text : List ℕ) (p : Progress) (s : List ℕ) where
+module _ (form : ScriptForm) (text : List ℕ) (p : Progress) (s : List ℕ) where
   -- no command is left
-  pub progress_ends : (m : ℕ) (q : Progress) (t : List ℕ) → 0 < m → next_at text p s ≡ Ok ((false, q), t) → progress_from m text p s ≡ Ok q
+  pub progress_ends : (m : ℕ) (q : Progress) (t : List ℕ) → 0 < m → next_at form text p s ≡ Ok ((false, q), t) → progress_from m form text p s ≡ Ok q
   unfolding progress_from
   progress_ends zero q t some good = absurd (omega arith)
   progress_ends (suc m) q t some good = rw good refl
 
   -- a command is taken
-  pub progress_more : (m : ℕ) (q : Progress) (t : List ℕ) → 0 < m → next_at text p s ≡ Ok ((true, q), t)
-      → (n : ℕ) × (m ≡ n + 1) × (progress_from m text p s ≡ progress_from n text q t)
+  pub progress_more : (m : ℕ) (q : Progress) (t : List ℕ) → 0 < m → next_at form text p s ≡ Ok ((true, q), t)
+      → (n : ℕ) × (m ≡ n + 1) × (progress_from m form text p s ≡ progress_from n form text q t)
   unfolding progress_from
   progress_more zero q t some good = absurd (omega arith)
   progress_more (suc m) q t some good = (m, omega arith, rw good refl)
 
   -- the next command has a fault
-  pub progress_bad : (m : ℕ) (why : SdcFault) → 0 < m → next_at text p s ≡ Err why → progress_from m text p s ≡ Err why
+  pub progress_bad : (m : ℕ) (why : SdcFault) → 0 < m → next_at form text p s ≡ Err why → progress_from m form text p s ≡ Err why
   unfolding progress_from
   progress_bad zero why some bad = absurd (omega arith)
   progress_bad (suc m) why some bad = rw bad refl
@@ -71,29 +73,59 @@ name_of_front vars line (word.Text offset pieces ∷ ws) = refl
 name_of_front vars line (word.Opens offset ∷ ws) = refl
 name_of_front vars line (word.Closes ∷ ws) = refl
 
-abbrev after_named : Progress → RawCommand → List ℕ → Result Progress SdcFault
-after_named p command name = elim (command_kind name) [
-  | Some found ↦ after_kind p found (record { line = command.line; name = name }) (drop 1 command.words)
+abbrev after_named : ScriptForm → Progress → RawCommand → List ℕ → Result Progress SdcFault
+after_named form p command name = elim (command_kind form name) [
+  | Some found ↦ after_kind form p found (record { line = command.line; name = name }) (drop 1 command.words)
   | None ↦ Err (fault.UnknownCommand command.line name)
 ]
 
-by_name : (p : Progress) (command : RawCommand) (name : List ℕ) → command_name p.variables command.line command.words ≡ Ok name
-    → after_command p command ≡ after_named p command name
+by_name : (form : ScriptForm) (p : Progress) (command : RawCommand) (name : List ℕ)
+    → command_name p.variables command.line command.words ≡ Ok name → after_command form p command ≡ after_named form p command name
 unfolding after_command
-by_name p command name named = rw named refl
+by_name form p command name named = rw named refl
 
-by_kind : (p : Progress) (command : RawCommand) (name : List ℕ) → command_kind name ≡ Some kind.Passed
-    → after_named p command name ≡ Ok (with_command p command.line what.Passed)
+-- what is passed over by its kind
+kind_passed : (form : ScriptForm) (p : Progress) (line : ℕ) (name : List ℕ) (words : List Word) (k : CommandKind) (w : What)
+    → passed_as (Some k) name ≡ Some w → after_kind form p k (record { line = line; name = name }) words ≡ Ok (with_command p line w)
 unfolding after_kind
-by_kind p command name passed = rw (passed, after_named) refl
+kind_passed form p line name words kind.Set w is = absurd cc
+kind_passed form p line name words kind.Clock w is = absurd cc
+kind_passed form p line name words kind.Case w is = absurd cc
+kind_passed form p line name words (kind.Path path) w is = absurd cc
+kind_passed form p line name words kind.Passed w is = cc
+kind_passed form p line name words kind.Unjudged w is = cc
+kind_passed form p line name words kind.Scope w is = absurd cc
+kind_passed form p line name words (kind.Delay output) w is = absurd cc
+kind_passed form p line name words (kind.Constant bit) w is = absurd cc
+kind_passed form p line name words kind.Instance w is = absurd cc
+kind_passed form p line name words kind.Separator w is = absurd cc
+kind_passed form p line name words kind.Generated w is = absurd cc
+
+-- what is passed over by its name
+abbrev by_kind_of : ScriptForm → Progress → RawCommand → List ℕ → Option CommandKind → Result Progress SdcFault
+by_kind_of form p command name found = elim found [
+  | Some k ↦ after_kind form p k (record { line = command.line; name = name }) (drop 1 command.words)
+  | None ↦ Err (fault.UnknownCommand command.line name)
+]
+
+by_kind : (form : ScriptForm) (p : Progress) (command : RawCommand) (name : List ℕ) (found : Option CommandKind) (w : What)
+    → passed_as found name ≡ Some w → by_kind_of form p command name found ≡ Ok (with_command p command.line w)
+by_kind form p command name (Some k) w is = kind_passed form p command.line name (drop 1 command.words) k w is
+by_kind form p command name None w is = absurd cc
 
 -- a command with a front that is passed over is passed over
-pub passes_front : (read : Result (Option RawCommand × List ℕ) WordFault) (p : Progress) (front : RawCommand)
-    → IsFront front read → IsPassedOver p front → PassesNext read p
-passes_front read p front begins (name, told, passed) = λ command left good.
+pub passes_front : (form : ScriptForm) (read : Result (Option RawCommand × List ℕ) WordFault) (p : Progress) (front : RawCommand) (w : What)
+    → IsFront front read → IsPassedOver form p front w → PassesNext form read p w
+passes_front form read p front w begins (name, told, passed) = λ command left good.
     let (line, words) = begins command left good in
     let named : command_name p.variables command.line command.words ≡ Ok name = name_of_front p.variables command.line command.words ∙ rw (words, line) told in
-    by_name p command name named ∙ by_kind p command name passed
+    by_name form p command name named ∙ by_kind form p command name (command_kind form name) w passed
+
+-- if one says something by its front, the command says it
+pub if_passes : (form : ScriptForm) (read : Result (Option RawCommand × List ℕ) WordFault) (p : Progress) (front : RawCommand) → IsFront front read
+    → (told : Option What) → IfSome told (λ w. IsPassedOver form p front w) → IfSome told (λ w. PassesNext form read p w)
+if_passes form read p front begins (Some w) passed = passes_front form read p front w begins passed
+if_passes form read p front begins None passed = passed
 
 abbrev line_by : Result (Option RawCommand × List ℕ) WordFault → Result (Option ℕ × List ℕ) WordFault
 line_by r = r >>= λ c. Ok (option_map (λ (q : RawCommand). q.line) c.0, c.1)
@@ -116,10 +148,11 @@ command_of_line (Ok c) line t e =
 command_of_line (Err why) line t e = absurd cc
 
 -- a command of which only the line is known is passed over
-pub next_passed : (text : List ℕ) (p q : Progress) (s : List ℕ) (o : Option ℕ) (line : ℕ) (t : List ℕ) → PassesNext (command_at text s) p
-    → lifted (line_at text s) ≡ Ok (o, t) → o ≡ Some line → q ≡ with_command p line what.Passed → next_at text p s ≡ Ok ((true, q), t)
+pub next_passed : (form : ScriptForm) (text : List ℕ) (p q : Progress) (s : List ℕ) (o : Option ℕ) (line : ℕ) (t : List ℕ) (w : What)
+    → PassesNext form (command_at text s) p w → lifted (line_at text s) ≡ Ok (o, t) → o ≡ Some line → q ≡ with_command p line w
+    → next_at form text p s ≡ Ok ((true, q), t)
 unfolding next_at
-next_passed text p q s o line t passes good some pushed =
+next_passed form text p q s o line t w passes good some pushed =
     let line_read : lifted (line_at text s) ≡ Ok (Some line, t) = good ∙ ap (λ (found : Option ℕ). Ok (found, t)) some in
     let (command, read, same) = command_of_line (command_at text s) line t (of_lifted (line_at text s) (Some line, t) line_read) in
     rw (read, passes command t read, same, pushed) refl

@@ -47,6 +47,17 @@ case_of head words =
     two_words head words >>= λ w. case_value head (w.0).value >>= λ bit.
     no_option head w.1 >>= λ listed. objects_of listed >>= λ objects. Ok (what.Case bit objects)
 
+-- the one word of a command that takes one
+abbrev pub one_word : Head → List Said → Result Said SdcFault
+one_word head [] = Err (lacking head)
+one_word head (a ∷ []) = Ok a
+one_word head (a ∷ (b ∷ more)) = Err (surplus head b.value)
+
+-- what the words of set_logic_zero and set_logic_one say: a case analysis of this value
+unfoldable pub constant_of : Bool → Head → List Said → Result What SdcFault
+constant_of bit head words =
+    one_word head words >>= λ w. no_option head w >>= λ listed. objects_of listed >>= λ objects. Ok (what.Case bit objects)
+
 -- the variable that the words of `set` set, and its value
 unfoldable pub set_of : Head → List Said → Result (List ℕ × Value) SdcFault
 set_of head words = two_words head words >>= λ w. wanted_text head (w.0).value >>= λ name. Ok (name, (w.1).value)

@@ -23,12 +23,13 @@ use Rattle.sdc_text.specs.declared.options.PathOption.TheVariants as option
 use Rattle.sdc_text.specs.declared.exceptions.Reading.{Reading}
 use Rattle.sdc_text.specs.Heads.{bad_option, bad_number, lacking, surplus, wanted_text, option_of}
 use Rattle.sdc_text.specs.Options.{path_option}
-use Rattle.sdc_text.specs.Numbers.{is_whole, multiplier}
+use Rattle.sdc_text.specs.Numbers.{is_whole, is_integer, multiplier}
 use Rattle.sdcv_base.specs.Steps.{after_all}
 
 -- before the first word
-abbrev pub bare : PathCommand → Head → Reading
-bare path head = record {
+abbrev pub bare : Bool → PathCommand → Head → Reading
+bare wide path head = record {
+  wide = wide;
   head = head;
   path = path;
   awaited = None;
@@ -63,10 +64,11 @@ begun r name option.Setup = Ok (record r { has_setup = true })
 begun r name option.Hold = Ok (record r { has_hold = true })
 begun r name option.Comment = Ok (awaiting r option.Comment name)
 begun r name option.Reference = Ok r
+begun r name option.Multiplier = begun_once r option.Multiplier name (is_some r.number)
 begun r name option.LeftOut = Ok (set_aside r name)
 begun r name option.LeftOutList = Ok (awaiting (set_aside r name) option.LeftOutList name)
 
--- an option is given its word; that of an option without a list of objects changes nothing
+-- an option is given its word; that of an option with neither a list of objects nor a number changes nothing
 unfoldable pub given : Reading → PathOption → Said → Result Reading SdcFault
 given r (option.From edge) w = objects_of w >>= λ objects. Ok (record r { from = Some objects; edge = edge })
 given r option.Through w = objects_of w >>= λ objects. Ok (record r { through = r.through ++ objects ∷ [] })
@@ -75,6 +77,7 @@ given r option.Setup w = Ok r
 given r option.Hold w = Ok r
 given r option.Comment w = Ok r
 given r option.Reference w = Ok r
+given r option.Multiplier w = Ok (record r { number = Some w.value })
 given r option.LeftOut w = Ok r
 given r option.LeftOutList w = Ok r
 
@@ -89,7 +92,7 @@ with_number r value = if is_multicycle r.path && not (is_some r.number) then Ok 
 -- a word that is no option's
 unfoldable pub with_word : Reading → Value → Result Reading SdcFault
 with_word r value = elim (option_of value) [
-  | Some name ↦ elim (path_option r.path name) [
+  | Some name ↦ elim (path_option r.wide r.path name) [
     | Some option ↦ begun r name option
     | None ↦ Err (bad_option r.head name)
   ]
@@ -139,6 +142,11 @@ number_text None = None
 number_text (Some (value.Text text)) = Some text
 number_text (Some (value.Objects objects)) = None
 
+-- a number that is whole, and no multiplier
+unfoldable pub whole_beyond : Option (List ℕ) → Option (List ℕ)
+whole_beyond None = None
+whole_beyond (Some text) = if is_integer text && not (is_some (multiplier text)) then Some text else None
+
 -- an exception about the hold check alone
 abbrev pub held : Reading → Held
 held r = record { number = number_text r.number; edge = r.edge; from = r.from; through = r.through; to = r.to }
@@ -148,9 +156,16 @@ abbrev pub exception_or_hold : Reading → Option Kind → What
 exception_or_hold r (Some kind) = what.Claiming (exception_by r kind)
 exception_or_hold r None = what.Hold (held r)
 
--- an exception that is not set aside
+-- the number for which a claiming exception of a wide script is set aside: one that is whole, and no multiplier
+unfoldable pub beyond : Reading → Option (List ℕ)
+beyond r = if r.wide && not (is_hold r) then whole_beyond (number_text r.number) else None
+
+-- an exception that no option sets aside
 unfoldable pub claimed : Reading → Result What SdcFault
-claimed r = kind_of r >>= λ kind. Ok (exception_or_hold r kind)
+claimed r = elim (beyond r) [
+  | Some text ↦ Ok (what.Aside text)
+  | None ↦ kind_of r >>= λ kind. Ok (exception_or_hold r kind)
+]
 
 -- what all words together say: each option has its word, and a multicycle path its number
 unfoldable pub concluded : Reading → Result What SdcFault
@@ -164,6 +179,6 @@ concluded r = elim r.awaited [
       ]
 ]
 
--- what an exception's words say
-abbrev pub exception_of : PathCommand → Head → List Said → Result What SdcFault
-exception_of path head words = after_all adds_word (bare path head) words >>= λ r. concluded r
+-- what the words of an exception of a wide or a narrow script say
+abbrev pub exception_of : Bool → PathCommand → Head → List Said → Result What SdcFault
+exception_of wide path head words = after_all adds_word (bare wide path head) words >>= λ r. concluded r

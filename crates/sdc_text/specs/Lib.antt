@@ -1,9 +1,12 @@
 pub mod Cases
 pub mod Clocks
+pub mod Delays
 pub mod Exceptions
+pub mod Forms
 pub mod Heads
 pub mod Kinds
 pub mod Numbers
 pub mod Options
+pub mod Places
 pub mod Progresses
 pub mod Scripts

@@ -13,6 +13,10 @@ is_digits text = not (length text == 0) && list_all is_ascii_digit text
 abbrev pub is_whole : List ℕ → Bool
 is_whole text = is_digits text || (first text == 45 && is_digits (drop 1 text))
 
+-- digits, and maybe one sign before them
+abbrev pub is_integer : List ℕ → Bool
+is_integer text = is_whole text || (first text == 43 && is_digits (drop 1 text))
+
 -- the multiplier that a text is: a number from 1 to 16
 unfoldable pub multiplier : List ℕ → Option ℕ
 multiplier text =

@@ -9,7 +9,8 @@ use Rattle.sdc_words.specs.Lines.{cleaned, original}
 use Rattle.script_types.specs.declared.faults.SdcFault.{SdcFault}
 use Rattle.script_types.specs.declared.faults.SdcFault.TheVariants as fault
 use Rattle.script_types.specs.declared.scripts.Script.{Script}
-use Rattle.script_types.specs.declared.scripts.What.TheVariants as what
+use Rattle.script_types.specs.declared.scripts.What.{What}
+use Rattle.run_options.specs.declared.forms.ScriptForm.{ScriptForm}
 use Rattle.sdc_text.specs.declared.progresses.Progress.{Progress}
 use Rattle.sdc_text.specs.Progresses.{fresh, after_command, with_command}
 
@@ -18,25 +19,26 @@ abbrev pub lifted : {A : Type 0} → Result A WordFault → Result A SdcFault
 lifted (Ok found) = Ok found
 lifted (Err e) = Err (of_words e)
 
--- if a command is read next, it is passed over
-abbrev pub PassesNext : Result (Option RawCommand × List ℕ) WordFault → Progress → Type 0
-PassesNext read p = (command : RawCommand) (left : List ℕ) → read ≡ Ok (Some command, left) → after_command p command ≡ Ok (with_command p command.line what.Passed)
+-- if a command is read next, it is passed over, and says this
+abbrev pub PassesNext : ScriptForm → Result (Option RawCommand × List ℕ) WordFault → Progress → What → Type 0
+PassesNext form read p what =
+    (command : RawCommand) (left : List ℕ) → read ≡ Ok (Some command, left) → after_command form p command ≡ Ok (with_command p command.line what)
 
 -- whether a command is left of the text, what is known after it, and what is left then
-unfoldable pub next_at : List ℕ → Progress → List ℕ → Result ((Bool × Progress) × List ℕ) SdcFault
-next_at text p s = lifted (command_at text s) >>= λ c. elim c.0 [
-  | Some command ↦ after_command p command >>= λ more. Ok ((true, more), c.1)
+unfoldable pub next_at : ScriptForm → List ℕ → Progress → List ℕ → Result ((Bool × Progress) × List ℕ) SdcFault
+next_at form text p s = lifted (command_at text s) >>= λ c. elim c.0 [
+  | Some command ↦ after_command form p command >>= λ more. Ok ((true, more), c.1)
   | None ↦ Ok ((false, p), c.1)
 ]
 
 -- after all commands of which this is left of the text; of fewer than n
-unfoldable pub progress_from : ℕ → List ℕ → Progress → List ℕ → Result Progress SdcFault
-progress_from zero text p s = Err (fault.Syntax (offset_of (length text) s))
-progress_from (suc n) text p s = next_at text p s >>= λ r. if (r.0).0 then progress_from n text (r.0).1 r.1 else Ok (r.0).1
+unfoldable pub progress_from : ℕ → ScriptForm → List ℕ → Progress → List ℕ → Result Progress SdcFault
+progress_from zero form text p s = Err (fault.Syntax (offset_of (length text) s))
+progress_from (suc n) form text p s = next_at form text p s >>= λ r. if (r.0).0 then progress_from n form text (r.0).1 r.1 else Ok (r.0).1
 
 -- after all commands of a text without carriage returns at its lines' ends
-abbrev pub progress_of : List ℕ → Result Progress SdcFault
-progress_of text = progress_from (suc (length text)) text fresh text
+abbrev pub progress_of : ScriptForm → List ℕ → Result Progress SdcFault
+progress_of form text = progress_from (suc (length text)) form text fresh text
 
 -- a fault in the cleaned text, as one at its place in the text
 abbrev pub placed_fault : List ℕ → SdcFault → SdcFault
@@ -52,9 +54,9 @@ abbrev pub placed : List ℕ → Result Progress SdcFault → Result Script SdcF
 placed text (Ok p) = Ok (record { commands = p.commands })
 placed text (Err e) = Err (placed_fault text e)
 
--- the script that a text is, or the fault that it has
-unfoldable pub script_of : List ℕ → Result Script SdcFault
-script_of text = placed text (progress_of (cleaned text))
+-- the script that a text is in this form, or the fault that it has
+unfoldable pub script_of : ScriptForm → List ℕ → Result Script SdcFault
+script_of form text = placed text (progress_of form (cleaned text))
 
 -- a place that a fault names lies in a text of this length
 abbrev pub IsWithin : ℕ → SdcFault → Type 0

@@ -74,6 +74,37 @@ pub fn take_case(alloc: Global, head: &Head, words: &[Said<'_>]) -> Result<What,
     Ok(What::Case { value, objects })
 }
 
+/// The one word of a command that takes one.
+pub fn one_word<'a, 'v>(
+    alloc: Global,
+    head: &Head,
+    words: &'a [Said<'v>],
+) -> Result<&'a Said<'v>, SdcFault>
+    ensures { Gives Fails (λ w. w.now) result (spec.one_word head.now words.entry.now) }
+{
+    match words {
+        [] => Err(head.lacking(alloc)?),
+        [word] => Ok(word),
+        [_, second, ..] => Err(head.surplus(alloc, second.value.get())?),
+    }
+}
+
+/// What the words of `set_logic_zero` and `set_logic_one` say, after the command's name.
+#[tactic(auto, unfolding(crate::specs::Cases::constant_of))]
+pub fn take_constant(
+    alloc: Global,
+    value: bool,
+    head: &Head,
+    words: &[Said<'_>],
+) -> Result<What, SdcFault>
+    ensures { Gives Fails (λ what. what) result (spec.constant_of value head.now words.now) }
+{
+    let objects = one_word(alloc, head, words)?;
+    refuse_option(alloc, head, objects)?;
+    let objects = objects_of(alloc, objects)?;
+    Ok(What::Case { value, objects })
+}
+
 /// The variable that the words of `set` set after the command's name, and its value.
 #[tactic(auto, unfolding(crate::specs::Cases::set_of))]
 pub fn take_set(alloc: Global, head: &Head, words: &[Said<'_>]) -> Result<(Name, Value), SdcFault>

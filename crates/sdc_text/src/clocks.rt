@@ -6,15 +6,16 @@ ghost use Rattle.sdc_text.specs.Clocks as spec;
 
 use crate::gathers::{Gather, take_all};
 use crate::heads::{Head, option_of};
-use crate::options::{ClockOption, clock_option};
+use crate::options::{ClockCommand, ClockOption, clock_option};
 use script_types::{Object, What};
 use sdc_values::{Said, SdcFault, objects_of};
 use sdcv_base::{Name, Seq};
 use std::alloc::{AllocError, Global};
 
-/// What the words of `create_clock` have said so far.
+/// What the words of a command that makes a clock have said so far.
 #[derive(Drop)]
 pub struct ClockReading {
+    pub command: ClockCommand,
     pub head: Head,
     /// The option whose word comes next, and its own word.
     pub awaited: Option<(ClockOption, Name)>,
@@ -42,6 +43,9 @@ impl ClockReading {
                 let text = self.head.wanted_text(alloc, word.value.get())?;
                 self.name = Some(text.copy(alloc)?);
             }
+            ClockOption::Master => {
+                let _objects = objects_of(alloc, word)?;
+            }
             ClockOption::Timing | ClockOption::Added => {}
         }
         Ok(())
@@ -65,7 +69,7 @@ impl ClockReading {
         let Some(name) = option_of(word.value.get()) else {
             return self.take_source(alloc, word);
         };
-        match clock_option(name.as_bytes()) {
+        match clock_option(self.command, name.as_bytes()) {
             Some(option) => Ok(self.begin(alloc, name, option)?),
             None => Err(self.head.bad_option(alloc, name)?),
         }
@@ -84,10 +88,27 @@ impl Gather for ClockReading {
     }
 }
 
+#[tactic(auto, unfolding(crate::specs::Clocks::generated))]
+fn generated(
+    alloc: Global,
+    head: &Head,
+    name: Option<Name>,
+    source: Option<Seq<Object>>,
+) -> Result<What, SdcFault>
+    ensures { Gives Fails (λ what. what) result (spec.generated head.now name source) }
+{
+    match (name, source) {
+        (Some(name), Some(objects)) => Ok(What::Generated { name, objects }),
+        _ => Err(head.lacking(alloc)?),
+    }
+}
+
+#[tactic(auto, unfolding(crate::specs::Clocks::made))]
 fn concluded(alloc: Global, reading: ClockReading) -> Result<What, SdcFault>
     ensures { Gives Fails (λ what. what) result (spec.concluded reading) }
 {
     let ClockReading {
+        command,
         head,
         awaited,
         name,
@@ -96,15 +117,26 @@ fn concluded(alloc: Global, reading: ClockReading) -> Result<What, SdcFault>
     if let Some((_, word)) = awaited {
         return Err(head.bad_option(alloc, &word)?);
     }
-    let source = source.unwrap_or(Seq::new(alloc));
-    Ok(What::Clock { name, source })
+    match command {
+        ClockCommand::Create => {
+            let source = source.unwrap_or(Seq::new(alloc));
+            Ok(What::Clock { name, source })
+        }
+        ClockCommand::Generate => generated(alloc, &head, name, source),
+    }
 }
 
-/// What the words of `create_clock` say, after the command's name.
-pub fn take_clock(alloc: Global, head: Head, words: &[Said<'_>]) -> Result<What, SdcFault>
-    ensures { Gives Fails (λ what. what) result (spec.clock_of head words.now) }
+/// What the words of a command that makes a clock say, after its name.
+pub fn take_clock(
+    alloc: Global,
+    command: ClockCommand,
+    head: Head,
+    words: &[Said<'_>],
+) -> Result<What, SdcFault>
+    ensures { Gives Fails (λ what. what) result (spec.clock_of command head words.now) }
 {
     let mut reading = ClockReading {
+        command,
         head,
         awaited: None,
         name: None,

@@ -1,12 +1,13 @@
 //! Timing exceptions.
 ghost use Rattle.std.specs.Prelude.{◌≡◌, Bool, OnOk, IfOk, is_some};
+ghost use Rattle.std.specs.Option.{option_map};
 ghost use Rattle.texts.specs.Rules.{Gives};
 ghost use Rattle.sdc_values.specs.Told.{Fails};
 ghost use Rattle.sdc_text.specs.Exceptions as spec;
 
 use crate::gathers::{Gather, take_all};
 use crate::heads::{Head, option_of};
-use crate::numbers::{is_whole, multiplier};
+use crate::numbers::{is_integer, is_whole, multiplier};
 use crate::options::{PathCommand, PathOption, path_option};
 use script_types::{Checks, Exception, Held, Object, What};
 use sdc_values::{Said, SdcFault, Value, objects_of};
@@ -17,6 +18,8 @@ use std::mem;
 /// What the words of an exception have said so far.
 #[derive(Drop)]
 pub struct Reading {
+    /// Whether the script is wide.
+    pub wide: bool,
     pub head: Head,
     pub path: PathCommand,
     /// The option whose word comes next, and its own word.
@@ -34,10 +37,11 @@ pub struct Reading {
 }
 
 impl Reading {
-    fn new(alloc: Global, path: PathCommand, head: Head) -> Reading
-        ensures { result ≡ spec.bare path head }
+    fn new(alloc: Global, wide: bool, path: PathCommand, head: Head) -> Reading
+        ensures { result ≡ spec.bare wide path head }
     {
         Reading {
+            wide,
             head,
             path,
             awaited: None,
@@ -103,6 +107,10 @@ impl Reading {
                 let is_given = self.to.is_some();
                 self.begin_once(alloc, option, name, is_given)?;
             }
+            PathOption::Multiplier => {
+                let is_given = self.number.is_some();
+                self.begin_once(alloc, option, name, is_given)?;
+            }
             PathOption::Through | PathOption::Comment => self.await_word(alloc, option, name)?,
             PathOption::Setup => self.has_setup = true,
             PathOption::Hold => self.has_hold = true,
@@ -127,6 +135,7 @@ impl Reading {
             }
             PathOption::To => self.to = Some(objects_of(alloc, word)?),
             PathOption::Through => self.through.push(objects_of(alloc, word)?)?,
+            PathOption::Multiplier => self.number = Some(word.value.get().copy(alloc)?),
             _ => {}
         }
         Ok(())
@@ -150,7 +159,7 @@ impl Reading {
         let Some(name) = option_of(value) else {
             return self.take_number(alloc, value);
         };
-        match path_option(self.path, name.as_bytes()) {
+        match path_option(self.wide, self.path, name.as_bytes()) {
             Some(option) => self.begin(alloc, name, option),
             None => Err(self.head.bad_option(alloc, name)?),
         }
@@ -273,10 +282,30 @@ fn exception_or_hold(alloc: Global, reading: &mut Reading, kind: Option<Kind>) -
     }
 }
 
+// The number of a claiming exception that is whole, and no multiplier.
+#[tactic(auto, unfolding(crate::specs::Exceptions::beyond, crate::specs::Exceptions::whole_beyond))]
+fn beyond(reading: &Reading) -> Option<&Name>
+    ensures { option_map (λ t. t.now) result ≡ spec.beyond reading.entry.now }
+{
+    match &reading.number {
+        Some(Value::Text(text)) if reading.wide && !is_hold(reading) => {
+            if is_integer(text.as_bytes()) && multiplier(text.as_bytes()).is_none() {
+                Some(text)
+            } else {
+                None
+            }
+        }
+        _ => None,
+    }
+}
+
 #[tactic(auto, unfolding(crate::specs::Exceptions::claimed))]
 fn claimed(alloc: Global, reading: &mut Reading) -> Result<What, SdcFault>
     ensures { Gives Fails (λ what. what) result (spec.claimed reading.old) }
 {
+    if let Some(text) = beyond(reading) {
+        return Ok(What::Aside(text.copy(alloc)?));
+    }
     let kind = kind_of(alloc, reading)?;
     Ok(exception_or_hold(alloc, reading, kind))
 }
@@ -297,16 +326,17 @@ fn concluded(alloc: Global, reading: &mut Reading) -> Result<What, SdcFault>
     claimed(alloc, reading)
 }
 
-/// What the words of an exception say, after the command's name.
+/// What the words of an exception of a wide or a narrow script say, after the command's name.
 pub fn take_exception(
     alloc: Global,
+    wide: bool,
     path: PathCommand,
     head: Head,
     words: &[Said<'_>],
 ) -> Result<What, SdcFault>
-    ensures { Gives Fails (λ what. what) result (spec.exception_of path head words.now) }
+    ensures { Gives Fails (λ what. what) result (spec.exception_of wide path head words.now) }
 {
-    let mut reading = Reading::new(alloc, path, head);
+    let mut reading = Reading::new(alloc, wide, path, head);
     take_all(alloc, words, &mut reading)?;
     concluded(alloc, &mut reading)
 }

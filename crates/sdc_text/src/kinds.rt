@@ -2,7 +2,9 @@
 ghost use Rattle.std.specs.Prelude.{◌≡◌};
 ghost use Rattle.sdc_text.specs.Kinds as spec;
 
+use crate::forms::skips;
 use crate::options::{PathCommand, is};
+use run_options::ScriptForm;
 
 /// A kind of command.
 #[derive(Clone, Copy, PartialEq, Eq)]
@@ -14,6 +16,19 @@ pub enum CommandKind {
     Path(PathCommand),
     /// It changes no exception, and its words are not valued.
     Passed,
+    /// A timing analyser obeys it, no verdict speaks of what it does, and its words are not valued.
+    Unjudged,
+    /// It names the design.
+    Scope,
+    /// It delays outputs, or else inputs.
+    Delay(bool),
+    /// It is a case analysis of this value.
+    Constant(bool),
+    /// It says within which instance names are looked up.
+    Instance,
+    /// It says by what the parts of a name are parted.
+    Separator,
+    Generated,
 }
 
 #[tactic(auto, unfolding(crate::specs::Kinds::is_delay))]
@@ -146,10 +161,9 @@ fn is_passed_over(name: &[u8]) -> bool
     is_delay(name) || (is_clock(name) || (is_limit(name) || is_setting(name)))
 }
 
-/// The kind of command of this name, and `None` exactly where there is none.
-#[tactic(auto, unfolding(crate::specs::Kinds::command_kind))]
-pub fn command_kind(name: &[u8]) -> Option<CommandKind>
-    ensures { result ≡ spec.command_kind name.now }
+#[tactic(auto, unfolding(crate::specs::Kinds::narrow_kind))]
+fn narrow_kind(name: &[u8]) -> Option<CommandKind>
+    ensures { result ≡ spec.narrow_kind name.now }
 {
     if is(name, "set") {
         Some(CommandKind::Set)
@@ -165,5 +179,84 @@ pub fn command_kind(name: &[u8]) -> Option<CommandKind>
         Some(CommandKind::Passed)
     } else {
         None
+    }
+}
+
+#[tactic(auto, unfolding(crate::specs::Kinds::is_unjudged))]
+fn is_unjudged(name: &[u8]) -> bool
+    ensures { result ≡ spec.is_unjudged name.now }
+{
+    if is(name, "set_clock_groups") {
+        true
+    } else if is(name, "set_disable_timing") {
+        true
+    } else if is(name, "set_max_delay") {
+        true
+    } else if is(name, "set_min_delay") {
+        true
+    } else {
+        false
+    }
+}
+
+#[tactic(auto, unfolding(crate::specs::Kinds::wide_kind))]
+fn wide_kind(name: &[u8]) -> Option<CommandKind>
+    ensures { result ≡ spec.wide_kind name.now }
+{
+    if is_unjudged(name) {
+        Some(CommandKind::Unjudged)
+    } else if is(name, "current_design") {
+        Some(CommandKind::Scope)
+    } else if is(name, "set_input_delay") {
+        Some(CommandKind::Delay(false))
+    } else if is(name, "set_output_delay") {
+        Some(CommandKind::Delay(true))
+    } else if is(name, "set_logic_zero") {
+        Some(CommandKind::Constant(false))
+    } else if is(name, "set_logic_one") {
+        Some(CommandKind::Constant(true))
+    } else if is(name, "current_instance") {
+        Some(CommandKind::Instance)
+    } else if is(name, "set_hierarchy_separator") {
+        Some(CommandKind::Separator)
+    } else if is(name, "create_generated_clock") {
+        Some(CommandKind::Generated)
+    } else {
+        None
+    }
+}
+
+fn skipped_kind(form: &ScriptForm, name: &[u8]) -> Option<CommandKind>
+    ensures { result ≡ spec.skipped_kind form.now name.now }
+{
+    if skips(form, name) {
+        Some(CommandKind::Unjudged)
+    } else {
+        None
+    }
+}
+
+fn or_else(first: Option<CommandKind>, other: Option<CommandKind>) -> Option<CommandKind>
+    ensures { result ≡ spec.or_else first other }
+{
+    match first {
+        Some(kind) => Some(kind),
+        None => other,
+    }
+}
+
+/// The kind of command of this name, and `None` exactly where there is none.
+#[tactic(auto, unfolding(crate::specs::Kinds::command_kind))]
+pub fn command_kind(form: &ScriptForm, name: &[u8]) -> Option<CommandKind>
+    ensures { result ≡ spec.command_kind form.now name.now }
+{
+    match form {
+        ScriptForm::Narrow => narrow_kind(name),
+        ScriptForm::Wide(_) => {
+            or_else(
+                wide_kind(name),
+                or_else(narrow_kind(name), skipped_kind(form, name)),
+            )
+        }
     }
 }

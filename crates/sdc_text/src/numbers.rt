@@ -27,6 +27,13 @@ pub fn is_whole(text: &[u8]) -> bool
     is_digits(text) || (byte_at(text, 0) == b'-' && is_digits(after(text, 1)))
 }
 
+/// Digits, and maybe one sign before them.
+pub fn is_integer(text: &[u8]) -> bool
+    ensures { result ≡ spec.is_integer text.now }
+{
+    is_whole(text) || (byte_at(text, 0) == b'+' && is_digits(after(text, 1)))
+}
+
 /// The value of digits, and 17 where it is more than that.
 fn capped_value(text: &[u8]) -> u8
     requires { IsTrue (list_all char_spec.is_ascii_digit text.now) }

@@ -24,21 +24,41 @@ pub enum PathOption {
     Comment,
     /// Which clock the cycles are counted by. It changes nothing under one clock.
     Reference,
+    /// The number comes next, in a wide script.
+    Multiplier,
     /// The command is set aside for it. It stands alone.
     LeftOut,
     /// The command is set aside for it. It takes a word.
     LeftOutList,
 }
 
-/// An option of `create_clock`.
+/// The commands that make a clock.
+#[derive(Clone, Copy, PartialEq, Eq)]
+pub enum ClockCommand {
+    Create,
+    Generate,
+}
+
+/// An option of a command that makes a clock.
 #[derive(Clone, Copy, PartialEq, Eq)]
 pub enum ClockOption {
     /// The clock's name comes next.
     Called,
     /// A word comes next that changes nothing here.
     Timing,
+    /// The objects of the clock that it is made of come next, which change nothing here.
+    Master,
     /// It stands alone, and changes nothing here.
     Added,
+}
+
+/// An option of a delay.
+#[derive(Clone, Copy, PartialEq, Eq)]
+pub enum DelayOption {
+    /// The clocks come next.
+    Clocks,
+    /// It stands alone, and changes no list.
+    Alone,
 }
 
 /// Whether these bytes are this word.
@@ -109,21 +129,37 @@ fn multicycle_option(name: &[u8]) -> Option<PathOption>
     }
 }
 
-/// The option of an exception that this word is, and `None` exactly where it is none.
-#[tactic(auto, unfolding(crate::specs::Options::path_option))]
-pub fn path_option(path: PathCommand, name: &[u8]) -> Option<PathOption>
-    ensures { result ≡ spec.path_option path name.now }
+#[tactic(auto, unfolding(crate::specs::Options::wide_option))]
+fn wide_option(name: &[u8]) -> Option<PathOption>
+    ensures { result ≡ spec.wide_option name.now }
 {
-    match path {
-        PathCommand::FalsePath => common_option(name),
-        PathCommand::Multicycle => multicycle_option(name),
+    if is(name, "-path_multiplier") {
+        Some(PathOption::Multiplier)
+    } else {
+        multicycle_option(name)
     }
 }
 
-/// The option of `create_clock` that this word is, and `None` exactly where it is none.
-#[tactic(auto, unfolding(crate::specs::Options::clock_option))]
-pub fn clock_option(name: &[u8]) -> Option<ClockOption>
-    ensures { result ≡ spec.clock_option name.now }
+/// The option of an exception of a wide or a narrow script that this word is, and `None` exactly where it is none.
+#[tactic(auto, unfolding(crate::specs::Options::path_option))]
+pub fn path_option(wide: bool, path: PathCommand, name: &[u8]) -> Option<PathOption>
+    ensures { result ≡ spec.path_option wide path name.now }
+{
+    match path {
+        PathCommand::FalsePath => common_option(name),
+        PathCommand::Multicycle => {
+            if wide {
+                wide_option(name)
+            } else {
+                multicycle_option(name)
+            }
+        }
+    }
+}
+
+#[tactic(auto, unfolding(crate::specs::Options::created_option))]
+fn created_option(name: &[u8]) -> Option<ClockOption>
+    ensures { result ≡ spec.created_option name.now }
 {
     if is(name, "-name") {
         Some(ClockOption::Called)
@@ -135,6 +171,78 @@ pub fn clock_option(name: &[u8]) -> Option<ClockOption>
         Some(ClockOption::Timing)
     } else if is(name, "-add") {
         Some(ClockOption::Added)
+    } else {
+        None
+    }
+}
+
+#[tactic(auto, unfolding(crate::specs::Options::generated_option))]
+fn generated_option(name: &[u8]) -> Option<ClockOption>
+    ensures { result ≡ spec.generated_option name.now }
+{
+    if is(name, "-name") {
+        Some(ClockOption::Called)
+    } else if is(name, "-source") {
+        Some(ClockOption::Master)
+    } else if is(name, "-master_clock") {
+        Some(ClockOption::Master)
+    } else if is(name, "-divide_by") {
+        Some(ClockOption::Timing)
+    } else if is(name, "-multiply_by") {
+        Some(ClockOption::Timing)
+    } else if is(name, "-duty_cycle") {
+        Some(ClockOption::Timing)
+    } else if is(name, "-edges") {
+        Some(ClockOption::Timing)
+    } else if is(name, "-edge_shift") {
+        Some(ClockOption::Timing)
+    } else if is(name, "-comment") {
+        Some(ClockOption::Timing)
+    } else if is(name, "-invert") {
+        Some(ClockOption::Added)
+    } else if is(name, "-add") {
+        Some(ClockOption::Added)
+    } else if is(name, "-combinational") {
+        Some(ClockOption::Added)
+    } else {
+        None
+    }
+}
+
+/// The option of a command that makes a clock that this word is, and `None` exactly where it is none.
+#[tactic(auto, unfolding(crate::specs::Options::clock_option))]
+pub fn clock_option(command: ClockCommand, name: &[u8]) -> Option<ClockOption>
+    ensures { result ≡ spec.clock_option command name.now }
+{
+    match command {
+        ClockCommand::Create => created_option(name),
+        ClockCommand::Generate => generated_option(name),
+    }
+}
+
+/// The option of a delay that this word is, and `None` exactly where it is none.
+#[tactic(auto, unfolding(crate::specs::Options::delay_option))]
+pub fn delay_option(name: &[u8]) -> Option<DelayOption>
+    ensures { result ≡ spec.delay_option name.now }
+{
+    if is(name, "-clock") {
+        Some(DelayOption::Clocks)
+    } else if is(name, "-clock_fall") {
+        Some(DelayOption::Alone)
+    } else if is(name, "-rise") {
+        Some(DelayOption::Alone)
+    } else if is(name, "-fall") {
+        Some(DelayOption::Alone)
+    } else if is(name, "-max") {
+        Some(DelayOption::Alone)
+    } else if is(name, "-min") {
+        Some(DelayOption::Alone)
+    } else if is(name, "-add_delay") {
+        Some(DelayOption::Alone)
+    } else if is(name, "-network_latency_included") {
+        Some(DelayOption::Alone)
+    } else if is(name, "-source_latency_included") {
+        Some(DelayOption::Alone)
     } else {
         None
     }

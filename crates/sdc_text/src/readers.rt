@@ -6,19 +6,20 @@ ghost use Rattle.sdc_values.specs.Told.{Fails};
 ghost use Rattle.sdc_text.specs.Scripts as spec;
 
 use crate::progresses::Progress;
+use run_options::ScriptForm;
 use script_types::{Script, What};
 use sdc_values::SdcFault;
 use sdc_words::{Commands, RawCommand, cleaned, original};
 use std::alloc::Global;
 
-/// The script that a text is, or the fault that it has. A `Syntax` and a `Deep` are at most the text's length.
+/// The script that a text is in this form, or the fault that it has. A `Syntax` and a `Deep` are at most the text's length.
 #[tactic(auto, unfolding(crate::specs::Scripts::script_of))]
-pub fn read_sdc(alloc: Global, text: &[u8]) -> Result<Script, SdcFault>
-    ensures value { Gives Fails (λ script. script) result (spec.script_of text.now) }
+pub fn read_sdc(alloc: Global, text: &[u8], form: &ScriptForm) -> Result<Script, SdcFault>
+    ensures value { Gives Fails (λ script. script) result (spec.script_of form.now text.now) }
     ensures within { IfErr result (λ e. spec.IsWithin (length text.now) e) }
 {
     let clean = cleaned(alloc, text)?;
-    match read_clean(alloc, &clean) {
+    match read_clean(alloc, &clean, form) {
         Ok(progress) => Ok(script(progress)),
         Err(fault) => Err(placed(text, fault)),
     }
@@ -51,32 +52,40 @@ fn next_raw(alloc: Global, commands: &mut Commands<'_>) -> Result<Option<RawComm
     Ok(commands.next_command(alloc)?)
 }
 
-/// Whether the next command is passed over. Where its front can't be read, it is not: the command is read for its fault.
-fn is_passed_over(alloc: Global, commands: &Commands<'_>, progress: &Progress) -> bool
-    ensures { IsTrue result → spec.PassesNext (command_at (text_of commands.now) (left_of commands.now)) progress.now }
+/// What the next command says, where it is passed over. Where its front can't be read, it is not: the command is read for
+/// its fault.
+fn passed_over(
+    alloc: Global,
+    form: &ScriptForm,
+    commands: &Commands<'_>,
+    progress: &Progress,
+) -> Option<What>
+    ensures { IfSome result (λ what. spec.PassesNext form.now (command_at (text_of commands.now) (left_of commands.now)) progress.now what) }
 {
     match commands.front(alloc) {
-        Ok(Some(front)) => progress.passes_over(alloc, &front),
-        _ => false,
+        Ok(Some(front)) => progress.passes_over(alloc, form, &front),
+        _ => None,
     }
 }
 
-/// Takes the next command, which is passed over, and tells whether there was one.
+/// Takes the next command, which is passed over and says this, and tells whether there was one.
 #[tactic(auto, unfolding(crate::specs::Scripts::next_at))]
 fn pass_next(
     alloc: Global,
+    form: &ScriptForm,
     commands: &mut Commands<'_>,
     progress: &mut Progress,
+    what: What,
 ) -> Result<bool, SdcFault>
-    requires { spec.PassesNext (command_at (text_of commands.old) (left_of commands.old)) progress.old }
+    requires { spec.PassesNext form.now (command_at (text_of commands.old) (left_of commands.old)) progress.old what }
     ensures value { Gives Fails (λ more. ((more, progress.new), left_of commands.new)) result
-        (spec.next_at (text_of commands.old) progress.old (left_of commands.old)) }
+        (spec.next_at form.now (text_of commands.old) progress.old (left_of commands.old)) }
     ensures text { text_of commands.new ≡ text_of commands.old }
     ensures shorter { IfOk result (λ more. IsTrue more → length (left_of commands.new) < length (left_of commands.old)) }
 {
     match pass_raw(alloc, commands)? {
         Some(line) => {
-            progress.push(line, What::Passed)?;
+            progress.push(line, what)?;
             Ok(true)
         }
         None => Ok(false),
@@ -95,20 +104,21 @@ fn pass_raw(alloc: Global, commands: &mut Commands<'_>) -> Result<Option<u64>, S
 #[tactic(auto, unfolding(crate::specs::Scripts::next_at))]
 fn take_next(
     alloc: Global,
+    form: &ScriptForm,
     commands: &mut Commands<'_>,
     progress: &mut Progress,
 ) -> Result<bool, SdcFault>
     ensures value { Gives Fails (λ more. ((more, progress.new), left_of commands.new)) result
-        (spec.next_at (text_of commands.old) progress.old (left_of commands.old)) }
+        (spec.next_at form.now (text_of commands.old) progress.old (left_of commands.old)) }
     ensures text { text_of commands.new ≡ text_of commands.old }
     ensures shorter { IfOk result (λ more. IsTrue more → length (left_of commands.new) < length (left_of commands.old)) }
 {
-    if is_passed_over(alloc, commands, progress) {
-        return pass_next(alloc, commands, progress);
+    if let Some(what) = passed_over(alloc, form, commands, progress) {
+        return pass_next(alloc, form, commands, progress, what);
     }
     match next_raw(alloc, commands)? {
         Some(command) => {
-            progress.take_command(alloc, &command)?;
+            progress.take_command(alloc, form, &command)?;
             Ok(true)
         }
         None => Ok(false),
@@ -116,13 +126,13 @@ fn take_next(
 }
 
 /// Takes all commands of a text without carriage returns at its lines' ends.
-fn read_clean(alloc: Global, text: &[u8]) -> Result<Progress, SdcFault>
-    ensures { Gives Fails (λ progress. progress) result (spec.progress_of text.now) }
+fn read_clean(alloc: Global, text: &[u8], form: &ScriptForm) -> Result<Progress, SdcFault>
+    ensures { Gives Fails (λ progress. progress) result (spec.progress_of form.now text.now) }
 {
     let mut commands = Commands::new(text);
     let mut progress = Progress::new(alloc);
     'commands: loop {
-        let more = take_next(alloc, &mut commands, &mut progress)?;
+        let more = take_next(alloc, form, &mut commands, &mut progress)?;
         if !more {
             return Ok(progress);
         }

@@ -1,3 +1,4 @@
+pub mod Collections
 pub mod Gets
 pub mod Lines
 pub mod Lists

@@ -6,6 +6,7 @@ ghost use Rattle.sdc_values.specs.Lines as spec;
 
 use crate::loans::Loan;
 use crate::nested::nested;
+use crate::nested_kinds::Nesting;
 use crate::values::{Said, Value};
 use crate::variables::Variables;
 use crate::word_texts::{said_text, text_within, value};
@@ -26,13 +27,14 @@ pub fn words_after(words: &[Word], count: usize) -> &[Word]
 #[tactic(auto, unfolding(crate::specs::Lines::adds_word))]
 fn add_word<'a>(
     alloc: Global,
+    nesting: Nesting,
     vars: &'a Variables,
     line: u64,
     words: &[Word],
     said: &mut Seq<Said<'a>>,
 ) -> Result<usize, SdcFault>
     requires { 0 < length words.now }
-    ensures value { Gives Fails (λ n. (said.new, drop n words.now)) result (spec.adds_word vars.entry.now line said.old words.now) }
+    ensures value { Gives Fails (λ n. (said.new, drop n words.now)) result (spec.adds_word nesting vars.entry.now line said.old words.now) }
     ensures some { IfOk result (λ n. 0 < n) }
     ensures within { IfOk result (λ n. n ≤ length words.now) }
 {
@@ -42,7 +44,7 @@ fn add_word<'a>(
             Ok(1)
         }
         Word::Opens(offset) => {
-            let (objects, count) = nested(alloc, vars, line, *offset, &words[1..])?;
+            let (objects, count) = nested(alloc, nesting, vars, line, *offset, &words[1..])?;
             said.push(Said {
                 offset: *offset,
                 value: Loan::own(Value::Objects(objects)),
@@ -56,16 +58,24 @@ fn add_word<'a>(
 /// What the words of a command on this line say, one after the other.
 pub fn said_words<'a>(
     alloc: Global,
+    nesting: Nesting,
     vars: &'a Variables,
     line: u64,
     words: &[Word],
 ) -> Result<Seq<Said<'a>>, SdcFault>
-    ensures { Gives Fails (λ said. said) result (spec.said_words vars.entry.now line words.now) }
+    ensures { Gives Fails (λ said. said) result (spec.said_words nesting vars.entry.now line words.now) }
 {
     let mut said = Seq::new(alloc);
     let mut place = 0;
     'words: while place < words.len() {
-        let taken = add_word(alloc, vars, line, words_after(words, place), &mut said)?;
+        let taken = add_word(
+            alloc,
+            nesting,
+            vars,
+            line,
+            words_after(words, place),
+            &mut said,
+        )?;
         place += taken;
     }
     Ok(said)

@@ -5,9 +5,9 @@ ghost use Rattle.sdc_values.specs.Told.{Fails};
 ghost use Rattle.sdc_values.specs.Nested as spec;
 
 use crate::command_words::words_after;
-use crate::gets::{Scene, all, get};
+use crate::gets::{Scene, all, get, inputs};
 use crate::lists::objects_of;
-use crate::nested_kinds::{NestedKind, nested_kind};
+use crate::nested_kinds::{NestedKind, Nesting, nested_kind};
 use crate::variables::Variables;
 use crate::word_texts::{said_text, text_within, value};
 use script_types::{Object, SdcFault};
@@ -65,13 +65,13 @@ fn objects_at(
     words: &[Word],
 ) -> Result<(Seq<Object>, usize), SdcFault>
     ensures value { Gives Fails (λ p. (p.0, drop p.1 words.now)) result
-        (spec.objects_at scene.now.vars.now scene.now.line scene.now.place own.now kind words.now) }
+        (spec.objects_at scene.now.nesting scene.now.vars.now scene.now.line scene.now.place own.now kind words.now) }
     ensures within { IfOk result (λ p. p.1 ≤ length words.now) }
 {
     match kind {
         NestedKind::List => Ok((Seq::new(scene.alloc), 0)),
         NestedKind::Get(class) => get(scene, own, class, words),
-        NestedKind::AllInputs => all(scene, own, Object::AllInputs, words),
+        NestedKind::AllInputs => inputs(scene, own, words),
         NestedKind::AllOutputs => all(scene, own, Object::AllOutputs, words),
         NestedKind::AllRegisters => all(scene, own, Object::AllRegisters, words),
         NestedKind::AllClocks => all(scene, own, Object::AllClocks, words),
@@ -98,7 +98,7 @@ fn begin(
 ) -> Result<usize, SdcFault>
     requires { joined.old.opened + 1 < 2 ^ 64 }
     ensures value { Gives Fails (λ n. (joined.new, drop n words.now)) result
-        (spec.begins scene.now.vars.now scene.now.line scene.now.place own.now kind joined.old words.now) }
+        (spec.begins scene.now.nesting scene.now.vars.now scene.now.line scene.now.place own.now kind joined.old words.now) }
     ensures within { IfOk result (λ n. n ≤ length words.now) }
     ensures few { OnOk result (joined.new.opened ≤ joined.old.opened + 1) }
 {
@@ -116,13 +116,13 @@ fn begin(
 fn enter(scene: &Scene<'_>, joined: &mut Joined, words: &[Word]) -> Result<usize, SdcFault>
     requires { joined.old.opened + length words.now < 2 ^ 64 }
     ensures value { Gives Fails (λ n. (joined.new, drop n words.now)) result
-        (spec.enters scene.now.vars.now scene.now.line scene.now.place joined.old words.now) }
+        (spec.enters scene.now.nesting scene.now.vars.now scene.now.line scene.now.place joined.old words.now) }
     ensures some { IfOk result (λ n. 0 < n) }
     ensures within { IfOk result (λ n. n ≤ length words.now) }
     ensures few { OnOk result (joined.new.opened ≤ joined.old.opened + 1) }
 {
     let own = name(scene, words)?;
-    match nested_kind(own.as_bytes()) {
+    match nested_kind(scene.nesting, own.as_bytes()) {
         Some(kind) => Ok(begin(scene, &own, kind, joined, words_after(words, 1))? + 1),
         None => Err(SdcFault::UnknownCommand(scene.line, own)),
     }
@@ -134,7 +134,7 @@ fn step(scene: &Scene<'_>, joined: &mut Joined, words: &[Word]) -> Result<usize,
     requires some { 0 < joined.old.opened }
     requires few { joined.old.opened + length words.now < 2 ^ 64 }
     ensures value { Gives Fails (λ n. (joined.new, drop n words.now)) result
-        (spec.list_step scene.now.vars.now scene.now.line scene.now.place joined.old words.now) }
+        (spec.list_step scene.now.nesting scene.now.vars.now scene.now.line scene.now.place joined.old words.now) }
     ensures some { IfOk result (λ n. 0 < n) }
     ensures within { IfOk result (λ n. n ≤ length words.now) }
     ensures few { OnOk result (joined.new.opened ≤ joined.old.opened + 1) }
@@ -161,16 +161,18 @@ fn step(scene: &Scene<'_>, joined: &mut Joined, words: &[Word]) -> Result<usize,
 #[tactic(auto, unfolding(crate::specs::Nested::nested_at))]
 pub fn nested(
     alloc: Global,
+    nesting: Nesting,
     vars: &Variables,
     line: u64,
     offset: usize,
     words: &[Word],
 ) -> Result<(Seq<Object>, usize), SdcFault>
-    ensures value { Gives Fails (λ p. (p.0, drop p.1 words.now)) result (spec.nested_at vars.now line offset words.now) }
+    ensures value { Gives Fails (λ p. (p.0, drop p.1 words.now)) result (spec.nested_at nesting vars.now line offset words.now) }
     ensures within { IfOk result (λ p. p.1 ≤ length words.now) }
 {
     let scene = Scene {
         alloc,
+        nesting,
         vars,
         line,
         place: offset,
@@ -188,7 +190,7 @@ pub fn nested(
 fn close_all(scene: &Scene<'_>, joined: &mut Joined, words: &[Word]) -> Result<usize, SdcFault>
     requires { joined.old.opened + length words.now < 2 ^ 64 }
     ensures value { Gives Fails (λ n. (joined.new.objects, drop n words.now)) result
-        (spec.lists_at scene.now.vars.now scene.now.line scene.now.place joined.old words.now) }
+        (spec.lists_at scene.now.nesting scene.now.vars.now scene.now.line scene.now.place joined.old words.now) }
     ensures within { IfOk result (λ n. n ≤ length words.now) }
 {
     let mut place = 0;

@@ -6,7 +6,7 @@ use Rattle.sdc_text.proofs.readers.read_clean.Given as goal
 abbrev pub invariant-commands : goal.invariant-commands
 invariant-commands l = record {
   text : text_of l.commands ≡ l.text;
-  told : (m : ℕ) × (length (left_of l.commands) < m) × (progress_of l.text ≡ progress_from m l.text l.progress (left_of l.commands));
+  told : (m : ℕ) × (length (left_of l.commands) < m) × (progress_of l.form l.text ≡ progress_from m l.form l.text l.progress (left_of l.commands));
 }
 
 abbrev pub decreases-commands : goal.decreases-commands

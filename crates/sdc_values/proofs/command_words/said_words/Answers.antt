@@ -12,11 +12,11 @@ words-preserved c =
     let left = length-drop c.words.place ws in
     let some = c.in_ok-taken.ensures.some in
     let within = rw c.words_after.ensures at c.in_ok-taken.ensures.within in
-    let (n, one, step) = said_more c.args.vars.now c.args.line c.words.said m (drop c.words.place ws) c.add_word.new.said _ (omega arith) (omega arith)
+    let (n, one, step) = said_more c.args.nesting c.args.vars.now c.args.line c.words.said m (drop c.words.place ws) c.add_word.new.said _ (omega arith) (omega arith)
     (rw c.words_after.ensures at c.in_ok-taken.ensures.value) in
     record {
       within = omega arith;
-      told = (n, omega arith, told ∙ step ∙ ap (said_from n c.args.vars.now c.args.line c.add_word.new.said) (drop-drop c.in_ok-taken.taken c.words.place ws));
+      told = (n, omega arith, told ∙ step ∙ ap (said_from n c.args.nesting c.args.vars.now c.args.line c.add_word.new.said) (drop-drop c.in_ok-taken.taken c.words.place ws));
     }
 
 pub returns-in_err-taken : goal.returns-in_err-taken
@@ -25,11 +25,11 @@ returns-in_err-taken c =
     let ws = c.args.words.now in
     let left = length-drop c.words.place ws in
     let p = err_from_is_err_and c.from_residual.result c.from_residual.ensures.1 in
-    rw (p.1, p.2) (λ other. told ∙ said_bad c.args.vars.now c.args.line c.words.said m (drop c.words.place ws) _ (omega arith) (omega arith)
+    rw (p.1, p.2) (λ other. told ∙ said_bad c.args.nesting c.args.vars.now c.args.line c.words.said m (drop c.words.place ws) _ (omega arith) (omega arith)
     (rw c.words_after.ensures at (c.in_err-taken.ensures.value other)))
 
 pub returns : goal.returns
 returns c =
     let (m, room, told) = c.words.invariant.told in
-    told ∙ at_drop_all (said_from m c.args.vars.now c.args.line c.words.said) c.args.words.now c.words.place (omega arith)
-    ∙ said_none c.args.vars.now c.args.line c.words.said m
+    told ∙ at_drop_all (said_from m c.args.nesting c.args.vars.now c.args.line c.words.said) c.args.words.now c.words.place (omega arith)
+    ∙ said_none c.args.nesting c.args.vars.now c.args.line c.words.said m

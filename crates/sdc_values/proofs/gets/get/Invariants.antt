@@ -4,5 +4,5 @@ use Rattle.sdc_values.proofs.gets.get.Given as goal
 
 abbrev pub invariant-loop-place : goal.invariant-loop-place
 invariant-loop-place l = (m : ℕ) × (length l.words - l.place < m)
-    × (get_at l.scene.vars.now l.scene.line l.scene.place l.own l.class l.words
-    ≡ get_from m l.scene.vars.now l.scene.line l.scene.place l.own l.class l.asking (drop l.place l.words))
+    × (get_at l.scene.nesting l.scene.vars.now l.scene.line l.scene.place l.own l.class l.words
+    ≡ get_from m l.scene.nesting l.scene.vars.now l.scene.line l.scene.place l.own l.class l.asking (drop l.place l.words))

@@ -7,8 +7,8 @@ invariant-words l = record {
   within : l.place ≤ length l.words;
   few : l.joined.opened + (length l.words - l.place) < 2 ^ 64;
   told : (m : ℕ) × (length l.words - l.place < m)
-      × (lists_at l.scene.vars.now l.scene.line l.scene.place l.fn.joined l.words
-      ≡ lists_from m l.scene.vars.now l.scene.line l.scene.place l.joined (drop l.place l.words));
+      × (lists_at l.scene.nesting l.scene.vars.now l.scene.line l.scene.place l.fn.joined l.words
+      ≡ lists_from m l.scene.nesting l.scene.vars.now l.scene.line l.scene.place l.joined (drop l.place l.words));
 }
 
 abbrev pub decreases-words : goal.decreases-words
