@@ -3,7 +3,8 @@ use Rattle.std.proofs.Common.{arith, ◌≡◌, ◌∙◌, ℕ, suc, ◌+◌, �
 use Rattle.std.proofs.lemmas.List.{drop_more, drop_all}
 use Rattle.net_model.specs.declared.claims.Start.{Start}
 use Rattle.mend_groups.specs.declared.rows.Row.{Row}
-use Rattle.mend_groups.specs.Groups.{is_start, is_end, run_of, have_ends}
+use Rattle.script_notices.specs.Notices.{is_start, is_end}
+use Rattle.mend_groups.specs.Groups.{run_of, have_ends}
 
 -- lists of two lengths have not the same ends
 pub ends_long : (a b : List Row) → (length a ≡ length b → ⊥) → false ≡ have_ends a b

@@ -12,7 +12,8 @@ use Rattle.exception_expand.specs.declared.sides.Sides.TheVariants.{Late, Early,
 use Rattle.mend_groups.specs.declared.rows.Row.{Row}
 use Rattle.mend_groups.specs.declared.groups.Group.{Group}
 use Rattle.mend_groups.specs.Laws.{IsStar, IsGroup, IsSided, pairs_of, pairs_in}
-use Rattle.mend_groups.specs.Groups.{is_start, run_of, star_len, stars_from, stars_of, have_ends, are_alike, is_like, fits_in, group_of, with_star, grouped, written_of, is_written_as, written_as, groups_as, groups_of}
+use Rattle.script_notices.specs.Notices.{is_start}
+use Rattle.mend_groups.specs.Groups.{run_of, star_len, stars_from, stars_of, have_ends, are_alike, is_like, fits_in, group_of, with_star, grouped, written_of, is_written_as, written_as, groups_as, groups_of}
 
 -- what holds of each pair holds of those of each start
 stars_hold : (P : Row → Type 0) (n : ℕ) (rows : List Row) → All P rows → All (All P) (stars_from n rows)

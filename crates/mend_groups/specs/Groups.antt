@@ -1,38 +1,19 @@
 -- The groups in which the written pairs of an exception stand.
-use Rattle.std.specs.Prelude.{ℕ, zero, suc, ◌==◌, Bool, true, false, ◌&&◌, not, if◌then◌else◌, List, [], ◌∷◌, ◌++◌, filter, take, drop, length}
-use Rattle.sdcv_base.specs.declared.kinds.Edge.{Edge}
-use Rattle.sdcv_base.specs.declared.kinds.Edge.TheVariants.{Any, Rise, Fall}
+use Rattle.std.specs.Prelude.{ℕ, zero, suc, Bool, true, false, ◌&&◌, not, if◌then◌else◌, List, [], ◌∷◌, ◌++◌, filter, take, drop, length}
 use Rattle.net_model.specs.declared.claims.Start.{Start}
 use Rattle.net_model.specs.declared.claims.Start.TheVariants.{Reg as RegStart, Input as InputStart}
-use Rattle.net_model.specs.declared.claims.End.{End}
-use Rattle.net_model.specs.declared.claims.End.TheVariants.{Reg as RegEnd, Output as OutputEnd}
 use Rattle.exception_expand.specs.declared.sides.Sides.{Sides}
 use Rattle.exception_expand.specs.declared.sides.Sides.TheVariants.{Late, Early, Both}
+use Rattle.script_notices.specs.Companions.{is_edge}
+use Rattle.script_notices.specs.Notices.{is_start, is_end}
 use Rattle.mend_groups.specs.declared.rows.Row.{Row}
 use Rattle.mend_groups.specs.declared.groups.Group.{Group}
-
--- two starts, two ends and two edges are the same
-abbrev pub is_start : Start → Start → Bool
-is_start (RegStart a) (RegStart b) = a == b
-is_start (InputStart a) (InputStart b) = a == b
-is_start _ _ = false
-
-abbrev pub is_end : End → End → Bool
-is_end (RegEnd a) (RegEnd b) = a == b
-is_end (OutputEnd a) (OutputEnd b) = a == b
-is_end _ _ = false
 
 -- both starts are registers, or both are inputs
 abbrev pub is_class : Start → Start → Bool
 is_class (RegStart a) (RegStart b) = true
 is_class (InputStart a) (InputStart b) = true
 is_class _ _ = false
-
-abbrev pub is_edge : Edge → Edge → Bool
-is_edge Any Any = true
-is_edge Rise Rise = true
-is_edge Fall Fall = true
-is_edge _ _ = false
 
 -- how many of the first pairs have this start
 unfoldable pub run_of : Start → List Row → ℕ

@@ -11,7 +11,8 @@ use Rattle.mend_groups.specs.declared.rows.Row.{Row}
 use Rattle.mend_groups.specs.declared.groups.Group.{Group}
 use Rattle.mend_groups.specs.declared.parts.Part.{Part}
 use Rattle.mend_groups.specs.Rows.{are_kept}
-use Rattle.mend_groups.specs.Groups.{is_start, are_alike, written_of, is_written_as}
+use Rattle.script_notices.specs.Notices.{is_start}
+use Rattle.mend_groups.specs.Groups.{are_alike, written_of, is_written_as}
 
 -- the pair at a place is kept: its claim is there, and is justified
 pub record IsKeptAt (s : Selected) (verdicts : List Verdict) (place : ℕ) : Type 0 where

@@ -1,11 +1,13 @@
 //! Groups of pairs that commands select together.
 ghost use Rattle.std.specs.Prelude.{◌≡◌, ◌+◌, ◌<◌, ◌≤◌, ◌++◌, IfOk, OnOk, length, take, drop, slice_get, IfSome, true};
+ghost use Rattle.script_notices.specs.Notices.{is_start as one_start, is_end as one_end};
 ghost use Rattle.mend_groups.specs.Groups as spec;
 
 use crate::rows::Row;
 use exception_expand::Sides;
 use net_model::{End, Start};
-use sdcv_base::{Edge, Seq};
+use script_notices::is_edge;
+use sdcv_base::Seq;
 use std::alloc::{AllocError, Global};
 
 /// Starts of one class that have the same ends: for each of them, in the order of the design, its written pairs, by their ends in
@@ -161,7 +163,7 @@ fn have_ends(first: &[Row], second: &[Row]) -> bool
 }
 
 fn is_start(a: Start, b: Start) -> bool
-    ensures { result ≡ spec.is_start a b }
+    ensures { result ≡ one_start a b }
 {
     match (a, b) {
         (Start::Reg(a), Start::Reg(b)) | (Start::Input(a), Start::Input(b)) => a == b,
@@ -170,7 +172,7 @@ fn is_start(a: Start, b: Start) -> bool
 }
 
 fn is_end(a: End, b: End) -> bool
-    ensures { result ≡ spec.is_end a b }
+    ensures { result ≡ one_end a b }
 {
     match (a, b) {
         (End::Reg(a), End::Reg(b)) | (End::Output(a), End::Output(b)) => a == b,
@@ -183,15 +185,6 @@ fn is_class(a: Start, b: Start) -> bool
 {
     match (a, b) {
         (Start::Reg(_), Start::Reg(_)) | (Start::Input(_), Start::Input(_)) => true,
-        _ => false,
-    }
-}
-
-fn is_edge(a: Edge, b: Edge) -> bool
-    ensures { result ≡ spec.is_edge a b }
-{
-    match (a, b) {
-        (Edge::Any, Edge::Any) | (Edge::Rise, Edge::Rise) | (Edge::Fall, Edge::Fall) => true,
         _ => false,
     }
 }

@@ -12,9 +12,9 @@ use Rattle.verdict_types.specs.declared.outcomes.Verdict.{Verdict}
 use Rattle.mend_groups.specs.declared.groups.Group.{Group}
 use Rattle.mend_groups.specs.declared.parts.Part.{Part}
 use Rattle.mend_lines.specs.Lines.{line_after, rests_of, lines_of_group, lines_after}
-use Rattle.mend_lines.specs.Holds.{next_place}
+use Rattle.script_notices.specs.Companions.{next_place}
 use Rattle.mend_lines.specs.Bodies.{body_of, bodies_from}
-use Rattle.mend_lines.proofs.Rests.{drop_here}
+use Rattle.script_notices.proofs.Rests.{drop_here}
 
 -- a group more
 pub lines_next : (head : List ℕ) (pairs : List PairLine) (through : List (List Object)) (groups : List Group) (k : ℕ) (g : Group)

@@ -6,7 +6,7 @@ use Rattle.std.proofs.lemmas.Bool.Decides.{eqb_tells}
 use Rattle.list_laws.proofs.Joining.{item_at}
 use Rattle.script_types.specs.declared.objects.Object.{Object}
 use Rattle.mend_lines.specs.Lines.{bundled, go_together}
-use Rattle.mend_lines.proofs.Rests.{drop_here}
+use Rattle.script_notices.proofs.Rests.{drop_here}
 
 -- how many objects go together with the one before them, one after another
 unfoldable pub run_after : Object → List Object → ℕ

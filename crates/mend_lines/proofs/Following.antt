@@ -1,26 +1,16 @@
 -- What becomes of a hold command, one command of the script after another.
-use Rattle.std.proofs.Common.{◌≡◌, ◌∙◌, ℕ, ◌+◌, ◌≤◌, Bool, true, false, ◌&&◌, ◌||◌, List, [], ◌∷◌, ◌++◌, length, drop, refl, ap, arith}
+use Rattle.std.proofs.Common.{◌≡◌, ◌∙◌, ℕ, ◌+◌, ◌≤◌, Bool, true, false, ◌&&◌, ◌||◌, List, [], ◌∷◌, ◌++◌, length, drop, refl, ap}
 use Rattle.std.specs.Prelude.{Some, slice_get, if◌then◌else◌}
 use Rattle.std.specs.List.{list_any}
 use Rattle.std.proofs.lemmas.List.{drop_all}
 use Rattle.sdcv_base.specs.Seqs.{where_true}
-use Rattle.script_types.specs.declared.scripts.Held.{Held}
-use Rattle.script_types.specs.declared.scripts.What.{What}
 use Rattle.script_types.specs.declared.scripts.Command.{Command}
-use Rattle.exception_expand.specs.Selections.{is_exception}
+use Rattle.script_notices.specs.Companions.{Shifted, is_companion, companions_from, next_place}
 use Rattle.mend_groups.specs.declared.parts.Part.{Part}
-use Rattle.mend_lines.specs.Holds.{is_companion, companions_from, next_place, is_whole_at, last_fate, fate_by}
+use Rattle.mend_lines.specs.Holds.{is_whole_at, last_fate, fate_by}
 use Rattle.mend_lines.specs.declared.fates.HoldFate.{HoldFate}
 use Rattle.mend_lines.specs.declared.fates.HoldFate.TheVariants.{Stays, Follows, LeftOut}
-use Rattle.mend_lines.proofs.Rests.{drop_here}
-
-one_more : (b : Bool) (place : ℕ) → (if b then place + 1 else place) ≤ place + 1
-one_more true place = omega arith
-one_more false place = omega arith
-
--- the next place is at most the one after it
-pub place_near : (place : ℕ) (what : What) → next_place place what ≤ place + 1
-place_near place what = one_more (is_exception what) place
+use Rattle.script_notices.proofs.Rests.{drop_here}
 
 -- what is found before some companions, and then among them
 unfoldable pub fate_after : List Part → HoldFate → List ℕ → HoldFate
@@ -71,27 +61,27 @@ stopped parts fate place true rest holds = rw holds refl
 stopped parts fate place false rest holds = absurd cc
 
 -- a command more, which is no companion that stays
-pub fate_next : (parts : List Part) (h : Held) (number : List ℕ) (fate : HoldFate) (place k : ℕ) (commands : List Command) (c : Command)
-    → slice_get commands k ≡ Some c → (is_companion h number c.what && is_whole_at parts place) ≡ false
-    → fate_after parts fate (companions_from h number place (drop k commands)) ≡
-    fate_after parts (if is_companion h number c.what then Follows place else fate) (companions_from h number (next_place place c.what) (drop (k + 1) commands))
+pub fate_next : (parts : List Part) (s : Shifted) (fate : HoldFate) (place k : ℕ) (commands : List Command) (c : Command)
+    → slice_get commands k ≡ Some c → (is_companion s c.what && is_whole_at parts place) ≡ false
+    → fate_after parts fate (companions_from s place (drop k commands)) ≡
+    fate_after parts (if is_companion s c.what then Follows place else fate) (companions_from s (next_place place c.what) (drop (k + 1) commands))
 unfolding companions_from
-fate_next parts h number fate place k commands c here goes_on =
-    ap (λ (left : List Command). fate_after parts fate (companions_from h number place left)) (drop_here commands k c here)
-    ∙ turned parts fate place (is_companion h number c.what) (companions_from h number (next_place place c.what) (drop (k + 1) commands)) goes_on
+fate_next parts s fate place k commands c here goes_on =
+    ap (λ (left : List Command). fate_after parts fate (companions_from s place left)) (drop_here commands k c here)
+    ∙ turned parts fate place (is_companion s c.what) (companions_from s (next_place place c.what) (drop (k + 1) commands)) goes_on
 
 -- a companion that stays
-pub fate_stays : (parts : List Part) (h : Held) (number : List ℕ) (fate : HoldFate) (place k : ℕ) (commands : List Command) (c : Command)
-    → slice_get commands k ≡ Some c → (is_companion h number c.what && is_whole_at parts place) ≡ true
-    → fate_after parts fate (companions_from h number place (drop k commands)) ≡ Stays
+pub fate_stays : (parts : List Part) (s : Shifted) (fate : HoldFate) (place k : ℕ) (commands : List Command) (c : Command)
+    → slice_get commands k ≡ Some c → (is_companion s c.what && is_whole_at parts place) ≡ true
+    → fate_after parts fate (companions_from s place (drop k commands)) ≡ Stays
 unfolding companions_from
-fate_stays parts h number fate place k commands c here stays =
-    ap (λ (left : List Command). fate_after parts fate (companions_from h number place left)) (drop_here commands k c here)
-    ∙ stopped parts fate place (is_companion h number c.what) (companions_from h number (next_place place c.what) (drop (k + 1) commands)) stays
+fate_stays parts s fate place k commands c here stays =
+    ap (λ (left : List Command). fate_after parts fate (companions_from s place left)) (drop_here commands k c here)
+    ∙ stopped parts fate place (is_companion s c.what) (companions_from s (next_place place c.what) (drop (k + 1) commands)) stays
 
 -- no command is left
-pub fate_last : (parts : List Part) (h : Held) (number : List ℕ) (fate : HoldFate) (place k : ℕ) (commands : List Command) → length commands ≤ k
-    → fate_after parts fate (companions_from h number place (drop k commands)) ≡ fate
+pub fate_last : (parts : List Part) (s : Shifted) (fate : HoldFate) (place k : ℕ) (commands : List Command) → length commands ≤ k
+    → fate_after parts fate (companions_from s place (drop k commands)) ≡ fate
 unfolding companions_from fate_after
-fate_last parts h number fate place k commands done =
-    ap (λ (left : List Command). fate_after parts fate (companions_from h number place left)) (drop_all k commands done)
+fate_last parts s fate place k commands done =
+    ap (λ (left : List Command). fate_after parts fate (companions_from s place left)) (drop_all k commands done)

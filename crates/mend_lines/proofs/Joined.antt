@@ -7,7 +7,7 @@ use Rattle.std.proofs.lemmas.Bool.Decides.{nat_tests}
 use Rattle.std.proofs.lemmas.Option.{slice_get_within}
 use Rattle.list_laws.proofs.Joining.{take_next, map_next, pushed}
 use Rattle.script_types.specs.declared.objects.Object.{Object}
-use Rattle.mend_lines.proofs.Rests.{drop_here}
+use Rattle.script_notices.proofs.Rests.{drop_here}
 use Rattle.mend_lines.specs.Lines.{joined_by, between_text, next_text, bundled, bundle_by, bundle_text, bundles_text, several_text}
 
 none_zero : (n : ℕ) → (suc n == 0) ≡ false

@@ -1,5 +1,3 @@
-mod Rests
-mod Matching
 mod Following
 mod Counting
 mod Keeping

@@ -29,12 +29,14 @@ use Rattle.verdict_types.specs.declared.outcomes.Verdict.{Verdict}
 use Rattle.verdict_types.specs.declared.outcomes.Verdict.TheVariants.{Justified, Refuted, Undecided}
 use Rattle.exception_expand.specs.declared.sides.Sides.TheVariants.{Late, Both}
 use Rattle.exception_expand.specs.Asking.{Asked}
+use Rattle.exception_expand.specs.Selections.{is_exception as is_numbered}
+use Rattle.script_notices.specs.Companions.{are_same, companions_from, is_exception}
 use Rattle.mend_groups.specs.declared.rows.Row.{Row}
 use Rattle.mend_groups.specs.declared.groups.Group.{Group}
 use Rattle.mend_groups.specs.declared.parts.Part.{Part}
 use Rattle.mend_lines.specs.declared.fates.HoldFate.TheVariants.{Stays, Follows, LeftOut}
 use Rattle.mend_lines.specs.Lines.{joined_by, bundled, list_text, through_text, lines_of, line_count}
-use Rattle.mend_lines.specs.Holds.{are_same, companions_from, last_fate, hold_fate}
+use Rattle.mend_lines.specs.Holds.{last_fate, hold_fate}
 use Rattle.mend_lines.specs.Bodies.{newline, comment_of, bodies_from, bodies_of, claim_body}
 
 abbrev named : Class → List ℕ → Object
@@ -289,3 +291,7 @@ hold_alone_loses_its_pair = refl
 hold_alone_stays_without_the_word : bodies_of 8 hold_alone false one_pair (justified ∷ refuted ∷ []) (part [] [] ∷ []) ≡ None ∷ []
 unfolding bodies_from
 hold_alone_stays_without_the_word = refl
+
+-- exceptions have their places among those that a selection numbers
+same_exceptions : (what : What) → is_exception what ≡ is_numbered what
+same_exceptions what = refl

@@ -12,12 +12,13 @@ use Rattle.selected_types.specs.declared.selections.Selected.{Selected}
 use Rattle.verdict_types.specs.declared.outcomes.Verdict.{Verdict}
 use Rattle.report_text.specs.Words.{◌⁀◌, ends_text, found_text}
 use Rattle.exception_expand.specs.Asking.{Asked, asked}
+use Rattle.script_notices.specs.Companions.{next_place}
 use Rattle.mend_groups.specs.declared.rows.Row.{Row}
 use Rattle.mend_groups.specs.declared.parts.Part.{Part}
 use Rattle.mend_lines.specs.declared.fates.HoldFate.{HoldFate}
 use Rattle.mend_lines.specs.declared.fates.HoldFate.TheVariants.{Stays, Follows, LeftOut}
 use Rattle.mend_lines.specs.Lines.{joined_by, lines_of, lines_after}
-use Rattle.mend_lines.specs.Holds.{is_whole, next_place, hold_fate}
+use Rattle.mend_lines.specs.Holds.{is_whole, hold_fate}
 
 abbrev pub newline : List ℕ
 newline = 10 ∷ []

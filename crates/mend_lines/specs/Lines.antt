@@ -21,6 +21,7 @@ use Rattle.selected_types.specs.declared.selections.PairLine.{PairLine}
 use Rattle.exception_expand.specs.declared.sides.Sides.{Sides}
 use Rattle.exception_expand.specs.declared.sides.Sides.TheVariants.{Late}
 use Rattle.exception_expand.specs.Asking.{Asked}
+use Rattle.script_notices.specs.Companions.{is_asked}
 use Rattle.mend_groups.specs.declared.rows.Row.{Row}
 use Rattle.mend_groups.specs.declared.groups.Group.{Group}
 
@@ -118,25 +119,7 @@ class_word AnyClass = []
 abbrev pub hier_word : Bool → List ℕ
 hier_word hier = if hier then codes " -hierarchical" else []
 
--- both are one class, and both are one answer
-abbrev pub is_class : Class → Class → Bool
-is_class Ports Ports = true
-is_class Cells Cells = true
-is_class Pins Pins = true
-is_class Nets Nets = true
-is_class Clocks Clocks = true
-is_class AnyClass AnyClass = true
-is_class _ _ = false
-
-abbrev pub is_bool : Bool → Bool → Bool
-is_bool true b = b
-is_bool false b = not b
-
--- both patterns are asked for in one class, below any part of a name or not
-abbrev pub is_asked : Query → Query → Bool
-is_asked a b = is_class a.class b.class && is_bool a.hier b.hier
-
--- both objects are such patterns
+-- both objects are patterns that are asked for in the same way
 abbrev pub go_together : Object → Object → Bool
 go_together (Named a) (Named b) = is_asked a b
 go_together _ _ = false

@@ -4,10 +4,10 @@ ghost use Rattle.exception_expand.specs.Asking.{asked_by};
 ghost use Rattle.mend_lines.specs.Bodies as spec;
 
 use crate::claim_bodies::part_body;
-use crate::fates::next_place;
 use crate::hold_bodies::hold_body;
 use crate::mendings::Mending;
 use exception_expand::Ask;
+use script_notices::next_place;
 use script_types::What;
 use sdcv_base::{Name, Seq};
 use std::alloc::{AllocError, Global};

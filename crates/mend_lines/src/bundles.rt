@@ -2,7 +2,7 @@
 ghost use Rattle.std.specs.Prelude.{◌≡◌, ◌-◌, ◌==◌, ◌<◌, ◌≤◌, ◌∷◌, length, take, drop};
 ghost use Rattle.mend_lines.specs.Lines.{bundled, go_together};
 
-use crate::objects::is_asked;
+use script_notices::is_asked;
 use script_types::Object;
 use sdcv_base::Seq;
 

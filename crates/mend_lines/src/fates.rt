@@ -1,16 +1,14 @@
 //! What becomes of the commands about the hold check alone.
-ghost use Rattle.std.specs.Prelude.{◌≡◌, ◌+◌, ◌<◌, ◌^◌, if◌then◌else◌};
+ghost use Rattle.std.specs.Prelude.{◌≡◌, if◌then◌else◌};
 ghost use Rattle.std.specs.List.{list_all};
-ghost use Rattle.exception_expand.specs.Selections.{is_exception};
-ghost use Rattle.mend_groups.specs.Groups.{is_edge};
+ghost use Rattle.std.specs.Option.{option_map};
+ghost use Rattle.script_notices.specs.Companions.{shifted_by, companions_from};
 ghost use Rattle.mend_lines.specs.Holds as spec;
 
 use crate::counts::is_whole;
-use crate::numbers::{is_above, is_below_one};
-use crate::objects::{are_given, are_lists};
 use mend_groups::Part;
-use script_types::{Exception, Held, Script, What};
-use sdcv_base::Edge;
+use script_notices::{HoldShift, is_companion, next_place};
+use script_types::{Held, Script};
 
 /// What becomes of a `-hold` command: it stays; it goes by the new commands of the exception of this place among all exceptions,
 /// from 0; or it is left out.
@@ -25,19 +23,25 @@ pub enum HoldFate {
 pub fn hold_fate(script: &Script, parts: &[Part], held: &Held) -> HoldFate
     ensures { result ≡ spec.hold_fate script.now parts.now held.now }
 {
-    match &held.number {
-        Some(number) => fate_of(script, parts, held, number.as_bytes()),
+    fate_shifted(script, parts, HoldShift::of_held(held))
+}
+
+fn fate_shifted(script: &Script, parts: &[Part], shift: Option<HoldShift<'_>>) -> HoldFate
+    ensures { result ≡ spec.fate_shifted script.now parts.now (option_map shifted_by shift.entry) }
+{
+    match shift {
+        Some(shift) => fate_of(script, parts, &shift),
         None => HoldFate::Stays,
     }
 }
 
-fn fate_of(script: &Script, parts: &[Part], held: &Held, number: &[u8]) -> HoldFate
-    ensures { result ≡ spec.fate_of script.now parts.now held.now number.now }
+fn fate_of(script: &Script, parts: &[Part], shift: &HoldShift<'_>) -> HoldFate
+    ensures { result ≡ spec.fate_of script.now parts.now (shifted_by shift.now) }
 {
-    if is_below_one(number) || are_whole(parts) {
+    if shift.number == 0 || are_whole(parts) {
         HoldFate::Stays
     } else {
-        fate_by(script, parts, held, number)
+        fate_by(script, parts, shift)
     }
 }
 
@@ -57,14 +61,14 @@ fn is_whole_at(parts: &[Part], place: usize) -> bool
 }
 
 // By its companions: it stays where one of them does, and else follows the last one.
-fn fate_by(script: &Script, parts: &[Part], held: &Held, number: &[u8]) -> HoldFate
-    ensures { result ≡ spec.fate_by parts.now (spec.companions_from held.now number.now 0 script.now.commands) }
+fn fate_by(script: &Script, parts: &[Part], shift: &HoldShift<'_>) -> HoldFate
+    ensures { result ≡ spec.fate_by parts.now (companions_from (shifted_by shift.now) 0 script.now.commands) }
 {
     let mut fate = HoldFate::LeftOut;
     let mut place = 0;
     for k in 0..script.commands.len() {
         let what = &script.commands.item(k).what;
-        let goes = is_companion(held, number, what);
+        let goes = is_companion(shift, what);
         if goes && is_whole_at(parts, place) {
             return HoldFate::Stays;
         }
@@ -78,46 +82,4 @@ fn fate_here(fate: HoldFate, goes: bool, place: usize) -> HoldFate
     ensures { result ≡ (if goes then HoldFate.Follows place else fate) }
 {
     if goes { HoldFate::Follows(place) } else { fate }
-}
-
-/// The place of the next exception after a command, among all exceptions, where this one is that of the next one before it.
-pub(crate) fn next_place(place: usize, what: &What) -> usize
-    requires { place + 1 < 2 ^ 64 }
-    ensures { result ≡ spec.next_place place what.now }
-{
-    if is_exception(what) { place + 1 } else { place }
-}
-
-fn is_exception(what: &What) -> bool
-    ensures { result ≡ is_exception what.now }
-{
-    matches!(what, What::Claiming(_) | What::Hold(_) | What::Aside(_))
-}
-
-fn is_companion(held: &Held, number: &[u8], what: &What) -> bool
-    ensures { result ≡ spec.is_companion held.now number.now what.now }
-{
-    match what {
-        What::Claiming(exception) => goes_with(held, number, exception),
-        _ => false,
-    }
-}
-
-fn goes_with(held: &Held, number: &[u8], exception: &Exception) -> bool
-    ensures { result ≡ spec.goes_with held.now number.now exception.now }
-{
-    is_above(number, exception.kind)
-        && is_edge(held.edge, exception.edge)
-        && are_given(&held.from, &exception.from)
-        && are_lists(&held.through, &exception.through)
-        && are_given(&held.to, &exception.to)
-}
-
-fn is_edge(a: Edge, b: Edge) -> bool
-    ensures { result ≡ is_edge a b }
-{
-    matches!(
-        (a, b),
-        (Edge::Any, Edge::Any) | (Edge::Rise, Edge::Rise) | (Edge::Fall, Edge::Fall)
-    )
 }

@@ -3,7 +3,7 @@
 //!
 //! Read `specs/Lines.antt` first: the commands of a group of pairs, which select exactly these. `specs/Holds.antt` says what becomes of a
 //! `-hold` command, and `specs/Bodies.antt` what stands in the place of each command of a script. `bodies` is the call. Which pairs are
-//! kept, and in which groups they stand, is left to mend_groups.
+//! kept, and in which groups they stand, is left to mend_groups, and which commands go with a `-hold` command to script_notices.
 #![tactic(auto)]
 
 mod all_bodies;
@@ -18,8 +18,6 @@ mod lines;
 mod lists;
 mod mendings;
 mod names;
-mod numbers;
-mod objects;
 mod stars;
 mod words;
 

@@ -5,3 +5,4 @@ pub mod Giving
 pub mod Fixing
 pub mod Keying
 pub mod OneSettings
+mod Worked

@@ -125,4 +125,5 @@ settings_only script inputs resets s (fault.CaseOnPin line name) are (clock, has
 settings_only script inputs resets s (fault.Limit what number) are cause = absurd cause
 settings_only script inputs resets s fault.Memory are cause = refl
 settings_only script inputs resets s (fault.NoClock name) are cause = absurd cause
-settings_only script inputs resets s (fault.Generated line) are cause = absurd cause
+settings_only script inputs resets s (fault.Generated line) are (c, rest, some, at) =
+    let wrong : [] ≡ c ∷ rest = sym are.generated ∙ some in absurd cc

@@ -10,7 +10,7 @@ use Rattle.selected_types.specs.declared.faults.ExpandFault.TheVariants.{TwoCloc
 use Rattle.selected_types.specs.declared.faults.ExpandFault.TheVariants.{NoClock, Generated}
 use Rattle.sdc_settings.specs.declared.cases.Given.{Given}
 use Rattle.sdc_settings.specs.Inputs.{name_at, object_text}
-use Rattle.sdc_settings.specs.Settings.{sourced, source_of, IsSourceOf, HasClock, all_given, case_objects, IsCaseObject, setting_names}
+use Rattle.sdc_settings.specs.Settings.{sourced, source_of, generated, IsSourceOf, HasClock, all_given, case_objects, IsCaseObject, setting_names}
 
 -- an input is given a value for the first time, and later the other one
 pub record IsGivenTwice (inputs : List PortName) (all : List Given) (first later : ℕ) : Type 0 where
@@ -58,8 +58,13 @@ IsClockCause script inputs (ClockNotPort line) =
 IsClockCause script inputs Memory = Unit {0}
 IsClockCause script inputs _ = ⊥
 
+-- the first generated clock stands on this line
+abbrev pub IsGeneratedCause : Script → ExpandFault → Type 0
+IsGeneratedCause script (Generated line) = (c : Command) × (rest : List Command) × (generated script ≡ c ∷ rest) × (c.line ≡ line)
+IsGeneratedCause script _ = ⊥
+
 -- the refusals of settings; those of case analyses come only where the clock is settled, and no script is refused for a clock that
--- is chosen by its name, or for a generated one
+-- is chosen by its name
 abbrev pub IsSettingsCause : Script → List PortName → List Setting → ExpandFault → Type 0
 IsSettingsCause script inputs resets (TwoClocks first second) = IsClockCause script inputs (TwoClocks first second)
 IsSettingsCause script inputs resets (ClockNotPort line) = IsClockCause script inputs (ClockNotPort line)
@@ -72,4 +77,4 @@ IsSettingsCause script inputs resets (CaseOnPin line name) =
 IsSettingsCause script inputs resets (Limit what number) = ⊥
 IsSettingsCause script inputs resets Memory = Unit {0}
 IsSettingsCause script inputs resets (NoClock name) = ⊥
-IsSettingsCause script inputs resets (Generated line) = ⊥
+IsSettingsCause script inputs resets (Generated line) = IsGeneratedCause script (Generated line)

@@ -7,7 +7,7 @@ use Rattle.sdcv_base.specs.declared.settings.Setting.{Setting}
 use Rattle.script_types.specs.declared.objects.Object.{Object}
 use Rattle.script_types.specs.declared.objects.Object.TheVariants.{AllInputs}
 use Rattle.script_types.specs.declared.scripts.What.{What}
-use Rattle.script_types.specs.declared.scripts.What.TheVariants.{Clock, Case}
+use Rattle.script_types.specs.declared.scripts.What.TheVariants.{Clock, Case, Generated}
 use Rattle.script_types.specs.declared.scripts.Command.{Command}
 use Rattle.script_types.specs.declared.scripts.Script.{Script}
 use Rattle.sdc_settings.specs.declared.values.Settings.{Settings}
@@ -26,6 +26,21 @@ is_sourced c = not (length (source_of c.what) == 0)
 -- the clocks that have a source, in the order of the script
 abbrev pub sourced : Script → List Command
 sourced script = filter is_sourced script.commands
+
+-- the generated clocks (SDC 2.1, create_generated_clock), in the order of the script
+abbrev pub generates : What → Bool
+generates (Generated name objects) = true
+generates _ = false
+
+abbrev pub is_generated : Command → Bool
+is_generated c = generates c.what
+
+abbrev pub generated : Script → List Command
+generated script = filter is_generated script.commands
+
+-- no clock is generated: what it clocks may not be judged by its source
+abbrev pub HasNoGenerated : Script → Type 0
+HasNoGenerated script = generated script ≡ []
 
 -- the objects of a source name exactly this one input bit, however often
 pub record IsSourceOf (inputs : List PortName) (source : List Object) (bit : List ℕ) : Type 0 where
@@ -105,5 +120,6 @@ pub record AreFixed (inputs : List PortName) (resets : List Setting) (givens : L
 -- the settings of a script among these input bits, with these resets
 pub record AreSettings (script : Script) (inputs : List PortName) (resets : List Setting) (s : Settings) : Type 0 where
   pub clock : HasClock script inputs s.clock
+  pub generated : HasNoGenerated script
   pub objects : AreCaseObjects script inputs s.clock
   pub fixed : AreFixed inputs resets (all_given script inputs s.clock) s.fixed

@@ -1,7 +1,7 @@
 //! The clock port and the fixed inputs that an SDC script gives a design (SDC 2.1, `create_clock` and
 //! `set_case_analysis`).
 //!
-//! Read `scripts.rt`: first the clock, then what each case analysis gives, then each fixed input once. What an object of
+//! Read `scripts.rt`: first the clock, then whether one is generated, then what each case analysis gives, then each fixed input once. What an object of
 //! a script names among the input bits stands in `specs/Inputs.antt`, the settings in `specs/Settings.antt`, and the
 //! cause of each refusal in `specs/Causes.antt`.
 #![tactic(auto)]
@@ -9,6 +9,7 @@
 mod cases;
 mod clocks;
 mod fixed;
+mod generated;
 mod inputs;
 mod scripts;
 mod values;

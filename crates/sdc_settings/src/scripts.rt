@@ -6,6 +6,7 @@ ghost use Rattle.sdc_settings.specs.Causes.{IsSettingsCause};
 use crate::cases::all_given;
 use crate::clocks::clock;
 use crate::fixed::fixed_inputs;
+use crate::generated::no_generated;
 use crate::values::Settings;
 use linked_types::PortName;
 use script_types::Script;
@@ -15,7 +16,7 @@ use std::alloc::Global;
 
 /// The settings of a script. `inputs` are the input port bits of the design's top, the clock's among them, in port order;
 /// `resets` are the inputs that are active for the first cycles, which no case analysis may fix. The clock is looked at
-/// before the case analyses.
+/// first, then whether one is generated, for which a script is refused, then the case analyses.
 pub fn settings(
     alloc: Global,
     script: &Script,
@@ -26,6 +27,7 @@ pub fn settings(
     ensures err { IfErr result (IsSettingsCause script.now inputs.now resets.now) }
 {
     let clock = clock(alloc, script, inputs)?;
+    no_generated(script)?;
     let givens = all_given(alloc, script, inputs, &clock)?;
     let fixed = fixed_inputs(alloc, inputs, resets, &givens)?;
     Ok(Settings { clock, fixed })

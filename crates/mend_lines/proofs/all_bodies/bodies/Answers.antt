@@ -1,9 +1,9 @@
 use Rattle.std.proofs.Common.{◌∙◌, ℕ, ◌+◌, ◌≤◌, ◌++◌, ◌∷◌, [], List, ap, arith}
 use Rattle.std.specs.Prelude.{Option}
 use Rattle.mend_lines.specs.Bodies.{bodies_of}
-use Rattle.mend_lines.specs.Holds.{next_place}
+use Rattle.script_notices.specs.Companions.{next_place}
 use Rattle.mend_lines.proofs.Adding.{body_added, bodies_done}
-use Rattle.mend_lines.proofs.Following.{place_near}
+use Rattle.script_notices.proofs.Companies.{place_near}
 use Rattle.mend_lines.proofs.all_bodies.bodies.Goals as goal
 
 pub loop-k-preserved : goal.loop-k-preserved

@@ -1,5 +1,6 @@
 use Rattle.std.proofs.Common.{arith, ◌≡◌, ◌∙◌, ◌+◌, ◌-◌, sym, subst}
 use Rattle.std.specs.Prelude.{Some, slice_get}
+use Rattle.sdc_settings.specs.Settings.{is_sourced}
 use Rattle.sdc_settings.proofs.Sourced.{filter_taken, filter_left}
 use Rattle.sdc_settings.proofs.clocks.next_sourced.Goals as goal
 
@@ -10,10 +11,10 @@ returns-then-is_sourced c =
       omega arith,
       subst (λ k. slice_get c.args.commands.now k ≡ Some c.item.result.now) place c.item.ensures,
       c.loop-place.invariant
-          ∙ filter_taken c.args.commands.now c.loop-place.place c.item.result.now c.item.ensures (sym c.is_sourced.ensures ∙ c.if-is_sourced.true),
+          ∙ filter_taken is_sourced c.args.commands.now c.loop-place.place c.item.result.now c.item.ensures (sym c.is_sourced.ensures ∙ c.if-is_sourced.true),
     )
 
 pub loop-place-preserved : goal.loop-place-preserved
 loop-place-preserved c =
     c.loop-place.invariant
-    ∙ filter_left c.args.commands.now c.loop-place.place c.item.result.now c.item.ensures (sym c.is_sourced.ensures ∙ c.if-is_sourced.false)
+    ∙ filter_left is_sourced c.args.commands.now c.loop-place.place c.item.result.now c.item.ensures (sym c.is_sourced.ensures ∙ c.if-is_sourced.false)

@@ -1,6 +1,6 @@
 use Rattle.std.proofs.Common.{◌≡◌, length, drop}
-use Rattle.mend_lines.specs.Holds.{are_objects}
-use Rattle.mend_lines.proofs.objects.are_objects.Given as goal
+use Rattle.script_notices.specs.Companions.{are_objects}
+use Rattle.script_notices.proofs.objects.are_objects.Given as goal
 
 abbrev pub invariant-loop-place : goal.invariant-loop-place
 invariant-loop-place l = record {

@@ -2,7 +2,7 @@
 ghost use Rattle.std.specs.Prelude.{◌≡◌, min};
 ghost use Rattle.std.specs.Char as char_spec;
 ghost use Rattle.std.specs.Str.Parse.{digits_value};
-ghost use Rattle.mend_lines.specs.Holds as spec;
+ghost use Rattle.script_notices.specs.Companions as spec;
 
 use sdcv_base::Kind;
 use texts::byte_at;
@@ -25,19 +25,23 @@ fn capped_value(number: &[u8]) -> u32
     value
 }
 
-/// Whether a number moves no hold check before the edge at which the path starts.
-pub(crate) fn is_below_one(number: &[u8]) -> bool
-    ensures { result ≡ spec.is_below_one number.now }
+/// The value of a hold number, 0 of one with a `-`, and at most 256.
+pub(crate) fn hold_value(number: &[u8]) -> u32
+    ensures { result ≡ spec.hold_value number.now }
 {
-    byte_at(number, 0) == b'-' || capped_value(number) == 0
+    if byte_at(number, 0) == b'-' {
+        0
+    } else {
+        capped_value(number)
+    }
 }
 
 /// Whether it is a multicycle path with a multiplier above the number.
-pub(crate) fn is_above(number: &[u8], kind: Kind) -> bool
-    ensures { result ≡ spec.is_above number.now kind }
+pub(crate) fn is_above(number: u32, kind: Kind) -> bool
+    ensures { result ≡ spec.is_above number kind }
 {
     match kind {
         Kind::False => false,
-        Kind::Multi(k) => capped_value(number) < u32::from(k),
+        Kind::Multi(k) => number < u32::from(k),
     }
 }

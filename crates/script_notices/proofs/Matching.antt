@@ -2,8 +2,8 @@
 use Rattle.std.proofs.Common.{◌≡◌, ◌≢◌, ◌∙◌, ℕ, suc, ◌+◌, ◌≤◌, Bool, true, false, ◌&&◌, List, [], ◌∷◌, length, drop, refl, ap}
 use Rattle.std.specs.Prelude.{Some, slice_get}
 use Rattle.std.proofs.lemmas.List.{drop_all}
-use Rattle.mend_lines.specs.Holds.{are_same}
-use Rattle.mend_lines.proofs.Rests.{drop_here, second_fails}
+use Rattle.script_notices.specs.Companions.{are_same}
+use Rattle.script_notices.proofs.Rests.{drop_here, second_fails}
 
 -- lists of two lengths are two
 pub same_long : {A : Type 0} (is : A → A → Bool) (xs ys : List A) → length xs ≢ length ys → are_same is xs ys ≡ false

@@ -1,7 +1,7 @@
 use Rattle.std.proofs.Common.{◌≡◌, ◌∙◌, ◌+◌, Bool, true, false, ◌&&◌, drop, sym, ap, arith}
-use Rattle.mend_lines.specs.Holds.{is_object, are_same}
-use Rattle.mend_lines.proofs.Matching.{same_long, same_next, same_done}
-use Rattle.mend_lines.proofs.objects.are_objects.Goals as goal
+use Rattle.script_notices.specs.Companions.{is_object, are_same}
+use Rattle.script_notices.proofs.Matching.{same_long, same_next, same_done}
+use Rattle.script_notices.proofs.objects.are_objects.Goals as goal
 
 pub returns-then-len : goal.returns-then-len
 returns-then-len c =

@@ -1,6 +1,6 @@
 use Rattle.std.proofs.Common.{◌≡◌, length, drop}
-use Rattle.mend_lines.specs.Holds.{are_lists}
-use Rattle.mend_lines.proofs.objects.are_lists.Given as goal
+use Rattle.script_notices.specs.Companions.{are_lists}
+use Rattle.script_notices.proofs.objects.are_lists.Given as goal
 
 abbrev pub invariant-loop-place : goal.invariant-loop-place
 invariant-loop-place l = record {

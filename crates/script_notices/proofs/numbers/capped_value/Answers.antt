@@ -1,7 +1,7 @@
 use Rattle.std.proofs.Common.{◌≡◌, ◌∙◌, ℕ, ◌+◌, ◌*◌, ◌<◌, min, List, length, get_or, ap, arith}
 use Rattle.std.specs.Char.{digit_value}
 use Rattle.std.proofs.lemmas.Int.Digits.{digits_value_more}
-use Rattle.mend_lines.proofs.numbers.capped_value.Goals as goal
+use Rattle.script_notices.proofs.numbers.capped_value.Goals as goal
 
 -- a digit more, where what is above 256 counts as 256
 one_more : (v d k n m : ℕ) → v ≡ min 256 m → k ≡ min (v * 10 + d) 256 → n ≡ m * 10 + d → k ≡ min 256 n

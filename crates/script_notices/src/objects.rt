@@ -1,13 +1,12 @@
 //! Whether two lists of objects are one.
 ghost use Rattle.std.specs.Prelude.{◌≡◌};
-ghost use Rattle.mend_lines.specs.Lines.{is_class, is_bool, is_asked};
-ghost use Rattle.mend_lines.specs.Holds as spec;
+ghost use Rattle.script_notices.specs.Companions as spec;
 
 use script_types::{Class, Object, Query};
-use sdcv_base::Seq;
+use sdcv_base::{Edge, Seq};
 
 fn is_class(a: Class, b: Class) -> bool
-    ensures { result ≡ is_class a b }
+    ensures { result ≡ spec.is_class a b }
 {
     match (a, b) {
         (Class::Ports, Class::Ports)
@@ -21,14 +20,24 @@ fn is_class(a: Class, b: Class) -> bool
 }
 
 fn is_bool(a: bool, b: bool) -> bool
-    ensures { result ≡ is_bool a b }
+    ensures { result ≡ spec.is_bool a b }
 {
     if a { b } else { !b }
 }
 
+/// Whether two edges are one.
+pub fn is_edge(a: Edge, b: Edge) -> bool
+    ensures { result ≡ spec.is_edge a b }
+{
+    matches!(
+        (a, b),
+        (Edge::Any, Edge::Any) | (Edge::Rise, Edge::Rise) | (Edge::Fall, Edge::Fall)
+    )
+}
+
 /// Whether two queries ask for objects of one class in the same way.
-pub(crate) fn is_asked(a: &Query, b: &Query) -> bool
-    ensures { result ≡ is_asked a.now b.now }
+pub fn is_asked(a: &Query, b: &Query) -> bool
+    ensures { result ≡ spec.is_asked a.now b.now }
 {
     is_class(a.class, b.class) && is_bool(a.hier, b.hier)
 }

@@ -1,0 +1,3 @@
+pub mod Companions
+pub mod Notices
+pub mod Tables
