@@ -1,5 +1,5 @@
 -- What one command adds.
-use Rattle.std.proofs.Common.{arith, ◌≡◌, ◌∙◌, ℕ, ◌-◌, ◌≤◌, Bool, List, [], ◌∷◌, ◌++◌, length, map, flat_map, refl, sym, ap, subst, append-nil, length-append}
+use Rattle.std.proofs.Common.{arith, ◌≡◌, ◌∙◌, ℕ, ◌-◌, ◌≤◌, List, [], ◌∷◌, ◌++◌, length, map, flat_map, refl, sym, ap, subst, append-nil, length-append}
 use Rattle.std.specs.Prelude.{Option, Some, None, slice_get, Contains}
 use Rattle.std.proofs.lemmas.List.{map-append, length-map}
 use Rattle.std.proofs.lemmas.Option.{slice_get_within, get_or_from_slice_get}
@@ -33,7 +33,7 @@ use Rattle.exception_expand.proofs.Stepping.{more_in_script}
 
 -- what an exception selects
 pub adds_choice : (l : Linked) (script : Script) (judging : Judging) (line : ℕ) (what : What) (by : Asked) (most : ℕ) (choice : Choice) (old new : Selected)
-    → asked judging.hold what ≡ Some by → IsChoiceOf l script by.exception most choice → most ≡ most_pairs by.sides (100000 - length old.claims)
+    → asked judging.hold what ≡ Some by → IsChoiceOf l script judging.strict by.exception most choice → most ≡ most_pairs by.sides (100000 - length old.claims)
     → length old.claims ≤ 100000
     → new.commands ≡ old.commands ++ spec.command_line line (listing_of by (length (flat_map (sides_by by.sides) choice.pairs))) choice.warnings ∷ []
     → new.pairs ≡ old.pairs ++ map (spec.side_line l (length new.commands)) (flat_map (sides_by by.sides) choice.pairs)
@@ -47,11 +47,11 @@ adds_choice l script judging line what by most choice old new asks is room few c
     let fits : length choice.pairs ≤ most_pairs by.sides (100000 - length old.claims) = subst (λ (n : ℕ). length choice.pairs ≤ n) room is.few in
     record {
       more = more;
-      those = subst (λ (o : Option Asked). AreThose (spec.IsAskedOf l script o) (spec.all_sides l.design) more) (sym asks)
-          (those_sides by.sides (spec.Selects l script e) (spec.all_pairs l.design) choice.pairs is.pairs);
+      those = subst (λ (o : Option Asked). AreThose (spec.IsAskedOf l script judging.strict o) (spec.all_sides l.design) more) (sym asks)
+          (those_sides by.sides (spec.Selects l script judging.strict e) (spec.all_pairs l.design) choice.pairs is.pairs);
       commands = commands
           ∙ ap (λ (w : List Warning). old.commands ++ spec.command_line line listed w ∷ []) is.warnings
-          ∙ ap (λ (o : Option Asked). old.commands ++ spec.lines_asked l script (length more) line what o) (sym asks);
+          ∙ ap (λ (o : Option Asked). old.commands ++ spec.lines_asked l script judging.strict (length more) line what o) (sym asks);
       pairs = pairs;
       claims = ap (map Some) claims ∙ map-append Some old.claims (map (of choice.sets) more)
           ∙ ap (λ (xs : List (Option Claim)). map Some old.claims ++ xs) (map_map Some (of choice.sets) more)
@@ -74,9 +74,9 @@ pub adds_unasked : (l : Linked) (script : Script) (judging : Judging) (line : �
     → Adds l script judging line what old new
 adds_unasked l script judging line what old new asks few commands pairs claims = record {
   more = [];
-  those = subst (λ (o : Option Asked). AreThose (spec.IsAskedOf l script o) (spec.all_sides l.design) []) (sym asks)
-      (those_none (spec.IsAskedOf l script None) (spec.all_sides l.design) (λ s selects. selects));
-  commands = commands ∙ ap (λ (o : Option Asked). old.commands ++ spec.lines_asked l script 0 line what o) (sym asks);
+  those = subst (λ (o : Option Asked). AreThose (spec.IsAskedOf l script judging.strict o) (spec.all_sides l.design) []) (sym asks)
+      (those_none (spec.IsAskedOf l script judging.strict None) (spec.all_sides l.design) (λ s selects. selects));
+  commands = commands ∙ ap (λ (o : Option Asked). old.commands ++ spec.lines_asked l script judging.strict 0 line what o) (sym asks);
   pairs = pairs ∙ sym (append-nil old.pairs);
   claims = ap (map Some) claims ∙ sym (append-nil (map Some old.claims));
   sets = subst spec.AsksFewSets (sym asks) tt;
@@ -88,14 +88,14 @@ contains_at xs k x here = (k, slice_get_within xs k x here, get_or_from_slice_ge
 
 choice_cause : (l : Linked) (script : Script) (judging : Judging) (k : ℕ) (c : Command) (by : Asked) (old : Selected)
     → slice_get script.commands k ≡ Some c → asked judging.hold c.what ≡ Some by → IsUpTo l script judging k old → (fault : ExpandFault)
-    → IsChoiceCause l script by.exception (most_pairs by.sides (100000 - length old.claims)) fault
+    → IsChoiceCause l script judging.strict by.exception (most_pairs by.sides (100000 - length old.claims)) fault
     → IsExpandCause l script judging fault
 choice_cause l script judging k c by old here asks before (Limit limit.Through number) cause =
     (cause.0, record { command = c; by = by; stands = contains_at script.commands k c here; claiming = asks; more = cause.1 })
 choice_cause l script judging k c by old here asks before (Limit limit.Pairs number) cause = (
   cause.0,
   more_in_script l script judging k c by old here asks before
-      (more_sides by.sides (spec.Selects l script by.exception) (spec.all_pairs l.design) (100000 - length old.claims) cause.1),
+      (more_sides by.sides (spec.Selects l script judging.strict by.exception) (spec.all_pairs l.design) (100000 - length old.claims) cause.1),
 )
 choice_cause l script judging k c by old here asks before (Limit limit.Nets number) cause = absurd cause
 choice_cause l script judging k c by old here asks before (Limit limit.Registers number) cause = absurd cause
@@ -119,13 +119,13 @@ want_of_memory l script judging fault is = subst (IsExpandCause l script judging
 
 ask_cause : (l : Linked) (script : Script) (judging : Judging) (k : ℕ) (c : Command) (old : Selected) → slice_get script.commands k ≡ Some c
     → IsUpTo l script judging k old → (o : Option Asked) → asked judging.hold c.what ≡ o → (fault : ExpandFault)
-    → IsAskCause l script (length old.claims) o fault → IsExpandCause l script judging fault
+    → IsAskCause l script judging.strict (length old.claims) o fault → IsExpandCause l script judging fault
 ask_cause l script judging k c old here before None asks fault cause = want_of_memory l script judging fault cause
 ask_cause l script judging k c old here before (Some by) asks fault cause = choice_cause l script judging k c by old here asks before fault cause
 
 -- the cause of a refusal at the command of a place
 pub cause_at : (l : Linked) (script : Script) (judging : Judging) (k : ℕ) (c : Command) (old : Selected) → slice_get script.commands k ≡ Some c
-    → IsUpTo l script judging k old → (fault : ExpandFault) → IsWhatCause l script judging.hold (length old.claims) c.what fault
+    → IsUpTo l script judging k old → (fault : ExpandFault) → IsWhatCause l script judging (length old.claims) c.what fault
     → IsExpandCause l script judging fault
 cause_at l script judging k c old here before fault cause =
     ask_cause l script judging k c old here before (asked judging.hold c.what) refl fault cause

@@ -36,7 +36,7 @@ holds_of P _ _ y (Left_out x xs ys not rest) has = holds_of P xs ys y rest has
 
 -- the claim that an exception makes of a side of a pair of the design
 asked_fits : (l : Linked) (script : Script) (judging : Judging) (what : What) (s : Side) (claim : Claim) (o : Option Asked) → asked judging.hold what ≡ o
-    → IsUsable l → judging.lag ≤ 8 → spec.HasMultiplier what → spec.AsksFewSets o → spec.IsAskedOf l script o s
+    → IsUsable l → judging.lag ≤ 8 → spec.HasMultiplier what → spec.AsksFewSets o → spec.IsAskedOf l script judging.strict o s
     → IsPairIn l.design s.pair → Some claim ≡ spec.claim_asked l script judging s o → Fits l.design claim
 asked_fits l script judging what s claim None asks usable short kind few selects ends is = absurd selects
 asked_fits l script judging what s claim (Some by) asks usable short kind few selects ends is =
@@ -62,7 +62,7 @@ script_side l script x has =
 
 at_command : (l : Linked) (script : Script) (judging : Judging) (x : Chosen) (claim : Claim) → IsUsable l → judging.lag ≤ 8 → spec.HasMultipliers script
     → All (λ (c : Command). spec.HasFewSets judging.hold c.what) script.commands → In x.side (spec.all_sides l.design)
-    → spec.IsSelected l script judging.hold x → Some claim ≡ spec.claim_of l script judging x → Fits l.design claim
+    → spec.IsSelected l script judging x → Some claim ≡ spec.claim_of l script judging x → Fits l.design claim
 at_command l script judging x claim usable short kinds sets there sel is =
     let c = sel.0 in
     asked_fits l script judging c.what x.side claim (asked judging.hold c.what) refl usable short
@@ -73,7 +73,7 @@ at_command l script judging x claim usable short kinds sets there sel is =
 -- the claims of what a script selects
 pub claims_fit : (l : Linked) (script : Script) (judging : Judging) (chosen : List Chosen) (claims : List Claim) → IsUsable l → judging.lag ≤ 8
     → spec.HasMultipliers script → All (λ (c : Command). spec.HasFewSets judging.hold c.what) script.commands
-    → AreThose (spec.IsSelected l script judging.hold) (spec.script_pairs l script) chosen
+    → AreThose (spec.IsSelected l script judging) (spec.script_pairs l script) chosen
     → map Some claims ≡ map (spec.claim_of l script judging) chosen → All (Fits l.design) claims
 claims_fit l script judging chosen claims usable short kinds sets those is =
     all_from_in (Fits l.design) claims (λ claim has.
@@ -81,5 +81,5 @@ claims_fit l script judging chosen claims usable short kinds sets those is =
     let from = from_map (spec.claim_of l script judging) (Some claim) chosen (subst (In (Some claim)) is some) in
     let x = from.0 in
     at_command l script judging x claim usable short kinds sets
-    (script_side l script x (those_in (spec.IsSelected l script judging.hold) (spec.script_pairs l script) chosen x those from.1))
-    (holds_of (spec.IsSelected l script judging.hold) (spec.script_pairs l script) chosen x those from.1) (sym from.2))
+    (script_side l script x (those_in (spec.IsSelected l script judging) (spec.script_pairs l script) chosen x those from.1))
+    (holds_of (spec.IsSelected l script judging) (spec.script_pairs l script) chosen x those from.1) (sym from.2))

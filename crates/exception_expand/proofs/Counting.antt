@@ -10,6 +10,7 @@ use Rattle.script_types.specs.declared.scripts.What.TheVariants.{Clock, Case, Cl
 use Rattle.script_types.specs.declared.scripts.Command.{Command}
 use Rattle.script_types.specs.declared.scripts.Script.{Script}
 use Rattle.sdcv_base.specs.Seqs.{each_at}
+use Rattle.run_options.specs.declared.judging.Judging.{Judging}
 use Rattle.exception_expand.specs.declared.sides.Side.{Side}
 use Rattle.exception_expand.specs.declared.sides.Sides.TheVariants.{Early}
 use Rattle.exception_expand.specs.Asking.{Asked, held, is_hold_side}
@@ -50,32 +51,33 @@ each_at_same {A} {B} f g i (x ∷ xs) same =
     ap (λ (l : List B). l ++ each_at f (i + 1) xs) first ∙ ap (λ (l : List B). g i x ++ l) rest
 
 -- a command has one line where it is an exception, and else none
-hold_line : (l : Linked) (script : Script) (count line : ℕ) (h : Held) (by : Asked) (b : Bool)
-    → length (lines_asked l script count line (Hold h) (if b then Some by else None)) ≡ 1
-hold_line l script count line h by true = refl
-hold_line l script count line h by false = refl
+hold_line : (l : Linked) (script : Script) (strict : Bool) (count line : ℕ) (h : Held) (by : Asked) (b : Bool)
+    → length (lines_asked l script strict count line (Hold h) (if b then Some by else None)) ≡ 1
+hold_line l script strict count line h by true = refl
+hold_line l script strict count line h by false = refl
 
-line_count : (l : Linked) (script : Script) (hold : Bool) (count line : ℕ) (what : What)
-    → length (lines_by l script hold count line what) ≡ cond (is_exception what) 1 0
-line_count l script hold count line (Clock name source) = refl
-line_count l script hold count line (Case value objects) = refl
-line_count l script hold count line (Claiming e) = refl
-line_count l script hold count line (Hold h) = hold_line l script count line h (record { exception = held h; sides = Early }) (is_hold_side hold h.number)
-line_count l script hold count line (Aside option) = refl
-line_count l script hold count line Passed = refl
-line_count l script hold count line (Unjudged name) = refl
-line_count l script hold count line (Scope name) = refl
-line_count l script hold count line (Generated name objects) = refl
-line_count l script hold count line (Delay output clocks objects) = refl
+line_count : (l : Linked) (script : Script) (judging : Judging) (count line : ℕ) (what : What)
+    → length (lines_by l script judging count line what) ≡ cond (is_exception what) 1 0
+line_count l script judging count line (Clock name source) = refl
+line_count l script judging count line (Case value objects) = refl
+line_count l script judging count line (Claiming e) = refl
+line_count l script judging count line (Hold h) =
+    hold_line l script judging.strict count line h (record { exception = held h; sides = Early }) (is_hold_side judging.hold h.number)
+line_count l script judging count line (Aside option) = refl
+line_count l script judging count line Passed = refl
+line_count l script judging count line (Unjudged name) = refl
+line_count l script judging count line (Scope name) = refl
+line_count l script judging count line (Generated name objects) = refl
+line_count l script judging count line (Delay output clocks objects) = refl
 
-pub lines_count : (l : Linked) (script : Script) (hold : Bool) (chosen : List Chosen) (i : ℕ) (cs : List Command)
-    → length (each_at (lines_at l script hold chosen) i cs) ≡ count_by (λ (c : Command). is_exception c.what) cs
-lines_count l script hold chosen i [] = refl
-lines_count l script hold chosen i (c ∷ cs) =
-    let rest = lines_count l script hold chosen (i + 1) cs in
-    let one = line_count l script hold (count_at chosen i) c.line c.what in
-    length-append (lines_at l script hold chosen i c) (each_at (lines_at l script hold chosen) (i + 1) cs)
-    ∙ ap (λ (n : ℕ). n + length (each_at (lines_at l script hold chosen) (i + 1) cs)) one
+pub lines_count : (l : Linked) (script : Script) (judging : Judging) (chosen : List Chosen) (i : ℕ) (cs : List Command)
+    → length (each_at (lines_at l script judging chosen) i cs) ≡ count_by (λ (c : Command). is_exception c.what) cs
+lines_count l script judging chosen i [] = refl
+lines_count l script judging chosen i (c ∷ cs) =
+    let rest = lines_count l script judging chosen (i + 1) cs in
+    let one = line_count l script judging (count_at chosen i) c.line c.what in
+    length-append (lines_at l script judging chosen i c) (each_at (lines_at l script judging chosen) (i + 1) cs)
+    ∙ ap (λ (n : ℕ). n + length (each_at (lines_at l script judging chosen) (i + 1) cs)) one
     ∙ ap (λ (n : ℕ). cond (is_exception c.what) 1 0 + n) rest
     ∙ sym (count_cons (λ (d : Command). is_exception d.what) c cs)
 

@@ -49,7 +49,7 @@ IsThingIn l (thing.Net n) = n < l.design.nets
 IsThingIn l (thing.Cell k) = Unit {0}
 IsThingIn l (thing.Pin k place) = Unit {0}
 IsThingIn l thing.ClockPort = Unit {0}
-IsThingIn l (thing.Clock sourced) = Unit {0}
+IsThingIn l (thing.Clock place sourced) = Unit {0}
 
 all_in : {A : Type 0} (P : A → Type 0) (xs : List A) (x : A) → All P xs → In x xs → P x
 all_in P xs x all has = All-contains P xs x all (Contains-from_In xs x has)
@@ -106,8 +106,8 @@ pin_in l (thing.In i) pin usable is has =
 pin_in l (thing.Out o) pin usable is has = one_in l.design (OutPort o) pin is has
 pin_in l thing.ClockPort pin usable is has = absurd has
 pin_in l (thing.Net n) pin usable is has = one_in l.design (NetPin n) pin is has
-pin_in l (thing.Clock true) pin usable is has = absurd has
-pin_in l (thing.Clock false) pin usable is has = absurd has
+pin_in l (thing.Clock place true) pin usable is has = absurd has
+pin_in l (thing.Clock place false) pin usable is has = absurd has
 
 -- what is made of items is made of one
 pub record Made {A B : Type 0} (f : ℕ → A → List B) (first : ℕ) (xs : List A) (y : B) : Type 0 where
@@ -138,49 +138,46 @@ single_is : {A : Type 0} (x y : A) → In y (x ∷ []) → x ≡ y
 single_is x y (inl here) = here
 single_is x y (inr none) = absurd none
 
-clock_thing : (l : Linked) (q : Query) (name : Option (List ℕ)) (sourced : Bool) (t : Thing) → In t (named.clock_by q name sourced) → IsThingIn l t
-clock_thing l q None sourced t has = absurd has
-clock_thing l q (Some name) sourced t has = subst (IsThingIn l) (wanted_is (named.names q name) (thing.Clock sourced) t has) tt
-
-abbrev clock_of : Query → Option (List ℕ) → What → List Thing
-clock_of q port what = elim what as (λ w. List Thing) [
-  | ClockCommand name source ↦ named.clock_by q (named.clock_name port name source) (named.has_source source)
+abbrev clock_of : Query → Option (List ℕ) → ℕ → What → List Thing
+clock_of q port place what = elim what as (λ w. List Thing) [
+  | ClockCommand name source ↦ where_true (named.names_some q (named.clock_name port name source)) (thing.Clock place (named.has_source source))
   | _ ↦ []
 ]
 
-what_clock : (l : Linked) (q : Query) (port : Option (List ℕ)) (what : What) (t : Thing) → In t (clock_of q port what) → IsThingIn l t
-what_clock l q port (ClockCommand name source) t has = clock_thing l q (named.clock_name port name source) (named.has_source source) t has
-what_clock l q port (Case value objects) t has = absurd has
-what_clock l q port (Claiming e) t has = absurd has
-what_clock l q port (Hold h) t has = absurd has
-what_clock l q port (Aside option) t has = absurd has
-what_clock l q port Passed t has = absurd has
-what_clock l q port (Unjudged name) t has = absurd has
-what_clock l q port (Scope name) t has = absurd has
-what_clock l q port (Generated name objects) t has = absurd has
-what_clock l q port (Delay output clocks objects) t has = absurd has
+what_clock : (l : Linked) (q : Query) (port : Option (List ℕ)) (place : ℕ) (what : What) (t : Thing) → In t (clock_of q port place what) → IsThingIn l t
+what_clock l q port place (ClockCommand name source) t has =
+    subst (IsThingIn l) (wanted_is (named.names_some q (named.clock_name port name source)) (thing.Clock place (named.has_source source)) t has) tt
+what_clock l q port place (Case value objects) t has = absurd has
+what_clock l q port place (Claiming e) t has = absurd has
+what_clock l q port place (Hold h) t has = absurd has
+what_clock l q port place (Aside option) t has = absurd has
+what_clock l q port place Passed t has = absurd has
+what_clock l q port place (Unjudged name) t has = absurd has
+what_clock l q port place (Scope name) t has = absurd has
+what_clock l q port place (Generated name objects) t has = absurd has
+what_clock l q port place (Delay output clocks objects) t has = absurd has
 
-abbrev clock_of_any : What → List Thing
-clock_of_any what = elim what as (λ w. List Thing) [ ClockCommand name source ↦ thing.Clock (named.has_source source) ∷ [] | _ ↦ [] ]
+abbrev clock_of_any : ℕ → What → List Thing
+clock_of_any place what = elim what as (λ w. List Thing) [ ClockCommand name source ↦ thing.Clock place (named.has_source source) ∷ [] | _ ↦ [] ]
 
-any_what : (l : Linked) (what : What) (t : Thing) → In t (clock_of_any what) → IsThingIn l t
-any_what l (ClockCommand name source) t has = subst (IsThingIn l) (single_is (thing.Clock (named.has_source source)) t has) tt
-any_what l (Case value objects) t has = absurd has
-any_what l (Claiming e) t has = absurd has
-any_what l (Hold h) t has = absurd has
-any_what l (Aside option) t has = absurd has
-any_what l Passed t has = absurd has
-any_what l (Unjudged name) t has = absurd has
-any_what l (Scope name) t has = absurd has
-any_what l (Generated name objects) t has = absurd has
-any_what l (Delay output clocks objects) t has = absurd has
+any_what : (l : Linked) (place : ℕ) (what : What) (t : Thing) → In t (clock_of_any place what) → IsThingIn l t
+any_what l place (ClockCommand name source) t has = subst (IsThingIn l) (single_is (thing.Clock place (named.has_source source)) t has) tt
+any_what l place (Case value objects) t has = absurd has
+any_what l place (Claiming e) t has = absurd has
+any_what l place (Hold h) t has = absurd has
+any_what l place (Aside option) t has = absurd has
+any_what l place Passed t has = absurd has
+any_what l place (Unjudged name) t has = absurd has
+any_what l place (Scope name) t has = absurd has
+any_what l place (Generated name objects) t has = absurd has
+any_what l place (Delay output clocks objects) t has = absurd has
 
 command_clock : (l : Linked) (q : Query) (port : Option (List ℕ)) (what : What) (place : ℕ) (c : Command) (t : Thing) → c.what ≡ what
     → In t (named.clock_named q port place c) → IsThingIn l t
-command_clock l q port what place c t is has = what_clock l q port what t (subst (λ (w : What). In t (clock_of q port w)) is has)
+command_clock l q port what place c t is has = what_clock l q port place what t (subst (λ (w : What). In t (clock_of q port place w)) is has)
 
 any_clock_thing : (l : Linked) (place : ℕ) (c : Command) (t : Thing) → In t (named.any_clock place c) → IsThingIn l t
-any_clock_thing l place c t has = any_what l c.what t has
+any_clock_thing l place c t has = any_what l place c.what t has
 
 -- the first list that is not empty is one of them
 in_first : {B : Type 0} (ys : List B) (rest : List (List B)) (y : B) → In y (named.first_some (ys ∷ rest)) → In y ys ⊎ In y (named.first_some rest)

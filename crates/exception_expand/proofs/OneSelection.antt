@@ -41,9 +41,9 @@ pub selection_same : (l : Linked) (script : Script) (judging : Judging) (x y : S
     → y ≡ x
 selection_same l script judging x y first second =
     let chosen : second.chosen ≡ first.chosen =
-    those_same (IsSelected l script judging.hold) (script_pairs l script) second.chosen first.chosen second.those first.those in
+    those_same (IsSelected l script judging) (script_pairs l script) second.chosen first.chosen second.those first.those in
     let commands : y.commands ≡ x.commands =
-    second.commands ∙ ap (λ (xs : List Chosen). each_at (lines_at l script judging.hold xs) 0 script.commands) chosen ∙ sym first.commands in
+    second.commands ∙ ap (λ (xs : List Chosen). each_at (lines_at l script judging xs) 0 script.commands) chosen ∙ sym first.commands in
     let pairs : y.pairs ≡ x.pairs = second.pairs ∙ ap (map (line_of l script)) chosen ∙ sym first.pairs in
     let claims : y.claims ≡ x.claims =
     some_same y.claims x.claims (second.claims ∙ ap (map (claim_of l script judging)) chosen ∙ sym first.claims) in
@@ -51,11 +51,11 @@ selection_same l script judging x y first second =
 
 -- a script that selects pairs does not select more than the limit of them
 not_more : (l : Linked) (script : Script) (judging : Judging) (s : Selected) → IsSelectionOf l script judging s
-    → HasMore (IsSelected l script judging.hold) (script_pairs l script) 100000 → ⊥
+    → HasMore (IsSelected l script judging) (script_pairs l script) 100000 → ⊥
 not_more l script judging s is many =
-    let all : AreThose (IsSelected l script judging.hold) (many.first ++ many.rest) is.chosen =
-    subst (λ (xs : List Chosen). AreThose (IsSelected l script judging.hold) xs is.chosen) many.whole is.those in
-    let fewer = those_fewer (IsSelected l script judging.hold) many.first many.rest many.found is.chosen many.those all in
+    let all : AreThose (IsSelected l script judging) (many.first ++ many.rest) is.chosen =
+    subst (λ (xs : List Chosen). AreThose (IsSelected l script judging) xs is.chosen) many.whole is.those in
+    let fewer = those_fewer (IsSelected l script judging) many.first many.rest many.found is.chosen many.those all in
     omega (arith, many.more, is.few, fewer)
 
 -- nor makes it more claims that need a verdict
@@ -63,7 +63,7 @@ not_more_judged : (l : Linked) (script : Script) (judging : Judging) (s : Select
     → HasMoreJudged l script judging 10000 → ⊥
 not_more_judged l script judging s is many =
     let chosen : many.chosen ≡ is.chosen =
-    those_same (IsSelected l script judging.hold) (script_pairs l script) many.chosen is.chosen many.those is.those in
+    those_same (IsSelected l script judging) (script_pairs l script) many.chosen is.chosen many.those is.those in
     let claims : many.claims ≡ s.claims =
     some_same many.claims s.claims (many.claimed ∙ ap (map (claim_of l script judging)) chosen ∙ sym is.claims) in
     let count : count_by (is_judged l.design) many.claims ≡ count_by (is_judged l.design) s.claims = ap (count_by (is_judged l.design)) claims in

@@ -1,5 +1,5 @@
 -- What the commands before a place select, with one command more.
-use Rattle.std.proofs.Common.{arith, ◌≡◌, ◌∙◌, ◌≢◌, ℕ, ◌+◌, ◌-◌, ◌<◌, ◌≤◌, Bool, List, [], ◌++◌, length, map}
+use Rattle.std.proofs.Common.{arith, ◌≡◌, ◌∙◌, ◌≢◌, ℕ, ◌+◌, ◌-◌, ◌<◌, ◌≤◌, List, [], ◌++◌, length, map}
 use Rattle.std.proofs.Common.{take, drop, refl, sym, ap, subst, append_assoc, length-append}
 use Rattle.std.specs.Prelude.{Option, Some, slice_get, All, count_by, ◌==◌}
 use Rattle.std.proofs.lemmas.List.{map-append, length-map, take_all, take-append-drop, length-take}
@@ -29,66 +29,67 @@ use Rattle.exception_expand.proofs.Claiming.{claims_fit}
 use Rattle.exception_expand.proofs.Counting.{count_append, count_own, count_other, each_at_same, lines_count, map_map}
 
 -- a pair that a command selects, with the command's place
-selected_at : (l : Linked) (script : Script) (hold : Bool) (k : ℕ) (c : Command) (p : Side) → slice_get script.commands k ≡ Some c
-    → spec.SelectsBy l script hold c.what p
-    → spec.IsSelected l script hold (spec.chosen_by k p)
-selected_at l script hold k c p here sel = (c, here, sel)
+selected_at : (l : Linked) (script : Script) (judging : Judging) (k : ℕ) (c : Command) (p : Side) → slice_get script.commands k ≡ Some c
+    → spec.SelectsBy l script judging c.what p
+    → spec.IsSelected l script judging (spec.chosen_by k p)
+selected_at l script judging k c p here sel = (c, here, sel)
 
-at_selected : (l : Linked) (script : Script) (hold : Bool) (k : ℕ) (c : Command) (p : Side) → slice_get script.commands k ≡ Some c
-    → spec.IsSelected l script hold (spec.chosen_by k p) → spec.SelectsBy l script hold c.what p
-at_selected l script hold k c p here sel =
+at_selected : (l : Linked) (script : Script) (judging : Judging) (k : ℕ) (c : Command) (p : Side) → slice_get script.commands k ≡ Some c
+    → spec.IsSelected l script judging (spec.chosen_by k p) → spec.SelectsBy l script judging c.what p
+at_selected l script judging k c p here sel =
     let same : sel.0 ≡ c = same_Some sel.0 c (sym sel.1 ∙ here) in
-    subst (λ (d : Command). spec.SelectsBy l script hold d.what p) same sel.2
+    subst (λ (d : Command). spec.SelectsBy l script judging d.what p) same sel.2
 
 -- those of the pairs of one command
-command_those : (l : Linked) (script : Script) (hold : Bool) (k : ℕ) (c : Command) (all more : List Side) → slice_get script.commands k ≡ Some c
-    → AreThose (spec.SelectsBy l script hold c.what) all more
-    → AreThose (spec.IsSelected l script hold) (map (spec.chosen_by k) all) (map (spec.chosen_by k) more)
-command_those l script hold k c all more here those =
-    those_map (spec.chosen_by k) (spec.SelectsBy l script hold c.what) (spec.IsSelected l script hold) all more
-    (λ p sel. selected_at l script hold k c p here sel)
-    (λ p sel. at_selected l script hold k c p here sel) those
+command_those : (l : Linked) (script : Script) (judging : Judging) (k : ℕ) (c : Command) (all more : List Side) → slice_get script.commands k ≡ Some c
+    → AreThose (spec.SelectsBy l script judging c.what) all more
+    → AreThose (spec.IsSelected l script judging) (map (spec.chosen_by k) all) (map (spec.chosen_by k) more)
+command_those l script judging k c all more here those =
+    those_map (spec.chosen_by k) (spec.SelectsBy l script judging c.what) (spec.IsSelected l script judging) all more
+    (λ p sel. selected_at l script judging k c p here sel)
+    (λ p sel. at_selected l script judging k c p here sel) those
 
-more_those : (l : Linked) (script : Script) (hold : Bool) (k : ℕ) (c : Command) (chosen : List Chosen) (more : List Side) → slice_get script.commands k ≡ Some c
-    → AreThose (spec.IsSelected l script hold) (each_at (spec.pairs_at l.design) 0 (take k script.commands)) chosen
-    → AreThose (spec.SelectsBy l script hold c.what) (spec.all_sides l.design) more
-    → AreThose (spec.IsSelected l script hold) (each_at (spec.pairs_at l.design) 0 (take (k + 1) script.commands)) (chosen ++ map (spec.chosen_by k) more)
-more_those l script hold k c chosen more here before those =
-    subst (λ (xs : List Chosen). AreThose (spec.IsSelected l script hold) xs (chosen ++ map (spec.chosen_by k) more))
+more_those : (l : Linked) (script : Script) (judging : Judging) (k : ℕ) (c : Command) (chosen : List Chosen) (more : List Side)
+    → slice_get script.commands k ≡ Some c
+    → AreThose (spec.IsSelected l script judging) (each_at (spec.pairs_at l.design) 0 (take k script.commands)) chosen
+    → AreThose (spec.SelectsBy l script judging c.what) (spec.all_sides l.design) more
+    → AreThose (spec.IsSelected l script judging) (each_at (spec.pairs_at l.design) 0 (take (k + 1) script.commands)) (chosen ++ map (spec.chosen_by k) more)
+more_those l script judging k c chosen more here before those =
+    subst (λ (xs : List Chosen). AreThose (spec.IsSelected l script judging) xs (chosen ++ map (spec.chosen_by k) more))
     (sym (each_at_more (spec.pairs_at l.design) script.commands k c here))
-    (those_append (spec.IsSelected l script hold) (each_at (spec.pairs_at l.design) 0 (take k script.commands)) chosen
+    (those_append (spec.IsSelected l script judging) (each_at (spec.pairs_at l.design) 0 (take k script.commands)) chosen
     (map (spec.chosen_by k) (spec.all_sides l.design))
-    (map (spec.chosen_by k) more) before (command_those l script hold k c (spec.all_sides l.design) more here those))
+    (map (spec.chosen_by k) more) before (command_those l script judging k c (spec.all_sides l.design) more here those))
 
 count_more : (chosen : List Chosen) (k place : ℕ) (more : List Side) → spec.count_at (chosen ++ map (spec.chosen_by k) more) place ≡
     spec.count_at chosen place + spec.count_at (map (spec.chosen_by k) more) place
 count_more chosen k place more = count_append (λ (x : Chosen). x.command == place) chosen (map (spec.chosen_by k) more)
 
 -- the lines of the commands before stay
-lines_kept : (l : Linked) (script : Script) (hold : Bool) (k : ℕ) (chosen : List Chosen) (more : List Side)
-    → each_at (spec.lines_at l script hold chosen) 0 (take k script.commands) ≡
-    each_at (spec.lines_at l script hold (chosen ++ map (spec.chosen_by k) more)) 0 (take k script.commands)
-lines_kept l script hold k chosen more =
-    each_at_same (spec.lines_at l script hold chosen) (spec.lines_at l script hold (chosen ++ map (spec.chosen_by k) more)) 0 (take k script.commands)
+lines_kept : (l : Linked) (script : Script) (judging : Judging) (k : ℕ) (chosen : List Chosen) (more : List Side)
+    → each_at (spec.lines_at l script judging chosen) 0 (take k script.commands) ≡
+    each_at (spec.lines_at l script judging (chosen ++ map (spec.chosen_by k) more)) 0 (take k script.commands)
+lines_kept l script judging k chosen more =
+    each_at_same (spec.lines_at l script judging chosen) (spec.lines_at l script judging (chosen ++ map (spec.chosen_by k) more)) 0 (take k script.commands)
     (λ j c here.
     let short : length (take k script.commands) ≤ k = omega (arith, length-take k script.commands) in
     let low : j < k = omega (arith, short, slice_get_within (take k script.commands) j c here) in
     let other : k ≢ 0 + j = omega (arith, low) in
     let same : spec.count_at chosen (0 + j) ≡ spec.count_at (chosen ++ map (spec.chosen_by k) more) (0 + j) =
     omega (arith, count_more chosen k (0 + j) more, count_other k (0 + j) more other) in
-    ap (λ (n : ℕ). spec.lines_by l script hold n c.line c.what) same)
+    ap (λ (n : ℕ). spec.lines_by l script judging n c.line c.what) same)
 
-lines_more : (l : Linked) (script : Script) (hold : Bool) (k : ℕ) (c : Command) (chosen : List Chosen) (more : List Side) (old new : List CommandLine)
+lines_more : (l : Linked) (script : Script) (judging : Judging) (k : ℕ) (c : Command) (chosen : List Chosen) (more : List Side) (old new : List CommandLine)
     → slice_get script.commands k ≡ Some c → spec.count_at chosen k ≡ 0
-    → old ≡ each_at (spec.lines_at l script hold chosen) 0 (take k script.commands)
-    → new ≡ old ++ spec.lines_by l script hold (length more) c.line c.what
-    → new ≡ each_at (spec.lines_at l script hold (chosen ++ map (spec.chosen_by k) more)) 0 (take (k + 1) script.commands)
-lines_more l script hold k c chosen more old new here none before turn =
+    → old ≡ each_at (spec.lines_at l script judging chosen) 0 (take k script.commands)
+    → new ≡ old ++ spec.lines_by l script judging (length more) c.line c.what
+    → new ≡ each_at (spec.lines_at l script judging (chosen ++ map (spec.chosen_by k) more)) 0 (take (k + 1) script.commands)
+lines_more l script judging k c chosen more old new here none before turn =
     let all = chosen ++ map (spec.chosen_by k) more in
     let count : length more ≡ spec.count_at all k = omega (arith, none, count_more chosen k k more, count_own k more) in
-    turn ∙ ap (λ (xs : List CommandLine). xs ++ spec.lines_by l script hold (length more) c.line c.what) (before ∙ lines_kept l script hold k chosen more)
-    ∙ ap (λ (n : ℕ). each_at (spec.lines_at l script hold all) 0 (take k script.commands) ++ spec.lines_by l script hold n c.line c.what) count
-    ∙ sym (each_at_more (spec.lines_at l script hold all) script.commands k c here)
+    turn ∙ ap (λ (xs : List CommandLine). xs ++ spec.lines_by l script judging (length more) c.line c.what) (before ∙ lines_kept l script judging k chosen more)
+    ∙ ap (λ (n : ℕ). each_at (spec.lines_at l script judging all) 0 (take k script.commands) ++ spec.lines_by l script judging n c.line c.what) count
+    ∙ sym (each_at_more (spec.lines_at l script judging all) script.commands k c here)
 
 pairs_more : (l : Linked) (script : Script) (k : ℕ) (chosen : List Chosen) (more : List Side) (number : ℕ) (old new : List PairLine)
     → number ≡ spec.number_of script k → old ≡ map (spec.line_of l script) chosen → new ≡ old ++ map (spec.side_line l number) more
@@ -117,13 +118,13 @@ upto_more l script judging k c old new here before adds =
     let chosen = before.chosen in
     let more = adds.more in
     let all = chosen ++ map (spec.chosen_by k) more in
-    let commands : new.commands ≡ each_at (spec.lines_at l script judging.hold all) 0 (take (k + 1) script.commands) =
-    lines_more l script judging.hold k c chosen more old.commands new.commands here (before.none_after k (omega arith)) before.commands adds.commands in
+    let commands : new.commands ≡ each_at (spec.lines_at l script judging all) 0 (take (k + 1) script.commands) =
+    lines_more l script judging k c chosen more old.commands new.commands here (before.none_after k (omega arith)) before.commands adds.commands in
     let number : length new.commands ≡ spec.number_of script k =
-    ap (λ (xs : List CommandLine). length xs) commands ∙ lines_count l script judging.hold all 0 (take (k + 1) script.commands) in
+    ap (λ (xs : List CommandLine). length xs) commands ∙ lines_count l script judging all 0 (take (k + 1) script.commands) in
     record {
       chosen = all;
-      those = more_those l script judging.hold k c chosen more here before.those adds.those;
+      those = more_those l script judging k c chosen more here before.those adds.those;
       none_after = λ place past.
           let low : k ≤ place = omega (arith, past) in
           let other : k ≢ place = omega (arith, past) in
@@ -153,8 +154,8 @@ upto_none l script judging s commands pairs claims = record {
 pub more_in_script : (l : Linked) (script : Script) (judging : Judging) (k : ℕ) (c : Command) (a : Asked) (old : Selected)
     → slice_get script.commands k ≡ Some c
     → asked judging.hold c.what ≡ Some a → IsUpTo l script judging k old
-    → HasMore (spec.IsAskedOf l script (Some a)) (spec.all_sides l.design) (100000 - length old.claims)
-    → HasMore (spec.IsSelected l script judging.hold) (spec.script_pairs l script) 100000
+    → HasMore (spec.IsAskedOf l script judging.strict (Some a)) (spec.all_sides l.design) (100000 - length old.claims)
+    → HasMore (spec.IsSelected l script judging) (spec.script_pairs l script) 100000
 more_in_script l script judging k c a old here asks before has =
     let by = spec.chosen_by k in
     let at = spec.pairs_at l.design in
@@ -175,9 +176,9 @@ more_in_script l script judging k c a old here asks before has =
       rest = B ++ R;
       whole = split ∙ ap (λ (xs : List Chosen). xs ++ R) (mid ∙ sym (append_assoc E A B)) ∙ append_assoc (E ++ A) B R;
       found = before.chosen ++ map by has.found;
-      those = those_append (spec.IsSelected l script judging.hold) E before.chosen A (map by has.found) before.those
-          (command_those l script judging.hold k c has.first has.found here
-          (subst (λ (o : Option Asked). AreThose (spec.IsAskedOf l script o) has.first has.found) (sym asks) has.those));
+      those = those_append (spec.IsSelected l script judging) E before.chosen A (map by has.found) before.those
+          (command_those l script judging k c has.first has.found here
+          (subst (λ (o : Option Asked). AreThose (spec.IsAskedOf l script judging.strict o) has.first has.found) (sym asks) has.those));
       more = omega (arith, has.more, count, length-append before.chosen (map by has.found), length-map has.found by, before.few);
     }
 
@@ -189,8 +190,8 @@ selection_of l script judging s usable short kinds upto few =
     let whole : take (length script.commands) script.commands ≡ script.commands = take_all (length script.commands) script.commands (omega arith) in
     let count : length upto.chosen ≡ length s.claims =
     sym (length-map upto.chosen (spec.claim_of l script judging)) ∙ sym (ap (λ (xs : List (Option Claim)). length xs) upto.claims) ∙ length-map s.claims Some in
-    let those : AreThose (spec.IsSelected l script judging.hold) (spec.script_pairs l script) upto.chosen =
-    subst (λ (cs : List Command). AreThose (spec.IsSelected l script judging.hold) (each_at (spec.pairs_at l.design) 0 cs) upto.chosen) whole upto.those in
+    let those : AreThose (spec.IsSelected l script judging) (spec.script_pairs l script) upto.chosen =
+    subst (λ (cs : List Command). AreThose (spec.IsSelected l script judging) (each_at (spec.pairs_at l.design) 0 cs) upto.chosen) whole upto.those in
     let sets : All (λ (d : Command). spec.HasFewSets judging.hold d.what) script.commands =
     subst (All (λ (d : Command). spec.HasFewSets judging.hold d.what)) whole upto.sets in
     record {
@@ -198,7 +199,7 @@ selection_of l script judging s usable short kinds upto few =
       those = those;
       pairs = upto.pairs;
       claims = upto.claims;
-      commands = upto.commands ∙ ap (each_at (spec.lines_at l script judging.hold upto.chosen) 0) whole;
+      commands = upto.commands ∙ ap (each_at (spec.lines_at l script judging upto.chosen) 0) whole;
       sets = sets;
       few = omega (arith, upto.few, count);
       judged = few;

@@ -1,18 +1,20 @@
--- Sides that exceptions claim, at values worked by hand.
+-- Sides that exceptions claim, and edges of claims, at values worked by hand.
 use Rattle.std.proofs.Common.{◌≡◌, true, false, [], ◌∷◌, refl}
 use Rattle.std.specs.Prelude.{Some, None}
 use Rattle.sdcv_base.specs.declared.kinds.Kind.TheVariants.{False, Multi}
-use Rattle.sdcv_base.specs.declared.kinds.Edge.TheVariants.{Any, Rise}
+use Rattle.sdcv_base.specs.declared.kinds.Edge.TheVariants.{Any, Rise, Fall}
 use Rattle.script_types.specs.declared.scripts.Checks.TheVariants.{Unsaid, Setup, Both as BothChecks}
 use Rattle.script_types.specs.declared.scripts.Held.{Held}
 use Rattle.script_types.specs.declared.scripts.What.TheVariants.{Hold}
 use Rattle.selected_types.specs.declared.selections.Listing.TheVariants.{Claiming as ListsClaims, HoldSide as ListsHoldSide}
-use Rattle.net_model.specs.declared.claims.Start.TheVariants.{Reg as RegStart}
+use Rattle.net_model.specs.declared.claims.Start.TheVariants.{Reg as RegStart, Input as InputStart}
 use Rattle.net_model.specs.declared.claims.End.TheVariants.{Reg as RegEnd}
+use Rattle.run_options.specs.declared.judging.Judging.{Judging}
+use Rattle.run_options.specs.Judging.{judging_by}
 use Rattle.exception_expand.specs.declared.pairs.Pair.{Pair}
 use Rattle.exception_expand.specs.declared.sides.Sides.TheVariants.{Late, Early, Both}
 use Rattle.exception_expand.specs.Sides.{side, sides_by, most_pairs}
-use Rattle.exception_expand.specs.Pairs.{pair, lag_for}
+use Rattle.exception_expand.specs.Pairs.{pair, lag_for, edge_of, claim_with}
 use Rattle.exception_expand.specs.Asking.{sides_of, asked, held, listing_by}
 
 -- a false path takes both checks off, said or not
@@ -74,3 +76,21 @@ late_before_early = refl
 -- room for seven claims is room for both sides of three pairs
 both_need_twice_the_room : most_pairs Both 7 ≡ 3
 both_need_twice_the_room = refl
+
+-- a strict run that judges hold sides too
+abbrev strict_judging : Judging
+strict_judging = record { hazard = false; lag = 0; hold = true; strict = true }
+
+-- in a strict run -rise_from of a register claims both changes of its bit; a port keeps the edge
+register_claims_both_changes : (claim_with False Rise strict_judging [] (side false one_pair)).edge ≡ Any
+register_claims_both_changes = refl
+
+port_claims_its_edge : (claim_with False Rise strict_judging [] (side false (pair (InputStart 0) (RegEnd 1)))).edge ≡ Rise
+port_claims_its_edge = refl
+
+port_claims_its_fall : edge_of true Fall (InputStart 0) ≡ Fall
+port_claims_its_fall = refl
+
+-- and without the word a register does too
+register_claims_its_edge : (claim_with False Rise (judging_by false 0) [] (side false one_pair)).edge ≡ Rise
+register_claims_its_edge = refl

@@ -26,7 +26,7 @@ pub record HasMore {A : Type 0} (Holds : A → Type 0) (all : List A) (most : �
 -- more than so many of the claims need a verdict
 pub record HasMoreJudged (l : Linked) (script : Script) (judging : Judging) (most : ℕ) : Type 0 where
   pub chosen : List Chosen
-  pub those : AreThose (IsSelected l script judging.hold) (script_pairs l script) chosen
+  pub those : AreThose (IsSelected l script judging) (script_pairs l script) chosen
   pub claims : List Claim
   pub claimed : map Some claims ≡ map (claim_of l script judging) chosen
   pub more : most < count_by (is_judged l.design) claims
@@ -42,7 +42,7 @@ pub record HasManySets (script : Script) (hold : Bool) : Type 0 where
 -- the count is above its limit; the number is the limit plus 1
 abbrev pub IsOverLimit : Linked → Script → Judging → LimitName → ℕ → Type 0
 IsOverLimit l script judging limit.Through number = (number ≡ 5) × HasManySets script judging.hold
-IsOverLimit l script judging limit.Pairs number = (number ≡ 100001) × HasMore (IsSelected l script judging.hold) (script_pairs l script) 100000
+IsOverLimit l script judging limit.Pairs number = (number ≡ 100001) × HasMore (IsSelected l script judging) (script_pairs l script) 100000
 IsOverLimit l script judging limit.Judged number = (number ≡ 10001) × HasMoreJudged l script judging 10000
 IsOverLimit l script judging _ number = ⊥
 

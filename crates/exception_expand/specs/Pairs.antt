@@ -5,6 +5,7 @@ use Rattle.net_model.specs.Judge.{judged_count}
 use Rattle.sdcv_base.specs.declared.kinds.Kind.{Kind}
 use Rattle.sdcv_base.specs.declared.kinds.Kind.TheVariants.{False, Multi}
 use Rattle.sdcv_base.specs.declared.kinds.Edge.{Edge}
+use Rattle.sdcv_base.specs.declared.kinds.Edge.TheVariants.{Any, Rise}
 use Rattle.net_model.specs.Fits.{IsStartIn, IsEndIn}
 use Rattle.net_model.specs.Paths.{HasPath}
 use Rattle.net_model.specs.declared.netlist.Design.{Design}
@@ -38,11 +39,16 @@ abbrev pub lag_for : Bool → Kind → ℕ → ℕ
 lag_for early False lag = if early then 0 else lag
 lag_for early (Multi k) lag = 0
 
+-- in a strict run the rise of a register's clock pin begins the paths from it, at both changes of its bit; a port keeps the edge
+abbrev pub edge_of : Bool → Edge → Start → Edge
+edge_of true Rise (RegStart r) = Any
+edge_of strict edge start = edge
+
 -- a claim of a side of a pair, by what the claims of an exception have in common
 abbrev pub claim_with : Kind → Edge → Judging → List (List PinRef) → Side → Claim
 claim_with kind edge judging sets s = record {
   kind = kind;
-  edge = edge;
+  edge = edge_of judging.strict edge s.pair.start;
   lag = lag_for s.early kind judging.lag;
   hazard = judging.hazard;
   early = s.early;

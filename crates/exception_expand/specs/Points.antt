@@ -37,13 +37,13 @@ abbrev pub IsMeant : {A : Type 0} → (List Object → List A) → Option (List 
 IsMeant of None x = Unit {0}
 IsMeant of (Some objects) x = Contains (of objects) x
 
--- the start is one of those after the option of this edge: `-from`, `-rise_from` or `-fall_from`
-abbrev pub IsFrom : Linked → Script → Edge → Option (List Object) → Start → Type 0
-IsFrom l script edge from start = IsMeant (starts_of edge l script) from start
+-- the start is one of those after the option of this edge, in a run that is strict or not: `-from`, `-rise_from` or `-fall_from`
+abbrev pub IsFrom : Linked → Script → Bool → Edge → Option (List Object) → Start → Type 0
+IsFrom l script strict edge from start = IsMeant (starts_of l script strict edge) from start
 
 -- the end is one of those after `-to`
-abbrev pub IsTo : Linked → Script → Option (List Object) → End → Type 0
-IsTo l script to end = IsMeant (ends_of l script) to end
+abbrev pub IsTo : Linked → Script → Bool → Option (List Object) → End → Type 0
+IsTo l script strict to end = IsMeant (ends_of l script strict) to end
 
 -- the objects after an option that may be missing
 abbrev pub given : {A : Type 0} → Option (List A) → List A

@@ -21,39 +21,40 @@ use Rattle.exception_expand.specs.Asking.{Asked, asked}
 use Rattle.exception_expand.specs.Choices.{ArePointsOf, IsChoiceCause}
 use Rattle.exception_expand.specs.Selections as spec
 
--- the design is sound, and the tables, the points and the places of cells are its own
+-- the design is sound, the tables, the points and the places of cells are its own, and lists mean what they mean in a run of this kind
 pub record IsTask (t : Task) : Type 0 where
   pub usable : IsUsable t.scope.linked.now
   pub sound : IsSound t.scope.linked.now.design
   pub tables : IsTablesOf t.scope.linked.now t.scope.tables.now
   pub points : ArePointsOf t.scope.linked.now.design t.points.now
   pub cells : AreRegCells t.scope.linked.now t.cells.now
+  pub strict : t.scope.strict ≡ t.judging.strict
 
 -- exactly what the commands before a place select
 pub record IsUpTo (l : Linked) (script : Script) (judging : Judging) (k : ℕ) (s : Selected) : Type 0 where
   pub chosen : List spec.Chosen
-  pub those : AreThose (spec.IsSelected l script judging.hold) (each_at (spec.pairs_at l.design) 0 (take k script.commands)) chosen
+  pub those : AreThose (spec.IsSelected l script judging) (each_at (spec.pairs_at l.design) 0 (take k script.commands)) chosen
   pub none_after : (place : ℕ) → k ≤ place → spec.count_at chosen place ≡ 0
   pub pairs : s.pairs ≡ map (spec.line_of l script) chosen
   pub claims : map Some s.claims ≡ map (spec.claim_of l script judging) chosen
-  pub commands : s.commands ≡ each_at (spec.lines_at l script judging.hold chosen) 0 (take k script.commands)
+  pub commands : s.commands ≡ each_at (spec.lines_at l script judging chosen) 0 (take k script.commands)
   pub sets : All (λ (c : Command). spec.HasFewSets judging.hold c.what) (take k script.commands)
   pub few : length s.claims ≤ 100000
 
 -- exactly what one command selects is added
 pub record Adds (l : Linked) (script : Script) (judging : Judging) (line : ℕ) (what : What) (old new : Selected) : Type 0 where
   pub more : List Side
-  pub those : AreThose (spec.SelectsBy l script judging.hold what) (spec.all_sides l.design) more
-  pub commands : new.commands ≡ old.commands ++ spec.lines_by l script judging.hold (length more) line what
+  pub those : AreThose (spec.SelectsBy l script judging what) (spec.all_sides l.design) more
+  pub commands : new.commands ≡ old.commands ++ spec.lines_by l script judging (length more) line what
   pub pairs : new.pairs ≡ old.pairs ++ map (spec.side_line l (length new.commands)) more
   pub claims : map Some new.claims ≡ map Some old.claims ++ map (λ s. spec.claim_by l script judging s what) more
   pub sets : spec.HasFewSets judging.hold what
   pub few : length new.claims ≤ 100000
 
 -- what is asked selects too much, where so many claims stand already
-abbrev pub IsAskCause : Linked → Script → ℕ → Option Asked → ExpandFault → Type 0
-IsAskCause l script claims None fault = fault ≡ Memory
-IsAskCause l script claims (Some by) fault = IsChoiceCause l script by.exception (most_pairs by.sides (100000 - claims)) fault
+abbrev pub IsAskCause : Linked → Script → Bool → ℕ → Option Asked → ExpandFault → Type 0
+IsAskCause l script strict claims None fault = fault ≡ Memory
+IsAskCause l script strict claims (Some by) fault = IsChoiceCause l script strict by.exception (most_pairs by.sides (100000 - claims)) fault
 
-abbrev pub IsWhatCause : Linked → Script → Bool → ℕ → What → ExpandFault → Type 0
-IsWhatCause l script hold claims what fault = IsAskCause l script claims (asked hold what) fault
+abbrev pub IsWhatCause : Linked → Script → Judging → ℕ → What → ExpandFault → Type 0
+IsWhatCause l script judging claims what fault = IsAskCause l script judging.strict claims (asked judging.hold what) fault

@@ -41,22 +41,23 @@ abbrev pub sets_of : Linked → Script → Exception → List (List PinRef)
 sets_of l script e = map (pins_of l script) e.through
 
 -- the exception selects the pair: it has the start and the end in its lists, and a path leads from one to the other
--- through its sets in their order (SDC 2.1, set_false_path and set_multicycle_path)
-abbrev pub Selects : Linked → Script → Exception → Pair → Type 0
-Selects l script e p = (IsFrom l script e.edge e.from p.start × IsTo l script e.to p.end) × HasPath l.design p.start p.end (sets_of l script e)
+-- through its sets in their order (SDC 2.1, set_false_path and set_multicycle_path); what lists mean may be strict
+abbrev pub Selects : Linked → Script → Bool → Exception → Pair → Type 0
+Selects l script strict e p =
+    (IsFrom l script strict e.edge e.from p.start × IsTo l script strict e.to p.end) × HasPath l.design p.start p.end (sets_of l script e)
 
 -- both sides of all pairs, pair by pair, late before early
 abbrev pub all_sides : Design → List Side
 all_sides d = flat_map (sides_by Both) (all_pairs d)
 
 -- what is asked is asked of this side, and selects its pair; nothing is selected where nothing is asked
-abbrev pub IsAskedOf : Linked → Script → Option Asked → Side → Type 0
-IsAskedOf l script None s = ⊥
-IsAskedOf l script (Some by) s = HasSide by.sides s.early × Selects l script by.exception s.pair
+abbrev pub IsAskedOf : Linked → Script → Bool → Option Asked → Side → Type 0
+IsAskedOf l script strict None s = ⊥
+IsAskedOf l script strict (Some by) s = HasSide by.sides s.early × Selects l script strict by.exception s.pair
 
--- the command claims something of the side of the pair, with hold sides or without
-abbrev pub SelectsBy : Linked → Script → Bool → What → Side → Type 0
-SelectsBy l script hold what s = IsAskedOf l script (asked hold what) s
+-- the command claims something of the side of the pair, with hold sides or without, in a run that is strict or not
+abbrev pub SelectsBy : Linked → Script → Judging → What → Side → Type 0
+SelectsBy l script judging what s = IsAskedOf l script judging.strict (asked judging.hold what) s
 
 -- a side of a pair, and the place of a command in its script
 pub record Chosen : Type 0 where
@@ -74,8 +75,8 @@ abbrev pub script_pairs : Linked → Script → List Chosen
 script_pairs l script = each_at (pairs_at l.design) 0 script.commands
 
 -- the command at its place claims something of the side of the pair
-abbrev pub IsSelected : Linked → Script → Bool → Chosen → Type 0
-IsSelected l script hold x = (c : Command) × (slice_get script.commands x.command ≡ Some c) × SelectsBy l script hold c.what x.side
+abbrev pub IsSelected : Linked → Script → Judging → Chosen → Type 0
+IsSelected l script judging x = (c : Command) × (slice_get script.commands x.command ≡ Some c) × SelectsBy l script judging c.what x.side
 
 -- exceptions are numbered from 1, whether they claim anything or not
 abbrev pub is_exception : What → Bool
@@ -117,10 +118,11 @@ abbrev pub claim_of : Linked → Script → Judging → Chosen → Option Claim
 claim_of l script judging x = claim_at l script judging x.side (slice_get script.commands x.command)
 
 -- the warnings of the objects of an exception: those after `-from` or the like, after each `-through`, and after `-to`
-abbrev pub exception_warnings : Linked → Script → Exception → List Warning
-exception_warnings l script e =
-    warnings (from_column e.edge) l script From (given e.from) ++ flat_map (warnings through_column l script Through) e.through
-    ++ warnings to_column l script To (given e.to)
+abbrev pub exception_warnings : Linked → Script → Bool → Exception → List Warning
+exception_warnings l script strict e =
+    warnings (from_column l script strict e.edge) l script strict From (given e.from)
+    ++ flat_map (warnings (through_column l) l script strict Through) e.through
+    ++ warnings (to_column l script strict) l script strict To (given e.to)
 
 abbrev pub command_line : ℕ → Listing → List Warning → CommandLine
 command_line line listing told = record { line = line; listing = listing; warnings = told }
@@ -132,19 +134,19 @@ lines_unasked line (Aside option) = command_line line (ListsAside option) [] ∷
 lines_unasked line _ = []
 
 -- one that asks something, with the number of its claims and with the warnings of its objects
-abbrev pub lines_asked : Linked → Script → ℕ → ℕ → What → Option Asked → List CommandLine
-lines_asked l script count line what None = lines_unasked line what
-lines_asked l script count line what (Some by) = command_line line (listing_of by count) (exception_warnings l script by.exception) ∷ []
+abbrev pub lines_asked : Linked → Script → Bool → ℕ → ℕ → What → Option Asked → List CommandLine
+lines_asked l script strict count line what None = lines_unasked line what
+lines_asked l script strict count line what (Some by) = command_line line (listing_of by count) (exception_warnings l script strict by.exception) ∷ []
 
-abbrev pub lines_by : Linked → Script → Bool → ℕ → ℕ → What → List CommandLine
-lines_by l script hold count line what = lines_asked l script count line what (asked hold what)
+abbrev pub lines_by : Linked → Script → Judging → ℕ → ℕ → What → List CommandLine
+lines_by l script judging count line what = lines_asked l script judging.strict count line what (asked judging.hold what)
 
 -- how many sides of pairs the command at a place selects
 abbrev pub count_at : List Chosen → ℕ → ℕ
 count_at chosen place = count_by (λ (x : Chosen). x.command == place) chosen
 
-abbrev pub lines_at : Linked → Script → Bool → List Chosen → ℕ → Command → List CommandLine
-lines_at l script hold chosen place c = lines_by l script hold (count_at chosen place) c.line c.what
+abbrev pub lines_at : Linked → Script → Judging → List Chosen → ℕ → Command → List CommandLine
+lines_at l script judging chosen place c = lines_by l script judging (count_at chosen place) c.line c.what
 
 -- a claiming command has at most four through sets
 abbrev pub AsksFewSets : Option Asked → Type 0
@@ -166,10 +168,10 @@ HasMultipliers script = All (λ (c : Command). HasMultiplier c.what) script.comm
 -- each with a claim that fits the design
 pub record IsSelectionOf (l : Linked) (script : Script) (judging : Judging) (s : Selected) : Type 0 where
   pub chosen : List Chosen
-  pub those : AreThose (IsSelected l script judging.hold) (script_pairs l script) chosen
+  pub those : AreThose (IsSelected l script judging) (script_pairs l script) chosen
   pub pairs : s.pairs ≡ map (line_of l script) chosen
   pub claims : map Some s.claims ≡ map (claim_of l script judging) chosen
-  pub commands : s.commands ≡ each_at (lines_at l script judging.hold chosen) 0 script.commands
+  pub commands : s.commands ≡ each_at (lines_at l script judging chosen) 0 script.commands
   pub sets : All (λ (c : Command). HasFewSets judging.hold c.what) script.commands
   pub few : length chosen ≤ 100000
   pub judged : count_by (is_judged l.design) s.claims ≤ 10000

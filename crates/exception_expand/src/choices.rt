@@ -38,8 +38,8 @@ pub fn choose(
     requires tables { IsTablesOf scope.now.linked.now scope.now.tables.now }
     requires points { ArePointsOf scope.now.linked.now.design points.now }
     requires search { IsSearchOf scope.now.linked.now.design search.old }
-    ensures ok { IfOk result (IsChoiceOf scope.now.linked.now scope.now.script.now (asked_by ask.now).exception most) }
-    ensures err { IfErr result (IsChoiceCause scope.now.linked.now scope.now.script.now (asked_by ask.now).exception most) }
+    ensures ok { IfOk result (IsChoiceOf scope.now.linked.now scope.now.script.now scope.now.strict (asked_by ask.now).exception most) }
+    ensures err { IfErr result (IsChoiceCause scope.now.linked.now scope.now.script.now scope.now.strict (asked_by ask.now).exception most) }
     ensures search { IsSearchOf scope.now.linked.now.design search.new }
 {
     if ask.through.len() > MOST_SETS {

@@ -4,7 +4,7 @@ ghost use Rattle.exception_expand.specs.Pairs.{claim_with};
 ghost use Rattle.exception_expand.specs.Pairs as spec;
 
 use crate::sides::Side;
-use net_model::{Claim, Edge, Kind, PinSet};
+use net_model::{Claim, Edge, Kind, PinSet, Start};
 use run_options::Judging;
 use sdcv_base::Seq;
 use std::alloc::{AllocError, Global};
@@ -38,7 +38,7 @@ fn claim_of(alloc: Global, terms: &Terms, side: Side) -> Result<Claim, AllocErro
 {
     Ok(Claim {
         kind: terms.kind,
-        edge: terms.edge,
+        edge: edge_of(terms.judging.strict, terms.edge, side.pair.start),
         lag: lag_for(side.early, terms.kind, terms.judging.lag),
         hazard: terms.judging.hazard,
         early: side.early,
@@ -46,6 +46,16 @@ fn claim_of(alloc: Global, terms: &Terms, side: Side) -> Result<Claim, AllocErro
         end: side.pair.end,
         through: copied(alloc, terms.sets)?,
     })
+}
+
+// In a strict run the rise of what clocks a register makes both changes of its bit.
+fn edge_of(strict: bool, edge: Edge, start: Start) -> Edge
+    ensures { result ≡ spec.edge_of strict edge start }
+{
+    match (strict, edge, start) {
+        (true, Edge::Rise, Start::Reg(_)) => Edge::Any,
+        _ => edge,
+    }
 }
 
 // A multicycle path has no lag, and neither has the early side of a false path.

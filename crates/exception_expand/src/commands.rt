@@ -92,7 +92,7 @@ impl Progress {
         ensures search { IsSearchOf task.now.scope.linked.now.design self.new.search }
         ensures ok { OnOk result
             (Adds task.now.scope.linked.now task.now.scope.script.now task.now.judging line what.now self.old.selected self.new.selected) }
-        ensures err { IfErr result (IsWhatCause task.now.scope.linked.now task.now.scope.script.now task.now.judging.hold
+        ensures err { IfErr result (IsWhatCause task.now.scope.linked.now task.now.scope.script.now task.now.judging
             (length self.old.selected.claims) what.now) }
     {
         let Some(ask) = Ask::of(what, task.judging.hold) else {

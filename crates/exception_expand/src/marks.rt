@@ -28,9 +28,11 @@ pub(crate) fn wanted<T: Listed>(
     requires tables { IsTablesOf scope.now.linked.now scope.now.tables.now }
     requires all { all.now ≡ T.all scope.now.linked.now.design }
     ensures those { IfOk result (AreThose
-        (spec.IsMeant (standing.meant (T.column edge) scope.now.linked.now scope.now.script.now T.at) objects.now) (T.all scope.now.linked.now.design)) }
+        (spec.IsMeant (standing.meant (T.column scope.now.linked.now scope.now.script.now scope.now.strict edge)
+        scope.now.linked.now scope.now.script.now T.at) objects.now) (T.all scope.now.linked.now.design)) }
     ensures warnings { OnOk result (warnings.new ≡ warnings.old ++
-        standing.warnings (T.column edge) scope.now.linked.now scope.now.script.now T.at (spec.given objects.now)) }
+        standing.warnings (T.column scope.now.linked.now scope.now.script.now scope.now.strict edge)
+        scope.now.linked.now scope.now.script.now scope.now.strict T.at (spec.given objects.now)) }
 {
     match objects {
         Some(objects) => listed(alloc, scope, edge, all, objects, warnings),
@@ -50,9 +52,11 @@ fn listed<T: Listed>(
     requires tables { IsTablesOf scope.now.linked.now scope.now.tables.now }
     requires all { all.now ≡ T.all scope.now.linked.now.design }
     ensures those { IfOk result (AreThose
-        (Contains (standing.meant (T.column edge) scope.now.linked.now scope.now.script.now T.at objects.now)) (T.all scope.now.linked.now.design)) }
+        (Contains (standing.meant (T.column scope.now.linked.now scope.now.script.now scope.now.strict edge)
+        scope.now.linked.now scope.now.script.now T.at objects.now)) (T.all scope.now.linked.now.design)) }
     ensures warnings { OnOk result (warnings.new ≡ warnings.old ++
-        standing.warnings (T.column edge) scope.now.linked.now scope.now.script.now T.at objects.now) }
+        standing.warnings (T.column scope.now.linked.now scope.now.script.now scope.now.strict edge)
+        scope.now.linked.now scope.now.script.now scope.now.strict T.at objects.now) }
 {
     let items = meant::<T>(alloc, scope, edge, objects, warnings)?;
     among(alloc, &scope.linked.design, all, &items)

@@ -20,7 +20,7 @@ use std::alloc::Global;
 
 /// The pairs that the exceptions of a script select in a linked design, each with its claim, and the exceptions with their
 /// warnings. With hazards the claims allow no glitch either. Each false path is judged at as many captures more than the first
-/// as the lag says, at most 8; a multicycle path has no lag.
+/// as the lag says, at most 8; a multicycle path has no lag. In a strict run lists mean what a timing analyser takes them for.
 pub fn expand(
     alloc: Global,
     linked: &Linked,
@@ -41,6 +41,7 @@ pub fn expand(
             linked,
             script,
             tables: &tables,
+            strict: judging.strict,
         },
         points: &points,
         cells: &cells,

@@ -21,7 +21,7 @@ pub(crate) fn pin_sets(
     requires { IsTablesOf scope.now.linked.now scope.now.tables.now }
     ensures sets { IfOk result (λ sets. sets ≡ map (pins_of scope.now.linked.now scope.now.script.now) lists.now) }
     ensures warnings { OnOk result (warnings.new ≡ warnings.old ++
-        flat_map (warnings_of through_column scope.now.linked.now scope.now.script.now places.Through) lists.now) }
+        flat_map (warnings_of (through_column scope.now.linked.now) scope.now.linked.now scope.now.script.now scope.now.strict places.Through) lists.now) }
 {
     let mut sets = Seq::new(alloc);
     for k in 0..lists.len() {
@@ -39,7 +39,7 @@ fn pin_set(
     requires { IsTablesOf scope.now.linked.now scope.now.tables.now }
     ensures set { IfOk result (λ set. set ≡ pins_of scope.now.linked.now scope.now.script.now objects.now) }
     ensures warnings { OnOk result (warnings.new ≡ warnings.old ++
-        warnings_of through_column scope.now.linked.now scope.now.script.now places.Through objects.now) }
+        warnings_of (through_column scope.now.linked.now) scope.now.linked.now scope.now.script.now scope.now.strict places.Through objects.now) }
 {
     let pins = meant::<PinRef>(alloc, scope, Edge::Any, objects, warnings)?;
     PinSet::of(alloc, pins.as_slice())

@@ -64,14 +64,14 @@ few_claims l hazard s is =
 -- a selection is not of too many pairs
 pub few_pairs : (l : Linked) (hazard : Bool) (s : Selected) → IsSelectionOf l registers_script (judging_by hazard 0) s → HasFewPairs l
 few_pairs l hazard s is many =
-    let those : AreThose (spec.IsSelected l registers_script false) (many.first ++ many.rest) is.chosen =
-    subst (λ (xs : List Chosen). AreThose (spec.IsSelected l registers_script false) xs is.chosen) many.whole is.those in
+    let those : AreThose (spec.IsSelected l registers_script (judging_by false 0)) (many.first ++ many.rest) is.chosen =
+    subst (λ (xs : List Chosen). AreThose (spec.IsSelected l registers_script (judging_by false 0)) xs is.chosen) many.whole is.those in
     omega (
       arith,
       many.more,
       few_claims l hazard s is,
       claims_chosen l hazard is.chosen s.claims is.claims,
-      those_fewer (spec.IsSelected l registers_script false) many.first many.rest many.found is.chosen many.those those,
+      those_fewer (spec.IsSelected l registers_script (judging_by false 0)) many.first many.rest many.found is.chosen many.those those,
     )
 
 -- a refusal for claims that need a verdict, or for pairs, is for more than 10,000 pairs
@@ -85,7 +85,7 @@ judged_many l hazard has = record {
   more = omega (arith, has.more, count_by-le-length (is_judged l.design) has.claims, claims_chosen l hazard has.chosen has.claims has.claimed);
 }
 
-pairs_many : (l : Linked) → HasMore (spec.IsSelected l registers_script false) (spec.script_pairs l registers_script) 100000 → HasManyPairs l
+pairs_many : (l : Linked) → HasMore (spec.IsSelected l registers_script (judging_by false 0)) (spec.script_pairs l registers_script) 100000 → HasManyPairs l
 pairs_many l has = record { first = has.first; rest = has.rest; whole = has.whole; found = has.found; those = has.those; more = omega (arith, has.more) }
 
 -- whatever limit is met

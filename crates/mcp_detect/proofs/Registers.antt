@@ -73,20 +73,21 @@ cell_thing k None t has = absurd has
 cell_thing k (Some r) t (inl here) = here
 cell_thing k (Some r) t (inr none) = absurd none
 
-thing_free : (l : Linked) (t : Thing) (start : Start) → In t (things_of l registers_script From AllRegisters) → In start (meant_by (from_column Any l t))
-    → is_free l.design start ≡ true
+thing_free : (l : Linked) (t : Thing) (start : Start) → In t (things_of l registers_script From AllRegisters)
+    → In start (meant_by (from_column l registers_script false Any t)) → is_free l.design start ≡ true
 thing_free l t start has there =
     let made = from_each (λ k (c : CellName). cell_of_reg k c.reg) 0 l.names.cells t has in
     let is = cell_thing (0 + made.place) made.item.reg t made.of in
-    cell_free l.design (slice_get l.names.cells (0 + made.place)) start (subst (λ (u : Thing). In start (meant_by (from_column Any l u))) (sym is) there)
+    cell_free l.design (slice_get l.names.cells (0 + made.place)) start
+    (subst (λ (u : Thing). In start (meant_by (from_column l registers_script false Any u))) (sym is) there)
 
 -- a start of the command may toggle
-starts_free : (l : Linked) (p : Pair) → spec.Selects l registers_script registers_exception p → is_free l.design p.start ≡ true
+starts_free : (l : Linked) (p : Pair) → spec.Selects l registers_script false registers_exception p → is_free l.design p.start ≡ true
 starts_free l p sel =
     let things = things_of l registers_script From AllRegisters in
-    elim (In-cases p.start (meant_of (from_column Any l) things) [] (In-from_Contains _ p.start sel.0.0)) [
+    elim (In-cases p.start (meant_of (from_column l registers_script false Any) things) [] (In-from_Contains _ p.start sel.0.0)) [
       | inl here ↦
-          let of = from_flat (λ t. meant_by (from_column Any l t)) p.start things here in
+          let of = from_flat (λ t. meant_by (from_column l registers_script false Any t)) p.start things here in
           thing_free l of.0 p.start of.1 of.2
       | inr none ↦ absurd none
     ]
@@ -96,14 +97,14 @@ pub record IsOfRegisters (d : Design) (claim : Claim) : Type 0 where
   pub bare : IsBare claim
   pub judged : is_judged d claim ≡ true
 
-claim_of_registers : (l : Linked) (hazard : Bool) (x : Chosen) (claim : Claim) → spec.IsSelected l registers_script false x
+claim_of_registers : (l : Linked) (hazard : Bool) (x : Chosen) (claim : Claim) → spec.IsSelected l registers_script (judging_by hazard 0) x
     → spec.claim_of l registers_script (judging_by hazard 0) x ≡ Some claim → IsOfRegisters l.design claim
 claim_of_registers l hazard x claim sel is =
     let same : registers_command ≡ sel.0 = the_command x.command sel.0 sel.1 in
     let at : slice_get registers_script.commands x.command ≡ Some registers_command =
     subst (λ (c : Command). slice_get registers_script.commands x.command ≡ Some c) (sym same) sel.1 in
-    let selects : spec.SelectsBy l registers_script false registers_command.what x.side =
-    subst (λ (c : Command). spec.SelectsBy l registers_script false c.what x.side) (sym same) sel.2 in
+    let selects : spec.SelectsBy l registers_script (judging_by hazard 0) registers_command.what x.side =
+    subst (λ (c : Command). spec.SelectsBy l registers_script (judging_by hazard 0) c.what x.side) (sym same) sel.2 in
     let made = spec.claim l registers_script (judging_by hazard 0) registers_exception x.side in
     let of : made ≡ claim = same_Some made claim (sym (ap (spec.claim_at l registers_script (judging_by hazard 0) x.side) at) ∙ is) in
     subst (IsOfRegisters l.design) of (record { bare = record { late = selects.0; lag = refl; through = refl }; judged = starts_free l x.side.pair selects.1 })
@@ -116,13 +117,13 @@ of_those P _ _ y (Taken x xs ys holds rest) (inr later) = of_those P xs ys y res
 of_those P _ _ y (Left_out x xs ys not rest) has = of_those P xs ys y rest has
 
 pub each_of_registers : (l : Linked) (hazard : Bool) (chosen : List Chosen) (claims : List Claim)
-    → AreThose (spec.IsSelected l registers_script false) (spec.script_pairs l registers_script) chosen
+    → AreThose (spec.IsSelected l registers_script (judging_by hazard 0)) (spec.script_pairs l registers_script) chosen
     → map Some claims ≡ map (spec.claim_of l registers_script (judging_by hazard 0)) chosen → (claim : Claim) → In claim claims → IsOfRegisters l.design claim
 each_of_registers l hazard chosen claims those is claim has =
     let some = In-map Some claim claims has in
     let from = from_map (spec.claim_of l registers_script (judging_by hazard 0)) (Some claim) chosen (subst (In (Some claim)) is some) in
     claim_of_registers l hazard from.0 claim
-    (of_those (spec.IsSelected l registers_script false) (spec.script_pairs l registers_script) chosen from.0 those from.1) from.2
+    (of_those (spec.IsSelected l registers_script (judging_by hazard 0)) (spec.script_pairs l registers_script) chosen from.0 those from.1) from.2
 
 -- the claims that are tried
 pub all_bare : (l : Linked) (hazard : Bool) (s : Selected) → IsSelectionOf l registers_script (judging_by hazard 0) s → All IsBare s.claims

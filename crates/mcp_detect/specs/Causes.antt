@@ -5,6 +5,7 @@ use Rattle.sdcv_base.specs.declared.limits.LimitName.TheVariants.{Pairs}
 use Rattle.linked_types.specs.declared.names.Linked.{Linked}
 use Rattle.selected_types.specs.declared.faults.ExpandFault.{ExpandFault}
 use Rattle.selected_types.specs.declared.faults.ExpandFault.TheVariants as expand
+use Rattle.run_options.specs.Judging.{judging_by}
 use Rattle.exception_expand.specs.Selections.{IsSelected, script_pairs}
 use Rattle.exception_expand.specs.Causes.{HasMore}
 use Rattle.mcp_detect.specs.declared.faults.DetectFault.{DetectFault}
@@ -13,7 +14,7 @@ use Rattle.mcp_detect.specs.Scripts.{registers_script}
 
 -- more than 10,000 pairs would have to be tried
 abbrev pub HasManyPairs : Linked → Type 0
-HasManyPairs l = HasMore (IsSelected l registers_script false) (script_pairs l registers_script) 10000
+HasManyPairs l = HasMore (IsSelected l registers_script (judging_by false 0)) (script_pairs l registers_script) 10000
 
 abbrev pub HasFewPairs : Linked → Type 0
 HasFewPairs l = ¬ HasManyPairs l

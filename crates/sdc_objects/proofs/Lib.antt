@@ -1,3 +1,5 @@
+pub mod Adding
 mod Firsts
 pub mod Looking
 pub mod Porting
+mod Worked

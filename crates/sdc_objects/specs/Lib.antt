@@ -1,3 +1,4 @@
 pub mod Things
+pub mod Delays
 pub mod Standing
 pub mod Tables

@@ -1,5 +1,5 @@
 -- What each thing stands for in each place of an exception.
-use Rattle.std.specs.Prelude.{ℕ, Bool, true, false, ◌&&◌, ◌==◌, if◌then◌else◌, List, [], ◌∷◌, map, flat_map, length}
+use Rattle.std.specs.Prelude.{ℕ, Bool, true, false, ◌&&◌, ◌==◌, if◌then◌else◌, List, [], ◌∷◌, ◌++◌, map, flat_map, length}
 use Rattle.std.specs.Prelude.{Option, Some, None, slice_get, slice_index, count_by}
 use Rattle.std.specs.List.{list_all, list_any}
 use Rattle.sdcv_base.specs.declared.kinds.Edge.{Edge}
@@ -19,16 +19,19 @@ use Rattle.linked_types.specs.declared.names.PinName.{PinName}
 use Rattle.linked_types.specs.declared.names.PinRole.{PinRole}
 use Rattle.linked_types.specs.declared.names.PinRole.TheVariants.{Clock as ClockRole, Load, Drive, Source, Sink}
 use Rattle.script_types.specs.declared.objects.Object.{Object}
+use Rattle.script_types.specs.declared.objects.Object.TheVariants.{Named}
 use Rattle.script_types.specs.declared.scripts.Script.{Script}
 use Rattle.sdc_settings.specs.Inputs.{object_text}
 use Rattle.sdc_objects.specs.declared.things.Thing.{Thing}
 use Rattle.sdc_objects.specs.declared.things.Thing.TheVariants as thing
 use Rattle.sdc_objects.specs.declared.things.Place.{Place}
 use Rattle.sdc_objects.specs.declared.things.Place.TheVariants.{From, To, Through}
+use Rattle.sdc_objects.specs.declared.things.Side.TheVariants.{In, Out}
 use Rattle.selected_types.specs.declared.warnings.Warning.{Warning}
-use Rattle.selected_types.specs.declared.warnings.Warning.TheVariants.{Nothing, Dropped}
-use Rattle.sdcv_base.specs.Seqs.{each_at}
-use Rattle.sdc_objects.specs.Things.{things_of}
+use Rattle.selected_types.specs.declared.warnings.Warning.TheVariants.{Nothing, Dropped, Several}
+use Rattle.sdcv_base.specs.Seqs.{each_at, where_true}
+use Rattle.sdc_objects.specs.Things.{things_of, is_several}
+use Rattle.sdc_objects.specs.Delays.{delayed_at}
 
 -- a row of the table: what a thing stands for in each place; None where it is dropped there
 pub record Stands : Type 0 where
@@ -108,8 +111,8 @@ stands l (thing.In i) = row (one (InputStart i)) dropped (one (NetPin (slice_ind
 stands l (thing.Out o) = row dropped (one (OutputEnd o)) (one (OutPort o))
 stands l thing.ClockPort = row dropped dropped dropped
 stands l (thing.Net n) = row dropped dropped (one (NetPin n))
-stands l (thing.Clock true) = row (Some (all_reg_starts l.design)) (Some (all_reg_ends l.design)) dropped
-stands l (thing.Clock false) = row (Some []) (Some []) (Some [])
+stands l (thing.Clock place true) = row (Some (all_reg_starts l.design)) (Some (all_reg_ends l.design)) dropped
+stands l (thing.Clock place false) = row (Some []) (Some []) (Some [])
 
 -- one of a register's outputs shows the complement of the register's bit on the net
 abbrev pub has_inverted : List RegOut → ℕ → Bool
@@ -133,19 +136,37 @@ edge_pin d reg (Load pins) = dropped
 edge_pin d reg (Source input) = one (InputStart input)
 edge_pin d reg (Sink output) = dropped
 
-abbrev pub edge_role : Design → Option ℕ → Option PinName → Option (List Start)
-edge_role d reg None = dropped
-edge_role d reg (Some p) = edge_pin d reg p.role
+-- by the role of the pin at a place, and the register of its cell
+abbrev pub by_role : (Option ℕ → PinRole → Option (List Start)) → Option ℕ → Option PinName → Option (List Start)
+by_role of reg None = dropped
+by_role of reg (Some p) = of reg p.role
 
-abbrev pub edge_pin_at : Design → Option CellName → ℕ → Option (List Start)
-edge_pin_at d None place = dropped
-edge_pin_at d (Some c) place = edge_role d c.reg (slice_get c.pins place)
+abbrev pub pin_by : (Option ℕ → PinRole → Option (List Start)) → Option CellName → ℕ → Option (List Start)
+pin_by of None place = dropped
+pin_by of (Some c) place = by_role of c.reg (slice_get c.pins place)
 
 -- what a thing stands for after them: a clock with a source is dropped too, and all else is as after -from
 abbrev pub edge_column : Linked → Thing → Option (List Start)
-edge_column l (thing.Pin k place) = edge_pin_at l.design (slice_get l.names.cells k) place
-edge_column l (thing.Clock true) = dropped
+edge_column l (thing.Pin k place) = pin_by (edge_pin l.design) (slice_get l.names.cells k) place
+edge_column l (thing.Clock place true) = dropped
 edge_column l t = (stands l t).from
+
+-- a timing analyser begins a path from a register at its clock pin, whose rise makes both changes of the bit: in a strict run
+-- a clock pin stands for its register after -rise_from too
+abbrev pub rise_pin : Design → Option ℕ → PinRole → Option (List Start)
+rise_pin d reg ClockRole = reg_start reg
+rise_pin d reg role = edge_pin d reg role
+
+-- and each clock is dropped
+abbrev pub rise_column : Linked → Thing → Option (List Start)
+rise_column l (thing.Pin k place) = pin_by (rise_pin l.design) (slice_get l.names.cells k) place
+rise_column l (thing.Clock place sourced) = dropped
+rise_column l t = (stands l t).from
+
+-- its fall makes no change: after -fall_from a port alone stands for something
+abbrev pub fall_column : Thing → Option (List Start)
+fall_column (thing.In input) = one (InputStart input)
+fall_column _ = dropped
 
 -- what a thing gives in a column
 abbrev pub meant_by : {A : Type 0} → Option (List A) → List A
@@ -156,6 +177,42 @@ abbrev pub is_dropped : {A : Type 0} → Option (List A) → Bool
 is_dropped None = true
 is_dropped (Some xs) = false
 
+-- the input that a thing is, and the output
+abbrev pub input_of : Thing → List Start
+input_of (thing.In input) = InputStart input ∷ []
+input_of _ = []
+
+abbrev pub output_of : Thing → List End
+output_of (thing.Out output) = OutputEnd output ∷ []
+output_of _ = []
+
+-- in a strict run a clock stands also for the inputs with an input delay of it, and for the outputs with an output delay
+abbrev pub clock_starts : Linked → Script → Thing → Option (List Start)
+clock_starts l script (thing.Clock place sourced) =
+    Some (meant_by (stands l (thing.Clock place sourced)).from ++ flat_map input_of (delayed_at l script In place))
+clock_starts l script t = (stands l t).from
+
+abbrev pub clock_ends : Linked → Script → Thing → Option (List End)
+clock_ends l script (thing.Clock place sourced) =
+    Some (meant_by (stands l (thing.Clock place sourced)).to ++ flat_map output_of (delayed_at l script Out place))
+clock_ends l script t = (stands l t).to
+
+-- the three columns by their places, in a run that is strict or not; that of the starts by the edge of its option
+abbrev pub from_column : Linked → Script → Bool → Edge → Thing → Option (List Start)
+from_column l script false edges.Any t = (stands l t).from
+from_column l script false edges.Rise t = edge_column l t
+from_column l script false edges.Fall t = edge_column l t
+from_column l script true edges.Any t = clock_starts l script t
+from_column l script true edges.Rise t = rise_column l t
+from_column l script true edges.Fall t = fall_column t
+
+abbrev pub to_column : Linked → Script → Bool → Thing → Option (List End)
+to_column l script false t = (stands l t).to
+to_column l script true t = clock_ends l script t
+
+abbrev pub through_column : Linked → Thing → Option (List PinRef)
+through_column l t = (stands l t).through
+
 -- what the things that an object names stand for in a column
 abbrev pub meant_of : {A : Type 0} → (Thing → Option (List A)) → List Thing → List A
 meant_of column things = flat_map (λ t. meant_by (column t)) things
@@ -165,41 +222,37 @@ abbrev pub dropped_of : {A : Type 0} → (Thing → Option (List A)) → List Th
 dropped_of column things = count_by (λ t. is_dropped (column t)) things
 
 -- what the objects of a list stand for in one place
-abbrev pub meant : {A : Type 0} → (Linked → Thing → Option (List A)) → Linked → Script → Place → List Object → List A
-meant column l script place objects = flat_map (λ o. meant_of (column l) (things_of l script place o)) objects
+abbrev pub meant : {A : Type 0} → (Thing → Option (List A)) → Linked → Script → Place → List Object → List A
+meant column l script place objects = flat_map (λ o. meant_of column (things_of l script place o)) objects
 
 -- nothing is named, or so many of the things that are named are dropped
 abbrev pub warning : List ℕ → List Thing → ℕ → List Warning
 warning text [] count = Nothing text ∷ []
 warning text (t ∷ ts) count = if count == 0 then [] else Dropped text count ∷ []
 
--- the warnings of an object, and those of a list of objects
-abbrev pub warnings_of : {A : Type 0} → (Linked → Thing → Option (List A)) → Linked → Script → Place → Object → List Warning
-warnings_of column l script place o = warning (object_text o) (things_of l script place o) (dropped_of (column l) (things_of l script place o))
+-- a pattern outside a `get_` command names things of several classes
+abbrev pub several : Linked → Script → Place → Object → List Warning
+several l script place (Named q) = where_true (is_several l script place q) (Several q.pattern)
+several l script place _ = []
 
-abbrev pub warnings : {A : Type 0} → (Linked → Thing → Option (List A)) → Linked → Script → Place → List Object → List Warning
-warnings column l script place objects = flat_map (warnings_of column l script place) objects
+-- the warnings of an object, in a run that is strict or not, and those of a list of objects
+abbrev pub warnings_of : {A : Type 0} → (Thing → Option (List A)) → Linked → Script → Bool → Place → Object → List Warning
+warnings_of column l script false place o = warning (object_text o) (things_of l script place o) (dropped_of column (things_of l script place o))
+warnings_of column l script true place o =
+    warning (object_text o) (things_of l script place o) (dropped_of column (things_of l script place o)) ++ several l script place o
 
--- the three columns by their places; that of the starts by the edge of its option
-abbrev pub from_column : Edge → Linked → Thing → Option (List Start)
-from_column edges.Any l t = (stands l t).from
-from_column edges.Rise l t = edge_column l t
-from_column edges.Fall l t = edge_column l t
+abbrev pub warnings : {A : Type 0} → (Thing → Option (List A)) → Linked → Script → Bool → Place → List Object → List Warning
+warnings column l script strict place objects = flat_map (warnings_of column l script strict place) objects
 
-abbrev pub to_column : Linked → Thing → Option (List End)
-to_column l t = (stands l t).to
+-- the starts, the ends and the through pins that the objects of a list stand for
+abbrev pub starts_of : Linked → Script → Bool → Edge → List Object → List Start
+starts_of l script strict edge = meant (from_column l script strict edge) l script From
 
-abbrev pub through_column : Linked → Thing → Option (List PinRef)
-through_column l t = (stands l t).through
-
-abbrev pub starts_of : Edge → Linked → Script → List Object → List Start
-starts_of edge l script = meant (from_column edge) l script From
-
-abbrev pub ends_of : Linked → Script → List Object → List End
-ends_of l script = meant to_column l script To
+abbrev pub ends_of : Linked → Script → Bool → List Object → List End
+ends_of l script strict = meant (to_column l script strict) l script To
 
 abbrev pub pins_of : Linked → Script → List Object → List PinRef
-pins_of l script = meant through_column l script Through
+pins_of l script = meant (through_column l) l script Through
 
 -- the list of what there is, and dropped where there is nothing
 abbrev pub one_of : {A : Type 0} → Option A → Option (List A)

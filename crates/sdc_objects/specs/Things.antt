@@ -1,5 +1,5 @@
 -- What has a name, and what an object of a script names (SDC 2.1, object access).
-use Rattle.std.specs.Prelude.{ℕ, Bool, true, false, List, [], ◌∷◌, ◌++◌, map, Option, Some, None}
+use Rattle.std.specs.Prelude.{ℕ, nat_lt, Bool, true, false, ◌&&◌, ◌||◌, List, [], ◌∷◌, ◌++◌, map, length, count_by, Option, Some, None}
 use Rattle.std.specs.Option.{is_some}
 use Rattle.glob.specs.Match.{matches}
 use Rattle.linked_types.specs.declared.names.Linked.{Linked}
@@ -74,15 +74,15 @@ abbrev pub has_source : List Object → Bool
 has_source [] = false
 has_source (o ∷ source) = true
 
--- a clock, by its name if it has one
-abbrev pub clock_by : Query → Option (List ℕ) → Bool → List Thing
-clock_by q None sourced = []
-clock_by q (Some name) sourced = where_true (names q name) (thing.Clock sourced)
+-- the pattern matches the name, if there is one
+abbrev pub names_some : Query → Option (List ℕ) → Bool
+names_some q None = false
+names_some q (Some name) = names q name
 
--- the clock that a command makes
+-- the clock that the command at a place makes, by its name
 abbrev pub clock_named : Query → Option (List ℕ) → ℕ → Command → List Thing
 clock_named q port place c = elim c.what as (λ w. List Thing) [
-  | ClockCommand name source ↦ clock_by q (clock_name port name source) (has_source source)
+  | ClockCommand name source ↦ where_true (names_some q (clock_name port name source)) (thing.Clock place (has_source source))
   | _ ↦ []
 ]
 
@@ -116,9 +116,9 @@ first_some ((x ∷ xs) ∷ rest) = x ∷ xs
 abbrev pub cell_of_reg : ℕ → Option ℕ → List Thing
 cell_of_reg k reg = where_true (is_some reg) (thing.Cell k)
 
--- the clock that a command makes, whatever its name
+-- the clock that the command at a place makes, whatever its name
 abbrev pub any_clock : ℕ → Command → List Thing
-any_clock place c = elim c.what as (λ w. List Thing) [ ClockCommand name source ↦ thing.Clock (has_source source) ∷ [] | _ ↦ [] ]
+any_clock place c = elim c.what as (λ w. List Thing) [ ClockCommand name source ↦ thing.Clock place (has_source source) ∷ [] | _ ↦ [] ]
 
 -- all that an object names in a place of an exception
 abbrev pub things_of : Linked → Script → Place → Object → List Thing
@@ -127,3 +127,25 @@ things_of l script place AllInputs = each_at (λ i (p : PortName). bit_of In i �
 things_of l script place AllOutputs = each_at (λ o (p : PortName). bit_of Out o ∷ []) 0 l.names.outs
 things_of l script place AllRegisters = each_at (λ k (c : CellName). cell_of_reg k c.reg) 0 l.names.cells
 things_of l script place AllClocks = each_at any_clock 0 script.commands
+
+-- the pattern is found in a class
+abbrev pub is_found : Linked → Script → Query → Class → Bool
+is_found l script q c = nat_lt 0 (length (found l script q c))
+
+-- whether a pattern outside a `get_` command is found, kind by kind; in through a port and its net are of one kind
+abbrev pub kinds_found : Linked → Script → Place → Query → List Bool
+kinds_found l script Through q =
+    is_found l script q class.Pins ∷ is_found l script q class.Cells ∷ (is_found l script q class.Ports || is_found l script q class.Nets) ∷ []
+kinds_found l script place q = map (is_found l script q) (classes place class.Any)
+
+-- two of these are true, or more
+abbrev pub has_two : List Bool → Bool
+has_two found = nat_lt 1 (count_by (λ (b : Bool). b) found)
+
+abbrev pub is_any : Class → Bool
+is_any class.Any = true
+is_any _ = false
+
+-- it names things of two kinds, and stands for those of the first class alone
+abbrev pub is_several : Linked → Script → Place → Query → Bool
+is_several l script place q = is_any q.class && has_two (kinds_found l script place q)

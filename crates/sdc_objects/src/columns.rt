@@ -1,5 +1,5 @@
 //! The table of what things stand for, a column for each place of an exception.
-ghost use Rattle.std.specs.Prelude.{◌≡◌, ◌++◌, ◌∷◌, [], true, not, if◌then◌else◌, map, ℕ, List, Option, None, IfOk, OnOk, slice_get, slice_index};
+ghost use Rattle.std.specs.Prelude.{◌≡◌, ◌++◌, ◌∷◌, [], true, not, if◌then◌else◌, map, ℕ, Bool, List, Option, None, IfOk, OnOk, slice_get, slice_index};
 ghost use Rattle.std.specs.List.{list_all};
 ghost use Rattle.linked_types.specs.declared.names.PinName.{PinName as PinRecord};
 ghost use Rattle.std.specs.Option.{is_some};
@@ -10,17 +10,22 @@ ghost use Rattle.sdc_objects.specs.declared.things.Thing.{Thing as ThingEnum};
 ghost use Rattle.sdc_objects.specs.declared.things.Place.{Place as PlaceEnum};
 ghost use Rattle.sdc_objects.specs.declared.things.Place.TheVariants as places;
 ghost use Rattle.sdcv_base.specs.Seqs.{option_list};
+ghost use Rattle.script_types.specs.declared.scripts.Script.{Script as ScriptRecord};
+ghost use Rattle.sdc_objects.specs.Tables.{IsTablesOf};
 ghost use Rattle.sdc_objects.specs.Standing as spec;
 
+use crate::scopes::Scope;
+use crate::strict::{add_clock_ends, add_clock_starts, add_fall_start, add_rise_start};
 use crate::things::{Place, Thing};
 use linked_types::{CellName, Linked, PinName, PinRole};
 use net_model::{Design, Edge, End, PinRef, RegOut, Start};
 use sdcv_base::Seq;
 use std::alloc::{AllocError, Global};
 
-/// What things stand for in one place of an exception. An edge is that of the option of the place; only starts have one.
+/// What things stand for in one place of an exception, in a run that is strict or not. An edge is that of the option of the
+/// place; only starts have one.
 pub trait Column: Copy + Drop {
-    ghost column: { EdgeEnum → LinkedRecord → ThingEnum → Option (List Self) };
+    ghost column: { LinkedRecord → ScriptRecord → Bool → EdgeEnum → ThingEnum → Option (List Self) };
 
     ghost at: { PlaceEnum };
 
@@ -30,13 +35,17 @@ pub trait Column: Copy + Drop {
 
     /// Adds what a thing stands for, and tells whether it isn't dropped.
     fn add(
-        linked: &Linked,
+        alloc: Global,
+        scope: &Scope,
         edge: Edge,
         thing: Thing,
         found: &mut Seq<Self>,
     ) -> Result<bool, AllocError>
-        ensures kept { IfOk result (λ kept. kept ≡ not (spec.is_dropped (column edge linked.now thing))) }
-        ensures added { OnOk result (found.new ≡ found.old ++ spec.meant_by (column edge linked.now thing)) };
+        requires { IsTablesOf scope.now.linked.now scope.now.tables.now }
+        ensures kept { IfOk result (λ kept.
+            kept ≡ not (spec.is_dropped (column scope.now.linked.now scope.now.script.now scope.now.strict edge thing))) }
+        ensures added { OnOk result
+            (found.new ≡ found.old ++ spec.meant_by (column scope.now.linked.now scope.now.script.now scope.now.strict edge thing)) };
 }
 
 impl Column for Start {
@@ -49,20 +58,24 @@ impl Column for Start {
     }
 
     fn add(
-        linked: &Linked,
+        alloc: Global,
+        scope: &Scope,
         edge: Edge,
         thing: Thing,
         found: &mut Seq<Start>,
     ) -> Result<bool, AllocError> {
-        match edge {
-            Edge::Any => add_start(linked, thing, found),
-            Edge::Rise | Edge::Fall => add_edge_start(linked, thing, found),
+        match (scope.strict, edge) {
+            (false, Edge::Any) => add_start(scope.linked, thing, found),
+            (false, Edge::Rise | Edge::Fall) => add_edge_start(scope.linked, thing, found),
+            (true, Edge::Any) => add_clock_starts(alloc, scope, thing, found),
+            (true, Edge::Rise) => add_rise_start(scope.linked, thing, found),
+            (true, Edge::Fall) => add_fall_start(thing, found),
         }
     }
 }
 
 impl Column for End {
-    ghost column = { λ edge. spec.to_column };
+    ghost column = { λ l script strict edge. spec.to_column l script strict };
 
     ghost at = { places.To };
 
@@ -71,24 +84,22 @@ impl Column for End {
     }
 
     fn add(
-        linked: &Linked,
+        alloc: Global,
+        scope: &Scope,
         _edge: Edge,
         thing: Thing,
         found: &mut Seq<End>,
     ) -> Result<bool, AllocError> {
-        let cells = &linked.names.cells;
-        match thing {
-            Thing::Cell(k) => add_one(reg_end(cell_reg(cells, k)), found),
-            Thing::Pin(k, place) => add_one(pin_end(linked, k, place), found),
-            Thing::Out(output) => add_one(Some(End::Output(output)), found),
-            Thing::In(_) | Thing::ClockPort | Thing::Net(_) => Ok(false),
-            Thing::Clock(sourced) => add_reg_ends(&linked.design, sourced, found),
+        if scope.strict {
+            add_clock_ends(alloc, scope, thing, found)
+        } else {
+            add_end(scope.linked, thing, found)
         }
     }
 }
 
 impl Column for PinRef {
-    ghost column = { λ edge. spec.through_column };
+    ghost column = { λ l script strict edge. spec.through_column l };
 
     ghost at = { places.Through };
 
@@ -97,11 +108,13 @@ impl Column for PinRef {
     }
 
     fn add(
-        linked: &Linked,
+        _alloc: Global,
+        scope: &Scope,
         _edge: Edge,
         thing: Thing,
         found: &mut Seq<PinRef>,
     ) -> Result<bool, AllocError> {
+        let linked = scope.linked;
         let cells = &linked.names.cells;
         match thing {
             Thing::Cell(k) => add_cell_pins(cells, k, found),
@@ -110,13 +123,17 @@ impl Column for PinRef {
             Thing::Out(output) => add_one(Some(PinRef::OutPort(output)), found),
             Thing::Net(net) => add_one(Some(PinRef::Net(net)), found),
             Thing::ClockPort => Ok(false),
-            Thing::Clock(sourced) => Ok(!sourced),
+            Thing::Clock(_, sourced) => Ok(!sourced),
         }
     }
 }
 
-// Adds the starts that a thing stands for at each of their changes.
-fn add_start(linked: &Linked, thing: Thing, found: &mut Seq<Start>) -> Result<bool, AllocError>
+/// Adds the starts that a thing stands for at each of their changes.
+pub(crate) fn add_start(
+    linked: &Linked,
+    thing: Thing,
+    found: &mut Seq<Start>,
+) -> Result<bool, AllocError>
     ensures kept { IfOk result (λ kept. kept ≡ not (spec.is_dropped (spec.stands linked.now thing).from)) }
     ensures added { OnOk result (found.new ≡ found.old ++ spec.meant_by (spec.stands linked.now thing).from) }
 {
@@ -126,7 +143,7 @@ fn add_start(linked: &Linked, thing: Thing, found: &mut Seq<Start>) -> Result<bo
         Thing::Pin(k, place) => add_one(pin_start(linked, k, place), found),
         Thing::In(input) => add_one(Some(Start::Input(input)), found),
         Thing::Out(_) | Thing::ClockPort | Thing::Net(_) => Ok(false),
-        Thing::Clock(sourced) => add_reg_starts(&linked.design, sourced, found),
+        Thing::Clock(_, sourced) => add_reg_starts(&linked.design, sourced, found),
     }
 }
 
@@ -137,13 +154,35 @@ fn add_edge_start(linked: &Linked, thing: Thing, found: &mut Seq<Start>) -> Resu
 {
     match thing {
         Thing::Pin(k, place) => add_one(edge_start(linked, k, place), found),
-        Thing::Clock(true) => Ok(false),
+        Thing::Clock(_, true) => Ok(false),
         _ => add_start(linked, thing, found),
     }
 }
 
-// Adds what there is, and tells whether there is anything.
-fn add_one<T: Copy + Drop>(one: Option<T>, found: &mut Seq<T>) -> Result<bool, AllocError>
+/// Adds the ends that a thing stands for.
+pub(crate) fn add_end(
+    linked: &Linked,
+    thing: Thing,
+    found: &mut Seq<End>,
+) -> Result<bool, AllocError>
+    ensures kept { IfOk result (λ kept. kept ≡ not (spec.is_dropped (spec.stands linked.now thing).to)) }
+    ensures added { OnOk result (found.new ≡ found.old ++ spec.meant_by (spec.stands linked.now thing).to) }
+{
+    let cells = &linked.names.cells;
+    match thing {
+        Thing::Cell(k) => add_one(reg_end(cell_reg(cells, k)), found),
+        Thing::Pin(k, place) => add_one(pin_end(linked, k, place), found),
+        Thing::Out(output) => add_one(Some(End::Output(output)), found),
+        Thing::In(_) | Thing::ClockPort | Thing::Net(_) => Ok(false),
+        Thing::Clock(_, sourced) => add_reg_ends(&linked.design, sourced, found),
+    }
+}
+
+/// Adds what there is, and tells whether there is anything.
+pub(crate) fn add_one<T: Copy + Drop>(
+    one: Option<T>,
+    found: &mut Seq<T>,
+) -> Result<bool, AllocError>
     ensures kept { IfOk result (λ kept. kept ≡ is_some one) }
     ensures added { OnOk result (found.new ≡ found.old ++ option_list one) }
 {
@@ -156,7 +195,8 @@ fn add_one<T: Copy + Drop>(one: Option<T>, found: &mut Seq<T>) -> Result<bool, A
     }
 }
 
-fn reg_start(reg: Option<usize>) -> Option<Start>
+/// The register as a start, if there is one.
+pub(crate) fn reg_start(reg: Option<usize>) -> Option<Start>
     ensures { spec.one_of result ≡ spec.reg_start reg }
 {
     match reg {
@@ -199,12 +239,19 @@ fn pin_start(linked: &Linked, k: usize, place: usize) -> Option<Start>
 
 // The register whose output pin it is, and whose bit the pin shows as it is, or the input that the pin drives.
 fn edge_start(linked: &Linked, k: usize, place: usize) -> Option<Start>
-    ensures { spec.one_of result ≡ spec.edge_pin_at linked.now.design (slice_get linked.now.names.cells k) place }
+    ensures { spec.one_of result ≡ spec.pin_by (spec.edge_pin linked.now.design) (slice_get linked.now.names.cells k) place }
 {
     let cell = linked.names.cells.as_slice().get(k)?;
     let pin = cell.pins.as_slice().get(place)?;
-    match &pin.role {
-        PinRole::Drive(net) => reg_start(upright_reg(&linked.design, cell.reg, *net)),
+    edge_role(&linked.design, cell.reg, &pin.role)
+}
+
+/// What a pin stands for at one of the changes of a start, by its role and the register of its cell.
+pub(crate) fn edge_role(design: &Design, reg: Option<usize>, role: &PinRole) -> Option<Start>
+    ensures { spec.one_of result ≡ spec.edge_pin design.now reg role.now }
+{
+    match role {
+        PinRole::Drive(net) => reg_start(upright_reg(design, reg, *net)),
         PinRole::Source(input) => Some(Start::Input(*input)),
         PinRole::Clock | PinRole::Load(_) | PinRole::Sink(_) => None,
     }

@@ -89,8 +89,8 @@ fn classes_of(place: Place, class: Class) -> &'static [Class]
     }
 }
 
-// All that a pattern names in a class.
-fn found_in(
+/// All that a pattern names in a class.
+pub(crate) fn found_in(
     alloc: Global,
     scope: &Scope,
     query: &Query,
@@ -229,28 +229,25 @@ fn add_clocks(scope: &Scope, query: &Query, found: &mut Seq<Thing>) -> Result<()
 {
     let commands = &scope.script.commands;
     for place in 0..commands.len() {
-        add_clock(
-            &scope.linked.names.clock,
-            commands.item(place),
-            query,
-            found,
-        )?;
+        let port = &scope.linked.names.clock;
+        add_clock(port, place, commands.item(place), query, found)?;
     }
     Ok(())
 }
 
 fn add_clock(
     port: &Option<Name>,
+    place: usize,
     command: &Command,
     query: &Query,
     found: &mut Seq<Thing>,
 ) -> Result<(), AllocError>
-    ensures { OnOk result ((place : ℕ) → found.new ≡ found.old ++ spec.clock_named query.now port.now place command.now) }
+    ensures { OnOk result (found.new ≡ found.old ++ spec.clock_named query.now port.now place command.now) }
 {
     match &command.what {
         What::Clock { name, source } => {
-            let name = clock_name(port, name, source);
-            add_clock_by(name, !source.is_empty(), query, found)
+            let named = names_some(query, clock_name(port, name, source));
+            add_where(named, Thing::Clock(place, !source.is_empty()), found)
         }
         What::Case { .. }
         | What::Claiming(_)
@@ -264,21 +261,18 @@ fn add_clock(
     }
 }
 
-fn add_clock_by(
-    name: Option<&Name>,
-    sourced: bool,
-    query: &Query,
-    found: &mut Seq<Thing>,
-) -> Result<(), AllocError>
-    ensures { OnOk result (found.new ≡ found.old ++ spec.clock_by query.now (option_copied name.entry) sourced) }
+/// Whether a pattern matches a name, if there is one.
+pub(crate) fn names_some(query: &Query, name: Option<&Name>) -> bool
+    ensures { result ≡ spec.names_some query.now (option_copied name.entry) }
 {
     match name {
-        Some(name) => add_where(is_named(query, name), Thing::Clock(sourced), found),
-        None => Ok(()),
+        Some(name) => is_named(query, name),
+        None => false,
     }
 }
 
-fn clock_name<'a>(
+/// The name of a clock, if it has one: without a name of its own it goes by the clock port, where it has a source.
+pub(crate) fn clock_name<'a>(
     port: &'a Option<Name>,
     name: &'a Option<Name>,
     source: &Seq<Object>,
@@ -294,11 +288,15 @@ fn clock_name<'a>(
     }
 }
 
-fn add_any_clock(command: &Command, found: &mut Seq<Thing>) -> Result<(), AllocError>
-    ensures { OnOk result ((place : ℕ) → found.new ≡ found.old ++ spec.any_clock place command.now) }
+fn add_any_clock(place: usize, command: &Command, found: &mut Seq<Thing>) -> Result<(), AllocError>
+    ensures { OnOk result (found.new ≡ found.old ++ spec.any_clock place command.now) }
 {
     match &command.what {
-        What::Clock { source, .. } => add_where(true, Thing::Clock(!source.is_empty()), found),
+        What::Clock { source, .. } => add_where(
+            true,
+            Thing::Clock(place, !source.is_empty()),
+            found,
+        ),
         What::Case { .. }
         | What::Claiming(_)
         | What::Hold(_)
@@ -337,7 +335,7 @@ fn all_clocks(alloc: Global, commands: &Seq<Command>) -> Result<Seq<Thing>, Allo
 {
     let mut found = Seq::new(alloc);
     for place in 0..commands.len() {
-        add_any_clock(commands.item(place), &mut found)?;
+        add_any_clock(place, commands.item(place), &mut found)?;
     }
     Ok(found)
 }

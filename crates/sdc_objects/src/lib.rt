@@ -2,15 +2,19 @@
 //! access).
 //!
 //! Read `specs/Things.antt` (what a pattern names in each class) and `specs/Standing.antt` (the table of what each thing
-//! stands for as a start, an end or a through pin) first; then `lists.rt`, which goes through the objects of a list. A
-//! name without wildcards is one look into a table of names (`tables.rt`), any other pattern goes through the names.
+//! stands for as a start, an end or a through pin) first, and `specs/Delays.antt` for the ports of a clock; then `lists.rt`,
+//! which goes through the objects of a list. A name without wildcards is one look into a table of names (`tables.rt`), any
+//! other pattern goes through the names.
 #![tactic(auto)]
 
 mod columns;
+mod delays;
 mod found;
 mod lists;
 mod pins;
 mod scopes;
+mod several;
+mod strict;
 mod tables;
 mod things;
 mod warnings;

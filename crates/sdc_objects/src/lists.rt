@@ -8,8 +8,7 @@ use crate::columns::Column;
 use crate::found::things_of;
 use crate::scopes::Scope;
 use crate::things::Thing;
-use crate::warnings::warn;
-use linked_types::Linked;
+use crate::warnings::{warn, warn_several};
 use net_model::Edge;
 use script_types::Object;
 use sdcv_base::Seq;
@@ -18,7 +17,7 @@ use std::alloc::{AllocError, Global};
 
 /// What the objects of a list stand for in the place of `T`, in their order, some maybe several times, after an option of
 /// this edge (SDC 2.1, `-rise_from` and `-fall_from`). Adds the warnings of the objects that name nothing, or of which some
-/// can't stand there.
+/// can't stand there, and in a strict run of those that name things of several classes.
 pub fn meant<T: Column>(
     alloc: Global,
     scope: &Scope,
@@ -27,8 +26,10 @@ pub fn meant<T: Column>(
     warnings: &mut Seq<Warning>,
 ) -> Result<Seq<T>, AllocError>
     requires { IsTablesOf scope.now.linked.now scope.now.tables.now }
-    ensures items { IfOk result (λ items. items ≡ spec.meant (T.column edge) scope.now.linked.now scope.now.script.now T.at objects.now) }
-    ensures warnings { OnOk result (warnings.new ≡ warnings.old ++ spec.warnings (T.column edge) scope.now.linked.now scope.now.script.now T.at objects.now) }
+    ensures items { IfOk result (λ items. items ≡ spec.meant (T.column scope.now.linked.now scope.now.script.now scope.now.strict edge)
+        scope.now.linked.now scope.now.script.now T.at objects.now) }
+    ensures warnings { OnOk result (warnings.new ≡ warnings.old ++ spec.warnings (T.column scope.now.linked.now scope.now.script.now scope.now.strict edge)
+        scope.now.linked.now scope.now.script.now scope.now.strict T.at objects.now) }
 {
     let mut items = Seq::new(alloc);
     for k in 0..objects.len() {
@@ -46,28 +47,37 @@ fn add_object<T: Column>(
     warnings: &mut Seq<Warning>,
 ) -> Result<(), AllocError>
     requires { IsTablesOf scope.now.linked.now scope.now.tables.now }
-    ensures items { OnOk result (items.new ≡
-        items.old ++ spec.meant_of (T.column edge scope.now.linked.now) (things scope.now.linked.now scope.now.script.now T.at object.now)) }
-    ensures warnings { OnOk result (warnings.new ≡ warnings.old ++ spec.warnings_of (T.column edge) scope.now.linked.now scope.now.script.now T.at object.now) }
+    ensures items { OnOk result (items.new ≡ items.old ++ spec.meant_of (T.column scope.now.linked.now scope.now.script.now scope.now.strict edge)
+        (things scope.now.linked.now scope.now.script.now T.at object.now)) }
+    ensures warnings { OnOk result (warnings.new ≡ warnings.old ++ spec.warnings_of (T.column scope.now.linked.now scope.now.script.now scope.now.strict edge)
+        scope.now.linked.now scope.now.script.now scope.now.strict T.at object.now) }
 {
     let things = things_of(alloc, scope, T::place(), object)?;
-    let dropped = add_things(scope.linked, edge, &things, items)?;
-    warn(alloc, object, &things, dropped, warnings)
+    let dropped = add_things(alloc, scope, edge, &things, items)?;
+    warn(alloc, object, &things, dropped, warnings)?;
+    if scope.strict {
+        warn_several(alloc, scope, T::place(), object, warnings)?;
+    }
+    Ok(())
 }
 
 // Adds what the things stand for, and counts those that are dropped.
 fn add_things<T: Column>(
-    linked: &Linked,
+    alloc: Global,
+    scope: &Scope,
     edge: Edge,
     things: &Seq<Thing>,
     items: &mut Seq<T>,
 ) -> Result<usize, AllocError>
-    ensures dropped { IfOk result (λ dropped. dropped ≡ spec.dropped_of (T.column edge linked.now) things.now) }
-    ensures items { OnOk result (items.new ≡ items.old ++ spec.meant_of (T.column edge linked.now) things.now) }
+    requires { IsTablesOf scope.now.linked.now scope.now.tables.now }
+    ensures dropped { IfOk result (λ dropped.
+        dropped ≡ spec.dropped_of (T.column scope.now.linked.now scope.now.script.now scope.now.strict edge) things.now) }
+    ensures items { OnOk result (items.new ≡ items.old ++
+        spec.meant_of (T.column scope.now.linked.now scope.now.script.now scope.now.strict edge) things.now) }
 {
     let mut dropped = 0;
     for k in 0..things.len() {
-        if !T::add(linked, edge, things.at(k), items)? {
+        if !T::add(alloc, scope, edge, things.at(k), items)? {
             dropped += 1;
         }
     }

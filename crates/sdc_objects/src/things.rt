@@ -6,7 +6,8 @@ use sdcv_base::Seq;
 use std::alloc::AllocError;
 
 /// A thing that an object of a script can name: a cell, an input bit or an output bit by its place among the names of the
-/// design, a pin by its cell's place and its own there, a net by its number, a clock by whether it has a source.
+/// design, a pin by its cell's place and its own there, a net by its number, a clock by the place of its command in the script
+/// and by whether it has a source.
 #[derive(Clone, Copy, PartialEq, Eq)]
 pub enum Thing {
     Cell(usize),
@@ -15,7 +16,7 @@ pub enum Thing {
     Out(usize),
     ClockPort,
     Net(usize),
-    Clock(bool),
+    Clock(usize, bool),
 }
 
 /// The place of an object in an exception.

@@ -3,7 +3,7 @@ use Rattle.std.proofs.Common.{◌≡◌, true, false, [], Some, None, refl}
 use Rattle.std.specs.Prelude.{codes}
 use Rattle.sdc_text.specs.Numbers.{is_whole, multiplier}
 use Rattle.sdc_text.specs.Cases.{case_bit}
-use Rattle.sdc_text.specs.Kinds.{command_kind, is_passed_over, is_delay, is_clock, is_limit, is_setting}
+use Rattle.sdc_text.specs.Kinds.{narrow_kind, is_passed_over, is_delay, is_clock, is_limit, is_setting}
 
 -- a multiplier may have zeros in front
 multiplier_may_have_zeros_in_front : multiplier (codes "002") ≡ Some 2
@@ -94,6 +94,6 @@ unfolding is_delay is_clock is_limit is_setting
 generated_clock_is_not_passed_over = refl
 
 -- a command that SDC does not have
-unknown_command_is_none : command_kind (codes "set_fals_path") ≡ None
-unfolding command_kind is_delay is_clock is_limit is_setting
+unknown_command_is_none : narrow_kind (codes "set_fals_path") ≡ None
+unfolding narrow_kind is_delay is_clock is_limit is_setting
 unknown_command_is_none = refl

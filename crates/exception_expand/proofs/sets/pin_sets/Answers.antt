@@ -10,7 +10,7 @@ loop-k-preserved c =
     let l = c.args.scope.now.linked.now in
     let script = c.args.scope.now.script.now in
     let of = pins_of l script in
-    let told = warnings through_column l script Through in
+    let told = warnings (through_column l) l script c.args.scope.now.strict Through in
     let xs = c.args.lists.now in
     let x = c.item.result.now in
     record {

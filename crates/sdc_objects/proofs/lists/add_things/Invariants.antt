@@ -4,6 +4,6 @@ use Rattle.sdc_objects.proofs.lists.add_things.Given as goal
 
 abbrev pub invariant-loop-k : goal.invariant-loop-k
 invariant-loop-k g l = record {
-  dropped : l.dropped ≡ dropped_of (g.T.Column.column l.edge l.linked) (take l.k l.things);
-  items : l.items ≡ l.fn.items ++ meant_of (g.T.Column.column l.edge l.linked) (take l.k l.things);
+  dropped : l.dropped ≡ dropped_of (g.T.Column.column l.scope.linked.now l.scope.script.now l.scope.strict l.edge) (take l.k l.things);
+  items : l.items ≡ l.fn.items ++ meant_of (g.T.Column.column l.scope.linked.now l.scope.script.now l.scope.strict l.edge) (take l.k l.things);
 }

@@ -1,6 +1,7 @@
-use Rattle.std.proofs.Common.{◌≡◌, ◌∙◌, ◌-◌, length, sym, ap}
+use Rattle.std.proofs.Common.{◌≡◌, ◌∙◌, ◌-◌, Bool, length, sym, ap, subst}
 use Rattle.std.specs.Option.{option_map}
 use Rattle.exception_expand.specs.Asking.{asked_by}
+use Rattle.exception_expand.specs.Choices.{IsChoiceOf}
 use Rattle.exception_expand.specs.Selections.{Selects}
 use Rattle.exception_expand.specs.Sides.{most_pairs}
 use Rattle.exception_expand.proofs.Ranging.{pairs_in}
@@ -10,7 +11,7 @@ use Rattle.exception_expand.proofs.commands.Progress.add_what.Goals as goal
 pub add_choice-requires-clause-pairs : goal.add_choice-requires-clause-pairs
 add_choice-requires-clause-pairs c =
     let l = c.args.task.now.scope.linked.now in
-    pairs_in l.design (Selects l c.args.task.now.scope.script.now (asked_by c.in-Some.ask).exception) c.in_ok-choice.choice.pairs
+    pairs_in l.design (Selects l c.args.task.now.scope.script.now c.args.task.now.scope.strict (asked_by c.in-Some.ask).exception) c.in_ok-choice.choice.pairs
     c.in_ok-choice.ensures.ok.pairs
 
 pub returns-in_default-clause-ok : goal.returns-in_default-clause-ok
@@ -29,5 +30,7 @@ returns-clause-ok c =
     let room : c.most_pairs-most.result ≡ most_pairs by.sides (100000 - length old.claims) =
     c.most_pairs-most.ensures ∙ ap (λ n. most_pairs by.sides (100000 - n)) c.len.ensures in
     adds_choice t.scope.linked.now t.scope.script.now t.judging c.args.line c.args.what.now by c.most_pairs-most.result c.in_ok-choice.choice old
-    c.add_choice.new.selected (sym c.in-Some.ensures) c.in_ok-choice.ensures.ok room c.requires.few c.in_ok-add_choice.ensures.commands
+    c.add_choice.new.selected (sym c.in-Some.ensures)
+    (subst (λ (strict : Bool). IsChoiceOf t.scope.linked.now t.scope.script.now strict by.exception c.most_pairs-most.result c.in_ok-choice.choice)
+    c.requires.task.strict c.in_ok-choice.ensures.ok) room c.requires.few c.in_ok-add_choice.ensures.commands
     c.in_ok-add_choice.ensures.pairs c.in_ok-add_choice.ensures.claims
