@@ -8,50 +8,54 @@ ghost use Rattle.judgements.specs.Reports.{joined, report_bytes};
 use report_json::write_json;
 use report_text::write_report;
 use run_options::RunOptions;
-use selected_types::Selected;
+use selected_types::{Notices, Selected};
 use std::alloc::{AllocError, Global};
 use verdicts::Verdict;
 
-/// The lines of the report of a selection and its verdicts, each with the newline that ends it. JSON is one line.
+/// The lines of the report of what is told of a script, its selection and the verdicts, each with the newline that ends it. JSON
+/// is one line.
 pub fn report(
     alloc: Global,
     options: &RunOptions,
+    notices: &Notices,
     selected: &Selected,
     verdicts: &[Verdict],
     json: bool,
 ) -> Result<Vec<Vec<u8>>, AllocError>
     requires { HasRows selected.now verdicts.now }
-    ensures { IfOk result (λ lines. joined lines.items ≡ report_bytes json options.now selected.now verdicts.now) }
+    ensures { IfOk result (λ lines. joined lines.items ≡ report_bytes json options.now notices.now selected.now verdicts.now) }
 {
     if json {
-        json_line(alloc, options, selected, verdicts)
+        json_line(alloc, options, notices, selected, verdicts)
     } else {
-        text_lines(alloc, options, selected, verdicts)
+        text_lines(alloc, options, notices, selected, verdicts)
     }
 }
 
 fn json_line(
     alloc: Global,
     options: &RunOptions,
+    notices: &Notices,
     selected: &Selected,
     verdicts: &[Verdict],
 ) -> Result<Vec<Vec<u8>>, AllocError>
     requires { HasRows selected.now verdicts.now }
-    ensures { IfOk result (λ lines. joined lines.items ≡ json_text options.now selected.now verdicts.now) }
+    ensures { IfOk result (λ lines. joined lines.items ≡ json_text options.now notices.now selected.now verdicts.now) }
 {
     let mut lines = Vec::new(alloc);
-    lines.push(write_json(alloc, options, selected, verdicts)?)?;
+    lines.push(write_json(alloc, options, notices, selected, verdicts)?)?;
     Ok(lines)
 }
 
 fn text_lines(
     alloc: Global,
     options: &RunOptions,
+    notices: &Notices,
     selected: &Selected,
     verdicts: &[Verdict],
 ) -> Result<Vec<Vec<u8>>, AllocError>
     requires { HasRows selected.now verdicts.now }
-    ensures { IfOk result (λ lines. joined lines.items ≡ text.report_bytes options.now selected.now verdicts.now) }
+    ensures { IfOk result (λ lines. joined lines.items ≡ text.report_bytes options.now notices.now selected.now verdicts.now) }
 {
-    write_report(alloc, options, selected, verdicts)
+    write_report(alloc, options, notices, selected, verdicts)
 }

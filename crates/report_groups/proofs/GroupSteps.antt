@@ -1,7 +1,6 @@
 -- How the groups of rows are found, one row after another.
-use Rattle.std.proofs.Common.{◌≡◌, ◌∙◌, ◌<◌, ◌≤◌, ◌+◌, ◌++◌, ap, sym, refl, true, false, not, Bool, ℕ, List, [], ◌∷◌, map, drop, drop-cons, add-one, append_assoc, get_or, length}
+use Rattle.std.proofs.Common.{◌≡◌, ◌∙◌, ◌<◌, ◌+◌, ◌++◌, ap, sym, refl, true, false, Bool, ℕ, List, [], ◌∷◌, map, drop, drop-cons, add-one, append_assoc, get_or, length}
 use Rattle.std.specs.Prelude.{if◌then◌else◌}
-use Rattle.std.proofs.lemmas.List.{drop_all}
 use Rattle.texts.specs.Names.{is_among, with_name}
 use Rattle.report_rows.specs.declared.reports.PairRow.{PairRow}
 use Rattle.report_groups.specs.Groups.{key_of, firsts, group_by}

@@ -1,12 +1,14 @@
--- What is told of exceptions for hold sides, and of their pairs, worked out by hand.
-use Rattle.std.proofs.Common.{◌≡◌, [], ◌∷◌, refl}
+-- What is told of exceptions for hold sides and of their pairs, and of other commands, worked out by hand.
+use Rattle.std.proofs.Common.{◌≡◌, [], ◌∷◌, false, refl}
 use Rattle.std.specs.Fmt.{digits}
 use Rattle.std.specs.Prelude.{codes}
 use Rattle.report_rows.specs.declared.reports.PairRow.{PairRow}
 use Rattle.report_rows.specs.declared.reports.Said.TheVariants.{Does}
+use Rattle.report_rows.specs.declared.reports.Told.TheVariants.{Skipped, Unjudged, HoldSides}
 use Rattle.report_rows.specs.declared.reports.Word.TheVariants.{Refuted}
 use Rattle.report_groups.specs.Groups.{group_text}
-use Rattle.report_groups.specs.Findings.{said_texts}
+use Rattle.report_groups.specs.Findings.{said_texts, told_notes, passes}
+use Rattle.report_groups.specs.declared.findings.Finding.TheVariants.{Note}
 
 hold_sides_of_no_pair_are_told : said_texts (Does (codes "false hold") 0) ≡ codes "false hold selects nothing" ∷ []
 hold_sides_of_no_pair_are_told = refl
@@ -32,3 +34,16 @@ failing = record {
 hold_sides_are_a_group_of_their_own : group_text (record { row = failing; pairs = 4 }) ≡ codes "a[*] -> b 4 refuted offset 3 command 2 false hold rise first 5"
 unfolding digits
 hold_sides_are_a_group_of_their_own = refl
+
+what_is_not_judged_is_told : told_notes (Unjudged 3 (codes "set_clock_groups")) ≡ Note (codes "line 3 unjudged set_clock_groups") ∷ []
+unfolding digits
+what_is_not_judged_is_told = refl
+
+what_is_not_judged_stops_a_build : passes (Note (codes "line 3 unjudged set_clock_groups")) ≡ false
+what_is_not_judged_stops_a_build = refl
+
+what_is_passed_over_is_not_told : told_notes (Skipped (codes "set_sense") 12) ≡ []
+what_is_passed_over_is_not_told = refl
+
+hold_sides_that_are_not_judged_are_not_told : told_notes (HoldSides 2) ≡ []
+hold_sides_that_are_not_judged_are_not_told = refl

@@ -1,5 +1,5 @@
 -- What a report tells by groups, and what of it stops a build.
-use Rattle.std.specs.Prelude.{ℕ, ◌==◌, ◌||◌, Bool, true, false, not, nat_eq, nat_lt, List, [], ◌∷◌, ◌++◌, map, filter, flat_map, codes, if◌then◌else◌}
+use Rattle.std.specs.Prelude.{ℕ, ◌||◌, Bool, true, false, not, nat_eq, nat_lt, List, [], ◌∷◌, ◌++◌, map, filter, flat_map, codes, if◌then◌else◌}
 use Rattle.std.specs.List.{starts_with}
 use Rattle.std.specs.Fmt.{decimal}
 use Rattle.std.specs.Str.{bytes_eq}
@@ -7,6 +7,8 @@ use Rattle.sdcv_base.specs.Shown.{shown}
 use Rattle.witness_replay.specs.StimulusTexts.{line_of}
 use Rattle.report_rows.specs.declared.reports.Word.{Word}
 use Rattle.report_rows.specs.declared.reports.Word.TheVariants.{Justified, Refuted, Undecided}
+use Rattle.report_rows.specs.declared.reports.Told.{Told}
+use Rattle.report_rows.specs.declared.reports.Told.TheVariants.{Skipped, Unjudged, HoldSides}
 use Rattle.report_rows.specs.declared.reports.Said.{Said}
 use Rattle.report_rows.specs.declared.reports.Said.TheVariants.{Does, Warns}
 use Rattle.report_rows.specs.declared.reports.ScriptRow.{ScriptRow}
@@ -42,9 +44,19 @@ abbrev pub all_notes : List ScriptRow → List Finding
 all_notes [] = NoException ∷ []
 all_notes (row ∷ rows) = flat_map notes_of (row ∷ rows)
 
--- what is told of a report: the notes, and then the groups
+-- a command that is not judged, by its line in the script and its name
+abbrev pub unjudged_text : ℕ → List ℕ → List ℕ
+unjudged_text line name = codes "line " ⁀ decimal line ⁀ codes " unjudged " ⁀ shown name
+
+-- the note on it; what is passed over and what is not claimed have none
+abbrev pub told_notes : Told → List Finding
+told_notes (Skipped name count) = []
+told_notes (Unjudged line name) = Note (unjudged_text line name) ∷ []
+told_notes (HoldSides count) = []
+
+-- what is told of a report: the notes on commands that are not judged, those on exceptions, and then the groups
 abbrev pub findings_of : Report → List Finding
-findings_of report = all_notes report.script ++ map Pairs (groups_of report.pairs)
+findings_of report = flat_map told_notes report.told ++ (all_notes report.script ++ map Pairs (groups_of report.pairs))
 
 abbrev pub finding_text : Finding → List ℕ
 finding_text NoException = codes "no exception"

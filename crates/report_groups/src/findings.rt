@@ -5,6 +5,7 @@ ghost use Rattle.report_groups.specs.declared.findings.Finding.TheVariants.{Pair
 
 use crate::groups::{Group, groups_of};
 use crate::notes::add_notes;
+use crate::told_notes::add_told_notes;
 use report_rows::Report;
 use sdcv_base::{Name, Seq};
 use std::alloc::{AllocError, Global};
@@ -14,7 +15,7 @@ use std::alloc::{AllocError, Global};
 pub enum Finding {
     /// The script has no exception.
     NoException,
-    /// An exception is set aside, selects nothing, or has a warning: the line that says it.
+    /// A command is not judged, or an exception is set aside, selects nothing, or has a warning: the line that says it.
     Note(Name),
     Pairs(Group),
 }
@@ -29,12 +30,13 @@ fn add_groups(groups: Vec<Group>, out: &mut Seq<Finding>) -> Result<(), AllocErr
     Ok(())
 }
 
-/// What a report tells by groups: the notes on its exceptions in the order of the script, and the groups of its pairs in
-/// the order of the first pair of each.
+/// What a report tells by groups: the notes on commands that are not judged and those on its exceptions, each in the order of the
+/// script, and the groups of its pairs in the order of the first pair of each.
 pub fn findings_of(alloc: Global, report: &Report) -> Result<Seq<Finding>, AllocError>
     ensures { IfOk result (λ all. all ≡ spec.findings_of report.now) }
 {
     let mut out = Seq::new(alloc);
+    add_told_notes(alloc, report.told.as_slice(), &mut out)?;
     add_notes(alloc, report.script.as_slice(), &mut out)?;
     let groups = groups_of(alloc, report.pairs.as_slice())?;
     add_groups(groups.into_vec(), &mut out)?;

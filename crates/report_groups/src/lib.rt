@@ -1,6 +1,6 @@
 //! A report by groups: the pairs of a bus in one line, for a reader and for a build server.
 //!
-//! Read `findings_of` and `specs/Groups.antt` first: which pairs are of one group, and what is told of the exceptions before
+//! Read `findings_of` and `specs/Groups.antt` first: which pairs are of one group, and what is told of the script before
 //! the groups. `groups_text`, `csv_text` and `gate` tell that one list in three ways. What a report is, is up to the crate below.
 #![tactic(auto)]
 
@@ -13,6 +13,7 @@ mod keys;
 mod notes;
 mod stars;
 mod tellings;
+mod told_notes;
 
 pub use csv_texts::csv_text;
 pub use findings::{Finding, findings_of};

@@ -36,7 +36,7 @@ fn push_line(alloc: Global, out: &mut Vec<u8>, finding: &Finding) -> Result<(), 
     Ok(())
 }
 
-/// A report by groups: a line for each note on an exception, and one for each group of pairs.
+/// A report by groups: a line for each note on a command that is not judged or on an exception, and one for each group of pairs.
 ///
 /// A group's line has its start and end with each `[digits]` as `[*]`, how many pairs it has, their verdict with its cause,
 /// the exception and what it claims, and the number of its first pair.

@@ -6,6 +6,9 @@ use Rattle.serde_json.specs.View.{items_of}
 use Rattle.serde_json.specs.Written.{has_float, items_have_float, members_have_float}
 use Rattle.net_model.specs.declared.claims.Claim.{Claim}
 use Rattle.sdcv_base.specs.Seqs.{each_at}
+use Rattle.selected_types.specs.declared.notices.Notices.{Notices}
+use Rattle.selected_types.specs.declared.notices.Skipped.{Skipped}
+use Rattle.selected_types.specs.declared.notices.Unjudged.{Unjudged}
 use Rattle.selected_types.specs.declared.selections.CommandLine.{CommandLine}
 use Rattle.selected_types.specs.declared.selections.PairLine.{PairLine}
 use Rattle.selected_types.specs.declared.selections.Selected.{Selected}
@@ -17,7 +20,8 @@ use Rattle.run_options.specs.declared.options.RunOptions.{RunOptions}
 use Rattle.report_text.specs.Rows.{each_pair}
 use Rattle.report_text.specs.Words.{mode_text, warning_text}
 use Rattle.report_json.specs.Reports.{count_data, command_data, commands_data, one_command, evidence_data, pair_data, one_pair, pairs_data, total_data}
-use Rattle.report_json.specs.Reports.{flag_member, lag_member, number_member, report_data}
+use Rattle.report_json.specs.Reports.{flag_member, lag_member, number_member, holds_member, skipped_member, unjudged_member, tells_holds, report_data}
+use Rattle.report_json.specs.Reports.{one_skipped, one_unjudged, unjudged_data}
 
 texts_have_none : {A : Type 0} (text : A → List ℕ) (xs : List A) → items_have_float (items_of (map (λ x. string (text x)) xs)) ≡ false
 texts_have_none text [] = refl
@@ -64,13 +68,39 @@ flag_has_none : (key : List ℕ) (stands : Bool) (following : Members) → membe
 flag_has_none key true following = refl
 flag_has_none key false following = refl
 
-pub report_has_none : (o : RunOptions) (selected : Selected) (vs : List Verdict) → has_float (report_data o selected vs) ≡ false
-report_has_none o selected vs =
-    let total : Members = member (codes "total") (total_data vs) no_members in
+-- nor have those of what is told beside the exceptions
+skipped_have_none : (skipped : List Skipped) → items_have_float (items_of (map one_skipped skipped)) ≡ false
+skipped_have_none [] = refl
+skipped_have_none (s ∷ ss) = skipped_have_none ss
+
+unjudged_have_none : (unjudged : List Unjudged) → items_have_float (items_of (map one_unjudged unjudged)) ≡ false
+unjudged_have_none [] = refl
+unjudged_have_none (u ∷ us) = unjudged_have_none us
+
+holds_has_none : (told : Bool) (count : ℕ) (following : Members)
+    → members_have_float (if told then member (codes "hold_commands") (count_data count) following else following) ≡ members_have_float following
+holds_has_none true count following = refl
+holds_has_none false count following = refl
+
+skipped_has_none : (skipped : Option (List Skipped)) (following : Members)
+    → members_have_float (skipped_member skipped following) ≡ members_have_float following
+skipped_has_none None following = refl
+skipped_has_none (Some skipped) following = rw (skipped_have_none skipped) refl
+
+unjudged_has_none : (told : Bool) (unjudged : List Unjudged) (following : Members)
+    → members_have_float (if told then member (codes "unjudged") (unjudged_data unjudged) following else following) ≡ members_have_float following
+unjudged_has_none true unjudged following = rw (unjudged_have_none unjudged) refl
+unjudged_has_none false unjudged following = refl
+
+pub report_has_none : (o : RunOptions) (n : Notices) (selected : Selected) (vs : List Verdict) → has_float (report_data o n selected vs) ≡ false
+report_has_none o n selected vs =
+    let total : Members = member (codes "total") (total_data vs) (unjudged_member o n no_members) in
+    let strict : Members = flag_member (codes "strict") o.strict total in
     let mode : Members = member (codes "mode") (string (mode_text o.hazard)) (member (codes "pairs") (pairs_data o.depth selected vs)
-    (member (codes "reset") (count_data o.reset_len) (flag_member (codes "strict") o.strict total))) in
+    (member (codes "reset") (count_data o.reset_len) (skipped_member n.skipped strict))) in
     let inv : Members = member (codes "inv") (count_data o.inv_depth) (lag_member o.lag mode) in
-    let hold : Members = flag_member (codes "hold") o.hold inv in
+    let holds : Members = holds_member o n inv in
+    let hold : Members = flag_member (codes "hold") o.hold holds in
     let budget : Members = member (codes "budget") (count_data o.budget) (member (codes "commands") (commands_data selected.commands)
     (member (codes "depth") (count_data o.depth) (number_member (codes "free") o.free hold))) in
     rw (
@@ -78,8 +108,11 @@ report_has_none o selected vs =
       number_has_none (codes "assumed") o.assumed budget,
       commands_have_none 0 selected.commands,
       number_has_none (codes "free") o.free hold,
-      flag_has_none (codes "hold") o.hold inv,
+      flag_has_none (codes "hold") o.hold holds,
+      holds_has_none (tells_holds o) n.hold_commands inv,
       lag_has_none (o.lag == 0) o.lag mode,
       pairs_have_none o.depth 1 selected.pairs selected.claims vs,
+      skipped_has_none n.skipped strict,
       flag_has_none (codes "strict") o.strict total,
+      unjudged_has_none o.strict n.unjudged no_members,
     ) refl

@@ -4,7 +4,9 @@ use Rattle.serde_json.specs.Data.{Members, boolean, put}
 use Rattle.serde_json.specs.View.{members_view}
 use Rattle.run_options.specs.declared.options.RunOptions.{RunOptions}
 use Rattle.report_json.specs.declared.objects.Object.{Object}
-use Rattle.report_json.specs.Reports.{count_data}
+use Rattle.selected_types.specs.declared.notices.Notices.{Notices}
+use Rattle.selected_types.specs.declared.notices.Skipped.{Skipped}
+use Rattle.report_json.specs.Reports.{count_data, skipped_data, tells_holds, unjudged_data}
 
 -- the members that it has so far
 abbrev pub made : Object → Members
@@ -21,8 +23,21 @@ with_number key (Some count) members = put key (count_data count) members
 abbrev pub with_flag : List ℕ → Bool → Members → Members
 with_flag key stands members = if stands then put key (boolean true) members else members
 
+-- the members with one of what is told beside the exceptions: of how many false paths the hold side is not judged, the commands that
+-- are passed over, and those that are not judged
+abbrev pub with_holds : RunOptions → Notices → Members → Members
+with_holds o n members = if tells_holds o then put (codes "hold_commands") (count_data n.hold_commands) members else members
+
+abbrev pub with_skipped : Option (List Skipped) → Members → Members
+with_skipped None members = members
+with_skipped (Some skipped) members = put (codes "skipped") (skipped_data skipped) members
+
+abbrev pub with_unjudged : RunOptions → Notices → Members → Members
+with_unjudged o n members = if o.strict then put (codes "unjudged") (unjudged_data n.unjudged) members else members
+
 -- the members with all of these
-abbrev pub with_asked : RunOptions → Members → Members
-with_asked o members =
+abbrev pub with_asked : RunOptions → Notices → Members → Members
+with_asked o n members =
     with_number (codes "assist") o.assist (with_number (codes "assumed") o.assumed (with_number (codes "free") o.free
-    (with_flag (codes "hold") o.hold (with_lag o.lag (with_flag (codes "strict") o.strict members)))))
+    (with_flag (codes "hold") o.hold (with_holds o n (with_lag o.lag
+    (with_skipped n.skipped (with_flag (codes "strict") o.strict (with_unjudged o n members))))))))

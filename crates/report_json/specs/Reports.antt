@@ -1,5 +1,5 @@
 -- A report as JSON: the value, and its text.
-use Rattle.std.specs.Prelude.{ℕ, ◌+◌, ◌==◌, if◌then◌else◌, Bool, true, List, [], ◌∷◌, ◌++◌, map, codes, Option, None, Some}
+use Rattle.std.specs.Prelude.{ℕ, ◌+◌, ◌==◌, ◌&&◌, not, if◌then◌else◌, Bool, true, List, [], ◌∷◌, ◌++◌, map, codes, Option, None, Some}
 use Rattle.serde_json.specs.Data.{Data, Members, null, boolean, number, unsigned, string, array, object, member, no_members}
 use Rattle.serde_json.specs.View.{items_of}
 use Rattle.serde_json.specs.Written.{compact_text}
@@ -13,6 +13,9 @@ use Rattle.selected_types.specs.declared.selections.Listing.TheVariants.{Claimin
 use Rattle.selected_types.specs.declared.selections.CommandLine.{CommandLine}
 use Rattle.selected_types.specs.declared.selections.PairLine.{PairLine}
 use Rattle.selected_types.specs.declared.selections.Selected.{Selected}
+use Rattle.selected_types.specs.declared.notices.Notices.{Notices}
+use Rattle.selected_types.specs.declared.notices.Skipped.{Skipped}
+use Rattle.selected_types.specs.declared.notices.Unjudged.{Unjudged}
 use Rattle.verdict_types.specs.declared.outcomes.Cause.TheVariants.{Free}
 use Rattle.verdict_types.specs.declared.outcomes.Verdict.{Verdict}
 use Rattle.verdict_types.specs.declared.outcomes.Verdict.TheVariants.{Justified, Refuted, Undecided}
@@ -93,6 +96,20 @@ total_data vs =
     (member (codes "refuted") (count_data (tally_of vs).refuted)
     (member (codes "undecided") (count_data (tally_of vs).undecided) no_members))))
 
+-- so many commands of a name are passed over
+abbrev pub one_skipped : Skipped → Data
+one_skipped s = object (member (codes "count") (count_data s.count) (member (codes "name") (string (shown s.name)) no_members))
+
+abbrev pub skipped_data : List Skipped → Data
+skipped_data skipped = array (items_of (map one_skipped skipped))
+
+-- the command of a line and a name is not judged
+abbrev pub one_unjudged : Unjudged → Data
+one_unjudged u = object (member (codes "line") (count_data u.line) (member (codes "name") (string (shown u.name)) no_members))
+
+abbrev pub unjudged_data : List Unjudged → Data
+unjudged_data unjudged = array (items_of (map one_unjudged unjudged))
+
 -- a member that stands only where it is asked for, before those that follow it: the lag, a number, and a word
 abbrev pub lag_member : ℕ → Members → Members
 lag_member lag following = if lag == 0 then following else member (codes "lag") (count_data lag) following
@@ -104,8 +121,23 @@ number_member key (Some count) following = member key (count_data count) followi
 abbrev pub flag_member : List ℕ → Bool → Members → Members
 flag_member key stands following = if stands then member key (boolean true) following else following
 
-abbrev pub report_data : RunOptions → Selected → List Verdict → Data
-report_data o selected verdicts =
+-- a member of what is told beside the exceptions, before those that follow it: of how many false paths the hold side is not judged, in a
+-- strict run that doesn't judge hold sides; which commands are passed over, where any may be; and which are not judged, in a strict run
+abbrev pub tells_holds : RunOptions → Bool
+tells_holds o = o.strict && not o.hold
+
+abbrev pub holds_member : RunOptions → Notices → Members → Members
+holds_member o n following = if tells_holds o then member (codes "hold_commands") (count_data n.hold_commands) following else following
+
+abbrev pub skipped_member : Option (List Skipped) → Members → Members
+skipped_member None following = following
+skipped_member (Some skipped) following = member (codes "skipped") (skipped_data skipped) following
+
+abbrev pub unjudged_member : RunOptions → Notices → Members → Members
+unjudged_member o n following = if o.strict then member (codes "unjudged") (unjudged_data n.unjudged) following else following
+
+abbrev pub report_data : RunOptions → Notices → Selected → List Verdict → Data
+report_data o n selected verdicts =
     object (number_member (codes "assist") o.assist
     (number_member (codes "assumed") o.assumed
     (member (codes "budget") (count_data o.budget)
@@ -113,14 +145,17 @@ report_data o selected verdicts =
     (member (codes "depth") (count_data o.depth)
     (number_member (codes "free") o.free
     (flag_member (codes "hold") o.hold
+    (holds_member o n
     (member (codes "inv") (count_data o.inv_depth)
     (lag_member o.lag
     (member (codes "mode") (string (mode_text o.hazard))
     (member (codes "pairs") (pairs_data o.depth selected verdicts)
     (member (codes "reset") (count_data o.reset_len)
+    (skipped_member n.skipped
     (flag_member (codes "strict") o.strict
-    (member (codes "total") (total_data verdicts) no_members))))))))))))))
+    (member (codes "total") (total_data verdicts)
+    (unjudged_member o n no_members)))))))))))))))))
 
 -- the text without spaces, and a newline
-abbrev pub json_text : RunOptions → Selected → List Verdict → List ℕ
-json_text o selected verdicts = compact_text (report_data o selected verdicts) ++ 10 ∷ []
+abbrev pub json_text : RunOptions → Notices → Selected → List Verdict → List ℕ
+json_text o n selected verdicts = compact_text (report_data o n selected verdicts) ++ 10 ∷ []

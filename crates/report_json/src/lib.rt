@@ -4,6 +4,7 @@
 #![tactic(auto)]
 
 mod commands;
+mod notices;
 mod objects;
 mod pairs;
 mod reports;

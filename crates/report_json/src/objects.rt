@@ -1,10 +1,12 @@
 //! Objects, member by member.
 ghost use Rattle.std.specs.Prelude.{◌≡◌, OnOk};
+ghost use Rattle.sdcv_base.specs.Shown.{shown};
 ghost use Rattle.serde_json.specs.Data.{array, number, unsigned, string, object, no_members};
 ghost use Rattle.serde_json.specs.Data.{put as with_member};
 ghost use Rattle.serde_json.specs.View.{view, items_view};
 ghost use Rattle.report_json.specs.Objects.{made, with_number, with_flag};
 
+use sdcv_base::Name;
 use serde_json::{Map, Value, put};
 use std::alloc::{AllocError, Global};
 
@@ -39,6 +41,14 @@ impl Object {
         ensures { OnOk result (made self.new ≡ with_member key.now (string text.now) (made self.old)) }
     {
         self.put_value(alloc, key, Value::try_from_str(alloc, text)?)
+    }
+
+    /// Puts a name as it is shown.
+    pub fn put_name(&mut self, alloc: Global, key: &str, name: &Name) -> Result<(), AllocError>
+        ensures { OnOk result (made self.new ≡ with_member key.now (string (shown name.now)) (made self.old)) }
+    {
+        let shown = format!(in alloc; "{name}")?;
+        self.put_text(alloc, key, &shown)
     }
 
     /// Puts a number, where there is one.

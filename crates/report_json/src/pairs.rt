@@ -2,7 +2,6 @@
 ghost use Rattle.std.specs.Prelude.{◌≡◌, codes, IfOk, OnOk};
 ghost use Rattle.serde_json.specs.Data.{string};
 ghost use Rattle.serde_json.specs.Data.{put as with_member};
-ghost use Rattle.sdcv_base.specs.Shown.{shown};
 ghost use Rattle.serde_json.specs.View.{view};
 ghost use Rattle.report_text.specs.Words.{claim_text, why_text};
 ghost use Rattle.report_text.specs.Rows.{HasRows};
@@ -13,18 +12,10 @@ use crate::objects::{Object, array_of};
 use crate::stimuli::evidence_value;
 use net_model::Claim;
 use report_text::{PairRow, claim_text, row_at, verdict_word, why_text};
-use sdcv_base::Name;
 use selected_types::Selected;
 use serde_json::Value;
 use std::alloc::{AllocError, Global};
 use verdict_types::Verdict;
-
-fn put_name(alloc: Global, object: &mut Object, key: &str, name: &Name) -> Result<(), AllocError>
-    ensures { OnOk result (made object.new ≡ with_member key.now (string (shown name.now)) (made object.old)) }
-{
-    let shown = format!(in alloc; "{name}")?;
-    object.put_text(alloc, key, &shown)
-}
 
 fn put_kind(alloc: Global, object: &mut Object, claim: &Claim) -> Result<(), AllocError>
     ensures { OnOk result (made object.new ≡ with_member (codes "kind") (string (claim_text claim.now)) (made object.old)) }
@@ -54,10 +45,10 @@ fn pair_value(alloc: Global, limit: usize, row: &PairRow<'_>) -> Result<Value, A
 {
     let mut object = Object::new(alloc);
     object.put_count(alloc, "command", row.pair.command)?;
-    put_name(alloc, &mut object, "end", &row.pair.end)?;
+    object.put_name(alloc, "end", &row.pair.end)?;
     put_kind(alloc, &mut object, row.claim)?;
     object.put_count(alloc, "number", row.number)?;
-    put_name(alloc, &mut object, "start", &row.pair.start)?;
+    object.put_name(alloc, "start", &row.pair.start)?;
     put_evidence(alloc, &mut object, row.verdict)?;
     object.put_text(alloc, "verdict", verdict_word(row.verdict))?;
     put_why(alloc, &mut object, limit, row.verdict)?;

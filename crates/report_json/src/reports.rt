@@ -7,11 +7,12 @@ ghost use Rattle.report_json.specs.Objects.{made, with_asked, with_lag};
 ghost use Rattle.report_json.specs.Reports.{commands_data, pairs_data, total_data, report_data, json_text};
 
 use crate::commands::commands_value;
+use crate::notices::{put_holds, put_skipped, put_unjudged};
 use crate::objects::Object;
 use crate::pairs::pairs_value;
 use report_text::{mode_text, tally_of};
 use run_options::RunOptions;
-use selected_types::Selected;
+use selected_types::{Notices, Selected};
 use serde_json::Value;
 use std::alloc::{AllocError, Global};
 use verdict_types::Verdict;
@@ -73,11 +74,19 @@ fn put_lag(alloc: Global, object: &mut Object, lag: u8) -> Result<(), AllocError
 }
 
 // Puts what stands only where it is asked for.
-fn put_asked(alloc: Global, object: &mut Object, options: &RunOptions) -> Result<(), AllocError>
-    ensures { OnOk result (made object.new ≡ with_asked options.now (made object.old)) }
+fn put_asked(
+    alloc: Global,
+    object: &mut Object,
+    options: &RunOptions,
+    notices: &Notices,
+) -> Result<(), AllocError>
+    ensures { OnOk result (made object.new ≡ with_asked options.now notices.now (made object.old)) }
 {
+    put_unjudged(alloc, object, options, notices)?;
     object.put_flag(alloc, "strict", options.strict)?;
+    put_skipped(alloc, object, &notices.skipped)?;
     put_lag(alloc, object, options.lag)?;
+    put_holds(alloc, object, options, notices)?;
     object.put_flag(alloc, "hold", options.hold)?;
     object.put_number(alloc, "free", options.free)?;
     object.put_number(alloc, "assumed", options.assumed)?;
@@ -87,11 +96,12 @@ fn put_asked(alloc: Global, object: &mut Object, options: &RunOptions) -> Result
 fn report_value(
     alloc: Global,
     options: &RunOptions,
+    notices: &Notices,
     selected: &Selected,
     verdicts: &[Verdict],
 ) -> Result<Value, AllocError>
     requires { HasRows selected.now verdicts.now }
-    ensures { IfOk result (λ v. view v ≡ report_data options.now selected.now verdicts.now) }
+    ensures { IfOk result (λ v. view v ≡ report_data options.now notices.now selected.now verdicts.now) }
 {
     let mut object = Object::new(alloc);
     object.put_count(alloc, "budget", options.budget)?;
@@ -102,21 +112,22 @@ fn report_value(
     put_pairs(alloc, &mut object, options.depth, selected, verdicts)?;
     object.put_count(alloc, "reset", options.reset_len as u64)?;
     put_total(alloc, &mut object, verdicts)?;
-    put_asked(alloc, &mut object, options)?;
+    put_asked(alloc, &mut object, options, notices)?;
     Ok(object.into_value())
 }
 
-/// The report of a selection and its verdicts as JSON, with a newline at its end.
+/// The report of what is told of a script, its selection and the verdicts as JSON, with a newline at its end.
 pub fn write_json(
     alloc: Global,
     options: &RunOptions,
+    notices: &Notices,
     selected: &Selected,
     verdicts: &[Verdict],
 ) -> Result<Vec<u8>, AllocError>
     requires { HasRows selected.now verdicts.now }
-    ensures { IfOk result (λ text. text.items ≡ json_text options.now selected.now verdicts.now) }
+    ensures { IfOk result (λ text. text.items ≡ json_text options.now notices.now selected.now verdicts.now) }
 {
-    let report = report_value(alloc, options, selected, verdicts)?;
+    let report = report_value(alloc, options, notices, selected, verdicts)?;
     let mut text = report.to_vec(alloc)?;
     text.push(b'\n')?;
     Ok(text)

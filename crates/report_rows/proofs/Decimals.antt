@@ -1,5 +1,5 @@
 -- From what reads a number to what the number is.
-use Rattle.std.proofs.Common.{◌≡◌, ◌+◌, ◌-◌, ◌^◌, ◌&&◌, ap, refl, true, false, Bool, ℕ, List, None, Some, nat_le, length}
+use Rattle.std.proofs.Common.{◌≡◌, ◌-◌, ◌^◌, ◌&&◌, ap, refl, true, false, Bool, ℕ, List, None, Some, nat_le, length}
 use Rattle.std.specs.Str.{all_ascii_digits}
 use Rattle.std.specs.Str.Parse.{digits_value}
 use Rattle.std.proofs.lemmas.Str.Parse.{IsNumeralModel, numerals_by_value}

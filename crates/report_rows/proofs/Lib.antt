@@ -4,4 +4,5 @@ mod Parts
 pub mod Steps
 mod LineSteps
 mod Worked
+mod WorkedTellings
 mod Causes

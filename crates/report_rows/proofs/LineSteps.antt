@@ -14,7 +14,7 @@ use Rattle.report_rows.specs.declared.totals.Totalled.{Totalled}
 abbrev after_line : ℕ → Report → List ℕ → List (List ℕ) → Result Totalled ReportFault
 after_line number found line others =
     if begins_total (words line) then with_total number found (words line) others
-    else (or_line number (with_line found (words line)) >>= λ more. with_lines (number + 1) more others)
+    else (or_line number (with_line number found (words line)) >>= λ more. with_lines (number + 1) more others)
 
 pub with_lines-cons : (number : ℕ) (found : Report) (line : List ℕ) (others : List (List ℕ))
     → with_lines number found (line ∷ others) ≡ (if length others == 0 then Err Ends else after_line number found line others)
@@ -44,19 +44,19 @@ pub lines_total : (number : ℕ) (found : Report) (line : List ℕ) (others : Li
 lines_total number found line others whole total =
     whole_line number found line others whole
     ∙ ap (λ (b : Bool). if b then with_total number found (words line) others
-    else (or_line number (with_line found (words line)) >>= λ more. with_lines (number + 1) more others)) total
+    else (or_line number (with_line number found (words line)) >>= λ more. with_lines (number + 1) more others)) total
 
 other_line : (number : ℕ) (found : Report) (line : List ℕ) (others : List (List ℕ)) → (length others == 0) ≡ false
     → begins_total (words line) ≡ false
-    → with_lines number found (line ∷ others) ≡ (or_line number (with_line found (words line)) >>= λ more. with_lines (number + 1) more others)
+    → with_lines number found (line ∷ others) ≡ (or_line number (with_line number found (words line)) >>= λ more. with_lines (number + 1) more others)
 other_line number found line others whole total =
     whole_line number found line others whole
     ∙ ap (λ (b : Bool). if b then with_total number found (words line) others
-    else (or_line number (with_line found (words line)) >>= λ more. with_lines (number + 1) more others)) total
+    else (or_line number (with_line number found (words line)) >>= λ more. with_lines (number + 1) more others)) total
 
 -- a line that fits is one more
 pub lines_more : (number : ℕ) (found new : Report) (line : List ℕ) (others : List (List ℕ)) (fits : Bool) → (length others == 0) ≡ false
-    → begins_total (words line) ≡ false → when fits new ≡ with_line found (words line) → fits ≡ true
+    → begins_total (words line) ≡ false → when fits new ≡ with_line number found (words line) → fits ≡ true
     → with_lines number found (line ∷ others) ≡ with_lines (number + 1) new others
 lines_more number found new line others fits whole total step fit =
     other_line number found line others whole total
@@ -65,7 +65,7 @@ lines_more number found new line others fits whole total step fit =
 
 -- one that does not is the fault
 pub lines_stuck : (number : ℕ) (found new : Report) (line : List ℕ) (others : List (List ℕ)) (fits : Bool) → (length others == 0) ≡ false
-    → begins_total (words line) ≡ false → when fits new ≡ with_line found (words line) → fits ≡ false
+    → begins_total (words line) ≡ false → when fits new ≡ with_line number found (words line) → fits ≡ false
     → with_lines number found (line ∷ others) ≡ Err (Line number)
 lines_stuck number found new line others fits whole total step never =
     other_line number found line others whole total

@@ -1,5 +1,5 @@
 -- The place of an arrow among the words of a line.
-use Rattle.std.proofs.Common.{◌≡◌, ◌∙◌, ◌+◌, ap, sym, refl, true, false, Bool, cond, ℕ, List, [], ◌∷◌, Option, Some, None}
+use Rattle.std.proofs.Common.{◌≡◌, ◌∙◌, ◌+◌, ap, sym, true, false, Bool, cond, ℕ, List, [], ◌∷◌, Option, Some, None}
 use Rattle.std.specs.List.{position_from}
 
 -- a word that passes is at its place

@@ -1,5 +1,5 @@
 -- How a reading goes on, one row after another.
-use Rattle.std.proofs.Common.{◌≡◌, ◌∙◌, ap, sym, refl, true, false, Bool, ℕ, List, [], ◌∷◌, Option, None, Some}
+use Rattle.std.proofs.Common.{◌≡◌, ◌∙◌, ap, sym, refl, true, false, Bool, List, [], ◌∷◌, Option, None, Some}
 use Rattle.texts.specs.Reads.{◌>>=◌}
 use Rattle.report_rows.specs.Words.{when}
 use Rattle.serde_json.specs.Data.{Data}

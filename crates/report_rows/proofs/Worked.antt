@@ -42,12 +42,12 @@ cut_before_the_end : read (codes "sdcv 1 mode plain reset 1 depth 8 budget 20000
 unfolding head_of asked_last hazard_in number_in
 cut_before_the_end = refl
 
--- a report of hold sides that has no row yet, and one with what a line says
+-- a report of hold sides that has no row yet, and one with what its second line says
 abbrev before : Report
 before = rowless (record plain { hold = true })
 
 abbrev after : List ℕ → Option Report
-after line = with_line before (words line)
+after line = with_line 2 before (words line)
 
 hold_sides_of_an_exception : after (codes "command 3 line 6 false hold rise pairs 4")
     ≡ Some (record before { script = record { command = 3; line = 6; said = Does (codes "false hold rise") 4 } ∷ [] })

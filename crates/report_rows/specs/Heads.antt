@@ -10,7 +10,7 @@ use Rattle.report_rows.specs.declared.reports.Report.{Report}
 
 -- a report that has no row yet
 abbrev pub rowless : Head → Report
-rowless h = record { head = h; script = []; pairs = [] }
+rowless h = record { head = h; told = []; script = []; pairs = [] }
 
 -- the number that follows a word, where the words begin with it; and what is left after both, and after a word alone
 abbrev pub number_after : List (List ℕ) → List ℕ → Option (Option ℕ)

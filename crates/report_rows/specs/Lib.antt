@@ -2,6 +2,7 @@ pub mod Words
 pub mod Rows
 pub mod Heads
 pub mod Totals
+pub mod Tellings
 pub mod Lines
 pub mod LineReports
 pub mod Members

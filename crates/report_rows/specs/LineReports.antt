@@ -36,7 +36,7 @@ with_lines number found [] = Err Ends
 with_lines number found (line ∷ others) =
     if length others == 0 then Err Ends
     else (if begins_total (words line) then with_total number found (words line) others
-    else (or_line number (with_line found (words line)) >>= λ more. with_lines (number + 1) more others))
+    else (or_line number (with_line number found (words line)) >>= λ more. with_lines (number + 1) more others))
 
 -- a report by lines, or the first line that is none of a report
 unfoldable pub of_lines : List (List ℕ) → Result Totalled ReportFault

@@ -5,6 +5,7 @@ use Rattle.std.specs.Str.{bytes_eq}
 use Rattle.texts.specs.Reads.{◌>>=◌}
 use Rattle.report_rows.specs.Words.{word_at, is_word, part, joined, number_in}
 use Rattle.report_rows.specs.Rows.{verdict_in, with_script, last_script, with_pair}
+use Rattle.report_rows.specs.Tellings.{with_skipped, with_unjudged, with_note}
 use Rattle.report_rows.specs.declared.pair_lines.PairPlaces.{PairPlaces}
 use Rattle.report_rows.specs.declared.script_lines.CommandPlaces.{CommandPlaces}
 use Rattle.report_rows.specs.declared.reports.Said.TheVariants.{Does, Warns}
@@ -87,13 +88,19 @@ with_pair_line found ws = places_of ws >>= λ p. with_pair found (row_of ws p)
 abbrev pub is_stimulus : List (List ℕ) → Bool
 is_stimulus ws = is_word ws 0 (codes "stimulus") || (is_word ws 0 (codes "state") || (is_word ws 0 (codes "input") || is_word ws 0 (codes "end")))
 
--- the report with what the words of a line say
-unfoldable pub with_line : Report → List (List ℕ) → Option Report
-with_line found ws =
+-- a warning's line is on a command that is not judged, or on an exception
+abbrev pub with_any_warning : ℕ → Report → List (List ℕ) → Option Report
+with_any_warning number found ws = if is_word ws 1 (codes "line") then with_unjudged number found ws else with_warning found ws
+
+-- the report with what the words of the line of this number say
+unfoldable pub with_line : ℕ → Report → List (List ℕ) → Option Report
+with_line number found ws =
     if is_word ws 0 (codes "command") then with_command found ws
-    else (if is_word ws 0 (codes "warning") then with_warning found ws
+    else (if is_word ws 0 (codes "warning") then with_any_warning number found ws
     else (if is_word ws 0 (codes "pair") then with_pair_line found ws
-    else (if is_stimulus ws then Some found else None)))
+    else (if is_word ws 0 (codes "skipped") then with_skipped number found ws
+    else (if is_word ws 0 (codes "note") then with_note number found ws
+    else (if is_stimulus ws then Some found else None)))))
 
 -- the line begins as the last one does
 abbrev pub begins_total : List (List ℕ) → Bool

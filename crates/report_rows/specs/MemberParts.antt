@@ -1,5 +1,4 @@
 -- The parts of a reader of members, as what they stand for.
-use Rattle.std.specs.Prelude.{ℕ, List}
 use Rattle.report_rows.specs.declared.json_pairs.PairMembers.{PairMembers}
 use Rattle.report_rows.specs.declared.json_scripts.CommandMembers.{CommandMembers}
 use Rattle.report_rows.specs.declared.reports.Said.TheVariants.{Does}

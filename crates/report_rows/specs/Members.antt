@@ -1,13 +1,15 @@
 -- A report as JSON (RFC 8259): an object whose further members are passed over.
-use Rattle.std.specs.Prelude.{ℕ, Bool, false, List, [], ◌∷◌, codes, Option, Some, None, option_and_then}
+use Rattle.std.specs.Prelude.{ℕ, ◌==◌, Bool, false, List, [], ◌∷◌, codes, Option, Some, None, option_and_then, is_none, if◌then◌else◌}
 use Rattle.std.specs.Option.{option_map}
 use Rattle.serde_json.specs.Data.{Data, Items, no_items, item}
 use Rattle.serde_json.specs.Find.{get, as_array, as_bool, as_str, as_number, as_u64}
 use Rattle.texts.specs.Reads.{◌>>=◌}
-use Rattle.report_rows.specs.Rows.{verdict_in, hazard_in, with_script, with_pair}
+use Rattle.report_rows.specs.Rows.{verdict_in, hazard_in, with_told, with_script, with_pair}
 use Rattle.report_rows.specs.Heads.{rowless}
 use Rattle.report_rows.specs.declared.heads.Asked.{Asked}
 use Rattle.report_rows.specs.declared.heads.Head.{Head}
+use Rattle.report_rows.specs.Tellings.{tells_holds}
+use Rattle.report_rows.specs.declared.reports.Told.TheVariants.{Skipped, Unjudged, HoldSides}
 use Rattle.report_rows.specs.declared.reports.Said.TheVariants.{Does, Warns}
 use Rattle.report_rows.specs.declared.reports.ScriptRow.{ScriptRow}
 use Rattle.report_rows.specs.declared.reports.PairRow.{PairRow}
@@ -32,6 +34,10 @@ array_in key d = option_and_then as_array (get key d)
 
 abbrev pub list_in : List ℕ → Data → Option (List Data)
 list_in key d = option_map list_of (array_in key d)
+
+-- the key is missing
+abbrev pub lacks : List ℕ → Data → Bool
+lacks key d = is_none (get key d)
 
 -- the lag, which is 0 where the key is missing
 unfoldable pub lag_in : Data → Option ℕ
@@ -109,11 +115,46 @@ total_in d =
     count_in (codes "refuted") total >>= λ refuted. count_in (codes "undecided") total >>= λ undecided.
     Some (record { pairs = pairs; justified = justified; refuted = refuted; undecided = undecided })
 
+-- the row of a name of which commands are passed over, and of a command that is not judged
+abbrev pub with_skipped_data : Report → Data → Option Report
+with_skipped_data found d =
+    text_in (codes "name") d >>= λ name. count_in (codes "count") d >>= λ count. Some (with_told found (Skipped name count))
+
+abbrev pub with_unjudged_data : Report → Data → Option Report
+with_unjudged_data found d =
+    count_in (codes "line") d >>= λ line. text_in (codes "name") d >>= λ name. Some (with_told found (Unjudged line name))
+
+-- the report, where the key is missing
+abbrev pub without : List ℕ → Report → Data → Option Report
+without key found d = if lacks key d then Some found else None
+
+-- the rows on what is passed over, where the key stands; and, where the first line has the words and there alone, those on what is not
+-- judged, and that on hold sides, of which there may be none
+abbrev pub with_skipped_in : Report → Data → Option Report
+with_skipped_in found d =
+    if lacks (codes "skipped") d then Some found else (list_in (codes "skipped") d >>= λ rows. with_all with_skipped_data found rows)
+
+abbrev pub with_unjudged_in : Report → Data → Option Report
+with_unjudged_in found d =
+    if found.head.asked.strict then (list_in (codes "unjudged") d >>= λ rows. with_all with_unjudged_data found rows)
+    else without (codes "unjudged") found d
+
+abbrev pub with_holds : Report → ℕ → Report
+with_holds found count = if count == 0 then found else with_told found (HoldSides count)
+
+abbrev pub with_holds_in : Report → Data → Option Report
+with_holds_in found d =
+    if tells_holds found.head then (count_in (codes "hold_commands") d >>= λ count. Some (with_holds found count))
+    else without (codes "hold_commands") found d
+
+unfoldable pub with_told_in : Report → Data → Option Report
+with_told_in found d = with_skipped_in found d >>= λ more. with_unjudged_in more d >>= λ all. with_holds_in all d
+
 -- the rows of an object
 unfoldable pub report_in : Data → Option Report
 report_in d =
     head_in d >>= λ head. list_in (codes "commands") d >>= λ commands. list_in (codes "pairs") d >>= λ pairs.
-    with_all with_command_data (rowless head) commands >>= λ more. with_all with_pair_data more pairs
+    with_told_in (rowless head) d >>= λ told. with_all with_command_data told commands >>= λ more. with_all with_pair_data more pairs
 
 -- what an object says: its rows, and its totals
 unfoldable pub totalled_in : Data → Option Totalled

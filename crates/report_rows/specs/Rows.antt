@@ -1,10 +1,9 @@
 -- The rows that a report has so far, and one more.
 use Rattle.std.specs.Prelude.{ℕ, ◌+◌, ◌-◌, ◌==◌, Bool, true, false, List, [], ◌∷◌, ◌++◌, length, slice_get, codes, Option, Some, None, if◌then◌else◌}
 use Rattle.std.specs.Str.{bytes_eq}
-use Rattle.texts.specs.Reads.{◌>>=◌}
 use Rattle.report_rows.specs.declared.reports.Word.{Word}
 use Rattle.report_rows.specs.declared.reports.Word.TheVariants.{Justified, Refuted, Undecided}
-use Rattle.report_rows.specs.declared.reports.Said.TheVariants.{Does, Warns}
+use Rattle.report_rows.specs.declared.reports.Told.{Told}
 use Rattle.report_rows.specs.declared.reports.ScriptRow.{ScriptRow}
 use Rattle.report_rows.specs.declared.reports.PairRow.{PairRow}
 use Rattle.report_rows.specs.declared.reports.Report.{Report}
@@ -18,6 +17,10 @@ verdict_in w =
 -- whether claims are judged with hazards, by the word of the mode
 unfoldable pub hazard_in : List ℕ → Option Bool
 hazard_in w = if bytes_eq w (codes "hazard") then Some true else (if bytes_eq w (codes "plain") then Some false else None)
+
+-- the report with a row more on what is told beside the exceptions
+abbrev pub with_told : Report → Told → Report
+with_told found row = record found { told = found.told ++ row ∷ [] }
 
 -- the report with a row more on an exception
 abbrev pub with_script : Report → ScriptRow → Report

@@ -1,5 +1,5 @@
 -- The stimulus of a pair in a report.
-use Rattle.std.specs.Prelude.{◌≡◌, ◌⊎◌, ℕ, ◌==◌, Bool, true, false, List, [], ◌∷◌, ◌++◌, length, map, find, codes, Option, Some, None, MatchBool}
+use Rattle.std.specs.Prelude.{◌≡◌, ◌⊎◌, ℕ, ◌==◌, Bool, false, List, ◌++◌, length, map, find, codes, Option, Some, None, MatchBool}
 use Rattle.net_model.specs.declared.cycles.Stimulus.{Stimulus}
 use Rattle.serde_json.specs.Data.{Data}
 use Rattle.serde_json.specs.View.{view}

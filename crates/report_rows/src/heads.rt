@@ -2,6 +2,7 @@
 ghost use Rattle.std.specs.Prelude.{◌≡◌};
 ghost use Rattle.std.specs.Option.{option_map};
 ghost use Rattle.report_rows.specs.Words.{texts};
+ghost use Rattle.report_rows.specs.Tellings.{tells_holds};
 ghost use Rattle.report_rows.specs.Heads as spec;
 
 use crate::cuts::{is_word, number_at, rest_from, word_at};
@@ -31,12 +32,20 @@ pub struct Asked {
 }
 
 impl Head {
+    /// Whether the report says of how many false paths the hold side is not judged.
+    pub fn tells_holds(&self) -> bool
+        ensures { result ≡ tells_holds self.now }
+    {
+        self.asked.strict && !self.hold
+    }
+
     /// The report that has no row yet.
     pub fn report(&self, alloc: Global) -> Report
         ensures { result ≡ spec.rowless self.now }
     {
         Report {
             head: *self,
+            told: Seq::new(alloc),
             script: Seq::new(alloc),
             pairs: Seq::new(alloc),
         }

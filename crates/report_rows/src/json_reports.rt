@@ -10,6 +10,7 @@ use crate::faults::ReportFault;
 use crate::heads::{Asked, Head};
 use crate::json_pairs::add_pair_value;
 use crate::json_scripts::add_command_value;
+use crate::json_told::add_told;
 use crate::members::{count_in, flag_asked, lag_in, list_in, number_asked, text_in};
 use crate::reports::Report;
 use crate::totals::{Tally, Totalled};
@@ -107,6 +108,9 @@ fn report_in(alloc: Global, value: &Value) -> Result<Option<Report>, AllocError>
         return Ok(None);
     };
     let mut found = head.report(alloc);
+    if !add_told(alloc, &mut found, value)? {
+        return Ok(None);
+    }
     if !add_commands(alloc, &mut found, commands)? {
         return Ok(None);
     }

@@ -11,6 +11,7 @@ use crate::heads::head_of;
 use crate::pair_lines::add_pair_line;
 use crate::reports::Report;
 use crate::script_lines::{add_command, add_warning};
+use crate::told_lines::{add_note, add_skipped, add_unjudged};
 use crate::totals::{Tally, Totalled};
 use std::alloc::{AllocError, Global};
 
@@ -23,17 +24,42 @@ fn is_stimulus(words: &[&[u8]]) -> bool
         || is_word(words, 0, b"end")
 }
 
-// Adds what the words of a line say; answers whether it is a line of a report.
+// Adds what the line of a warning says; answers whether it is a line of a report.
+fn add_any_warning(
+    alloc: Global,
+    found: &mut Report,
+    place: usize,
+    words: &[&[u8]],
+) -> Result<bool, AllocError>
+    ensures { IfOk result (λ fits. when fits found.new ≡ spec.with_any_warning (place + 2) found.old (texts words.now)) }
+{
+    if is_word(words, 1, b"line") {
+        add_unjudged(alloc, found, place, words)
+    } else {
+        add_warning(alloc, found, words)
+    }
+}
+
+// Adds what the words of a line say, which is at a place after the first line; answers whether it is a line of a report.
 #[tactic(auto, unfolding(crate::specs::Lines::with_line))]
-fn add_line(alloc: Global, found: &mut Report, words: &[&[u8]]) -> Result<bool, AllocError>
-    ensures { IfOk result (λ fits. when fits found.new ≡ spec.with_line found.old (texts words.now)) }
+fn add_line(
+    alloc: Global,
+    found: &mut Report,
+    place: usize,
+    words: &[&[u8]],
+) -> Result<bool, AllocError>
+    ensures { IfOk result (λ fits. when fits found.new ≡ spec.with_line (place + 2) found.old (texts words.now)) }
 {
     if is_word(words, 0, b"command") {
         add_command(alloc, found, words)
     } else if is_word(words, 0, b"warning") {
-        add_warning(alloc, found, words)
+        add_any_warning(alloc, found, place, words)
     } else if is_word(words, 0, b"pair") {
         add_pair_line(alloc, found, words)
+    } else if is_word(words, 0, b"skipped") {
+        add_skipped(alloc, found, place, words)
+    } else if is_word(words, 0, b"note") {
+        add_note(found, place, words)
     } else {
         Ok(is_stimulus(words))
     }
@@ -120,7 +146,7 @@ fn add_lines(alloc: Global, mut found: Report, lines: &[&[u8]]) -> Result<Totall
         if begins_total(&words) {
             return with_total(found, place as u64 + 2, &words, others);
         }
-        if !add_line(alloc, &mut found, &words)? {
+        if !add_line(alloc, &mut found, place, &words)? {
             return Err(ReportFault::Line(place as u64 + 2));
         }
     }

@@ -37,6 +37,13 @@ pub(crate) fn list_in<'v>(value: &'v Value, key: &str) -> Option<&'v [Value]>
     }
 }
 
+/// Whether a key is missing.
+pub(crate) fn lacks(value: &Value, key: &str) -> bool
+    ensures { result ≡ spec.lacks key.now (view value.now) }
+{
+    value.get(key).is_none()
+}
+
 /// The lag, which is 0 where the key is missing.
 #[tactic(auto, unfolding(crate::specs::Members::lag_in))]
 pub(crate) fn lag_in(value: &Value) -> Option<u64>

@@ -34,12 +34,13 @@ fn read_text(alloc: Global, text: &[u8]) -> Result<Totalled, ReportFault>
 
 /// Reads back a report that was printed by lines, or as JSON (RFC 8259).
 ///
-/// By lines: the options, the exceptions and their warnings, the pairs with their stimuli, and the totals, each line ended
-/// by a newline. `Line` is the first line that is none of a report there: also one with a byte outside 32 to 126, as the
+/// By lines: the options, what is told beside the exceptions, the exceptions and their warnings, the pairs with their stimuli,
+/// and the totals, each line ended by a newline. `Line` is the first line that is none of a report there: also one with a byte outside 32 to 126, as the
 /// carriage return of a text with CRLF; a pair that has not the next number; a text after the totals. `Ends` where the text
 /// ends before its totals do.
 ///
-/// As JSON it is an object in which further keys are passed over; `Json` where it is none.
+/// As JSON it is an object in which further keys are passed over; `Json` where it is none. Keys of what is not judged stand
+/// exactly where the options ask for them.
 ///
 /// In both an exception that says another number of pairs than have its number is refused (`Pairs`, the first one), and then
 /// totals that are not those of the pairs (`Total`).

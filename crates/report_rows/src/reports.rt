@@ -10,6 +10,17 @@ pub enum Word {
     Undecided,
 }
 
+/// A row on what is told of a script beside its exceptions.
+#[derive(Drop)]
+pub enum Told {
+    /// Commands of this name are passed over, so many.
+    Skipped(Name, u64),
+    /// The command that begins at this line of the script, by its name, is not judged.
+    Unjudged(u64, Name),
+    /// So many false paths have a hold side that is not judged.
+    HoldSides(u64),
+}
+
 /// What the lines of an exception say of it.
 #[derive(Drop)]
 pub enum Said {
@@ -42,10 +53,11 @@ pub struct PairRow {
     pub why: Name,
 }
 
-/// A report: what its first line says, and its rows.
+/// A report: what its first line says, and its rows: on what is told beside the exceptions, on these, and on the pairs.
 #[derive(Drop)]
 pub struct Report {
     pub head: Head,
+    pub told: Seq<Told>,
     pub script: Seq<ScriptRow>,
     pub pairs: Seq<PairRow>,
 }

@@ -5,7 +5,9 @@ use net_model::{Claim, Edge, End, Phase, Start, Stimulus};
 use proof_log::Derivation;
 use run_options::RunOptions;
 use sdcv_base::{Kind, Name, Seq};
-use selected_types::{CommandLine, Listing, PairLine, Selected, Warning};
+use selected_types::{
+    CommandLine, Listing, Notices, PairLine, Selected, Skipped, Unjudged, Warning,
+};
 use std::alloc::{AllocError, Global};
 use std::process::Abort;
 use verdict_types::{Cause, Proof, Verdict};
@@ -51,10 +53,20 @@ pub struct Pair(
     pub Found,
 );
 
-/// A run's options, exceptions and pairs, and its report as lines and as JSON.
+/// What is told beside the exceptions: which commands are passed over, with how many, where any may be; the lines and names of those
+/// that are not judged; and how many false paths have a hold side that is not judged.
+#[derive(Clone, Copy)]
+pub struct Tells(
+    pub Option<&'static [(&'static str, u64)]>,
+    pub &'static [(u64, &'static str)],
+    pub u64,
+);
+
+/// A run's options, what it tells beside the exceptions, its exceptions and pairs, and its report as lines and as JSON.
 #[derive(Clone, Copy)]
 pub struct Case {
     pub options: RunOptions,
+    pub tells: Tells,
     pub exceptions: &'static [Exception],
     pub pairs: &'static [Pair],
     pub text: &'static str,
@@ -126,6 +138,39 @@ fn claims_of(alloc: Global, rows: &[Pair], hazard: bool) -> Result<Seq<Claim>, A
         })?;
     }
     Ok(claims)
+}
+
+fn skipped_of(alloc: Global, rows: &[(&str, u64)]) -> Result<Seq<Skipped>, AllocError> {
+    let mut all = Seq::new(alloc);
+    for (name, count) in rows {
+        let name = Name::new(alloc, name.as_bytes())?;
+        all.push(Skipped {
+            name,
+            count: *count,
+        })?;
+    }
+    Ok(all)
+}
+
+fn unjudged_of(alloc: Global, rows: &[(u64, &str)]) -> Result<Seq<Unjudged>, AllocError> {
+    let mut all = Seq::new(alloc);
+    for (line, name) in rows {
+        let name = Name::new(alloc, name.as_bytes())?;
+        all.push(Unjudged { line: *line, name })?;
+    }
+    Ok(all)
+}
+
+pub fn notices_of(alloc: Global, tells: &Tells) -> Result<Notices, AllocError> {
+    let skipped = match tells.0 {
+        Some(rows) => Some(skipped_of(alloc, rows)?),
+        None => None,
+    };
+    Ok(Notices {
+        skipped,
+        unjudged: unjudged_of(alloc, tells.1)?,
+        hold_commands: tells.2,
+    })
 }
 
 pub fn selected_of(alloc: Global, case: &Case) -> Result<Selected, AllocError> {

@@ -2,7 +2,7 @@
 use crate::builders::Does::{Aside, Claims, Holds};
 use crate::builders::Found::{Depth, Fixed, Refuted, Single, Spent, Stays};
 use crate::builders::Warns::{Dropped, Nothing};
-use crate::builders::{Bits, Case, Exception, Pair};
+use crate::builders::{Bits, Case, Exception, Pair, Tells};
 use net_model::Phase::{Base, Step};
 use run_options::RunOptions;
 use sdcv_base::Edge::{Any, Fall, Rise};
@@ -36,8 +36,11 @@ const NO_RESET: RunOptions = RunOptions {
     ..DEFAULTS
 };
 
+const UNTOLD: Tells = Tells(None, &[], 0);
+
 const NOTHING: Case = Case {
     options: NO_RESET,
+    tells: UNTOLD,
     exceptions: &[],
     pairs: &[],
     text: "sdcv 1 mode plain reset 0 depth 8 budget 20000 inv 1
@@ -49,6 +52,7 @@ total 0 justified 0 refuted 0 undecided 0
 
 const NO_CELL: Case = Case {
     options: NO_RESET,
+    tells: UNTOLD,
     exceptions: &[Exception(1, Claims(False, Any, 0), &[Nothing("zz*")])],
     pairs: &[],
     text: "sdcv 1 mode plain reset 0 depth 8 budget 20000 inv 1
@@ -64,6 +68,7 @@ total 0 justified 0 refuted 0 undecided 0
 // Each kind of exception, and each verdict. One name has a byte that is no character of ASCII, and a quote.
 pub const EACH: Case = Case {
     options: DEFAULTS,
+    tells: UNTOLD,
     exceptions: &[
         Exception(
             2,
@@ -140,6 +145,7 @@ const HAZARDS: Case = Case {
         inv_depth: 0,
         ..DEFAULTS
     },
+    tells: UNTOLD,
     exceptions: &[Exception(2, Claims(Multi(2), Any, 1), &[])],
     pairs: &[Pair(1, (Multi(2), Any), b"r", b"r", Refuted(0, ALONE))],
     text: "sdcv 1 mode hazard reset 0 depth 12 budget 1 inv 0
@@ -172,6 +178,7 @@ const LATE: Bits = Bits(
 
 const EDGES: Case = Case {
     options: RunOptions { lag: 1, ..DEFAULTS },
+    tells: UNTOLD,
     exceptions: &[
         Exception(2, Claims(False, Rise, 1), &[Dropped("ck", 1)]),
         Exception(3, Claims(Multi(3), Fall, 1), &[]),
@@ -224,6 +231,7 @@ const ASKED: Case = Case {
         strict: true,
         ..DEFAULTS
     },
+    tells: UNTOLD,
     exceptions: &[],
     pairs: &[],
     text: "sdcv 1 mode plain reset 1 depth 8 budget 20000 inv 1 lag 2 hold assist 14 free 0 assumed 3 strict
@@ -231,7 +239,67 @@ total 0 justified 0 refuted 0 undecided 0
 ",
     json: "{\"assist\":14,\"assumed\":3,\"budget\":20000,\"commands\":[],\"depth\":8,\"free\":0,\"hold\":true,\
 \"inv\":1,\"lag\":2,\"mode\":\"plain\",\"pairs\":[],\"reset\":1,\"strict\":true,\
+\"total\":{\"justified\":0,\"pairs\":0,\"refuted\":0,\"undecided\":0},\"unjudged\":[]}\n",
+};
+
+// A sign-off: commands are passed over, others are not judged, and the hold side of two false paths is not.
+const SIGNOFF: Case = Case {
+    options: RunOptions {
+        strict: true,
+        ..DEFAULTS
+    },
+    tells: Tells(
+        Some(&[("set_sense", 2), ("set_dont_use", 1)]),
+        &[(3, "set_clock_groups"), (4, "set_sense")],
+        2,
+    ),
+    exceptions: &[
+        Exception(2, Claims(False, Any, 1), &[]),
+        Exception(7, Claims(False, Any, 0), &[Nothing("zz")]),
+    ],
+    pairs: &[Pair(1, (False, Any), b"a", b"b", Depth(0))],
+    text: "sdcv 1 mode plain reset 1 depth 8 budget 20000 inv 1 strict
+skipped set_sense 2
+skipped set_dont_use 1
+warning line 3 unjudged set_clock_groups
+warning line 4 unjudged set_sense
+note hold side not judged commands 2
+command 1 line 2 false pairs 1
+command 2 line 7 false pairs 0
+warning command 2 nothing zz
+pair 1 command 1 false a -> b justified depth 0
+total 1 justified 1 refuted 0 undecided 0
+",
+    json: "{\"budget\":20000,\"commands\":[{\"line\":2,\"number\":1,\"pairs\":1,\"warnings\":[],\"what\":\"false\"},\
+{\"line\":7,\"number\":2,\"pairs\":0,\"warnings\":[\"nothing zz\"],\"what\":\"false\"}],\
+\"depth\":8,\"hold_commands\":2,\"inv\":1,\"mode\":\"plain\",\"pairs\":[\
+{\"command\":1,\"end\":\"b\",\"kind\":\"false\",\"number\":1,\"start\":\"a\",\"stimulus\":null,\
+\"verdict\":\"justified\",\"why\":\"depth 0\"}],\
+\"reset\":1,\"skipped\":[{\"count\":2,\"name\":\"set_sense\"},{\"count\":1,\"name\":\"set_dont_use\"}],\"strict\":true,\
+\"total\":{\"justified\":1,\"pairs\":1,\"refuted\":0,\"undecided\":0},\
+\"unjudged\":[{\"line\":3,\"name\":\"set_clock_groups\"},{\"line\":4,\"name\":\"set_sense\"}]}\n",
+};
+
+// Nothing is passed over, though it may be.
+const NONE_SKIPPED: Case = Case {
+    options: NO_RESET,
+    tells: Tells(Some(&[]), &[], 0),
+    exceptions: &[],
+    pairs: &[],
+    text: "sdcv 1 mode plain reset 0 depth 8 budget 20000 inv 1
+total 0 justified 0 refuted 0 undecided 0
+",
+    json: "{\"budget\":20000,\"commands\":[],\"depth\":8,\"inv\":1,\"mode\":\"plain\",\"pairs\":[],\"reset\":0,\"skipped\":[],\
 \"total\":{\"justified\":0,\"pairs\":0,\"refuted\":0,\"undecided\":0}}\n",
 };
 
-pub const CASES: &[Case] = &[NOTHING, NO_CELL, EACH, HAZARDS, EDGES, ASKED];
+pub const CASES: &[Case] = &[
+    NOTHING,
+    NO_CELL,
+    EACH,
+    HAZARDS,
+    EDGES,
+    ASKED,
+    SIGNOFF,
+    NONE_SKIPPED,
+];

@@ -1,4 +1,5 @@
-use sdcv_base::{Seq, Setting};
+use run_options::ScriptForm;
+use sdcv_base::{Name, Seq, Setting};
 use sdcv_words::{Command, Finding, Job, Mending, Options, Texts, command_of};
 use std::alloc::{AllocError, Global};
 
@@ -22,6 +23,23 @@ fn resets_text(alloc: Global, resets: &Seq<Setting>) -> Result<String, AllocErro
     Ok(text)
 }
 
+// How a script is read: nothing where it is by the rules of each run, else the names that are passed over.
+fn form_text(alloc: Global, form: &ScriptForm) -> Result<String, AllocError> {
+    match form {
+        ScriptForm::Narrow => Ok(String::new(alloc)),
+        ScriptForm::Wide(names) => wide_text(alloc, names),
+    }
+}
+
+fn wide_text(alloc: Global, names: &Seq<Name>) -> Result<String, AllocError> {
+    let mut text = " wide".to_string(alloc)?;
+    for name in names.as_slice() {
+        let one = format!(in alloc; " <{name}>")?;
+        text.push_str(&one)?;
+    }
+    Ok(text)
+}
+
 fn options_text(alloc: Global, options: &Options) -> Result<String, AllocError> {
     let mode = if options.judging.hazard {
         "hazard"
@@ -31,8 +49,14 @@ fn options_text(alloc: Global, options: &Options) -> Result<String, AllocError> 
     let resets = resets_text(alloc, &options.reset.ports)?;
     let lag = options.judging.lag;
     let hold = if options.judging.hold { " hold" } else { "" };
+    let strict = if options.judging.strict {
+        " strict"
+    } else {
+        ""
+    };
+    let form = form_text(alloc, &options.form)?;
     let cycles = options.reset.len;
-    format!(in alloc; "{mode} lag {lag}{hold}{resets} cycles {cycles}")
+    format!(in alloc; "{mode} lag {lag}{hold}{strict}{form}{resets} cycles {cycles}")
 }
 
 fn job_text(alloc: Global, job: &Job<'_>) -> Result<String, AllocError> {
@@ -181,6 +205,38 @@ const BY_PLACE: &[(&str, &str)] = &[
         "<v> <l> <s> plain lag 0 hold cycles 0 aiger <a> pair 2",
     ),
     (
+        "verify|v|l|s|--strict|--hold|--out|c",
+        "<v> <l> <s> plain lag 0 hold strict wide cycles 0 verify <c> json false depth 8 budget 20000 inv 1 assist <->",
+    ),
+    (
+        "verify|v|l|s|--out|c|--skip|set_sense,set dont use|--strict",
+        "<v> <l> <s> plain lag 0 strict wide <set_sense> <set dont use> cycles 0 verify <c> json false depth 8 budget 20000 inv 1 assist <->",
+    ),
+    (
+        "check|v|l|s|c|--skip|puts",
+        "<v> <l> <s> plain lag 0 wide <puts> cycles 0 check <c>",
+    ),
+    (
+        "replay|v|l|s|r|1|--strict",
+        "<v> <l> <s> plain lag 0 strict wide cycles 0 replay <r> pair 1",
+    ),
+    (
+        "detect|v|l|s|--skip|a,b,a|--out|f",
+        "<v> <l> <s> plain lag 0 wide <a> <b> <a> cycles 0 detect <f> depth 8 budget 20000 inv 1 bound 4",
+    ),
+    (
+        "mend|v|l|s|--skip|a|--out|m",
+        "<v> <l> <s> plain lag 0 wide <a> cycles 0 mend <m> depth 8 budget 20000 inv 1 assist <->",
+    ),
+    (
+        "mend|v|l|s|--out|m|--strict",
+        "<v> <l> <s> plain lag 0 strict wide cycles 0 mend <m> depth 8 budget 20000 inv 1 assist <->",
+    ),
+    (
+        "aiger|v|l|s|2|--strict|--out|a|--skip|a",
+        "<v> <l> <s> plain lag 0 strict wide <a> cycles 0 aiger <a> pair 2",
+    ),
+    (
         "check|v|l|s|c|--reset|a=b=1|--lag|02|--hazard",
         "<v> <l> <s> hazard lag 2 a=b=true cycles 1 check <c>",
     ),
@@ -278,6 +334,10 @@ const BY_CLAP: &[(&str, &str)] = &[
         "<v> <l> <s> plain lag 0 hold cycles 0 replay <r> pair 2",
     ),
     (
+        "check|--strict|--skip=a,b|v|l|s|c",
+        "<v> <l> <s> plain lag 0 strict wide <a> <b> cycles 0 check <c>",
+    ),
+    (
         "aiger|--out=a|v|l|s|2|--lag=1",
         "<v> <l> <s> plain lag 1 cycles 0 aiger <a> pair 2",
     ),
@@ -315,6 +375,39 @@ const NONE: &[(&str, &str)] = &[
     ("demo|7|20|--hold", "the hold side of a generated design"),
     ("check|v|l|s|c|--hold|--hold", "the hold side twice"),
     ("check|v|l|s|c|--hold=true", "the hold side with a value"),
+    ("check|v|l|s|c|--strict|--strict", "a sign-off twice"),
+    ("check|v|l|s|c|--strict=true", "a sign-off with a value"),
+    ("detect|v|l|s|--out|f|--strict", "a sign-off of found pairs"),
+    ("demo|7|20|--strict", "a sign-off of a generated design"),
+    ("check|v|l|s|c|--skip", "no list of commands to pass over"),
+    (
+        "check|v|l|s|c|--skip|",
+        "an empty list of commands to pass over",
+    ),
+    (
+        "check|v|l|s|c|--skip|a,",
+        "an empty name of commands to pass over",
+    ),
+    (
+        "check|v|l|s|c|--skip|a|--skip|b",
+        "two lists of commands to pass over",
+    ),
+    (
+        "check|v|l|s|c|--skip|a,set_false_path",
+        "exceptions to pass over",
+    ),
+    (
+        "check|v|l|s|c|--skip|set_clock_groups",
+        "commands that are passed over by themselves",
+    ),
+    (
+        "check|v|l|s|c|--skip|foreach",
+        "commands that may hold exceptions",
+    ),
+    (
+        "demo|7|20|--skip|a",
+        "commands of a generated design to pass over",
+    ),
     ("verify|v|l|s|--out|c|--depth|+1", "a sign"),
     ("verify|v|l|s|--out|c|--depth|", "a number without digits"),
     (

@@ -1,5 +1,7 @@
 //! Groups, the gate, and comma-separated values.
-use crate::read_cases::{CLEAN, EMPTY, NOTES, NOTES_JSON, REFUTED_JSON, SAMPLER};
+use crate::read_cases::{
+    CLEAN, EMPTY, NOTED, NOTES, NOTES_JSON, REFUTED_JSON, SAMPLER, SIGNOFF, SIGNOFF_JSON,
+};
 use report_groups::{Gate, csv_text, gate, groups_text};
 use report_rows::{ReportFault, read_report};
 use std::alloc::Global;
@@ -31,11 +33,29 @@ command 4 line 5 warning dropped x[*] 2
 m[*]/a[x] -> q[]_reg 1 undecided budget base 3 command 4 multi 2 rise first 3
 ";
 
+const SIGNOFF_GROUPS: &str = "line 3 unjudged set_clock_groups
+line 4 unjudged set_sense
+command 2 line 7 false selects nothing
+a -> b 1 justified fixed command 1 false first 1
+";
+
+const SIGNOFF_GATE: &str = "line 3 unjudged set_clock_groups
+line 4 unjudged set_sense
+command 2 line 7 false selects nothing
+";
+
 // A report, its groups, and what of it stops a build.
 const TOLD: &[(&str, &str, &str)] = &[
     (SAMPLER, SAMPLER_GROUPS, SAMPLER_GATE),
     (NOTES, NOTES_GROUPS, NOTES_GATE),
     (NOTES_JSON, NOTES_GROUPS, NOTES_GATE),
+    (SIGNOFF, SIGNOFF_GROUPS, SIGNOFF_GATE),
+    (SIGNOFF_JSON, SIGNOFF_GROUPS, SIGNOFF_GATE),
+    (
+        NOTED,
+        "a -> b 1 justified fixed command 1 false first 1\n",
+        "",
+    ),
     (EMPTY, "no exception\n", "no exception\n"),
     (
         CLEAN,

@@ -8,6 +8,7 @@ fn sound(alloc: Global, rule: ValueRule) -> Result<String, AllocError> {
         ValueRule::Text => "x".to_string(alloc),
         ValueRule::Number { least, most: _ } => format!(in alloc; "{least}"),
         ValueRule::Ports => "p=0".to_string(alloc),
+        ValueRule::Commands => "set_sense".to_string(alloc),
     }
 }
 

@@ -65,3 +65,29 @@ total 1 justified 1 refuted 0 undecided 0
 pub const REFUTED_JSON: &str =
     r#"{"budget":1,"commands":[{"line":1,"number":1,"pairs":1,"warnings":[],"what":"false"}],"depth":8,"inv":1,"mode":"plain","pairs":[{"command":1,"end":"b","kind":"false","number":1,"start":"a","stimulus":{"inputs":["10","01"],"state":"-"},"verdict":"refuted","why":"offset 0"}],"reset":0,"total":{"justified":0,"pairs":1,"refuted":1,"undecided":0}}
 "#;
+
+/// A report for a sign-off, which tells of commands that are passed over and of others that are not judged.
+pub const SIGNOFF: &str = "sdcv 1 mode plain reset 0 depth 8 budget 20000 inv 1 strict
+skipped set_sense 2
+skipped set dont use 1
+warning line 3 unjudged set_clock_groups
+warning line 4 unjudged set_sense
+note hold side not judged commands 2
+command 1 line 1 false pairs 1
+command 2 line 7 false pairs 0
+pair 1 command 1 false a -> b justified fixed
+total 1 justified 1 refuted 0 undecided 0
+";
+
+/// The same as JSON.
+pub const SIGNOFF_JSON: &str =
+    r#"{"budget":20000,"commands":[{"line":1,"number":1,"pairs":1,"warnings":[],"what":"false"},{"line":7,"number":2,"pairs":0,"warnings":[],"what":"false"}],"depth":8,"hold_commands":2,"inv":1,"mode":"plain","pairs":[{"command":1,"end":"b","kind":"false","number":1,"start":"a","stimulus":null,"verdict":"justified","why":"fixed"}],"reset":0,"skipped":[{"count":2,"name":"set_sense"},{"count":1,"name":"set dont use"}],"strict":true,"total":{"justified":1,"pairs":1,"refuted":0,"undecided":0},"unjudged":[{"line":3,"name":"set_clock_groups"},{"line":4,"name":"set_sense"}]}
+"#;
+
+/// Nothing is told beside one justified pair but that hold sides are not judged.
+pub const NOTED: &str = "sdcv 1 mode plain reset 0 depth 8 budget 20000 inv 1 strict
+note hold side not judged commands 1
+command 1 line 1 false pairs 1
+pair 1 command 1 false a -> b justified fixed
+total 1 justified 1 refuted 0 undecided 0
+";

@@ -1,12 +1,14 @@
 //! Reports read back, and texts that are none.
-use crate::read_cases::{NOTES, SAMPLER};
+use crate::read_cases::{NOTES, SAMPLER, SIGNOFF};
 use report_rows::ReportFault::{self, Ends, Json, Line, Pairs, Total};
-use report_rows::{Said, Word, read_report};
+use report_rows::{Said, Told, Word, read_report};
 use std::alloc::{AllocError, Global};
 use std::process::Abort;
 use std::test;
 
 const HEAD: &str = "sdcv 1 mode plain reset 1 depth 8 budget 20000 inv 1\n";
+
+const STRICT_HEAD: &str = "sdcv 1 mode plain reset 1 depth 8 budget 20000 inv 1 strict\n";
 
 // What follows the first line, and why that is no report.
 const NONE: &[(&str, ReportFault)] = &[
@@ -33,6 +35,13 @@ const NONE: &[(&str, ReportFault)] = &[
     ("pair 1 command 1 false a -> b justified fixed\r\n", Line(2)),
     ("pair 1 command 1 false a -> b justified fixed", Ends),
     ("pair 1 command 1 false a -> b justified fixed\n", Ends),
+    ("skipped set_sense\n", Line(2)),
+    ("skipped set_sense 0\n", Line(2)),
+    ("skipped set_sense 01\n", Line(2)),
+    ("skipped a 1\nskipped b x\n", Line(3)),
+    ("command 1 line 1 hold\nskipped set_sense 1\n", Line(3)),
+    ("warning line 3 unjudged set_sense\n", Line(2)),
+    ("note hold side not judged commands 1\n", Line(2)),
     ("found a -> b multi 4\n", Line(2)),
     ("refused sdc 1 Syntax 12\n", Line(2)),
 ];
@@ -65,6 +74,29 @@ total 0 justified 0 refuted 0 undecided 0
     ),
 ];
 
+// What follows the first line of a strict report, and why that is no report.
+const NOT_STRICT: &[(&str, ReportFault)] = &[
+    ("warning line 0 unjudged a\n", Line(2)),
+    ("warning line 3 unjudged\n", Line(2)),
+    ("warning line 3 passed a\n", Line(2)),
+    ("warning line 3 unjudged a\nskipped a 1\n", Line(3)),
+    (
+        "command 1 line 1 hold\nwarning line 3 unjudged a\n",
+        Line(3),
+    ),
+    ("note hold side not judged commands 0\n", Line(2)),
+    ("note hold side not judged commands\n", Line(2)),
+    (
+        "note hold side not judged commands 1\nnote hold side not judged commands 1\n",
+        Line(3),
+    ),
+    (
+        "note hold side not judged commands 1\nwarning line 3 unjudged a\n",
+        Line(3),
+    ),
+    ("end\nnote hold side not judged commands 1\n", Line(3)),
+];
+
 fn fault_after_head(alloc: Global, rest: &str) -> Result<Option<ReportFault>, AllocError> {
     let text = format!(in alloc; "{HEAD}{rest}")?;
     Ok(read_report(alloc, text.as_bytes()).err())
@@ -74,6 +106,18 @@ fn fault_after_head(alloc: Global, rest: &str) -> Result<Option<ReportFault>, Al
 fn the_first_line_that_is_none_of_a_report_is_told(rt: HostRuntime) -> Result<(), AllocError> {
     for (rest, want) in NONE {
         let fault = fault_after_head(rt.alloc(), rest)?;
+        assert_eq!(rt; fault, Some(*want), "{rest}");
+    }
+    Ok(())
+}
+
+#[test]
+fn what_is_told_beside_the_exceptions_stands_in_its_place(
+    rt: HostRuntime,
+) -> Result<(), AllocError> {
+    for (rest, want) in NOT_STRICT {
+        let text = format!(in rt.alloc(); "{STRICT_HEAD}{rest}")?;
+        let fault = read_report(rt.alloc(), text.as_bytes()).err();
         assert_eq!(rt; fault, Some(*want), "{rest}");
     }
     Ok(())
@@ -111,6 +155,34 @@ const NO_REPORTS: &[(&str, ReportFault)] = &[
         Line(1),
     ),
     ("{", Json),
+    (
+        r#"{"commands":[],"mode":"plain","pairs":[],"reset":0,"unjudged":[],"total":{"justified":0,"pairs":0,"refuted":0,"undecided":0}}"#,
+        Json,
+    ),
+    (
+        r#"{"commands":[],"mode":"plain","pairs":[],"reset":0,"hold_commands":0,"total":{"justified":0,"pairs":0,"refuted":0,"undecided":0}}"#,
+        Json,
+    ),
+    (
+        r#"{"commands":[],"mode":"plain","pairs":[],"reset":0,"strict":true,"hold_commands":0,"total":{"justified":0,"pairs":0,"refuted":0,"undecided":0}}"#,
+        Json,
+    ),
+    (
+        r#"{"commands":[],"mode":"plain","pairs":[],"reset":0,"strict":true,"unjudged":[],"total":{"justified":0,"pairs":0,"refuted":0,"undecided":0}}"#,
+        Json,
+    ),
+    (
+        r#"{"commands":[],"mode":"plain","pairs":[],"reset":0,"strict":true,"hold":true,"hold_commands":0,"unjudged":[],"total":{"justified":0,"pairs":0,"refuted":0,"undecided":0}}"#,
+        Json,
+    ),
+    (
+        r#"{"commands":[],"mode":"plain","pairs":[],"reset":0,"skipped":1,"total":{"justified":0,"pairs":0,"refuted":0,"undecided":0}}"#,
+        Json,
+    ),
+    (
+        r#"{"commands":[],"mode":"plain","pairs":[],"reset":0,"skipped":[{"name":"a"}],"total":{"justified":0,"pairs":0,"refuted":0,"undecided":0}}"#,
+        Json,
+    ),
     ("{}", Json),
     (
         r#"{"mode":"plain","reset":0,"commands":[],"pairs":{}}"#,
@@ -157,6 +229,7 @@ fn check_cuts(rt: &impl Abort, alloc: Global, text: &[u8]) {
 fn each_cut_of_a_report_is_refused(rt: HostRuntime) {
     check_cuts(&rt, rt.alloc(), SAMPLER.as_bytes());
     check_cuts(&rt, rt.alloc(), NOTES.as_bytes());
+    check_cuts(&rt, rt.alloc(), SIGNOFF.as_bytes());
 }
 
 #[test]
@@ -180,5 +253,20 @@ fn rows_have_what_the_lines_say(rt: HostRuntime) -> Result<(), test::Fail> {
     assert!(rt; last.end.as_bytes() == b"q[]_reg".as_slice());
     assert_eq!(rt; last.verdict, Word::Undecided);
     assert!(rt; last.why.as_bytes() == b"budget base 3".as_slice());
+    Ok(())
+}
+
+#[test]
+fn rows_have_what_is_told_beside_the_exceptions(rt: HostRuntime) -> Result<(), test::Fail> {
+    let report = read_report(rt.alloc(), SIGNOFF.as_bytes())?;
+    let told = report.told.as_slice();
+    assert_eq!(rt; told.len(), 5);
+    assert!(rt;
+        matches!(told.get(1), Some(Told::Skipped(name, 1)) if name.as_bytes() == b"set dont use".as_slice())
+    );
+    assert!(rt;
+        matches!(told.get(2), Some(Told::Unjudged(3, name)) if name.as_bytes() == b"set_clock_groups".as_slice())
+    );
+    assert!(rt; matches!(told.get(4), Some(Told::HoldSides(2))));
     Ok(())
 }

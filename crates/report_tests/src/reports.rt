@@ -1,6 +1,6 @@
 //! Reports as lines and as JSON, and the stimuli that are read back.
 use crate::builders::{
-    Bits, Case, Found, Pair, check_rows, is_stimulus, joined, selected_of, verdicts_of,
+    Bits, Case, Found, Pair, check_rows, is_stimulus, joined, notices_of, selected_of, verdicts_of,
 };
 use crate::cases::{CASES, EACH};
 use report_json::write_json;
@@ -10,10 +10,11 @@ use std::process::Abort;
 use witness_replay::{StimFault, read_stim};
 
 fn lines(rt: &impl Abort, alloc: Global, case: &Case) -> Result<Vec<Vec<u8>>, AllocError> {
+    let notices = notices_of(alloc, &case.tells)?;
     let selected = selected_of(alloc, case)?;
     let verdicts = verdicts_of(alloc, case.pairs)?;
     check_rows(rt, &selected, &verdicts);
-    write_report(alloc, &case.options, &selected, &verdicts)
+    write_report(alloc, &case.options, &notices, &selected, &verdicts)
 }
 
 fn text(rt: &impl Abort, alloc: Global, case: &Case) -> Result<Vec<u8>, AllocError> {
@@ -22,10 +23,11 @@ fn text(rt: &impl Abort, alloc: Global, case: &Case) -> Result<Vec<u8>, AllocErr
 }
 
 fn json(rt: &impl Abort, alloc: Global, case: &Case) -> Result<Vec<u8>, AllocError> {
+    let notices = notices_of(alloc, &case.tells)?;
     let selected = selected_of(alloc, case)?;
     let verdicts = verdicts_of(alloc, case.pairs)?;
     check_rows(rt, &selected, &verdicts);
-    write_json(alloc, &case.options, &selected, &verdicts)
+    write_json(alloc, &case.options, &notices, &selected, &verdicts)
 }
 
 #[test]

@@ -48,6 +48,14 @@ const BEGINNINGS: &[(&str, &str)] = &[
         "check|v|l|s|c|--reset|a=1,a=0|--lag|+1",
         "sdcv: --lag takes a number from 0 to 8, of digits alone and at most 20\n",
     ),
+    (
+        "check|v|l|s|c|--skip|a,set_false_path",
+        "sdcv: --skip takes names of commands, parted by commas, and none that a run reads itself\n",
+    ),
+    (
+        "detect|v|l|s|--out|m|--strict",
+        "error: unexpected argument '--strict' found\n",
+    ),
     ("--version", "sdcv 1.2.3 (of a test)\n"),
     ("--help", "Prove or refute the timing exceptions"),
     ("help", "Prove or refute the timing exceptions"),

@@ -4,3 +4,4 @@ mod Passing
 pub mod ReadBack
 mod Worked
 mod WorkedOptions
+mod WorkedNotices

@@ -19,6 +19,9 @@ use Rattle.selected_types.specs.declared.warnings.Warning.{Warning}
 use Rattle.selected_types.specs.declared.warnings.Warning.TheVariants.{Nothing, Dropped, Several, Crossed, Beyond}
 use Rattle.selected_types.specs.declared.selections.Listing.{Listing}
 use Rattle.selected_types.specs.declared.selections.Listing.TheVariants.{Claiming, Hold, Aside, HoldSide}
+use Rattle.selected_types.specs.declared.notices.Skipped.{Skipped}
+use Rattle.selected_types.specs.declared.notices.Unjudged.{Unjudged}
+use Rattle.selected_types.specs.declared.notices.Notices.{Notices}
 use Rattle.selected_types.specs.declared.selections.CommandLine.{CommandLine}
 use Rattle.selected_types.specs.declared.selections.PairLine.{PairLine}
 use Rattle.verdict_types.specs.declared.outcomes.Proof.{Proof}
@@ -32,9 +35,10 @@ use Rattle.witness_replay.proofs.LineLemmas.{is_inline}
 use Rattle.witness_replay.proofs.WrittenLemmas.{inline_decimal}
 use Rattle.witness_replay.proofs.PassedLemmas.{passes, passes_block}
 use Rattle.run_options.specs.declared.options.RunOptions.{RunOptions}
-use Rattle.report_text.specs.Words.{mode_text, lag_text, number_text, flag_text, asked_text, header_text}
+use Rattle.report_text.specs.Words.{mode_text, lag_text, number_text, flag_text, header_text}
 use Rattle.report_text.specs.Words.{kind_text, edge_text, words_of, what_text, count_text, command_text, warning_text, warning_line}
 use Rattle.report_text.specs.Words.{verdict_word, proof_text, phase_text, cause_text, why_text, pair_text}
+use Rattle.report_text.specs.Notices.{skipped_text, skipped_texts, unjudged_text, hold_text, hold_texts, notice_texts}
 use Rattle.report_text.specs.Reports.{command_texts, pair_texts, stimulus_texts}
 
 -- whether no byte of a text is a newline; the texts of a line are joined of such
@@ -132,6 +136,44 @@ passes_header number o =
     let strict = inline_flag (codes " strict") o.strict refl in
     simp (inline-append, inline_mode, inline_decimal, inline_lag, hold, assist, free, assumed, strict)
 
+passes_skipped : (number : ℕ) (s : Skipped) → passes (title_of number) (skipped_text s) ≡ true
+passes_skipped number s = simp (inline-append, inline_shown, inline_decimal)
+
+passes_unjudged : (number : ℕ) (u : Unjudged) → passes (title_of number) (unjudged_text u) ≡ true
+passes_unjudged number u = simp (inline-append, inline_shown, inline_decimal)
+
+passes_hold : (number count : ℕ) → passes (title_of number) (hold_text count) ≡ true
+passes_hold number count = simp (inline_decimal)
+
+-- lines of which each passes
+passes_all : {A : Type 0} (number : ℕ) (text : A → List ℕ) → ((x : A) → passes (title_of number) (text x) ≡ true) → (xs : List A)
+    → list_all (passes (title_of number)) (map text xs) ≡ true
+passes_all number text each [] = refl
+passes_all number text each (x ∷ xs) =
+    and_from (passes (title_of number) (text x)) (list_all (passes (title_of number)) (map text xs)) (each x) (passes_all number text each xs)
+
+passes_all_skipped : (number : ℕ) (skipped : Option (List Skipped)) → list_all (passes (title_of number)) (skipped_texts skipped) ≡ true
+passes_all_skipped number None = refl
+passes_all_skipped number (Some skipped) = passes_all number skipped_text (passes_skipped number) skipped
+
+passes_holds : (number count : ℕ) → list_all (passes (title_of number)) (hold_texts count) ≡ true
+passes_holds number count =
+    cond_both (count == 0) [] (hold_text count ∷ []) (λ (texts : List (List ℕ)). list_all (passes (title_of number)) texts ≡ true) (λ none. refl)
+    (λ some. and_from (passes (title_of number) (hold_text count)) true (passes_hold number count) refl)
+
+-- the lines of what is told beside the exceptions
+pub passes_notices : (number : ℕ) (n : Notices) → list_all (passes (title_of number)) (notice_texts n) ≡ true
+passes_notices number n =
+    let passing = passes (title_of number) in
+    let unjudged : List (List ℕ) = map unjudged_text n.unjudged in
+    let holds : List (List ℕ) = hold_texts n.hold_commands in
+    let last : list_all passing (unjudged ++ holds) ≡ true =
+    list_all-append passing unjudged holds
+    ∙ and_from (list_all passing unjudged) (list_all passing holds) (passes_all number unjudged_text (passes_unjudged number) n.unjudged)
+    (passes_holds number n.hold_commands) in
+    list_all-append passing (skipped_texts n.skipped) (unjudged ++ holds)
+    ∙ and_from (list_all passing (skipped_texts n.skipped)) (list_all passing (unjudged ++ holds)) (passes_all_skipped number n.skipped) last
+
 passes_command : (number place : ℕ) (c : CommandLine) → passes (title_of number) (command_text place c) ≡ true
 passes_command number place c = simp (inline-append, inline_what, inline_count, inline_decimal)
 
@@ -144,10 +186,7 @@ passes_pair number limit other p claim v =
     simp (inline-append, inline_kind, side, inline_edge, inline_shown, inline_word, inline_why, inline_decimal)
 
 passes_warnings : (number place : ℕ) (warnings : List Warning) → list_all (passes (title_of number)) (map (warning_line place) warnings) ≡ true
-passes_warnings number place [] = refl
-passes_warnings number place (w ∷ ws) =
-    and_from (passes (title_of number) (warning_line place w)) (list_all (passes (title_of number)) (map (warning_line place) ws))
-    (passes_warning number place w) (passes_warnings number place ws)
+passes_warnings number place warnings = passes_all number (warning_line place) (passes_warning number place) warnings
 
 -- the lines of the exceptions
 pub passes_commands : (number place : ℕ) (commands : List CommandLine)

@@ -11,6 +11,7 @@ use Rattle.std.proofs.lemmas.List.Folds.{list_all-append}
 use Rattle.net_model.specs.declared.claims.Claim.{Claim}
 use Rattle.net_model.specs.declared.cycles.Stimulus.{Stimulus}
 use Rattle.sdcv_base.specs.Seqs.{each_at}
+use Rattle.selected_types.specs.declared.notices.Notices.{Notices}
 use Rattle.selected_types.specs.declared.selections.CommandLine.{CommandLine}
 use Rattle.selected_types.specs.declared.selections.PairLine.{PairLine}
 use Rattle.selected_types.specs.declared.selections.Selected.{Selected}
@@ -24,8 +25,9 @@ use Rattle.witness_replay.proofs.PassedLemmas.{passes, written_after}
 use Rattle.run_options.specs.declared.options.RunOptions.{RunOptions}
 use Rattle.report_text.specs.Rows.{HasRows, each_pair}
 use Rattle.report_text.specs.Words.{header_text, pair_text, total_text}
+use Rattle.report_text.specs.Notices.{notice_texts}
 use Rattle.report_text.specs.Reports.{ReadsBack, bytes_of_lines, command_texts, stimulus_texts, pair_texts, report_lines, report_bytes}
-use Rattle.report_text.proofs.Passing.{passes_header, passes_commands, passes_line, passes_texts}
+use Rattle.report_text.proofs.Passing.{passes_header, passes_notices, passes_commands, passes_line, passes_texts}
 
 -- what is done to each part is done to the whole
 each_at-map : {A B C : Type 0} (g : B → C) (f : ℕ → A → List B) (place : ℕ) (xs : List A)
@@ -53,9 +55,9 @@ abbrev pub pair_part : ℕ → Selected → List Verdict → List (List ℕ)
 pair_part limit selected vs = each_pair (pair_texts limit) 1 selected.pairs selected.claims vs
 
 -- the lines of a report are its texts, each with a newline
-lines_are : (o : RunOptions) (selected : Selected) (vs : List Verdict) → report_lines o selected vs
-    ≡ map line_of (header_text o ∷ (command_part selected.commands ++ (pair_part o.depth selected vs ++ total_text vs ∷ [])))
-lines_are o selected vs =
+lines_are : (o : RunOptions) (n : Notices) (selected : Selected) (vs : List Verdict) → report_lines o n selected vs
+    ≡ map line_of (header_text o ∷ (notice_texts n ++ (command_part selected.commands ++ (pair_part o.depth selected vs ++ total_text vs ∷ []))))
+lines_are o n selected vs =
     let commands : List (List ℕ) = command_part selected.commands in
     let pairs : List (List ℕ) = pair_part o.depth selected vs in
     let ends : List (List ℕ) = total_text vs ∷ [] in
@@ -63,7 +65,9 @@ lines_are o selected vs =
       each_at-map line_of (λ at c. command_texts (at + 1) c) 0 selected.commands,
       each_pair-map line_of (pair_texts o.depth) 1 selected.pairs selected.claims vs,
     ) (ap (λ (l : List (List ℕ)). line_of (header_text o) ∷ l)
-    (ap (λ (l : List (List ℕ)). map line_of commands ++ l) (sym (map-append line_of pairs ends)) ∙ sym (map-append line_of commands (pairs ++ ends))))
+    (ap (λ (l : List (List ℕ)). map line_of (notice_texts n) ++ (map line_of commands ++ l)) (sym (map-append line_of pairs ends))
+    ∙ ap (λ (l : List (List ℕ)). map line_of (notice_texts n) ++ l) (sym (map-append line_of commands (pairs ++ ends)))
+    ∙ sym (map-append line_of (notice_texts n) (commands ++ (pairs ++ ends)))))
 
 -- lines are cut where the block of a number begins, and none begins before it
 record IsCutAt (number : ℕ) (s : Stimulus) (texts : List (List ℕ)) : Type 0 where
@@ -127,21 +131,26 @@ written_cut number s texts report cut is =
     ∙ ap (λ (t : List ℕ). before ++ t) (flat_map-append line_of (block_lines number s) cut.after) ∙ sym (append_assoc before block after))
 
 -- the stimulus of the pair at a place is written in the report under the pair's number
-pub stimulus_written : (o : RunOptions) (selected : Selected) (vs : List Verdict) (place offset : ℕ) (s : Stimulus) → HasRows selected vs
-    → place + 1 < 2 ^ 64 → slice_get vs place ≡ Some (Refuted offset s) → IsWritten (place + 1) (report_bytes o selected vs) s
-stimulus_written o selected vs place offset s rows small found =
+pub stimulus_written : (o : RunOptions) (n : Notices) (selected : Selected) (vs : List Verdict) (place offset : ℕ) (s : Stimulus)
+    → HasRows selected vs → place + 1 < 2 ^ 64 → slice_get vs place ≡ Some (Refuted offset s) → IsWritten (place + 1) (report_bytes o n selected vs) s
+stimulus_written o n selected vs place offset s rows small found =
     let number = place + 1 in
     let title = title_of number in
+    let notices : List (List ℕ) = notice_texts n in
     let commands : List (List ℕ) = command_part selected.commands in
     let pairs : List (List ℕ) = pair_part o.depth selected vs in
     let ends : List (List ℕ) = total_text vs ∷ [] in
-    let front : List (List ℕ) = header_text o ∷ commands in
-    let quiet : list_all (passes title) front ≡ true =
-    and_from (passes title (header_text o)) (list_all (passes title) commands) (passes_header number o) (passes_commands number 0 selected.commands) in
     let cut : IsCutAt number s pairs =
     cut_pairs o.depth 1 place number selected.pairs selected.claims vs offset s rows.claims rows.found found (omega arith) small in
-    written_cut number s (front ++ (pairs ++ ends)) (report_bytes o selected vs) (cut_later number s front (pairs ++ ends) quiet
-    (cut_sooner number s pairs ends cut)) (ap concat (lines_are o selected vs) ∙ concat-map (front ++ (pairs ++ ends)))
+    let after_notices : IsCutAt number s (commands ++ (pairs ++ ends)) =
+    cut_later number s commands (pairs ++ ends) (passes_commands number 0 selected.commands) (cut_sooner number s pairs ends cut) in
+    let after_header : IsCutAt number s (notices ++ (commands ++ (pairs ++ ends))) =
+    cut_later number s notices (commands ++ (pairs ++ ends)) (passes_notices number n) after_notices in
+    let header : list_all (passes title) (header_text o ∷ []) ≡ true = and_from (passes title (header_text o)) true (passes_header number o) refl in
+    let texts : List (List ℕ) = header_text o ∷ (notices ++ (commands ++ (pairs ++ ends))) in
+    written_cut number s texts (report_bytes o n selected vs)
+    (cut_later number s (header_text o ∷ []) (notices ++ (commands ++ (pairs ++ ends))) header after_header)
+    (ap concat (lines_are o n selected vs) ∙ concat-map texts)
 
 -- the bytes of a report's lines, one after another, are those of the report
 pub bytes_joined : (lines : List (Vec ℕ Global)) → flat_map (λ (line : Vec ℕ Global). line.items) lines ≡ concat (bytes_of_lines lines)

@@ -1,5 +1,5 @@
 -- The first lines of reports, worked out by hand.
-use Rattle.std.proofs.Common.{◌≡◌, ℕ, true, false, refl}
+use Rattle.std.proofs.Common.{◌≡◌, true, false, refl}
 use Rattle.std.specs.Fmt.{digits}
 use Rattle.std.specs.Prelude.{codes, None, Some}
 use Rattle.run_options.specs.declared.options.RunOptions.{RunOptions}

@@ -1,3 +1,5 @@
 pub mod Words
+pub mod Notices
 pub mod Rows
 pub mod Reports
+pub mod Signoff

@@ -5,6 +5,7 @@ use Rattle.std.specs.declared.alloc.Global.{Global}
 use Rattle.net_model.specs.declared.cycles.Stimulus.{Stimulus}
 use Rattle.net_model.specs.declared.claims.Claim.{Claim}
 use Rattle.sdcv_base.specs.Seqs.{each_at}
+use Rattle.selected_types.specs.declared.notices.Notices.{Notices}
 use Rattle.selected_types.specs.declared.selections.CommandLine.{CommandLine}
 use Rattle.selected_types.specs.declared.selections.PairLine.{PairLine}
 use Rattle.selected_types.specs.declared.selections.Selected.{Selected}
@@ -15,6 +16,7 @@ use Rattle.witness_replay.specs.StimulusTexts.{line_of, block_lines}
 use Rattle.witness_replay.specs.Blocks.{HasFirstBlock, IsStimCause, Recalls}
 use Rattle.witness_replay.specs.declared.faults.StimFault.{StimFault}
 use Rattle.run_options.specs.declared.options.RunOptions.{RunOptions}
+use Rattle.report_text.specs.Notices.{notice_lines}
 use Rattle.report_text.specs.Rows.{each_pair}
 use Rattle.report_text.specs.Words.{header_text, command_text, warning_line, pair_text, total_text}
 
@@ -47,15 +49,16 @@ pair_lines limit number p claim v = map line_of (pair_texts limit number p claim
 abbrev pub all_pairs : ℕ → Selected → List Verdict → List (List ℕ)
 all_pairs limit selected verdicts = each_pair (pair_lines limit) 1 selected.pairs selected.claims verdicts
 
--- the options, the exceptions in the order of the script, the pairs in the order of the selection, and the totals
-abbrev pub report_lines : RunOptions → Selected → List Verdict → List (List ℕ)
-report_lines o selected verdicts =
-    line_of (header_text o) ∷ (each_at command_lines 0 selected.commands
-    ++ (all_pairs o.depth selected verdicts ++ line_of (total_text verdicts) ∷ []))
+-- the options, what is told beside the exceptions, the exceptions in the order of the script, the pairs in the order of the selection,
+-- and the totals
+abbrev pub report_lines : RunOptions → Notices → Selected → List Verdict → List (List ℕ)
+report_lines o notices selected verdicts =
+    line_of (header_text o) ∷ (notice_lines notices ++ (each_at command_lines 0 selected.commands
+    ++ (all_pairs o.depth selected verdicts ++ line_of (total_text verdicts) ∷ [])))
 
 -- the bytes of a report, its lines joined
-abbrev pub report_bytes : RunOptions → Selected → List Verdict → List ℕ
-report_bytes o selected verdicts = concat (report_lines o selected verdicts)
+abbrev pub report_bytes : RunOptions → Notices → Selected → List Verdict → List ℕ
+report_bytes o notices selected verdicts = concat (report_lines o notices selected verdicts)
 
 -- P holds of the number of each refuted pair and of the stimulus that refutes it; pairs are numbered from 1
 abbrev pub EachStimulus : (ℕ → Stimulus → Type 0) → List Verdict → Type 0

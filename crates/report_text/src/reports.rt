@@ -10,7 +10,7 @@ use crate::pairs::add_pairs;
 use crate::tallies::total_text;
 use crate::words::{asked_text, mode_text};
 use run_options::RunOptions;
-use selected_types::Selected;
+use selected_types::{Notices, Selected};
 use std::alloc::{AllocError, Global};
 use verdict_types::Verdict;
 
@@ -28,18 +28,20 @@ fn header_text(alloc: Global, options: &RunOptions) -> Result<String, AllocError
     )
 }
 
-/// The lines of the report of a selection and its verdicts, each with the newline that ends it.
+/// The lines of the report of what is told of a script, its selection and the verdicts, each with the newline that ends it.
 pub fn write_report(
     alloc: Global,
     options: &RunOptions,
+    notices: &Notices,
     selected: &Selected,
     verdicts: &[Verdict],
 ) -> Result<Vec<Vec<u8>>, AllocError>
     requires { HasRows selected.now verdicts.now }
-    ensures { IfOk result (λ lines. bytes_of_lines lines.items ≡ report_lines options.now selected.now verdicts.now) }
+    ensures { IfOk result (λ lines. bytes_of_lines lines.items ≡ report_lines options.now notices.now selected.now verdicts.now) }
 {
     let mut report = ReportLines::new(alloc);
     report.add(header_text(alloc, options)?)?;
+    report.add_notices(alloc, notices)?;
     add_commands(alloc, &selected.commands, &mut report)?;
     add_pairs(alloc, options.depth, selected, verdicts, &mut report)?;
     report.add(total_text(alloc, verdicts)?)?;

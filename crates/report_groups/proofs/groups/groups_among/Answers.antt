@@ -1,4 +1,4 @@
-use Rattle.std.proofs.Common.{◌≡◌, ◌∙◌, ◌++◌, ap, sym, arith, map, drop, List, ℕ, []}
+use Rattle.std.proofs.Common.{◌∙◌, ◌++◌, ap, sym, arith, map, List}
 use Rattle.std.proofs.lemmas.List.{drop_all, append-nil}
 use Rattle.report_rows.specs.declared.reports.PairRow.{PairRow}
 use Rattle.report_groups.specs.Groups.{firsts, group_by}

@@ -17,4 +17,4 @@ returns c =
       c.in_ok-put_commands.ensures,
       c.in_ok-put_count.ensures,
       c.new-object.ensures,
-    ) (ap object (asked_placed c.args.options.now _ _ _ _ _ _ _ _))
+    ) (ap object (asked_placed c.args.options.now c.args.notices.now _ _ _ _ _ _ _ _))

@@ -1,4 +1,4 @@
-use Rattle.std.proofs.Common.{◌∙◌, ◌-◌, ap, min, map, drop, take, length, List, ℕ, sym}
+use Rattle.std.proofs.Common.{◌∙◌, ◌-◌, ap, take, List, ℕ, sym}
 use Rattle.std.specs.Borrow.{Bor}
 use Rattle.std.proofs.lemmas.List.{take-map, take_min}
 use Rattle.report_rows.specs.Words.{texts}

@@ -1,4 +1,4 @@
-use Rattle.std.proofs.Common.{◌∙◌, ◌-◌, ap, arith, map, drop, take, length, length-drop, List, ℕ, sym}
+use Rattle.std.proofs.Common.{◌∙◌, ap, arith, drop, length-drop, List, ℕ, sym}
 use Rattle.std.specs.Borrow.{Bor}
 use Rattle.std.proofs.lemmas.List.{drop-map, drop_min, take_all}
 use Rattle.report_rows.specs.Words.{texts}

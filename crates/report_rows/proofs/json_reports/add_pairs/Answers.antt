@@ -1,4 +1,4 @@
-use Rattle.std.proofs.Common.{◌∙◌, sym, ap, arith}
+use Rattle.std.proofs.Common.{◌∙◌, ap, arith}
 use Rattle.serde_json.specs.View.{view}
 use Rattle.report_rows.specs.Members.{with_pair_data}
 use Rattle.report_rows.proofs.Lists.{map_left, none_left}

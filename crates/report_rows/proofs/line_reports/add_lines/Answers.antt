@@ -56,7 +56,7 @@ returns-then-not-branch-clause-err c =
     let again = ap texts c.deref-in-loop-place.ensures.value ∙ c.in_ok-words.ensures in
     c.loop-place.invariant ∙ ap (with_lines (n + 2) found) (map_left f lines n (record { ref_ptr = (0, 0); now = [] }) (omega arith))
     ∙ lines_stuck (n + 2) found c.add_line.new.found _ _ c.in_ok-add_line.field-0 (none_after f _ _ false rest c.if-is_empty.ensures)
-    (ap begins_total (sym said) ∙ sym c.if-begins_total.ensures) (c.in_ok-add_line.ensures ∙ ap (with_line found) again) c.if-not-branch.true
+    (ap begins_total (sym said) ∙ sym c.if-begins_total.ensures) (c.in_ok-add_line.ensures ∙ ap (with_line (n + 2) found) again) c.if-not-branch.true
 
 pub loop-place-preserved : goal.loop-place-preserved
 loop-place-preserved c =
@@ -67,7 +67,7 @@ loop-place-preserved c =
     let again = ap texts c.deref-in-loop-place.ensures.value ∙ c.in_ok-words.ensures in
     c.loop-place.invariant ∙ ap (with_lines (n + 2) found) (map_left f lines n (record { ref_ptr = (0, 0); now = [] }) (omega arith))
     ∙ lines_more (n + 2) found c.add_line.new.found _ _ c.in_ok-add_line.field-0 (none_after f _ _ false rest c.if-is_empty.ensures)
-    (ap begins_total (sym said) ∙ sym c.if-begins_total.ensures) (c.in_ok-add_line.ensures ∙ ap (with_line found) again) c.if-not-branch.false
+    (ap begins_total (sym said) ∙ sym c.if-begins_total.ensures) (c.in_ok-add_line.ensures ∙ ap (with_line (n + 2) found) again) c.if-not-branch.false
     ∙ ap (λ (m : ℕ). with_lines m c.add_line.new.found (map f (drop (n + 1) lines))) (omega arith)
 
 pub returns-clause-err : goal.returns-clause-err

@@ -1,4 +1,4 @@
-use Rattle.std.proofs.Common.{◌∙◌, ap, sym, arith, map, drop, get_or, List, [], ℕ}
+use Rattle.std.proofs.Common.{◌∙◌, ap, sym, arith, get_or, List, [], ℕ}
 use Rattle.std.specs.Prelude.{codes}
 use Rattle.std.specs.Borrow.{Bor}
 use Rattle.std.specs.List.{position_from}
@@ -6,7 +6,7 @@ use Rattle.std.specs.Str.{bytes_eq}
 use Rattle.std.proofs.lemmas.List.{drop-map}
 use Rattle.report_rows.specs.Lines.{arrow_of}
 use Rattle.report_rows.proofs.Lists.{map_left, none_left}
-use Rattle.report_rows.proofs.Parts.{place_here, place_on, place_none}
+use Rattle.report_rows.proofs.Parts.{place_here, place_none}
 use Rattle.report_rows.proofs.pair_lines.arrow_of.Goals as goal
 
 pub loop-k-init : goal.loop-k-init

@@ -1,0 +1,78 @@
+-- What reports tell of a script beside its exceptions, read back, worked out by hand.
+use Rattle.std.proofs.Common.{◌≡◌, ℕ, List, true, false, refl}
+use Rattle.std.specs.Prelude.{codes, Option, None, Some}
+use Rattle.report_rows.specs.Words.{words, number_in}
+use Rattle.report_rows.specs.Heads.{rowless}
+use Rattle.report_rows.specs.Rows.{with_told}
+use Rattle.report_rows.specs.Tellings.{skipped_count, unjudged_line, noted_count}
+use Rattle.report_rows.specs.Lines.{with_line}
+use Rattle.report_rows.specs.declared.heads.Head.{Head}
+use Rattle.report_rows.specs.declared.reports.Report.{Report}
+use Rattle.report_rows.specs.declared.reports.Told.TheVariants.{Skipped, Unjudged, HoldSides}
+
+abbrev plain : Head
+plain = record { hazard = false; reset = 1; lag = 0; hold = false; asked = record { assist = None; free = None; assumed = None; strict = false } }
+
+-- a strict report that has no row yet
+abbrev strict : Report
+strict = rowless (record plain { asked = record { assist = None; free = None; assumed = None; strict = true } })
+
+abbrev skipping : Report
+skipping = with_told strict (Skipped (codes "set_sense") 12)
+
+abbrev telling : Report
+telling = with_told skipping (Unjudged 3 (codes "set_sense"))
+
+abbrev noting : Report
+noting = with_told telling (HoldSides 2)
+
+-- with what the line of this number says
+abbrev after : ℕ → Report → List ℕ → Option Report
+after number before line = with_line number before (words line)
+
+skipped_is_the_second_line : after 2 strict (codes "skipped set_sense 12") ≡ Some skipping
+unfolding with_line skipped_count number_in
+skipped_is_the_second_line = refl
+
+unjudged_comes_after_skipped : after 3 skipping (codes "warning line 3 unjudged set_sense") ≡ Some telling
+unfolding with_line unjudged_line number_in
+unjudged_comes_after_skipped = refl
+
+note_comes_last : after 4 telling (codes "note hold side not judged commands 2") ≡ Some noting
+unfolding with_line noted_count number_in
+note_comes_last = refl
+
+note_comes_once : after 5 noting (codes "note hold side not judged commands 2") ≡ None
+unfolding with_line noted_count number_in
+note_comes_once = refl
+
+skipped_does_not_come_after_unjudged : after 4 telling (codes "skipped set_sense 12") ≡ None
+unfolding with_line skipped_count number_in
+skipped_does_not_come_after_unjudged = refl
+
+-- another line stands between
+skipped_stands_in_its_place : after 3 strict (codes "skipped set_sense 12") ≡ None
+unfolding with_line skipped_count number_in
+skipped_stands_in_its_place = refl
+
+skipped_counts_some : after 2 strict (codes "skipped set_sense 0") ≡ None
+unfolding with_line skipped_count number_in
+skipped_counts_some = refl
+
+note_counts_without_a_0_before : after 2 strict (codes "note hold side not judged commands 02") ≡ None
+unfolding with_line noted_count number_in
+note_counts_without_a_0_before = refl
+
+-- without the word nothing is told to be not judged
+unjudged_is_told_where_it_is_asked_for : after 2 (rowless plain) (codes "warning line 3 unjudged set_sense") ≡ None
+unfolding with_line unjudged_line number_in
+unjudged_is_told_where_it_is_asked_for = refl
+
+skipped_is_told_without_the_word : after 2 (rowless plain) (codes "skipped set_sense 12") ≡ Some (with_told (rowless plain) (Skipped (codes "set_sense") 12))
+unfolding with_line skipped_count number_in
+skipped_is_told_without_the_word = refl
+
+-- a report of hold sides does not say that they are not judged
+note_is_told_without_hold_sides : after 2 (record strict { head = record (strict.head) { hold = true } }) (codes "note hold side not judged commands 2") ≡ None
+unfolding with_line noted_count number_in
+note_is_told_without_hold_sides = refl

@@ -1,0 +1,73 @@
+-- What a report by lines tells of a script beside its exceptions: lines right after the first one.
+use Rattle.std.specs.Prelude.{ℕ, ◌+◌, ◌-◌, ◌==◌, ◌&&◌, Bool, true, false, not, nat_lt, List, length, drop, slice_get, slice_index, codes}
+use Rattle.std.specs.Prelude.{Option, Some, None, if◌then◌else◌}
+use Rattle.texts.specs.Reads.{◌>>=◌}
+use Rattle.report_rows.specs.Words.{word_at, is_word, part, joined, number_in}
+use Rattle.report_rows.specs.Rows.{with_told}
+use Rattle.report_rows.specs.declared.heads.Head.{Head}
+use Rattle.report_rows.specs.declared.reports.Told.{Told}
+use Rattle.report_rows.specs.declared.reports.Told.TheVariants.{Skipped, Unjudged, HoldSides}
+use Rattle.report_rows.specs.declared.reports.Report.{Report}
+
+-- the number of decimal digits that begin with no 0, so it is above 0
+abbrev pub count_of : List ℕ → Option ℕ
+count_of w = if slice_index w 0 == 48 then None else number_in w
+
+-- a row may come after another: those on what is passed over come first, and that on hold sides comes last, and once
+abbrev pub may_follow : Told → Told → Bool
+may_follow (Skipped name count) next = true
+may_follow (Unjudged line name) (Skipped other count) = false
+may_follow (Unjudged line name) (Unjudged later other) = true
+may_follow (Unjudged line name) (HoldSides count) = true
+may_follow (HoldSides count) next = false
+
+abbrev pub may_follow_last : Option Told → Told → Bool
+may_follow_last None next = true
+may_follow_last (Some last) next = may_follow last next
+
+abbrev pub last_told : Report → Option Told
+last_told found = slice_get found.told (length found.told - 1)
+
+-- a report of hold sides says not that they are not judged, and one that is not strict says of nothing that it is not judged
+abbrev pub tells_holds : Head → Bool
+tells_holds h = h.asked.strict && not h.hold
+
+abbrev pub may_tell : Head → Told → Bool
+may_tell h (Skipped name count) = true
+may_tell h (Unjudged line name) = h.asked.strict
+may_tell h (HoldSides count) = tells_holds h
+
+-- the row of the line of this number stands in its place: right after the first line and those of the rows before
+abbrev pub stands_at : ℕ → Report → Told → Bool
+stands_at number found row = number == length found.told + 2 && (may_follow_last (last_told found) row && may_tell found.head row)
+
+-- the report with the row of the line of this number
+abbrev pub with_told_at : ℕ → Report → Told → Option Report
+with_told_at number found row = if stands_at number found row then Some (with_told found row) else None
+
+-- `skipped NAME COUNT`
+unfoldable pub skipped_count : List (List ℕ) → Option ℕ
+skipped_count ws = if nat_lt 2 (length ws) then count_of (word_at ws (length ws - 1)) else None
+
+abbrev pub with_skipped : ℕ → Report → List (List ℕ) → Option Report
+with_skipped number found ws =
+    skipped_count ws >>= λ count. with_told_at number found (Skipped (joined (part ws 1 (length ws - 1))) count)
+
+-- `warning line L unjudged NAME`
+unfoldable pub unjudged_line : List (List ℕ) → Option ℕ
+unjudged_line ws = if nat_lt 4 (length ws) && is_word ws 3 (codes "unjudged") then count_of (word_at ws 2) else None
+
+abbrev pub with_unjudged : ℕ → Report → List (List ℕ) → Option Report
+with_unjudged number found ws = unjudged_line ws >>= λ line. with_told_at number found (Unjudged line (joined (drop 4 ws)))
+
+-- `note hold side not judged commands COUNT`
+abbrev pub notes_holds : List (List ℕ) → Bool
+notes_holds ws =
+    length ws == 7 && (is_word ws 1 (codes "hold") && (is_word ws 2 (codes "side") && (is_word ws 3 (codes "not")
+    && (is_word ws 4 (codes "judged") && is_word ws 5 (codes "commands")))))
+
+unfoldable pub noted_count : List (List ℕ) → Option ℕ
+noted_count ws = if notes_holds ws then count_of (word_at ws 6) else None
+
+abbrev pub with_note : ℕ → Report → List (List ℕ) → Option Report
+with_note number found ws = noted_count ws >>= λ count. with_told_at number found (HoldSides count)
