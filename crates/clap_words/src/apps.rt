@@ -24,7 +24,7 @@ pub enum Aim {
 fn parser_of<'a>(rule: ValueRule) -> ValueParser<'a> {
     match rule {
         ValueRule::Number { least, most } => ValueParser::unsigned(least, most),
-        ValueRule::Text | ValueRule::Ports => ValueParser::string(),
+        ValueRule::Text | ValueRule::Ports | ValueRule::Commands => ValueParser::string(),
     }
 }
 

@@ -223,6 +223,22 @@ const HOLD: OptionRow = OptionRow {
     sentence: "Judge the hold side of false paths too",
 };
 
+const SKIP: OptionRow = OptionRow {
+    id: "skip",
+    form: Valued,
+    value: "LIST",
+    rule: ValueRule::Commands,
+    sentence: "Pass over the commands of these names, parted by commas, and tell how many",
+};
+
+const STRICT: OptionRow = OptionRow {
+    id: "strict",
+    form: Flag,
+    value: "",
+    rule: ValueRule::Text,
+    sentence: "Judge as for a sign-off, and tell each command whose effect is not judged",
+};
+
 const HOLD_LINES: OptionRow = OptionRow {
     id: "hold",
     form: Flag,
@@ -265,6 +281,8 @@ const ROWS: [CommandRow; 7] = [
             HAZARD,
             LAG,
             HOLD,
+            SKIP,
+            STRICT,
             JSON,
             RESET,
             RESET_CYCLES,
@@ -278,13 +296,13 @@ const ROWS: [CommandRow; 7] = [
         name: "check",
         sentence: "Check a certificate, without the search that made it",
         positions: &[V, L, S, CERT],
-        options: &[HAZARD, LAG, HOLD, RESET, RESET_CYCLES],
+        options: &[HAZARD, LAG, HOLD, SKIP, STRICT, RESET, RESET_CYCLES],
     },
     CommandRow {
         name: "replay",
         sentence: "Run the stimulus of a refuted pair again",
         positions: &[V, L, S, REPORT, PAIR],
-        options: &[HAZARD, LAG, HOLD, RESET, RESET_CYCLES],
+        options: &[HAZARD, LAG, HOLD, SKIP, STRICT, RESET, RESET_CYCLES],
     },
     CommandRow {
         name: "demo",
@@ -299,6 +317,7 @@ const ROWS: [CommandRow; 7] = [
         options: &[
             OUT_SDC,
             HAZARD,
+            SKIP,
             RESET,
             RESET_CYCLES,
             DEPTH,
@@ -312,7 +331,16 @@ const ROWS: [CommandRow; 7] = [
         name: "aiger",
         sentence: "Save the claim of a pair as an AIGER text, whose bad literal rises where it is violated",
         positions: &[V, L, S, WATCHED],
-        options: &[OUT_AIGER, SYMBOLS, LAG, HOLD, RESET, RESET_CYCLES],
+        options: &[
+            OUT_AIGER,
+            SYMBOLS,
+            LAG,
+            HOLD,
+            SKIP,
+            STRICT,
+            RESET,
+            RESET_CYCLES,
+        ],
     },
     CommandRow {
         name: "mend",
@@ -323,6 +351,8 @@ const ROWS: [CommandRow; 7] = [
             HAZARD,
             LAG,
             HOLD,
+            SKIP,
+            STRICT,
             RESET,
             RESET_CYCLES,
             DEPTH,

@@ -11,6 +11,8 @@ pub enum ValueRule {
     Number { least: u64, most: u64 },
     /// A list of values for ports.
     Ports,
+    /// A list of names of commands.
+    Commands,
 }
 
 impl Display for ValueRule {
@@ -25,6 +27,9 @@ impl Display for ValueRule {
             }
             ValueRule::Ports => {
                 f.write_str("PORT=0 or PORT=1, parted by commas, each port once")
+            }
+            ValueRule::Commands => {
+                f.write_str("names of commands, parted by commas, and none that a run reads itself")
             }
         }
     }

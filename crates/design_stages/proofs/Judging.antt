@@ -7,6 +7,7 @@ use Rattle.script_types.specs.declared.scripts.Script.{Script}
 use Rattle.run_options.specs.declared.judging.Judging.{Judging}
 use Rattle.selected_types.specs.declared.selections.Selected.{Selected}
 use Rattle.exception_expand.specs.Selections.{IsSelectionOf}
+use Rattle.selected_types.specs.declared.notices.Notices.{Notices}
 use Rattle.design_stages.specs.Designs.{CanBeJudged}
 
 -- each pair that is selected has a claim
@@ -15,7 +16,7 @@ as_many l script judging s selects =
     sym (length-map s.claims _) ∙ ap length selects.claims ∙ length-map selects.chosen _ ∙ sym (length-map selects.chosen _)
     ∙ sym (ap length selects.pairs)
 
-pub can_be_judged : (l : Linked) (script : Script) (judging : Judging) (s : Selected) → IsUsable l → IsSelectionOf l script judging s
-    → CanBeJudged (record { linked = l; selected = s })
-can_be_judged l script judging s usable selects =
+pub can_be_judged : (l : Linked) (script : Script) (judging : Judging) (s : Selected) (n : Notices) → IsUsable l → IsSelectionOf l script judging s
+    → CanBeJudged (record { linked = l; selected = s; notices = n })
+can_be_judged l script judging s n usable selects =
     record { sound = usable.sound; usable = usable; each = as_many l script judging s selects; fit = selects.fit }

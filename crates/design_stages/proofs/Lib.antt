@@ -2,3 +2,4 @@ pub mod Judging
 pub mod Multipliers
 pub mod Refusing
 pub mod Staging
+pub mod Topping

@@ -1,5 +1,5 @@
 -- What is found of texts that were read: their design, and the pairs that are selected in it.
-use Rattle.std.specs.Prelude.{◌≡◌, false, List, [], ◌∷◌, length, All, None, Result, Ok, Err}
+use Rattle.std.specs.Prelude.{◌≡◌, ℕ, false, List, [], ◌∷◌, length, All, None, Result, Ok, Err}
 use Rattle.net_model.specs.Netlist.{IsSound}
 use Rattle.net_model.specs.Fits.{Fits}
 use Rattle.sdcv_base.specs.declared.settings.Setting.{Setting}
@@ -27,6 +27,8 @@ use Rattle.run_options.specs.declared.judging.Judging.{Judging}
 use Rattle.selected_types.specs.declared.selections.Selected.{Selected}
 use Rattle.exception_expand.specs.Selections.{IsSelectionOf, HasMultipliers}
 use Rattle.exception_expand.specs.Causes.{IsExpandCause}
+use Rattle.selected_types.specs.declared.notices.Notices.{Notices}
+use Rattle.script_notices.specs.Notices.{notices_of, skipped_of}
 use Rattle.fault_lines.specs.Designs.{link_line, expand_line}
 use Rattle.design_stages.specs.declared.designs.ReadTexts.{ReadTexts}
 use Rattle.run_options.specs.declared.resets.Reset.{Reset}
@@ -87,12 +89,33 @@ LinksTo t reset = do
   settings ← Staged (HasSettings t.script inputs reset.ports) expand_line
   Staged (Links t.source t.library (options_of settings reset)) link_line
 
--- the design with its names, and the selected pairs, or the line of the first fault
+-- the name of the first of these modules
+abbrev pub first_name : List Module → List ℕ
+first_name [] = []
+first_name (m ∷ rest) = m.name
+
+-- the name of the top module
+unfoldable pub top_name : Source → List ℕ
+top_name s = first_name (tops s)
+
+-- what is told of constraints of which nothing is judged: the commands that are passed over by their names
+abbrev pub skipped_alone : ReadTexts → Notices
+skipped_alone t = record { skipped = skipped_of t.form t.script; unjudged = []; hold_commands = 0 }
+
+-- a design with the pairs that a script selects in it, and what is told of the script beside them
+abbrev pub designed_by : ReadTexts → Judging → Linked → Selected → Designed
+designed_by t judging linked selected = record {
+  linked = linked;
+  selected = selected;
+  notices = notices_of t.form judging (top_name t.source) t.script selected;
+}
+
+-- the design with its names, the selected pairs and what is told beside them, or the line of the first fault
 unfoldable pub Designs : ReadTexts → Reset → Judging → Found Designed → Type 0
 Designs t reset judging = do
   linked ← LinksTo t reset
   selected ← Staged (Selects linked t.script judging) expand_line
-  λ found. found ≡ Ok (record { linked = linked; selected = selected })
+  λ found. found ≡ Ok (designed_by t judging linked selected)
 
 -- what those rely on who judge the pairs of a design: it is sound, its names are of its places, each pair has a claim, and each
 -- claim fits

@@ -5,6 +5,7 @@ use Rattle.verilog_net.specs.Sources.{source_of}
 use Rattle.cell_types.specs.declared.libraries.Library.{Library}
 use Rattle.cell_lib.specs.Texts.{Reads as ReadsLibrary}
 use Rattle.script_types.specs.declared.scripts.Script.{Script}
+use Rattle.run_options.specs.declared.forms.ScriptForm.{ScriptForm}
 use Rattle.sdc_text.specs.Scripts.{script_of}
 use Rattle.fault_lines.specs.Sources.{verilog_line, liberty_line, sdc_line}
 use Rattle.design_stages.specs.Stages.{Found, Staged}
@@ -17,6 +18,6 @@ Netlist text = Staged (λ read. source_of text ≡ read) verilog_line
 abbrev pub Cells : List ℕ → Found Library → Type 0
 Cells text = Staged (ReadsLibrary text) liberty_line
 
--- and its constraints
-abbrev pub Constraints : List ℕ → Found Script → Type 0
-Constraints text = Staged (λ read. script_of text ≡ read) sdc_line
+-- and its constraints, in a form
+abbrev pub Constraints : ScriptForm → List ℕ → Found Script → Type 0
+Constraints form text = Staged (λ read. script_of form text ≡ read) sdc_line

@@ -8,24 +8,28 @@ ghost use Rattle.linked_types.specs.Narrow.{IsNarrow};
 ghost use Rattle.linked_types.specs.Usable.{IsUsable};
 ghost use Rattle.fault_lines.specs.Designs.{link_line, expand_line};
 ghost use Rattle.design_stages.specs.Stages.{Finds, Staged};
-ghost use Rattle.design_stages.specs.Designs.{HasInputs, HasSettings, Links, Selects, Settles, LinksTo, Designs, AreLawful, CanBeJudged, options_of};
+ghost use Rattle.design_stages.specs.Designs.{HasInputs, HasSettings, Links, Selects, Settles, LinksTo, Designs, AreLawful, CanBeJudged, options_of, skipped_alone, top_name};
+ghost use Rattle.link_tops.specs.Tops.{IsTop};
+ghost use Rattle.script_notices.specs.Notices.{notices_of};
 
 use crate::designs::{Designed, ReadTexts, Settled};
 use crate::refusals::Refusal;
 use cell_types::Library;
 use exception_expand::expand;
 use fault_lines::{expand_line, link_line};
+use link_tops::one_top;
 use net_link::{LinkOptions, Linked, PortName, link, top_inputs};
 use netlist_types::Source;
 use run_options::{Judging, Reset};
+use script_notices::{Terms, notices, skipped_of};
 use script_types::Script;
 use sdc_settings::{Settings, settings};
-use sdcv_base::{Seq, Setting};
-use selected_types::Selected;
-use std::alloc::Global;
+use sdcv_base::{Name, Seq, Setting};
+use selected_types::{Notices, Selected};
+use std::alloc::{AllocError, Global};
 
 /// Links the netlist with its cells, as the constraints and the reset set its inputs, and selects the pairs that the constraints
-/// make exceptions of, each with a claim that is judged in this manner.
+/// make exceptions of, each with a claim that is judged in this manner. What is told of the constraints beside them goes with them.
 pub fn designed(
     alloc: Global,
     texts: &ReadTexts,
@@ -40,7 +44,12 @@ pub fn designed(
 {
     let linked = linked(alloc, texts, reset)?;
     let selected = selected(alloc, &linked, &texts.script, judging)?;
-    Ok(Designed { linked, selected })
+    let notices = noticed(alloc, texts, judging, &selected)?;
+    Ok(Designed {
+        linked,
+        selected,
+        notices,
+    })
 }
 
 /// Links the netlist with its cells, as the constraints and the reset set its inputs.
@@ -64,6 +73,17 @@ pub fn settled(alloc: Global, texts: &ReadTexts, resets: &Seq<Setting>) -> Resul
     let inputs = inputs(alloc, &texts.source)?;
     let settings = settings_of(alloc, &texts.script, &inputs, resets)?;
     Ok(Settled { inputs, settings })
+}
+
+/// What is told of constraints of which nothing is judged: the commands that are passed over by their names.
+pub fn skipped_alone(alloc: Global, texts: &ReadTexts) -> Result<Notices, AllocError>
+    ensures { IfOk result (λ n. n ≡ skipped_alone texts.now) }
+{
+    Ok(Notices {
+        skipped: skipped_of(alloc, &texts.form, &texts.script)?,
+        unjudged: Seq::new(alloc),
+        hold_commands: 0,
+    })
 }
 
 /// What is set from outside.
@@ -128,6 +148,43 @@ fn linked_under(
         Ok(linked) => Ok(linked),
         Err(fault) => Err(Refusal::Line(link_line(alloc, &fault)?)),
     }
+}
+
+/// The place of the top module. A source that is linked has one.
+fn top_place(alloc: Global, source: &Source) -> Result<usize, AllocError>
+    ensures { IfOk result (IsTop source.now) }
+{
+    match one_top(alloc, source) {
+        Ok(place) => Ok(place),
+        Err(_) => Err(AllocError),
+    }
+}
+
+/// The name of the top module.
+fn top_name(alloc: Global, source: &Source) -> Result<Name, AllocError>
+    ensures { IfOk result (λ name. name ≡ top_name source.now) }
+{
+    let place = top_place(alloc, source)?;
+    let name = source.modules.item(place).name.copy(alloc)?;
+    Ok(name)
+}
+
+/// What is told of the constraints beside the selected pairs.
+fn noticed(
+    alloc: Global,
+    texts: &ReadTexts,
+    judging: Judging,
+    selected: &Selected,
+) -> Result<Notices, AllocError>
+    ensures { IfOk result (λ n. n ≡ notices_of texts.now.form judging (top_name texts.now.source) texts.now.script selected.now) }
+{
+    let top = top_name(alloc, &texts.source)?;
+    let terms = Terms {
+        form: &texts.form,
+        judging,
+        top: &top,
+    };
+    notices(alloc, &terms, &texts.script, selected)
 }
 
 /// The selected pairs.

@@ -2,17 +2,19 @@
 use cell_types::Library;
 use net_link::{Linked, PortName};
 use netlist_types::Source;
+use run_options::ScriptForm;
 use script_types::Script;
 use sdc_settings::Settings;
 use sdcv_base::Seq;
-use selected_types::Selected;
+use selected_types::{Notices, Selected};
 
-/// Texts that were read: a netlist, its cells and its constraints.
+/// Texts that were read: a netlist, its cells and its constraints, and how these were read.
 #[derive(Drop)]
 pub struct ReadTexts {
     pub source: Source,
     pub library: Library,
     pub script: Script,
+    pub form: ScriptForm,
 }
 
 /// The input bits of the top module, and what the constraints set.
@@ -22,9 +24,10 @@ pub struct Settled {
     pub settings: Settings,
 }
 
-/// A design with its names, and the pairs that are selected in it.
+/// A design with its names, the pairs that are selected in it, and what is told of the constraints beside them.
 #[derive(Drop)]
 pub struct Designed {
     pub linked: Linked,
     pub selected: Selected,
+    pub notices: Notices,
 }

@@ -10,7 +10,7 @@ mod designs;
 mod readers;
 mod refusals;
 
-pub use designing::{designed, linked, settled};
+pub use designing::{designed, linked, settled, skipped_alone};
 pub use designs::{Designed, ReadTexts, Settled};
 pub use readers::{cells, constraints, netlist};
 pub use refusals::Refusal;

@@ -11,6 +11,7 @@ use cell_lib::read_lib;
 use cell_types::Library;
 use fault_lines::{liberty_line, sdc_line, verilog_line};
 use netlist_types::Source;
+use run_options::ScriptForm;
 use script_types::Script;
 use sdc_text::read_sdc;
 use std::alloc::Global;
@@ -38,12 +39,12 @@ pub fn cells(alloc: Global, text: &[u8]) -> Result<Library, Refusal>
     }
 }
 
-/// The script that the constraints' text is.
-pub fn constraints(alloc: Global, text: &[u8]) -> Result<Script, Refusal>
-    ensures found { Finds (Constraints text.now) result }
+/// The script that the constraints' text is, in this form.
+pub fn constraints(alloc: Global, text: &[u8], form: &ScriptForm) -> Result<Script, Refusal>
+    ensures found { Finds (Constraints form.now text.now) result }
     ensures multipliers { IfOk result HasMultipliers }
 {
-    match read_sdc(alloc, text) {
+    match read_sdc(alloc, text, form) {
         Ok(script) => Ok(script),
         Err(fault) => Err(Refusal::Line(sdc_line(alloc, &fault)?)),
     }

@@ -46,19 +46,20 @@ few_sets lines many =
     omega (arith, many.more, ap (λ (xs : List _). length xs) none)
 
 -- a script that selects few pairs does not select more than its limit of them
-few_pairs : (l : Linked) (script : Script) (chosen : List Chosen) → AreThose (spec.IsSelected l script false) (spec.script_pairs l script) chosen
-    → length chosen ≤ 10000 → ¬ HasMore (spec.IsSelected l script false) (spec.script_pairs l script) 100000
+few_pairs : (l : Linked) (script : Script) (chosen : List Chosen) → AreThose (spec.IsSelected l script (judging_by false 0)) (spec.script_pairs l script) chosen
+    → length chosen ≤ 10000 → ¬ HasMore (spec.IsSelected l script (judging_by false 0)) (spec.script_pairs l script) 100000
 few_pairs l script chosen those few many =
-    let all : AreThose (spec.IsSelected l script false) (many.first ++ many.rest) chosen =
-    subst (λ (xs : List Chosen). AreThose (spec.IsSelected l script false) xs chosen) many.whole those in
-    omega (arith, many.more, few, those_fewer (spec.IsSelected l script false) many.first many.rest many.found chosen many.those all)
+    let all : AreThose (spec.IsSelected l script (judging_by false 0)) (many.first ++ many.rest) chosen =
+    subst (λ (xs : List Chosen). AreThose (spec.IsSelected l script (judging_by false 0)) xs chosen) many.whole those in
+    omega (arith, many.more, few, those_fewer (spec.IsSelected l script (judging_by false 0)) many.first many.rest many.found chosen many.those all)
 
 -- nor makes more claims that need a verdict
 few_judged : (l : Linked) (script : Script) (hazard : Bool) (chosen : List Chosen)
-    → AreThose (spec.IsSelected l script false) (spec.script_pairs l script) chosen → length chosen ≤ 10000
+    → AreThose (spec.IsSelected l script (judging_by false 0)) (spec.script_pairs l script) chosen → length chosen ≤ 10000
     → ¬ HasMoreJudged l script (judging_by hazard 0) 10000
 few_judged l script hazard chosen those few many =
-    let same : many.chosen ≡ chosen = those_same (spec.IsSelected l script false) (spec.script_pairs l script) many.chosen chosen many.those those in
+    let same : many.chosen ≡ chosen =
+    those_same (spec.IsSelected l script (judging_by false 0)) (spec.script_pairs l script) many.chosen chosen many.those those in
     let claims : length many.claims ≡ length many.chosen =
     sym (length-map many.claims Some) ∙ ap (λ (os : List (Option Claim)). length os) many.claimed
     ∙ length-map many.chosen (spec.claim_of l script (judging_by hazard 0)) in
@@ -66,7 +67,7 @@ few_judged l script hazard chosen those few many =
 
 -- whatever limit
 within_limit : (l : Linked) (lines : List CheckLine) (hazard : Bool) (chosen : List Chosen) (what : LimitName) (number : ℕ)
-    → AreThose (spec.IsSelected l (script_by lines) false) (spec.script_pairs l (script_by lines)) chosen → length chosen ≤ 10000
+    → AreThose (spec.IsSelected l (script_by lines) (judging_by false 0)) (spec.script_pairs l (script_by lines)) chosen → length chosen ≤ 10000
     → ¬ IsOverLimit l (script_by lines) (judging_by hazard 0) what number
 within_limit l lines hazard chosen limit.Through number those few is = few_sets lines is.1
 within_limit l lines hazard chosen limit.Pairs number those few is = few_pairs l (script_by lines) chosen those few is.1
@@ -81,7 +82,7 @@ within_limit l lines hazard chosen limit.Hierarchy number those few is = is
 
 -- a script of few lines is refused for want of memory alone
 pub memory_alone : (l : Linked) (lines : List CheckLine) (hazard : Bool) (chosen : List Chosen) (f : ExpandFault)
-    → AreThose (spec.IsSelected l (script_by lines) false) (spec.script_pairs l (script_by lines)) chosen → length chosen ≤ 10000
+    → AreThose (spec.IsSelected l (script_by lines) (judging_by false 0)) (spec.script_pairs l (script_by lines)) chosen → length chosen ≤ 10000
     → IsExpandCause l (script_by lines) (judging_by hazard 0) f → f ≡ fault.Memory
 memory_alone l lines hazard chosen (fault.Limit what number) those few is = absurd (within_limit l lines hazard chosen what number those few is)
 memory_alone l lines hazard chosen fault.Memory those few is = refl

@@ -16,6 +16,7 @@ use Rattle.sdc_objects.specs.declared.things.Place.TheVariants.{From, To}
 use Rattle.sdc_objects.specs.declared.things.Thing.{Thing}
 use Rattle.sdc_objects.specs.declared.things.Thing.TheVariants as thing
 use Rattle.selected_types.specs.declared.warnings.Warning.{Warning}
+use Rattle.run_options.specs.Judging.{judging_by}
 use Rattle.exception_expand.specs.declared.pairs.Pair.{Pair}
 use Rattle.selected_types.specs.declared.selections.CommandLine.{CommandLine}
 use Rattle.selected_types.specs.declared.selections.Listing.TheVariants.{Claiming as ListsClaims, Hold as ListsHold}
@@ -84,28 +85,29 @@ no_warning column text t xs stands = rw stands refl
 
 -- the name of a register's cell has none after `-from`
 start_warns : (l : Linked) (script : Script) (r : ℕ) (name : List ℕ) → IsUsable l → is_writable name ≡ true → IsRegCell l r name
-    → warnings (from_column Any) l script From (cell_named name) ≡ []
+    → warnings (from_column l script false Any) l script false From (cell_named name) ≡ []
 start_warns l script r name usable can c =
     let can_cell : is_writable c.cell.name ≡ true = subst (λ (n : List ℕ). is_writable n ≡ true) (sym c.named) can in
-    let stands : from_column Any l (thing.Cell c.place) ≡ Some (RegStart r ∷ []) =
+    let stands : from_column l script false Any (thing.Cell c.place) ≡ Some (RegStart r ∷ []) =
     ap (λ (o : Option CellName). (cell_at_row o).from) c.here ∙ ap reg_start c.reg in
-    let one : warning c.cell.name (thing.Cell c.place ∷ []) (dropped_of (from_column Any l) (thing.Cell c.place ∷ [])) ≡ [] =
-    no_warning (from_column Any l) c.cell.name (thing.Cell c.place) (RegStart r ∷ []) stands in
-    subst (λ (n : List ℕ). warnings (from_column Any) l script From (cell_named n) ≡ []) c.named
-    (ap (λ (ts : List Thing). warning c.cell.name ts (dropped_of (from_column Any l) ts) ++ []) (from_named l script c.place c.cell usable can_cell c.here)
+    let one : warning c.cell.name (thing.Cell c.place ∷ []) (dropped_of (from_column l script false Any) (thing.Cell c.place ∷ [])) ≡ [] =
+    no_warning (from_column l script false Any) c.cell.name (thing.Cell c.place) (RegStart r ∷ []) stands in
+    subst (λ (n : List ℕ). warnings (from_column l script false Any) l script false From (cell_named n) ≡ []) c.named
+    (ap (λ (ts : List Thing). warning c.cell.name ts (dropped_of (from_column l script false Any) ts) ++ [])
+    (from_named l script c.place c.cell usable can_cell c.here)
     ∙ ap (λ (ws : List Warning). ws ++ []) one)
 
 -- and none after `-to`
 end_warns : (l : Linked) (script : Script) (r : ℕ) (name : List ℕ) → IsUsable l → is_writable name ≡ true → IsRegCell l r name
-    → warnings to_column l script To (cell_named name) ≡ []
+    → warnings (to_column l script false) l script false To (cell_named name) ≡ []
 end_warns l script r name usable can c =
     let can_cell : is_writable c.cell.name ≡ true = subst (λ (n : List ℕ). is_writable n ≡ true) (sym c.named) can in
-    let stands : to_column l (thing.Cell c.place) ≡ Some (RegEnd r ∷ []) =
+    let stands : to_column l script false (thing.Cell c.place) ≡ Some (RegEnd r ∷ []) =
     ap (λ (o : Option CellName). (cell_at_row o).to) c.here ∙ ap reg_end c.reg in
-    let one : warning c.cell.name (thing.Cell c.place ∷ []) (dropped_of (to_column l) (thing.Cell c.place ∷ [])) ≡ [] =
-    no_warning (to_column l) c.cell.name (thing.Cell c.place) (RegEnd r ∷ []) stands in
-    subst (λ (n : List ℕ). warnings to_column l script To (cell_named n) ≡ []) c.named
-    (ap (λ (ts : List Thing). warning c.cell.name ts (dropped_of (to_column l) ts) ++ []) (to_named l script c.place c.cell usable can_cell c.here)
+    let one : warning c.cell.name (thing.Cell c.place ∷ []) (dropped_of (to_column l script false) (thing.Cell c.place ∷ [])) ≡ [] =
+    no_warning (to_column l script false) c.cell.name (thing.Cell c.place) (RegEnd r ∷ []) stands in
+    subst (λ (n : List ℕ). warnings (to_column l script false) l script false To (cell_named n) ≡ []) c.named
+    (ap (λ (ts : List Thing). warning c.cell.name ts (dropped_of (to_column l script false) ts) ++ []) (to_named l script c.place c.cell usable can_cell c.here)
     ∙ ap (λ (ws : List Warning). ws ++ []) one)
 
 -- what holds of the lines after the first one holds of later places
@@ -119,7 +121,7 @@ ones_later chosen place y lines one j x here =
 -- the commands, where each but a hold line selects one pair
 pub lines_listed : (l : Linked) (script : Script) (chosen : List Chosen) (place number : ℕ) (lines : List CheckLine) (pairs : List Pair) → IsUsable l
     → AreLines l lines pairs → ((j : ℕ) (x : FoundLine) → slice_get lines j ≡ Some (Setup x) → count_at chosen (place + j) ≡ 1)
-    → each_at (spec.lines_at l script false chosen) place (commands_from number lines) ≡ commands_listed number lines
+    → each_at (spec.lines_at l script (judging_by false 0) chosen) place (commands_from number lines) ≡ commands_listed number lines
 lines_listed l script chosen place number [] pairs usable are one = refl
 lines_listed l script chosen place number (Setup x ∷ lines) [] usable are one = absurd are
 lines_listed l script chosen place number (Setup x ∷ lines) (p ∷ pairs) usable (is, are) one =
@@ -128,11 +130,11 @@ lines_listed l script chosen place number (Setup x ∷ lines) (p ∷ pairs) usab
     let from = start_warns l script is.regs.first x.start usable is.readable.start (subst (IsRegCell l is.regs.first) (sym is.start) is.regs.start_cell) in
     let to = end_warns l script is.regs.second x.end usable is.readable.end (subst (IsRegCell l is.regs.second) (sym is.end_) is.regs.end_cell) in
     let told = λ (first last : List Warning). (first ++ []) ++ last in
-    let rest = each_at (spec.lines_at l script false chosen) (place + 1) (commands_from (number + 1) lines) in
+    let rest = each_at (spec.lines_at l script (judging_by false 0) chosen) (place + 1) (commands_from (number + 1) lines) in
     let later = lines_listed l script chosen (place + 1) (number + 1) lines pairs usable are (ones_later chosen place (Setup x) lines one) in
     let line = λ (n : ℕ) (ws : List Warning). spec.command_line number (ListsClaims (Multi x.k) Any n) ws in
-    let from_told = warnings (from_column Any) l script From (cell_named x.start) in
-    let to_told = warnings to_column l script To (cell_named x.end) in
+    let from_told = warnings (from_column l script false Any) l script false From (cell_named x.start) in
+    let to_told = warnings (to_column l script false) l script false To (cell_named x.end) in
     ap (λ (n : ℕ). line n (told from_told to_told) ∷ rest) count
     ∙ ap (λ (ws : List Warning). line 1 (told ws to_told) ∷ rest) from
     ∙ ap (λ (ws : List Warning). line 1 (told [] ws) ∷ rest) to

@@ -160,32 +160,33 @@ register_thing l t has =
     (0 + made.place, cell_thing (0 + made.place) made.item.reg t made.of)
 
 -- a start that `[all_registers]` means
-start_of_registers : (l : Linked) (script : Script) (s : Start) → IsFrom l script Any (Some (AllRegisters ∷ [])) s → IsStartOf l s
+start_of_registers : (l : Linked) (script : Script) (s : Start) → IsFrom l script false Any (Some (AllRegisters ∷ [])) s → IsStartOf l s
 start_of_registers l script s has =
     let things = things_of l script From AllRegisters in
-    elim (In-cases s (meant_of (from_column Any l) things) [] (In-from_Contains _ s has)) as (λ z. IsStartOf l s) [
+    elim (In-cases s (meant_of (from_column l script false Any) things) [] (In-from_Contains _ s has)) as (λ z. IsStartOf l s) [
       | inl here ↦
-          let of = from_flat (λ t. meant_by (from_column Any l t)) s things here in
+          let of = from_flat (λ t. meant_by (from_column l script false Any t)) s things here in
           let cell = register_thing l of.0 of.1 in
-          start_by l cell.0 (slice_get l.names.cells cell.0) s refl (subst (λ (t : Thing). In s (meant_by (from_column Any l t))) (sym cell.1) of.2)
+          start_by l cell.0 (slice_get l.names.cells cell.0) s refl
+          (subst (λ (t : Thing). In s (meant_by (from_column l script false Any t))) (sym cell.1) of.2)
       | inr none ↦ absurd none
     ]
 
 -- an end that it means
-end_of_registers : (l : Linked) (script : Script) (e : End) → IsTo l script (Some (AllRegisters ∷ [])) e → IsEndOf l e
+end_of_registers : (l : Linked) (script : Script) (e : End) → IsTo l script false (Some (AllRegisters ∷ [])) e → IsEndOf l e
 end_of_registers l script e has =
     let things = things_of l script To AllRegisters in
-    elim (In-cases e (meant_of (to_column l) things) [] (In-from_Contains _ e has)) as (λ z. IsEndOf l e) [
+    elim (In-cases e (meant_of (to_column l script false) things) [] (In-from_Contains _ e has)) as (λ z. IsEndOf l e) [
       | inl here ↦
-          let of = from_flat (λ t. meant_by (to_column l t)) e things here in
+          let of = from_flat (λ t. meant_by (to_column l script false t)) e things here in
           let cell = register_thing l of.0 of.1 in
-          end_by l cell.0 (slice_get l.names.cells cell.0) e refl (subst (λ (t : Thing). In e (meant_by (to_column l t))) (sym cell.1) of.2)
+          end_by l cell.0 (slice_get l.names.cells cell.0) e refl (subst (λ (t : Thing). In e (meant_by (to_column l script false t))) (sym cell.1) of.2)
       | inr none ↦ absurd none
     ]
 
 -- a pair that is selected between all registers
-pub reg_pair : (l : Linked) (script : Script) (p : Pair) → IsFrom l script Any (Some (AllRegisters ∷ [])) p.start
-    → IsTo l script (Some (AllRegisters ∷ [])) p.end → HasPath l.design p.start p.end [] → IsRegPair l p
+pub reg_pair : (l : Linked) (script : Script) (p : Pair) → IsFrom l script false Any (Some (AllRegisters ∷ [])) p.start
+    → IsTo l script false (Some (AllRegisters ∷ [])) p.end → HasPath l.design p.start p.end [] → IsRegPair l p
 reg_pair l script p from to path =
     let s = start_of_registers l script p.start from in
     let e = end_of_registers l script p.end to in

@@ -16,6 +16,7 @@ use Rattle.script_types.specs.declared.scripts.Command.{Command}
 use Rattle.script_types.specs.declared.scripts.Script.{Script}
 use Rattle.sdcv_base.specs.Seqs.{each_at}
 use Rattle.run_options.specs.declared.judging.Judging.{Judging}
+use Rattle.run_options.specs.Judging.{judging_by}
 use Rattle.exception_expand.specs.declared.pairs.Pair.{Pair}
 use Rattle.selected_types.specs.declared.selections.PairLine.{PairLine}
 use Rattle.exception_expand.specs.Naming.{start_name, end_name}
@@ -87,15 +88,18 @@ stand_later script place c cs stand j =
 
 -- what one command selects, with its place
 command_those : (l : Linked) (script : Script) (k : ℕ) (c : Command) (all more : List Side) → slice_get script.commands k ≡ Some c
-    → AreThose (spec.SelectsBy l script false c.what) all more → AreThose (spec.IsSelected l script false) (map (chosen_by k) all) (map (chosen_by k) more)
+    → AreThose (spec.SelectsBy l script (judging_by false 0) c.what) all more
+    → AreThose (spec.IsSelected l script (judging_by false 0)) (map (chosen_by k) all) (map (chosen_by k) more)
 command_those l script k c all more here those =
-    those_map (chosen_by k) (spec.SelectsBy l script false c.what) (spec.IsSelected l script false) all more (λ s sel. (c, here, sel))
-    (λ s sel. subst (λ (d : Command). spec.SelectsBy l script false d.what s) (same_Some sel.0 c (sym sel.1 ∙ here)) sel.2) those
+    those_map (chosen_by k) (spec.SelectsBy l script (judging_by false 0) c.what) (spec.IsSelected l script (judging_by false 0)) all more
+    (λ s sel. (c, here, sel))
+    (λ s sel. subst (λ (d : Command). spec.SelectsBy l script (judging_by false 0) d.what s) (same_Some sel.0 c (sym sel.1 ∙ here)) sel.2) those
 
 -- what the lines select
 pub lines_select : (l : Linked) (script : Script) (place number : ℕ) (lines : List CheckLine) (pairs : List Pair) → IsUsable l
     → AreLines l lines pairs → StandFrom script place (commands_from number lines)
-    → AreThose (spec.IsSelected l script false) (each_at (spec.pairs_at l.design) place (commands_from number lines)) (chosen_from place lines pairs)
+    → AreThose (spec.IsSelected l script (judging_by false 0)) (each_at (spec.pairs_at l.design) place (commands_from number lines))
+    (chosen_from place lines pairs)
 lines_select l script place number [] [] usable are stand = All_seen
 lines_select l script place number [] (p ∷ pairs) usable are stand = absurd are
 lines_select l script place number (Setup x ∷ lines) [] usable are stand = absurd are
@@ -103,15 +107,15 @@ lines_select l script place number (Setup x ∷ lines) (p ∷ pairs) usable (is,
     let c : Command = record { line = number; what = exception_by (Setup x) } in
     let cs = commands_from (number + 1) lines in
     let one = line_selects l script x p usable is.readable.start is.readable.end is.start is.end_ is.regs in
-    those_append (spec.IsSelected l script false) (map (chosen_by place) (spec.all_sides l.design)) (chosen_by place (side false p) ∷ [])
+    those_append (spec.IsSelected l script (judging_by false 0)) (map (chosen_by place) (spec.all_sides l.design)) (chosen_by place (side false p) ∷ [])
     (each_at (spec.pairs_at l.design) (place + 1) cs) (chosen_from (place + 1) lines pairs)
     (command_those l script place c (spec.all_sides l.design) (side false p ∷ []) (stand_here script place c cs stand) one)
     (lines_select l script (place + 1) (number + 1) lines pairs usable are (stand_later script place c cs stand))
 lines_select l script place number (Hold x ∷ lines) pairs usable (is, are) stand =
     let c : Command = record { line = number; what = exception_by (Hold x) } in
     let cs = commands_from (number + 1) lines in
-    let none = those_none (spec.SelectsBy l script false c.what) (spec.all_sides l.design) (λ s selects. selects) in
-    those_append (spec.IsSelected l script false) (map (chosen_by place) (spec.all_sides l.design)) []
+    let none = those_none (spec.SelectsBy l script (judging_by false 0) c.what) (spec.all_sides l.design) (λ s selects. selects) in
+    those_append (spec.IsSelected l script (judging_by false 0)) (map (chosen_by place) (spec.all_sides l.design)) []
     (each_at (spec.pairs_at l.design) (place + 1) cs) (chosen_from (place + 1) lines pairs)
     (command_those l script place c (spec.all_sides l.design) [] (stand_here script place c cs stand) none)
     (lines_select l script (place + 1) (number + 1) lines pairs usable are (stand_later script place c cs stand))

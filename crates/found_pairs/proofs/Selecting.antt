@@ -1,5 +1,5 @@
 -- The script of the found pairs selects exactly the written ones.
-use Rattle.std.proofs.Common.{arith, ◌≡◌, ◌∙◌, ℕ, ◌+◌, ◌<◌, ◌≤◌, Bool, false, List, length, map, sym, ap, subst}
+use Rattle.std.proofs.Common.{arith, ◌≡◌, ◌∙◌, ℕ, ◌+◌, ◌<◌, ◌≤◌, Bool, List, length, map, sym, ap, subst}
 use Rattle.std.specs.Prelude.{slice_get, All}
 use Rattle.std.specs.List.{AllZip}
 use Rattle.net_model.specs.Judge.{Holds}
@@ -62,7 +62,7 @@ module _ (l : Linked) (o : DetectOptions) (f : Detected) (hold : Bool) (usable :
   are = lines_are l hold (lines_of f.tried) (written_of f.tried all) found
 
   -- exactly these are selected
-  those : AreThose (spec.IsSelected l script false) (spec.script_pairs l script) chosen
+  those : AreThose (spec.IsSelected l script (judging_of o)) (spec.script_pairs l script) chosen
   those = lines_select l script 0 1 lines (written_of f.tried all) usable are (stand hold f)
 
   -- they are few
@@ -71,7 +71,7 @@ module _ (l : Linked) (o : DetectOptions) (f : Detected) (hold : Bool) (usable :
 
   -- what else is selected by a selection of the text
   same_chosen : (s : Selected) (by : IsSelectionOf l script (judging_of o) s) → by.chosen ≡ chosen
-  same_chosen s by = those_same (spec.IsSelected l script false) (spec.script_pairs l script) by.chosen chosen by.those those
+  same_chosen s by = those_same (spec.IsSelected l script (judging_of o)) (spec.script_pairs l script) by.chosen chosen by.those those
 
   -- so the pairs are listed by their lines
   listed : (s : Selected) → IsSelectionOf l script (judging_of o) s → s.pairs ≡ pairs_listed 1 lines
@@ -84,7 +84,7 @@ module _ (l : Linked) (o : DetectOptions) (f : Detected) (hold : Bool) (usable :
   -- and so are the commands
   commands : (s : Selected) → IsSelectionOf l script (judging_of o) s → s.commands ≡ commands_listed 1 lines
   commands s by =
-      by.commands ∙ ap (λ (xs : List Chosen). each_at (spec.lines_at l script false xs) 0 script.commands) (same_chosen s by)
+      by.commands ∙ ap (λ (xs : List Chosen). each_at (spec.lines_at l script (judging_of o) xs) 0 script.commands) (same_chosen s by)
       ∙ lines_listed l script chosen 0 1 lines (written_of f.tried all) usable are
       (λ j x here. one_each l 0 j lines (written_of f.tried all) x are here)
 
@@ -94,7 +94,8 @@ module _ (l : Linked) (o : DetectOptions) (f : Detected) (hold : Bool) (usable :
   claimed tried s from by =
       let judging = judging_of o in
       let one : from.chosen ≡ is.pairs.chosen =
-      those_same (spec.IsSelected l registers_script false) (spec.script_pairs l registers_script) from.chosen is.pairs.chosen from.those is.pairs.those in
+      those_same (spec.IsSelected l registers_script (judging_of o)) (spec.script_pairs l registers_script) from.chosen is.pairs.chosen from.those
+      is.pairs.those in
       let claims : tried.claims ≡ map (tried_claim judging) all =
       registers_claims l o.hazard tried from ∙ ap (λ (xs : List Chosen). map (tried_claim judging) (pairs_of xs)) one in
       some_same s.claims (line_claims judging (lines_of f.tried) (written_of f.tried all))

@@ -126,20 +126,20 @@ the_command zero c here = same_Some registers_command c here
 the_command (suc n) c here = absurd (omega (arith, slice_get_within (registers_command ∷ []) (suc n) c here))
 
 -- which selects a pair of registers
-selected_pair : (l : Linked) (x : Chosen) → spec.IsSelected l registers_script false x → IsRegPair l x.side.pair
+selected_pair : (l : Linked) (x : Chosen) → spec.IsSelected l registers_script (judging_by false 0) x → IsRegPair l x.side.pair
 selected_pair l x sel =
     let same : registers_command ≡ sel.0 = the_command x.command sel.0 sel.1 in
-    let by : spec.SelectsBy l registers_script false registers_command.what x.side =
-    subst (λ (c : Command). spec.SelectsBy l registers_script false c.what x.side) (sym same) sel.2 in
+    let by : spec.SelectsBy l registers_script (judging_by false 0) registers_command.what x.side =
+    subst (λ (c : Command). spec.SelectsBy l registers_script (judging_by false 0) c.what x.side) (sym same) sel.2 in
     reg_pair l registers_script x.side.pair by.1.0.0 by.1.0.1 by.1.1
 
 -- and claims that of its late side
-selected_claim : (l : Linked) (judging : Judging) (x : Chosen) → spec.IsSelected l registers_script false x
+selected_claim : (l : Linked) (judging : Judging) (x : Chosen) → spec.IsSelected l registers_script (judging_by false 0) x
     → spec.claim_of l registers_script judging x ≡ Some (tried_claim judging x.side.pair)
 selected_claim l judging x sel =
     let same : registers_command ≡ sel.0 = the_command x.command sel.0 sel.1 in
-    let by : spec.SelectsBy l registers_script false registers_command.what x.side =
-    subst (λ (c : Command). spec.SelectsBy l registers_script false c.what x.side) (sym same) sel.2 in
+    let by : spec.SelectsBy l registers_script (judging_by false 0) registers_command.what x.side =
+    subst (λ (c : Command). spec.SelectsBy l registers_script (judging_by false 0) c.what x.side) (sym same) sel.2 in
     ap (spec.claim_at l registers_script judging x.side) sel.1 ∙ ap (λ (c : Command). spec.claim_by l registers_script judging x.side c.what) (sym same)
     ∙ ap (λ (early : Bool). Some (claim_with (Multi 2) Any judging [] (side early x.side.pair))) by.0
 
@@ -159,7 +159,7 @@ some_same {A} (x ∷ xs) (y ∷ ys) same =
 
 -- the claims of what is selected
 chosen_claims : (l : Linked) (judging : Judging) (chosen : List Chosen)
-    → ((k : ℕ) (x : Chosen) → slice_get chosen k ≡ Some x → spec.IsSelected l registers_script false x)
+    → ((k : ℕ) (x : Chosen) → slice_get chosen k ≡ Some x → spec.IsSelected l registers_script (judging_by false 0) x)
     → map (spec.claim_of l registers_script judging) chosen ≡ map Some (map (tried_claim judging) (pairs_of chosen))
 chosen_claims l judging [] each = refl
 chosen_claims l judging (x ∷ chosen) each =
@@ -172,7 +172,7 @@ pub registers_claims : (l : Linked) (hazard : Bool) (s : Selected) (is : IsSelec
 registers_claims l hazard s is =
     let judging = judging_by hazard 0 in
     some_same s.claims (map (tried_claim judging) (pairs_of is.chosen)) (is.claims ∙ chosen_claims l judging is.chosen
-    (λ k x here. holds_at (spec.IsSelected l registers_script false) (spec.script_pairs l registers_script) is.chosen k x is.those here))
+    (λ k x here. holds_at (spec.IsSelected l registers_script (judging_by false 0)) (spec.script_pairs l registers_script) is.chosen k x is.those here))
 
 -- the pair at a place is one of registers, with the names of its line
 tried_at : (l : Linked) (o : DetectOptions) (f : Detected) (is : AreDetected l o f) → AreInRange o → length is.selected.claims ≡ length is.pairs.chosen
@@ -189,7 +189,8 @@ tried_at l o f is range long k t p here there =
     ∙ ap (option_map (spec.line_of l registers_script)) at in
     let (claim, claim_at) = item_at is.selected.claims k (omega (arith, low, long)) in
     let tried = is.tried.each k (spec.line_of l registers_script x) claim t line_at claim_at here in
-    let regs = selected_pair l x (holds_at (spec.IsSelected l registers_script false) (spec.script_pairs l registers_script) chosen k x is.pairs.those at) in
+    let regs = selected_pair l x
+    (holds_at (spec.IsSelected l registers_script (judging_by false 0)) (spec.script_pairs l registers_script) chosen k x is.pairs.those at) in
     subst (IsTriedPair l t) same (record { start = tried.start; end_ = tried.end; most = omega (arith, tried.largest.most, range.most); regs = regs })
 
 -- each pair that was tried is one of registers

@@ -1,16 +1,21 @@
 -- The lines of found pairs, worked out by hand.
-use Rattle.std.proofs.Common.{◌≡◌, ℕ, Bool, true, false, List, [], ◌∷◌, ◌++◌, None, refl}
+use Rattle.std.proofs.Common.{◌≡◌, ℕ, Bool, true, false, List, [], ◌∷◌, ◌++◌, None, Some, refl}
 use Rattle.std.specs.Prelude.{codes}
 use Rattle.std.specs.Fmt.{digits}
 use Rattle.sdcv_base.specs.declared.kinds.Kind.TheVariants.{Multi}
 use Rattle.sdcv_base.specs.declared.kinds.Edge.TheVariants.{Any}
+use Rattle.mcp_detect.specs.declared.options.DetectOptions.{DetectOptions}
 use Rattle.mcp_detect.specs.declared.detections.Tried.{Tried}
+use Rattle.mcp_detect.specs.declared.detections.Detected.{Detected}
+use Rattle.selected_types.specs.declared.notices.Notices.{Notices}
+use Rattle.selected_types.specs.declared.notices.Skipped.{Skipped}
 use Rattle.selected_types.specs.declared.selections.Listing.TheVariants.{Claiming, Hold}
 use Rattle.selected_types.specs.declared.selections.PairLine.{PairLine}
 use Rattle.exception_expand.specs.Selections.{command_line}
 use Rattle.multicycle_text.specs.Lines.{CheckLine, lines_text}
 use Rattle.found_pairs.specs.Lines.{lines_of, all_lines}
 use Rattle.found_pairs.specs.Laws.{pairs_listed, commands_listed}
+use Rattle.found_pairs.specs.Tellings.{header_line, detected_lines}
 
 abbrev pair : List ℕ → List ℕ → ℕ → Tried
 pair start end k = record { start = start; end = end; k = k; next = None }
@@ -53,3 +58,20 @@ hold_between : commands_listed 1 (lines true)
     ≡ command_line 1 (Claiming (Multi 2) Any 1) [] ∷ command_line 2 Hold []
     ∷ command_line 3 (Claiming (Multi 2) Any 1) [] ∷ command_line 4 Hold [] ∷ []
 hold_between = refl
+
+abbrev passed_over : List Skipped → Notices
+passed_over skipped = record { skipped = Some skipped; unjudged = []; hold_commands = 0 }
+
+-- what is passed over stands between the header and the found pairs
+skipped_are_told : (o : DetectOptions) (found : Detected)
+    → detected_lines o 1 (passed_over (record { name = codes "set_dont_use"; count = 2 } ∷ [])) (record found { tried = pair (codes "a") (codes "b") 2 ∷ [] })
+    ≡ header_line o 1 ∷ (codes "skipped set_dont_use 2" ++ 10 ∷ []) ∷ (codes "found a -> b multi 2" ++ 10 ∷ [])
+    ∷ (codes "total tried 1 found 1 written 1" ++ 10 ∷ []) ∷ []
+unfolding digits
+skipped_are_told o found = refl
+
+-- where nothing is, nothing is told
+none_is_told : (o : DetectOptions) (found : Detected) → detected_lines o 1 (passed_over []) (record found { tried = [] })
+    ≡ header_line o 1 ∷ (codes "total tried 0 found 0 written 0" ++ 10 ∷ []) ∷ []
+unfolding digits
+none_is_told o found = refl

@@ -9,6 +9,7 @@ use Rattle.sdc_text.specs.Scripts.{script_of}
 use Rattle.selected_types.specs.declared.faults.ExpandFault.{ExpandFault}
 use Rattle.selected_types.specs.declared.faults.ExpandFault.TheVariants.{Memory}
 use Rattle.sdcv_base.specs.Seqs.{where_true}
+use Rattle.run_options.specs.declared.forms.ScriptForm.TheVariants.{Narrow}
 use Rattle.run_options.specs.declared.judging.Judging.{Judging}
 use Rattle.selected_types.specs.declared.selections.CommandLine.{CommandLine}
 use Rattle.selected_types.specs.declared.selections.Listing.TheVariants.{Claiming as ListsClaims, Hold as ListsHold}
@@ -59,7 +60,7 @@ judging_of o = judging_by o.hazard 0
 -- the text is read as its script, which is refused for want of memory alone, and selects exactly the written pairs; all that it
 -- claims holds in every run
 pub record SelectsFound (l : Linked) (o : DetectOptions) (f : Detected) (hold : Bool) : Type 0 where
-  pub script : script_of (found_bytes hold f) ≡ Ok (found_script hold f)
+  pub script : script_of Narrow (found_bytes hold f) ≡ Ok (found_script hold f)
   pub cause : (fault : ExpandFault) → IsExpandCause l (found_script hold f) (judging_of o) fault → fault ≡ Memory
   pub exactly : (tried selected : Selected) → IsSelectionOf l registers_script (judging_of o) tried
       → IsSelectionOf l (found_script hold f) (judging_of o) selected → AreWritten hold f tried selected

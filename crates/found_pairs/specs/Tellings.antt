@@ -4,6 +4,8 @@ use Rattle.std.specs.List.{flat_map}
 use Rattle.std.specs.Fmt.{decimal}
 use Rattle.sdcv_base.specs.Shown.{shown}
 use Rattle.sdcv_base.specs.Limits.{limit_text}
+use Rattle.selected_types.specs.declared.notices.Notices.{Notices}
+use Rattle.report_text.specs.Notices.{notice_lines}
 use Rattle.report_text.specs.Words.{mode_text}
 use Rattle.answer_lines.specs.Texts.{◌⁀◌, newline}
 use Rattle.found_pairs.specs.Lines.{is_written}
@@ -41,9 +43,10 @@ total_line tried =
     codes "total tried " ⁀ decimal (length tried) ⁀ codes " found " ⁀ decimal (count_by is_found tried) ⁀ codes " written "
     ⁀ decimal (count_by is_written tried) ⁀ newline
 
--- how the pairs were tried, each found pair, and how many there are
-abbrev pub detected_lines : DetectOptions → ℕ → Detected → List (List ℕ)
-detected_lines o reset_len found = header_line o reset_len ∷ (flat_map pair_lines found.tried ++ total_line found.tried ∷ [])
+-- how the pairs were tried, what is told of the constraints, each found pair, and how many there are
+abbrev pub detected_lines : DetectOptions → ℕ → Notices → Detected → List (List ℕ)
+detected_lines o reset_len n found =
+    header_line o reset_len ∷ (notice_lines n ++ (flat_map pair_lines found.tried ++ total_line found.tried ∷ []))
 
 -- why the pairs are not tried
 abbrev pub detect_line : DetectFault → Option (List ℕ)

@@ -47,7 +47,7 @@ claims_miss scene claims script e cause other =
     (λ yes. absurd cc, λ those. absurd (other (selection_only scene.linked script scene.judging those.selected e those.selection cause)))
 
 -- a text does what its script does
-pub text_decides : (scene : Scene) (claims : List Claim) (text : List ℕ) (script : Script) (same : Bool) → script_of text ≡ Ok script
+pub text_decides : (scene : Scene) (claims : List Claim) (text : List ℕ) (script : Script) (same : Bool) → script_of scene.form text ≡ Ok script
     → (IsTrue same ↔ SelectsThese scene claims script) → IsTrue same ↔ SelectsExactly scene claims text
 text_decides scene claims text script same read (to, from) = (
   λ yes. record { script = script; read = read; these = to yes },
@@ -57,7 +57,7 @@ text_decides scene claims text script same read (to, from) = (
 )
 
 -- a text that is refused has no script
-pub text_misses : (scene : Scene) (claims : List Claim) (text : List ℕ) (e : SdcFault) → script_of text ≡ Err e
+pub text_misses : (scene : Scene) (claims : List Claim) (text : List ℕ) (e : SdcFault) → script_of scene.form text ≡ Err e
     → IsTrue false ↔ SelectsExactly scene claims text
 text_misses scene claims text e refused = (
   λ yes. absurd cc,

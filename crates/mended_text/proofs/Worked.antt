@@ -13,12 +13,14 @@ use Rattle.verdict_types.specs.declared.outcomes.Proof.TheVariants.{Single}
 use Rattle.verdict_types.specs.declared.outcomes.Cause.TheVariants.{Depth as Stays}
 use Rattle.verdict_types.specs.declared.outcomes.Verdict.TheVariants.{Justified, Undecided}
 use Rattle.run_options.specs.declared.options.RunOptions.{RunOptions}
+use Rattle.selected_types.specs.declared.notices.Notices.{Notices}
 use Rattle.mend_groups.specs.declared.rows.Row.{Row}
 use Rattle.mend_groups.specs.declared.parts.Part.{Part}
 use Rattle.mend_lines.specs.declared.fates.HoldFate.TheVariants.{Stays as HoldStays, Follows, LeftOut}
 use Rattle.mended_text.specs.declared.faults.MendFault.TheVariants.{Unread}
+use Rattle.mended_text.specs.Scenes.{Findings}
 use Rattle.mended_text.specs.Claims.{mended_claims}
-use Rattle.mended_text.specs.Tellings.{header_text, part_text, fate_text, left_text, total_text, mend_line}
+use Rattle.mended_text.specs.Tellings.{header_text, part_text, fate_text, left_text, total_text, texts_from, mended_texts, mend_line}
 
 row : ℕ → ℕ → End → Bool → Bool → Row
 row place start end kept written =
@@ -57,6 +59,15 @@ options = record {
 header_of_a_plain_run : header_text options ≡ codes "sdcv 1 mend mode plain reset 1 depth 8 budget 20000 inv 1"
 unfolding digits options
 header_of_a_plain_run = refl
+
+told : Notices
+told = record { skipped = Some (record { name = codes "set_sense"; count = 1 } ∷ []); unjudged = []; hold_commands = 0 }
+
+-- what is passed over stands between the header and the exceptions
+skipped_is_told : (f : Findings) → mended_texts options told (record f { script = record { commands = [] } }) []
+    ≡ header_text options ∷ codes "skipped set_sense 1" ∷ codes "total 0 kept 0 left 0 unwritten 0" ∷ []
+unfolding digits told texts_from
+skipped_is_told f = refl
 
 whole_exception_stays : part_text whole ≡ codes " pairs 2 whole"
 unfolding digits whole row

@@ -47,7 +47,7 @@ pub record SelectsThese (scene : Scene) (claims : List Claim) (script : Script) 
 -- a text is such a script
 pub record SelectsExactly (scene : Scene) (claims : List Claim) (text : List ℕ) : Type 0 where
   pub script : Script
-  pub read : script_of text ≡ Ok script
+  pub read : script_of scene.form text ≡ Ok script
   pub these : SelectsThese scene claims script
 
 -- a text is mended: it selects exactly what is kept and can be written, and each of these claims holds in every run

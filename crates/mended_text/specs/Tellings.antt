@@ -11,6 +11,8 @@ use Rattle.selected_types.specs.declared.selections.PairLine.{PairLine}
 use Rattle.net_model.specs.declared.claims.Claim.{Claim}
 use Rattle.verdict_types.specs.declared.outcomes.Verdict.{Verdict}
 use Rattle.run_options.specs.declared.options.RunOptions.{RunOptions}
+use Rattle.selected_types.specs.declared.notices.Notices.{Notices}
+use Rattle.report_text.specs.Notices.{notice_texts}
 use Rattle.report_text.specs.Words.{◌⁀◌, mode_text, asked_text, claim_text, what_text, ends_text, found_text, warning_line}
 use Rattle.witness_replay.specs.StimulusTexts.{line_of}
 use Rattle.exception_expand.specs.Asking.{Asked, asked}
@@ -123,11 +125,12 @@ total_text parts =
     codes "total " ⁀ decimal (length (all_rows parts)) ⁀ codes " kept " ⁀ decimal (kept_count (all_rows parts)) ⁀ codes " left "
     ⁀ decimal (length (all_rows parts) - kept_count (all_rows parts)) ⁀ codes " unwritten " ⁀ decimal (unwritten_count parts)
 
-abbrev pub mended_texts : RunOptions → Findings → List Part → List (List ℕ)
-mended_texts o f parts = header_text o ∷ (texts_from f parts 0 f.selected.commands f.script.commands ++ total_text parts ∷ [])
+-- the options of the run, what is told of the script beside its exceptions, these, and how many pairs are kept
+abbrev pub mended_texts : RunOptions → Notices → Findings → List Part → List (List ℕ)
+mended_texts o n f parts = header_text o ∷ (notice_texts n ++ (texts_from f parts 0 f.selected.commands f.script.commands ++ total_text parts ∷ []))
 
-abbrev pub mended_lines : RunOptions → Findings → List Part → List (List ℕ)
-mended_lines o f parts = map line_of (mended_texts o f parts)
+abbrev pub mended_lines : RunOptions → Notices → Findings → List Part → List (List ℕ)
+mended_lines o n f parts = map line_of (mended_texts o n f parts)
 
 -- why a script is not mended
 abbrev pub mend_line : MendFault → Option (List ℕ)

@@ -1,8 +1,11 @@
 //! The lines of a run, in order.
 ghost use Rattle.std.specs.Prelude.{◌≡◌, [], ◌∷◌, ◌++◌, OnOk, string_bytes};
 ghost use Rattle.witness_replay.specs.StimulusTexts.{line_of};
+ghost use Rattle.report_text.specs.Notices.{notice_lines};
 ghost use Rattle.report_text.specs.Reports.{bytes_of_lines};
 
+use report_text::add_notices;
+use selected_types::Notices;
 use std::alloc::{AllocError, Global};
 use std::marker::Model;
 
@@ -38,6 +41,13 @@ impl MendLines {
         line.push(b'\n')?;
         self.lines.push(line)?;
         Ok(())
+    }
+
+    /// Adds the lines of what is told of a script beside its exceptions.
+    pub fn add_notices(&mut self, alloc: Global, notices: &Notices) -> Result<(), AllocError>
+        ensures { OnOk result (self.new ≡ self.old ++ notice_lines notices.now) }
+    {
+        add_notices(alloc, notices, &mut self.lines)
     }
 
     /// The lines, which are not copied.

@@ -91,7 +91,7 @@ pub(crate) fn selects_exactly(
     requires judging { CanJudge scene.now.judging }
     ensures { IfOk result (λ same. IsTrue same ↔ SelectsExactly (seen_scene scene.now) (claims_at claims.now rows.now) text.now) }
 {
-    match constraints(alloc, text) {
+    match constraints(alloc, text, scene.form) {
         Ok(script) => selects_these(alloc, &script, scene, claims, rows),
         Err(Refusal::Line(_)) => Ok(false),
         Err(Refusal::Memory) => Err(AllocError),

@@ -12,6 +12,7 @@ use crate::totals::total_text;
 use mend_groups::Part;
 use report_text::{asked_text, mode_text};
 use run_options::RunOptions;
+use selected_types::Notices;
 use std::alloc::{AllocError, Global};
 
 fn header_text(alloc: Global, options: &RunOptions) -> Result<String, AllocError>
@@ -28,19 +29,21 @@ fn header_text(alloc: Global, options: &RunOptions) -> Result<String, AllocError
     )
 }
 
-/// The lines, each with its newline: the options of the run, each exception with what becomes of it, its warnings and its pairs that are
-/// not written again, and how many pairs are kept.
+/// The lines, each with its newline: the options of the run, what is told of the script beside its exceptions, each exception with what
+/// becomes of it, its warnings and its pairs that are not written again, and how many pairs are kept.
 pub fn mended_lines(
     alloc: Global,
     options: &RunOptions,
+    notices: &Notices,
     findings: &Findings<'_>,
     parts: &[Part],
 ) -> Result<Vec<Vec<u8>>, AllocError>
     requires { HasRows findings.now.selected.now findings.now.verdicts.now }
-    ensures { IfOk result (λ lines. bytes_of_lines lines.items ≡ spec.mended_lines options.now (seen_findings findings.now) parts.now) }
+    ensures { IfOk result (λ lines. bytes_of_lines lines.items ≡ spec.mended_lines options.now notices.now (seen_findings findings.now) parts.now) }
 {
     let mut lines = MendLines::new(alloc);
     lines.add(header_text(alloc, options)?)?;
+    lines.add_notices(alloc, notices)?;
     add_exceptions(alloc, findings, parts, &mut lines)?;
     lines.add(total_text(alloc, parts)?)?;
     Ok(lines.into_vec())

@@ -5,7 +5,6 @@ use Rattle.netlist_types.specs.declared.sources.Module.{Module}
 use Rattle.cell_types.specs.declared.libraries.Library.{Library}
 use Rattle.linked_types.specs.declared.faults.LinkFault.{LinkFault}
 use Rattle.linked_types.specs.declared.faults.LinkFault.TheVariants as link
-use Rattle.linked_types.specs.declared.names.Linked.{Linked}
 use Rattle.linked_types.specs.declared.names.PortName.{PortName}
 use Rattle.linked_types.specs.declared.options.LinkOptions.{LinkOptions}
 use Rattle.link_defs.specs.Circuits.{input_bits}
@@ -13,12 +12,11 @@ use Rattle.link_defs.specs.Links.{ports_of}
 use Rattle.link_tops.specs.Tops.{IsTopCause}
 use Rattle.selected_types.specs.declared.faults.ExpandFault.TheVariants as expand
 use Rattle.run_options.specs.declared.judging.Judging.{Judging}
-use Rattle.selected_types.specs.declared.selections.Selected.{Selected}
 use Rattle.fault_lines.specs.Designs.{link_line, expand_line}
 use Rattle.design_stages.specs.declared.designs.Designed.{Designed}
 use Rattle.design_stages.specs.declared.designs.ReadTexts.{ReadTexts}
 use Rattle.run_options.specs.declared.resets.Reset.{Reset}
-use Rattle.design_stages.specs.Designs.{HasInputs, HasSettings, Links, Selects, LinksTo, Designs, options_of}
+use Rattle.design_stages.specs.Designs.{HasInputs, HasSettings, Links, Selects, LinksTo, Designs, designed_by, options_of}
 use Rattle.design_stages.specs.Stages.{Found, Staged, Then}
 use Rattle.one_design.specs.Answers.{IsOneAnswer}
 use Rattle.one_design.specs.Designs.{FindsOne}
@@ -109,8 +107,8 @@ links_one t reset =
     (links_once t.source t.library (options_of settings reset))))
 
 -- a design with these pairs is one
-made_one : (l : Linked) (s : Selected) → FindsOne (λ (found : Found Designed). found ≡ Ok (record { linked = l; selected = s }))
-made_one l s value found is also = also ∙ sym is
+made_one : (d : Designed) → FindsOne (λ (found : Found Designed). found ≡ Ok d)
+made_one d value found is also = also ∙ sym is
 
 -- and one design with its pairs
 pub designs_one : (t : ReadTexts) (reset : Reset) (judging : Judging) → FindsOne (Designs t reset judging)
@@ -119,4 +117,4 @@ designs_one t reset judging =
     then_one (LinksTo t reset) _ (links_one t reset)
     (λ linked. then_one (Staged (Selects linked t.script judging) expand_line) _
     (staged_one (Selects linked t.script judging) expand_line expand.Memory refl (one_selection linked t.script judging))
-    (λ selected. made_one linked selected))
+    (λ selected. made_one (designed_by t judging linked selected)))

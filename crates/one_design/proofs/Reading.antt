@@ -8,6 +8,7 @@ use Rattle.cell_types.specs.declared.faults.LibFault.TheVariants as fault
 use Rattle.cell_lib.specs.Texts.{library_of, Refuses, Reads}
 use Rattle.sdc_text.specs.Scripts.{script_of}
 use Rattle.fault_lines.specs.Sources.{verilog_line, liberty_line, sdc_line}
+use Rattle.run_options.specs.declared.forms.ScriptForm.{ScriptForm}
 use Rattle.run_options.specs.declared.judging.Judging.{Judging}
 use Rattle.run_options.specs.declared.resets.Reset.{Reset}
 use Rattle.design_stages.specs.Stages.{Staged}
@@ -51,15 +52,15 @@ pub cells_one : (text : List ℕ) → FindsOne (Cells text)
 cells_one text = staged_one (Reads text) liberty_line fault.Memory refl (library_once text)
 
 -- and its constraints
-pub constraints_one : (text : List ℕ) → FindsOne (Constraints text)
-constraints_one text = answer_one (script_of text) sdc_line
+pub constraints_one : (form : ScriptForm) (text : List ℕ) → FindsOne (Constraints form text)
+constraints_one form text = answer_one (script_of form text) sdc_line
 
 -- and the design of three texts with its pairs
-pub texts_one : (netlist cells constraints : List ℕ) (reset : Reset) (judging : Judging)
-    → FindsOne (DesignsOf netlist cells constraints reset judging)
+pub texts_one : (netlist cells constraints : List ℕ) (form : ScriptForm) (reset : Reset) (judging : Judging)
+    → FindsOne (DesignsOf netlist cells constraints form reset judging)
 unfolding DesignsOf
-texts_one netlist cells constraints reset judging =
+texts_one netlist cells constraints form reset judging =
     then_one (Netlist netlist) _ (netlist_one netlist)
     (λ source. then_one (Cells cells) _ (cells_one cells)
-    (λ library. then_one (Constraints constraints) _ (constraints_one constraints)
-    (λ script. designs_one (record { source = source; library = library; script = script }) reset judging)))
+    (λ library. then_one (Constraints form constraints) _ (constraints_one form constraints)
+    (λ script. designs_one (record { source = source; library = library; script = script; form = form }) reset judging)))

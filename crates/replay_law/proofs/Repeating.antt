@@ -108,7 +108,7 @@ verified : (files : TextNames) (o : Options) (p : Proving) (out : List ℕ) (jso
 unfolding Worked
 verified files o p out json assist reads more due well one worked =
     let job = Verify out json p assist in
-    let led = texts_led files (AfterPairs o job) (reads ++ more) due well worked in
+    let led = texts_led files o.form (AfterPairs o job) (reads ++ more) due well worked in
     let finds = Designs led.value o.reset o.judging in
     let here = has_found finds (IsDone o.judging o.reset.len job) led.rest due well led.goes in
     let one_design = designs_one led.value o.reset o.judging in

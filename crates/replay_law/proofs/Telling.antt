@@ -22,6 +22,7 @@ use Rattle.run_options.specs.declared.options.RunOptions.{RunOptions}
 use Rattle.report_text.specs.Rows.{HasRows}
 use Rattle.report_text.specs.Reports as text
 use Rattle.judgements.specs.Reports.{report_bytes}
+use Rattle.selected_types.specs.declared.notices.Notices.{Notices}
 use Rattle.selected_types.specs.declared.selections.Selected.{Selected}
 use Rattle.report_text.proofs.ReadBack.{stimulus_written, read_back}
 use Rattle.answer_lines.specs.Stimuli.{stimulus_line, replay_line}
@@ -79,12 +80,12 @@ record IsTold (d : Designed) (number offset : ℕ) (text : List ℕ) : Type 0 wh
   first : HasFirstBlock number text stimulus
 
 -- a block that is written in a report is the first of its number there
-first_in : (o : RunOptions) (selected : Selected) (vs : List Verdict) (place offset : ℕ) (s : Stimulus) (printed : List ℕ) → HasRows selected vs
-    → place + 1 < 2 ^ 64 → slice_get vs place ≡ Some (Refuted offset s) → printed ≡ report_bytes false o selected vs
+first_in : (o : RunOptions) (n : Notices) (selected : Selected) (vs : List Verdict) (place offset : ℕ) (s : Stimulus) (printed : List ℕ) → HasRows selected vs
+    → place + 1 < 2 ^ 64 → slice_get vs place ≡ Some (Refuted offset s) → printed ≡ report_bytes false o n selected vs
     → HasFirstBlock (suc place) printed s
-first_in o selected vs place offset s printed rows small at is =
+first_in o n selected vs place offset s printed rows small at is =
     let here : place + 1 ≡ suc place = omega arith in
-    let written : IsWritten (place + 1) (text.report_bytes o selected vs) s = stimulus_written o selected vs place offset s rows small at in
+    let written : IsWritten (place + 1) (text.report_bytes o n selected vs) s = stimulus_written o n selected vs place offset s rows small at in
     let found : IsWritten (place + 1) printed s = subst (λ (bytes : List ℕ). IsWritten (place + 1) bytes s) (sym is) written in
     subst (λ (number : ℕ). HasFirstBlock number printed s) here (written_first (place + 1) printed s found)
 
@@ -106,7 +107,7 @@ told texts o d due (suc place) offset refuted =
       claim_at = claim.1;
       stimulus = refuted.stimulus;
       least = reported.right.violated place offset claim.0 refuted.stimulus claim.1 refuted.verdict;
-      first = first_in refuted.options d.selected verdicts place offset refuted.stimulus due.printed rows small
+      first = first_in refuted.options d.notices d.selected verdicts place offset refuted.stimulus due.printed rows small
           refuted.verdict reported.printed;
     }
 

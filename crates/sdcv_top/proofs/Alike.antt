@@ -1,10 +1,9 @@
 -- The claims of a selection are judged with hazards exactly where the run says so, and runs are held in reset for as long as it says.
-use Rattle.std.proofs.Common.{◌≡◌, List, [], map, refl, sym, ap, subst}
+use Rattle.std.proofs.Common.{◌≡◌, List, sym, ap, subst}
 use Rattle.std.specs.Prelude.{Bool, Option, Some, None, Ok, All, slice_get}
 use Rattle.std.proofs.lemmas.Option.{same_Some}
 use Rattle.net_model.specs.declared.claims.Claim.{Claim}
 use Rattle.net_model.proofs.Members.{In, In-map, from_map}
-use Rattle.net_model.proofs.Settling.{All-at}
 use Rattle.linked_types.specs.declared.names.Linked.{Linked}
 use Rattle.script_types.specs.declared.scripts.Command.{Command}
 use Rattle.script_types.specs.declared.scripts.Script.{Script}
@@ -18,7 +17,7 @@ use Rattle.exception_expand.proofs.Ranging.{all_from_in}
 use Rattle.design_stages.specs.declared.designs.ReadTexts.{ReadTexts}
 use Rattle.run_options.specs.declared.resets.Reset.{Reset}
 use Rattle.design_stages.specs.declared.designs.Designed.{Designed}
-use Rattle.design_stages.specs.Designs.{Designs, LinksTo}
+use Rattle.design_stages.specs.Designs.{Designs, LinksTo, designed_by}
 use Rattle.design_stages.specs.Stages.{Then}
 
 -- judged with hazards, or without
@@ -49,7 +48,7 @@ pub designs_alike : (t : ReadTexts) (reset : Reset) (judging : Judging) (d : Des
     → AreAlike judging.hazard d.selected.claims
 unfolding Designs Then
 designs_alike t reset judging d (linked, _, (selected, is, same)) =
-    let ours : record { linked = linked; selected = selected } ≡ d = cc in
+    let ours : designed_by t judging linked selected ≡ d = cc in
     subst (λ (x : Designed). AreAlike judging.hazard x.selected.claims) ours (all_alike linked t.script judging selected is)
 
 -- their design is held in reset for as long as is said
@@ -57,5 +56,5 @@ pub designs_held : (t : ReadTexts) (reset : Reset) (judging : Judging) (d : Desi
     → d.linked.design.reset_len ≡ reset.len
 unfolding Designs LinksTo Then
 designs_held t reset judging d (linked, (inputs, has, (settings, set, links)), (selected, selects, same)) =
-    let ours : record { linked = linked; selected = selected } ≡ d = cc in
+    let ours : designed_by t judging linked selected ≡ d = cc in
     subst (λ (x : Designed). x.linked.design.reset_len ≡ reset.len) ours links.0.reset_len

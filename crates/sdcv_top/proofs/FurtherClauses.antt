@@ -1,10 +1,9 @@
 -- What is known of the clauses of an assisting text over the registers of a design.
-use Rattle.std.proofs.Common.{◌≡◌, ℕ, zero, suc, ◌+◌, ◌<◌, ◌≤◌, Bool, false, List, [], ◌∷◌, length, map, Option, None, Some, refl, ap, sym, subst, ◌∙◌, arith, inl, inr}
+use Rattle.std.proofs.Common.{◌≡◌, ℕ, suc, ◌+◌, ◌<◌, ◌≤◌, false, List, [], ◌∷◌, length, map, Option, None, Some, refl, subst, arith, inl, inr}
 use Rattle.std.specs.Prelude.{All, count_by, slice_index, ◌==◌}
-use Rattle.std.specs.List.{AllZip}
 use Rattle.std.specs.List.Sorted.{IsStrictlyIncreasing}
 use Rattle.std.proofs.lemmas.Bool.{cases_lt, ne_eqb}
-use Rattle.std.proofs.lemmas.List.Elements.{All-nil, All-cons, All-head, All-tail, All-weaker}
+use Rattle.std.proofs.lemmas.List.Elements.{All-nil, All-cons, All-head, All-tail}
 use Rattle.net_model.specs.declared.netlist.Design.{Design}
 use Rattle.net_model.specs.declared.invariants.StateLit.{StateLit}
 use Rattle.net_model.specs.declared.invariants.InvClause.{InvClause}

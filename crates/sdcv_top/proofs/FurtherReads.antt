@@ -1,5 +1,5 @@
 -- A text that was read, and that the stage after it refuses.
-use Rattle.std.proofs.Common.{◌≡◌, ℕ, List, [], ◌∷◌, Option, Result, Ok, Err, ap, subst, sym}
+use Rattle.std.proofs.Common.{◌≡◌, ℕ, List, Option, Result, Ok, Err, ap, subst, sym}
 use Rattle.sdcv_base.specs.Hosts.{Files}
 use Rattle.fault_lines.specs.declared.sources.Origin.{Origin}
 use Rattle.design_stages.specs.declared.refusals.Refusal.{Refusal}

@@ -8,6 +8,7 @@ pub mod Delivered
 pub mod Holding
 pub mod Repeats
 pub mod Replays
+pub mod Noticing
 pub mod Reading
 pub mod Staging
 pub mod Steps

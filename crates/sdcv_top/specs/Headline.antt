@@ -1,11 +1,12 @@
 -- What is told of the pairs of a selection, and what that is worth.
-use Rattle.std.specs.Prelude.{◌≡◌, ℕ, ◌≤◌, ◌<◌, nat_lt, Bool, List, [], ◌∷◌, Option, None, Some, if◌then◌else◌}
+use Rattle.std.specs.Prelude.{◌≡◌, ℕ, ◌≤◌, ◌<◌, nat_lt, ◌||◌, Bool, List, [], ◌∷◌, Option, None, Some, if◌then◌else◌}
 use Rattle.net_model.specs.declared.netlist.Design.{Design}
 use Rattle.net_model.specs.declared.claims.Claim.{Claim}
 use Rattle.net_model.specs.declared.invariants.InvClause.{InvClause}
 use Rattle.verdict_types.specs.declared.outcomes.Limits.{Limits}
 use Rattle.run_options.specs.declared.options.RunOptions.{RunOptions}
 use Rattle.report_text.specs.declared.tallies.Tally.{Tally}
+use Rattle.report_text.specs.Signoff.{leaves_open}
 use Rattle.report_text.specs.Words.{tally_of}
 use Rattle.judgements.specs.declared.judged.Judged.{Judged}
 use Rattle.judgements.specs.Judgements.{AreJudged}
@@ -20,9 +21,9 @@ use Rattle.sdcv_top.specs.Outcomes.{Outcome}
 abbrev pub limits_of : RunOptions → Limits
 limits_of o = record { depth = o.depth; budget = o.budget }
 
--- some pair is refuted; or none is, and some is undecided; or each is justified
-abbrev pub ending_by : Tally → Ending
-ending_by t = if nat_lt 0 t.refuted then ending.Refuted else (if nat_lt 0 t.undecided then ending.Undecided else ending.Done)
+-- some pair is refuted; or none is, and some is undecided or something is left open; or each is justified
+abbrev pub ending_by : Bool → Tally → Ending
+ending_by left_open t = if nat_lt 0 t.refuted then ending.Refuted else (if nat_lt 0 t.undecided || left_open then ending.Undecided else ending.Done)
 
 -- the ranges of the options
 pub record AreInRange (o : RunOptions) : Type 0 where
@@ -41,7 +42,7 @@ pub record IsReported (out : Option (List ℕ)) (json : Bool) (o : RunOptions) (
   pub judged : Judged
   pub right : AreJudged d.linked.design d.selected.claims extra o.inv_depth (limits_of o) judged
   pub certificate : IsSaved out d.linked.design d.selected.claims judged due.saved
-  pub ending : due.ending ≡ ending_by (tally_of judged.verdicts)
-  pub printed : due.printed ≡ report_bytes json o d.selected judged.verdicts
+  pub ending : due.ending ≡ ending_by (leaves_open o d.notices d.selected) (tally_of judged.verdicts)
+  pub printed : due.printed ≡ report_bytes json o d.notices d.selected judged.verdicts
   pub told : due.judged ≡ Some judged
   pub detected : due.detected ≡ None

@@ -3,6 +3,7 @@ use Rattle.std.specs.Prelude.{◌≡◌, ℕ, List, [], ◌∷◌, length, Optio
 use Rattle.std.specs.List.{concat}
 use Rattle.net_model.specs.declared.invariants.InvClause.{InvClause}
 use Rattle.run_options.specs.declared.options.RunOptions.{RunOptions}
+use Rattle.selected_types.specs.declared.notices.Notices.{Notices}
 use Rattle.judgements.specs.declared.judged.Judged.{Judged}
 use Rattle.judgements.specs.Judgements.{AreJudged}
 use Rattle.mended_text.specs.declared.faults.MendFault.{MendFault}
@@ -29,6 +30,7 @@ scene_of m = record {
   linked = m.designed.linked;
   inputs = m.settled.inputs;
   resets = m.reset.ports;
+  form = m.form;
   settings = m.settled.settings;
   judging = m.judging;
 }
@@ -50,10 +52,10 @@ Mends text scene f (Ok mended) = IsMended text scene f mended
 Mends text scene f (Err fault) = IsMendCause text scene f fault
 
 -- the mended text is saved, and it is told what became of each exception; the run ends well whatever the verdicts
-pub record IsMendedOut (out : List ℕ) (o : RunOptions) (f : Findings) (j : Judged) (m : Mended) (due : Outcome) : Type 0 where
+pub record IsMendedOut (out : List ℕ) (o : RunOptions) (n : Notices) (f : Findings) (j : Judged) (m : Mended) (due : Outcome) : Type 0 where
   pub saved : due.saved ≡ (out, m.bytes.items) ∷ []
   pub ending : due.ending ≡ ending.Done
-  pub printed : due.printed ≡ concat (mended_lines o f m.parts)
+  pub printed : due.printed ≡ concat (mended_lines o n f m.parts)
   pub judged : due.judged ≡ Some j
   pub detected : due.detected ≡ None
 
@@ -62,7 +64,7 @@ unfoldable pub MendedBy : List ℕ → RunOptions → List InvClause → Mendabl
 MendedBy out o extra m = do
   judged ← After (Judges o extra m.designed)
   mended ← After (Staged (Mends m.text (scene_of m) (findings_of m o judged)) mend_line)
-  Last (IsMendedOut out o (findings_of m o judged) judged mended)
+  Last (IsMendedOut out o m.designed.notices (findings_of m o judged) judged mended)
 
 -- the clauses of an assisting text are tried too
 unfoldable pub MendedAssisted : List ℕ → RunOptions → Mendable → Due

@@ -4,6 +4,7 @@ use Rattle.net_model.specs.declared.invariants.InvClause.{InvClause}
 use Rattle.netlist_types.specs.declared.sources.Source.{Source}
 use Rattle.cell_types.specs.declared.libraries.Library.{Library}
 use Rattle.cell_types.specs.Builtin.{builtin_cells}
+use Rattle.run_options.specs.declared.forms.ScriptForm.{ScriptForm}
 use Rattle.script_types.specs.declared.scripts.Script.{Script}
 use Rattle.linked_types.specs.declared.names.Names.{Names}
 use Rattle.assist_types.specs.declared.clauses.Assist.{Assist}
@@ -32,8 +33,8 @@ Netlist = Unless origin.Verilog texts.Netlist
 abbrev pub Cells : Got → Found Library → Type 0
 Cells = Unless origin.Liberty texts.Cells
 
-abbrev pub Constraints : Got → Found Script → Type 0
-Constraints = Unless origin.Sdc texts.Constraints
+abbrev pub Constraints : ScriptForm → Got → Found Script → Type 0
+Constraints form = Unless origin.Sdc (texts.Constraints form)
 
 -- the text itself
 abbrev pub Itself : List ℕ → Found (List ℕ) → Type 0
@@ -73,10 +74,10 @@ AfterCellsIf false next = AfterText Cells next
 unfoldable pub AfterCells : List ℕ → (Library → Due) → Due
 AfterCells name = AfterCellsIf (is_builtin name)
 
--- the netlist, its cells and its constraints are read, in this order
-unfoldable pub AfterTexts : TextNames → (ReadTexts → Due) → Due
-AfterTexts names next = do
+-- the netlist, its cells and its constraints are read, in this order, and these in a form
+unfoldable pub AfterTexts : TextNames → ScriptForm → (ReadTexts → Due) → Due
+AfterTexts names form next = do
   source ← AfterText Netlist
   library ← AfterCells names.cells
-  script ← AfterText Constraints
-  next (record { source = source; library = library; script = script })
+  script ← AfterText (Constraints form)
+  next (record { source = source; library = library; script = script; form = form })

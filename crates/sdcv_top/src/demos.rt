@@ -8,7 +8,7 @@ use crate::verifying::{Verifying, verified};
 use cell_types::builtin;
 use design_stages::{ReadTexts, Refusal, constraints, designed, netlist};
 use judgements::Progress;
-use run_options::{Judging, Reset, RunOptions};
+use run_options::{Judging, Reset, RunOptions, ScriptForm};
 use sdcv_base::{Name, Seq, Setting};
 use sdcv_gen::generate;
 use std::alloc::{AllocError, Global};
@@ -47,12 +47,13 @@ pub fn demonstrated<'a, P: Progress>(
 {
     let texts = generate(alloc, seed, size)?;
     let source = netlist(alloc, &texts.verilog)?;
-    let script = constraints(alloc, &texts.sdc)?;
+    let script = constraints(alloc, &texts.sdc, &ScriptForm::Narrow)?;
     let library = builtin(alloc)?;
     let texts = ReadTexts {
         source,
         library,
         script,
+        form: ScriptForm::Narrow,
     };
     let reset = demo_reset(alloc)?;
     let designed = designed(alloc, &texts, reset, JUDGING)?;

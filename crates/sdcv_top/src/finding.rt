@@ -14,7 +14,7 @@ ghost use Rattle.sdcv_top.specs.Plans.{StopCounts, Plans, outcome_of};
 
 use crate::plans::{Plan, SavedFile, Stop};
 use crate::readers::texts;
-use design_stages::{Refusal, linked};
+use design_stages::{Refusal, linked, skipped_alone};
 use found_pairs::{detect_line, detected_lines, found_is_selected, found_text};
 use judgements::Progress;
 use linked_types::Linked;
@@ -22,7 +22,16 @@ use mcp_detect::{DetectOptions, Detected, detect};
 use run_ends::Ending;
 use sdcv_base::Host;
 use sdcv_words::{Finding, Options, Texts};
+use selected_types::Notices;
 use std::alloc::{AllocError, Global};
+
+/// How pairs are tried, for how many cycles reset is held, and what is told of the constraints.
+#[derive(Drop)]
+pub struct Manner {
+    pub options: DetectOptions,
+    pub reset_len: usize,
+    pub notices: Notices,
+}
 
 /// The texts are read, the netlist is linked, and what is found of its pairs is to be saved and told.
 pub fn found_out<'a, H: Host, P: Progress>(
@@ -43,7 +52,6 @@ pub fn found_out<'a, H: Host, P: Progress>(
     ensures printed { H.printed host.new ≡ H.printed host.old }
     ensures saved { H.saved host.new ≡ H.saved host.old }
 {
-    let texts = texts(alloc, host, files)?;
     let trying = DetectOptions {
         hazard: options.judging.hazard,
         depth: finding.proving.depth,
@@ -51,11 +59,18 @@ pub fn found_out<'a, H: Host, P: Progress>(
         inv_depth: finding.proving.inv_depth,
         bound: finding.bound,
     };
-    let Options { reset, .. } = options;
+    let Options { form, reset, .. } = options;
+    let texts = texts(alloc, host, files, form)?;
     let reset_len = reset.len;
     let linked = linked(alloc, &texts, reset)?;
     let detected = detected(alloc, &linked, &trying, progress)?;
-    let plan = told(alloc, &linked, &trying, reset_len, finding, detected)?;
+    let notices = skipped_alone(alloc, &texts)?;
+    let manner = Manner {
+        options: trying,
+        reset_len,
+        notices,
+    };
+    let plan = told(alloc, &linked, &manner, finding, detected)?;
     Ok(plan)
 }
 
@@ -80,19 +95,24 @@ fn detected<P: Progress>(
 fn told<'a>(
     alloc: Global,
     linked: &Linked,
-    options: &DetectOptions,
-    reset_len: usize,
+    manner: &Manner,
     finding: Finding<'a>,
     detected: Detected,
 ) -> Result<Plan<'a>, AllocError>
     requires linked { IsUsable linked.now }
-    requires range { AreInRange options.now }
-    requires found { AreDetected linked.now options.now detected }
-    ensures { IfOk result (λ plan. IsFoundOut finding.entry.out.now finding.entry.hold options.now reset_len linked.now detected (outcome_of plan)) }
+    requires range { AreInRange manner.now.options }
+    requires found { AreDetected linked.now manner.now.options detected }
+    ensures { IfOk result (λ plan. IsFoundOut finding.entry.out.now finding.entry.hold manner.now.options manner.now.reset_len manner.now.notices
+        linked.now detected (outcome_of plan)) }
 {
+    let Manner {
+        options,
+        reset_len,
+        notices,
+    } = manner;
     found_is_selected(linked, options, &detected, finding.hold);
     let bytes = found_text(alloc, &detected, finding.hold)?;
-    let lines = detected_lines(alloc, options, reset_len, &detected)?;
+    let lines = detected_lines(alloc, options, *reset_len, notices, &detected)?;
     Ok(Plan {
         ending: Ending::Done,
         saved: Some(SavedFile {

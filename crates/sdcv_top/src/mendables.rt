@@ -11,18 +11,19 @@ ghost use Rattle.sdcv_top.specs.Mendables.{IsMendable};
 use cell_types::Library;
 use design_stages::{Designed, ReadTexts, Refusal, Settled, constraints, designed, settled};
 use netlist_types::Source;
-use run_options::{Judging, Reset};
+use run_options::{Judging, Reset, ScriptForm};
 use script_types::Script;
 use sdcv_base::{Seq, Setting};
 use sdcv_words::Options;
 use std::alloc::{AllocError, Global};
 
-/// A text of constraints and the script that it is, how claims are judged and how runs begin, what the script sets, and the pairs
-/// that it selects.
+/// A text of constraints and the script that it is in a form, how claims are judged and how runs begin, what the script sets, and the
+/// pairs that it selects.
 #[derive(Drop)]
 pub struct Mendable {
     pub text: Seq<u8>,
     pub script: Script,
+    pub form: ScriptForm,
     pub judging: Judging,
     pub reset: Reset,
     pub settled: Settled,
@@ -44,20 +45,26 @@ pub fn mendable_of(
     ensures judged { IfOk result (λ m. CanBeJudged m.designed) }
     ensures judging { IfOk result (λ m. CanJudge m.judging) }
 {
-    let script = constraints(alloc, &text)?;
+    let Options {
+        judging,
+        form,
+        reset,
+    } = options;
+    let script = constraints(alloc, &text, &form)?;
     let texts = ReadTexts {
         source,
         library,
         script,
+        form,
     };
-    let Options { judging, reset } = options;
     let settled = settled(alloc, &texts, &reset.ports)?;
     let held = copied(alloc, &reset)?;
     let designed = designed(alloc, &texts, held, judging)?;
-    let ReadTexts { script, .. } = texts;
+    let ReadTexts { script, form, .. } = texts;
     Ok(Mendable {
         text: Seq::from_vec(text),
         script,
+        form,
         judging,
         reset,
         settled,

@@ -56,7 +56,13 @@ pub fn mended<'a, P: Progress>(
         depth: options.depth,
     };
     let mended = mended_by(alloc, mendable, &findings)?;
-    let lines = mended_lines(alloc, &options, &findings, mended.parts.as_slice())?;
+    let lines = mended_lines(
+        alloc,
+        &options,
+        &mendable.designed.notices,
+        &findings,
+        mended.parts.as_slice(),
+    )?;
     let Mended { bytes, .. } = mended;
     Ok(Plan {
         ending: Ending::Done,
@@ -79,6 +85,7 @@ fn mended_by(alloc: Global, mendable: &Mendable, findings: &Findings<'_>) -> Res
         linked: &mendable.designed.linked,
         inputs: &mendable.settled.inputs,
         resets: &mendable.reset.ports,
+        form: &mendable.form,
         settings: &mendable.settled.settings,
         judging: mendable.judging,
     };

@@ -17,6 +17,7 @@ use design_stages::{
 };
 use fault_lines::{Origin, too_long_line};
 use netlist_types::Source;
+use run_options::ScriptForm;
 use script_types::Script;
 use sdcv_base::Host;
 use sdcv_words::Texts;
@@ -87,9 +88,14 @@ fn library<H: Host>(alloc: Global, host: &mut H, name: &str) -> Result<Library, 
     Ok(library)
 }
 
-/// Reads the constraints.
-pub fn constraints<H: Host>(alloc: Global, host: &mut H, name: &str) -> Result<Script, Stop>
-    ensures found { ReadFinds Constraints (text_of name.now) (H.files host.old) (H.asked host.old) (H.asked host.new) result }
+/// Reads the constraints, in this form.
+pub fn constraints<H: Host>(
+    alloc: Global,
+    host: &mut H,
+    name: &str,
+    form: &ScriptForm,
+) -> Result<Script, Stop>
+    ensures found { ReadFinds (Constraints form.now) (text_of name.now) (H.files host.old) (H.asked host.old) (H.asked host.new) result }
     ensures multipliers { IfOk result HasMultipliers }
     ensures count { StopCounts (H.faults host.old) (H.faults host.new) result }
     ensures files { H.files host.new ≡ H.files host.old }
@@ -97,13 +103,18 @@ pub fn constraints<H: Host>(alloc: Global, host: &mut H, name: &str) -> Result<S
     ensures saved { H.saved host.new ≡ H.saved host.old }
 {
     let text = text(alloc, host, name, LONGEST, Origin::Sdc)?;
-    let script = constraints_of(alloc, &text)?;
+    let script = constraints_of(alloc, &text, form)?;
     Ok(script)
 }
 
-/// Reads the netlist, its cells and its constraints, in this order.
-pub fn texts<'a, H: Host>(alloc: Global, host: &mut H, names: Texts<'a>) -> Result<ReadTexts, Stop>
-    ensures found { TextsFind (seen_texts names.entry) (H.files host.old) (H.asked host.old) (H.asked host.new) result }
+/// Reads the netlist, its cells and its constraints, in this order, and these in this form.
+pub fn texts<'a, H: Host>(
+    alloc: Global,
+    host: &mut H,
+    names: Texts<'a>,
+    form: ScriptForm,
+) -> Result<ReadTexts, Stop>
+    ensures found { TextsFind (seen_texts names.entry) form (H.files host.old) (H.asked host.old) (H.asked host.new) result }
     ensures lawful { IfOk result AreLawful }
     ensures count { StopCounts (H.faults host.old) (H.faults host.new) result }
     ensures files { H.files host.new ≡ H.files host.old }
@@ -112,10 +123,11 @@ pub fn texts<'a, H: Host>(alloc: Global, host: &mut H, names: Texts<'a>) -> Resu
 {
     let source = netlist(alloc, host, names.netlist)?;
     let library = cells(alloc, host, names.cells)?;
-    let script = constraints(alloc, host, names.constraints)?;
+    let script = constraints(alloc, host, names.constraints, &form)?;
     Ok(ReadTexts {
         source,
         library,
         script,
+        form,
     })
 }

@@ -81,8 +81,12 @@ fn worked<'a, H: Host, P: Progress>(
     ensures printed { H.printed host.new ≡ H.printed host.old }
     ensures saved { H.saved host.new ≡ H.saved host.old }
 {
-    let texts = texts(alloc, host, files)?;
-    let Options { judging, reset } = options;
+    let Options {
+        judging,
+        form,
+        reset,
+    } = options;
+    let texts = texts(alloc, host, files, form)?;
     let designed = designed(alloc, &texts, reset, judging)?;
     let done = done(alloc, host, &designed, judging, job, progress)?;
     Ok(done)

@@ -13,7 +13,7 @@ use crate::plans::{Plan, SavedFile};
 use design_stages::Designed;
 use judgements::{InvSearch, Judged, Progress, certificate, judge, report};
 use net_model::InvClause;
-use report_text::{Tally, tally_of};
+use report_text::{Tally, leaves_open, tally_of};
 use run_ends::Ending;
 use run_options::RunOptions;
 use std::alloc::{AllocError, Global};
@@ -51,15 +51,17 @@ pub fn verified<'a, P: Progress>(
     };
     let judged = judged(alloc, designed, &options, extra, progress)?;
     let saved = certified(alloc, designed, &limits, &judged, out)?;
+    let left_open = leaves_open(&options, &designed.notices, &designed.selected);
     let lines = report(
         alloc,
         &options,
+        &designed.notices,
         &designed.selected,
         judged.verdicts.as_slice(),
         json,
     )?;
     Ok(Plan {
-        ending: ending_by(tally_of(judged.verdicts.as_slice())),
+        ending: ending_by(left_open, tally_of(judged.verdicts.as_slice())),
         saved,
         lines,
         judged: Some(judged),
@@ -122,13 +124,13 @@ fn certified<'a>(
     Ok(Some(SavedFile { name, bytes }))
 }
 
-// How a run ends that reports so many verdicts of each kind.
-fn ending_by(tally: Tally) -> Ending
-    ensures { result ≡ ending_by tally }
+// How a run ends that reports so many verdicts of each kind, and leaves something else open or not.
+fn ending_by(left_open: bool, tally: Tally) -> Ending
+    ensures { result ≡ ending_by left_open tally }
 {
     if tally.refuted > 0 {
         Ending::Refuted
-    } else if tally.undecided > 0 {
+    } else if tally.undecided > 0 || left_open {
         Ending::Undecided
     } else {
         Ending::Done

@@ -14,7 +14,7 @@ use Rattle.run_options.specs.Judging.{CanJudge}
 use Rattle.sdcv_words.specs.Commands.{Aiger, Command, Demo, Detect, Finding, Job, Check, Mend, Mending, Over, Replay, Text, Verify}
 use Rattle.sdcv_words.specs.Givens.{stands}
 use Rattle.sdcv_words.specs.Numbers.{are_digits, number_in, number_or}
-use Rattle.sdcv_words.specs.Options.{default_cycles, judging_of, lag_of, options_of, proving_of, resets_of}
+use Rattle.sdcv_words.specs.Options.{default_cycles, form_of, judging_of, lag_of, options_of, proving_of, resets_of}
 use Rattle.sdcv_words.specs.Jobs.{aiger_of, check_of, demo_of, detect_of, finding_of, job_of, judged_if, late_only, mend_of, mending_of, over_of, replay_of, texts_of, verify_of, watching_of, without_hazards}
 use Rattle.sdcv_words.specs.Places.{by_place}
 use Rattle.sdcv_words.specs.Words.{command, or_else}
@@ -62,7 +62,7 @@ lag_range given lag is = (number_or_range 0 0 8 lag (in_table given (codes "lag"
 
 -- so claims can be judged
 can_judge : (given : List Given) (lag : ℕ) → lag ≤ 8 → CanJudge (judging_of given lag)
-can_judge given lag few = record { lag = few; strict = refl }
+can_judge given lag few = record { lag = few }
 
 options_range : (given : List Given) (options : Options) → options_of given ≡ Some options → AreOptionsInRange options
 options_range given options is =
@@ -70,9 +70,10 @@ options_range given options is =
     let cycles_of = number_or (default_cycles list) 0 64 (in_table given (codes "reset-cycles")) in
     let (cycles, held, rest) = bind_gave cycles_of _ options is in
     let (lag, late, with_lag) = bind_gave (lag_of given) _ options rest in
-    let (resets, of, made) = bind_gave (resets_of list) _ options with_lag in
+    let (resets, of, with_resets) = bind_gave (resets_of list) _ options with_lag in
+    let (form, read, made) = bind_gave (form_of given) _ options with_resets in
     let range = number_or_range (default_cycles list) 0 64 cycles (in_table given (codes "reset-cycles")) (omega arith) (few_cycles list) held in
-    let opened : Options = record { judging = judging_of given lag; reset = record { ports = resets; len = cycles } } in
+    let opened : Options = record { judging = judging_of given lag; form = form; reset = record { ports = resets; len = cycles } } in
     let same : opened ≡ options = cc in
     subst AreOptionsInRange same (record { judging = can_judge given lag (lag_range given lag late); reset_len = range.1 })
 
@@ -147,7 +148,7 @@ detect_range given c is =
     let (options, set, made) = bind_gave (options_of given) _ c with_finding in
     let same : Detect texts (late_only options) finding ≡ c = cc in
     let range = options_range given options set in
-    let judging : CanJudge (late_only options).judging = record { lag = range.judging.lag; strict = range.judging.strict } in
+    let judging : CanJudge (late_only options).judging = record { lag = range.judging.lag } in
     subst IsInRange same (record { judging = judging; reset_len = range.reset_len }, finding_range given finding found)
 
 mending_range : (given : List Given) (mending : Mending) → mending_of given ≡ Some mending → IsProvingInRange mending.proving
@@ -181,8 +182,7 @@ aiger_range given c is =
     let (options, set, made) = bind_gave (options_of given) _ c with_job in
     let same : Over texts (without_hazards options) job ≡ c = cc in
     let range = options_range given options set in
-    let judging : CanJudge (without_hazards options).judging =
-    record { lag = range.judging.lag; strict = range.judging.strict } in
+    let judging : CanJudge (without_hazards options).judging = record { lag = range.judging.lag } in
     subst IsInRange same (record { judging = judging; reset_len = range.reset_len }, watching_range given job done)
 
 demo_range : (given : List Given) (c : Command) → demo_of given ≡ Some c → IsInRange c

@@ -56,7 +56,7 @@ finding_of given =
 
 -- pairs are found by their late side; the word asks for hold lines there
 abbrev pub late_only : Options → Options
-late_only o = record { judging = record o.judging { hold = false }; reset = o.reset }
+late_only o = record o { judging = record o.judging { hold = false } }
 
 abbrev pub detect_of : List Given → Option Command
 detect_of given =
@@ -86,7 +86,7 @@ watching_of given =
     Some (Aiger out pair (stands given (codes "symbols")))
 
 abbrev pub without_hazards : Options → Options
-without_hazards o = record { judging = record o.judging { hazard = false }; reset = o.reset }
+without_hazards o = record o { judging = record o.judging { hazard = false } }
 
 -- a claim is watched without hazards
 abbrev pub aiger_of : List Given → Option Command

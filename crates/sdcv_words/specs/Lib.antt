@@ -6,4 +6,5 @@ pub mod Options
 pub mod Places
 pub mod Ranges
 pub mod Settings
+pub mod Skips
 pub mod Words

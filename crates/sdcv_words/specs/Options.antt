@@ -1,5 +1,5 @@
 -- The options of a run over texts.
-use Rattle.std.specs.Prelude.{ℕ, false, List, [], codes, Option, None, Some}
+use Rattle.std.specs.Prelude.{ℕ, Bool, true, false, List, [], codes, Option, None, Some}
 use Rattle.texts.specs.Lookups.{in_table}
 use Rattle.texts.specs.Reads.{◌>>=◌}
 use Rattle.sdcv_base.specs.declared.settings.Setting.{Setting}
@@ -7,9 +7,12 @@ use Rattle.clap_words.specs.Readings.{Given}
 use Rattle.sdcv_words.specs.declared.commands.Options.{Options}
 use Rattle.run_options.specs.declared.proving.Proving.{Proving}
 use Rattle.run_options.specs.declared.judging.Judging.{Judging}
+use Rattle.run_options.specs.declared.forms.ScriptForm.{ScriptForm}
+use Rattle.run_options.specs.declared.forms.ScriptForm.TheVariants.{Narrow, Wide}
 use Rattle.sdcv_words.specs.Givens.{stands}
 use Rattle.sdcv_words.specs.Numbers.{number_or}
 use Rattle.sdcv_words.specs.Settings.{settings_of}
+use Rattle.sdcv_words.specs.Skips.{skips_of}
 
 abbrev pub resets_of : Option (List ℕ) → Option (List Setting)
 resets_of None = Some []
@@ -26,7 +29,21 @@ lag_of given = number_or 0 0 8 (in_table given (codes "lag"))
 
 -- how claims are judged, by the flags that stand
 abbrev pub judging_of : List Given → ℕ → Judging
-judging_of given lag = record { hazard = stands given (codes "hazard"); lag = lag; hold = stands given (codes "hold"); strict = false }
+judging_of given lag = record {
+  hazard = stands given (codes "hazard");
+  lag = lag;
+  hold = stands given (codes "hold");
+  strict = stands given (codes "strict");
+}
+
+-- how the constraints are read, by the list of names that are passed over, and whether they are judged as for a sign-off
+abbrev pub form_by : Option (List ℕ) → Bool → Option ScriptForm
+form_by None false = Some Narrow
+form_by None true = Some (Wide [])
+form_by (Some list) strict = skips_of list >>= λ names. Some (Wide names)
+
+abbrev pub form_of : List Given → Option ScriptForm
+form_of given = form_by (in_table given (codes "skip")) (stands given (codes "strict"))
 
 abbrev pub options_of : List Given → Option Options
 options_of given =
@@ -34,7 +51,8 @@ options_of given =
     number_or (default_cycles list) 0 64 (in_table given (codes "reset-cycles")) >>= λ cycles.
     lag_of given >>= λ lag.
     resets_of list >>= λ resets.
-    Some (record { judging = judging_of given lag; reset = record { ports = resets; len = cycles } })
+    form_of given >>= λ form.
+    Some (record { judging = judging_of given lag; form = form; reset = record { ports = resets; len = cycles } })
 
 abbrev pub proving_of : List Given → Option Proving
 proving_of given =

@@ -1,6 +1,6 @@
 //! The commands, as the program carries them out.
 
-use run_options::{Judging, Proving, Reset};
+use run_options::{Judging, Proving, Reset, ScriptForm};
 
 /// The names of the files that a command reads.
 #[derive(Clone, Copy)]
@@ -11,10 +11,11 @@ pub struct Texts<'a> {
     pub constraints: &'a str,
 }
 
-/// How claims are judged, and how runs begin. The names of no two reset ports are equal, and none is empty.
+/// How claims are judged, how the constraints are read, and how runs begin. The names of no two reset ports are equal, and none is empty.
 #[derive(Drop)]
 pub struct Options {
     pub judging: Judging,
+    pub form: ScriptForm,
     pub reset: Reset,
 }
 

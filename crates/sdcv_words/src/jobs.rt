@@ -103,12 +103,20 @@ fn finding_of<'a>(given: &[Given<'a>]) -> Option<Finding<'a>>
 fn late_only(options: Options) -> Options
     ensures { result ≡ late_only options }
 {
-    let Options { judging, reset } = options;
+    let Options {
+        judging,
+        form,
+        reset,
+    } = options;
     let judging = Judging {
         hold: false,
         ..judging
     };
-    Options { judging, reset }
+    Options {
+        judging,
+        form,
+        reset,
+    }
 }
 
 // Pairs are found by their late side.
@@ -174,12 +182,20 @@ fn watching_of<'a>(given: &[Given<'a>]) -> Option<Job<'a>>
 fn without_hazards(options: Options) -> Options
     ensures { result ≡ without_hazards options }
 {
-    let Options { judging, reset } = options;
+    let Options {
+        judging,
+        form,
+        reset,
+    } = options;
     let judging = Judging {
         hazard: false,
         ..judging
     };
-    Options { judging, reset }
+    Options {
+        judging,
+        form,
+        reset,
+    }
 }
 
 // A claim is watched without hazards.

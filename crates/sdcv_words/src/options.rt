@@ -2,14 +2,15 @@
 ghost use Rattle.std.specs.Prelude.{◌≡◌, IfOk, Some, map};
 ghost use Rattle.std.specs.Option.{option_map};
 ghost use Rattle.clap_words.specs.Readings.{seen_given};
-ghost use Rattle.sdcv_words.specs.Options.{lag_of, options_of, proving_of, resets_of};
+ghost use Rattle.sdcv_words.specs.Options.{form_of, judging_of, lag_of, options_of, proving_of, resets_of};
 
 use crate::commands::Options;
 use crate::givens::{stands, text_of};
 use crate::numbers::number_or;
 use crate::settings::settings_of;
+use crate::skips::skips_of;
 use clap_words::Given;
-use run_options::{Judging, Proving, Reset};
+use run_options::{Judging, Proving, Reset, ScriptForm};
 use sdcv_base::{Seq, Setting};
 use std::alloc::{AllocError, Global};
 
@@ -30,6 +31,29 @@ fn lag_of(given: &[Given<'_>]) -> Option<u8>
     Some(lag as u8)
 }
 
+// How claims are judged, by the flags that stand.
+fn judging_of(given: &[Given<'_>], lag: u8) -> Judging
+    ensures { result ≡ judging_of (map seen_given given.now) lag }
+{
+    Judging {
+        hazard: stands(given, "hazard"),
+        lag,
+        hold: stands(given, "hold"),
+        strict: stands(given, "strict"),
+    }
+}
+
+// How the constraints are read: wide where a list of names or the word for a sign-off stands.
+fn form_of(alloc: Global, given: &[Given<'_>]) -> Result<Option<ScriptForm>, AllocError>
+    ensures { IfOk result (λ found. found ≡ form_of (map seen_given given.now)) }
+{
+    match text_of(given, "skip") {
+        Some(list) => Ok(skips_of(alloc, list)?.map(ScriptForm::Wide)),
+        None if stands(given, "strict") => Ok(Some(ScriptForm::Wide(Seq::new(alloc)))),
+        None => Ok(Some(ScriptForm::Narrow)),
+    }
+}
+
 /// The options of a run, if their texts keep the rules.
 pub fn options_of(alloc: Global, given: &[Given<'_>]) -> Result<Option<Options>, AllocError>
     ensures { IfOk result (λ found. found ≡ options_of (map seen_given given.now)) }
@@ -45,17 +69,19 @@ pub fn options_of(alloc: Global, given: &[Given<'_>]) -> Result<Option<Options>,
     let Some(resets) = resets_of(alloc, list)? else {
         return Ok(None);
     };
-    let judging = Judging {
-        hazard: stands(given, "hazard"),
-        lag,
-        hold: stands(given, "hold"),
-        strict: false,
+    let Some(form) = form_of(alloc, given)? else {
+        return Ok(None);
     };
+    let judging = judging_of(given, lag);
     let reset = Reset {
         ports: resets,
         len: cycles as usize,
     };
-    Ok(Some(Options { judging, reset }))
+    Ok(Some(Options {
+        judging,
+        form,
+        reset,
+    }))
 }
 
 /// How far proofs are sought, if the numbers lie in their ranges.

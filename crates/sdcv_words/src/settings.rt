@@ -42,8 +42,8 @@ fn has_name(settings: &Seq<Setting>, name: &[u8]) -> bool
         .any(|setting| setting.name.as_bytes() == name)
 }
 
-// The parts of a text between its commas.
-fn parts<'a>(alloc: Global, text: &'a str) -> Result<Vec<&'a str>, AllocError>
+/// The parts of a text between its commas.
+pub fn parts<'a>(alloc: Global, text: &'a str) -> Result<Vec<&'a str>, AllocError>
     ensures { IfOk result (λ all. map (λ part. part.now) all.items ≡ slice_split (λ b. b == 44) text.entry.now) }
 {
     text.split(',').collect(alloc)

@@ -3,6 +3,7 @@ use crate::givens::text_of;
 use crate::numbers::number_in;
 use crate::places::row_of;
 use crate::settings::settings_of;
+use crate::skips::skips_of;
 use clap_words::{CommandRow, Given, ValueRule, reading_of};
 use std::alloc::{AllocError, Global};
 
@@ -12,6 +13,7 @@ fn breaks(alloc: Global, rule: ValueRule, text: &str) -> Result<bool, AllocError
         ValueRule::Text => Ok(false),
         ValueRule::Number { least, most } => Ok(number_in(text, least, most).is_none()),
         ValueRule::Ports => Ok(settings_of(alloc, text)?.is_none()),
+        ValueRule::Commands => Ok(skips_of(alloc, text)?.is_none()),
     }
 }
 

@@ -1,4 +1,4 @@
-use Rattle.std.proofs.Common.{Err, refl, ap, ◌∙◌}
+use Rattle.std.proofs.Common.{Ok, Err, ap, ◌∙◌}
 use Rattle.std.proofs.lemmas.Result.{err_from_is_err_and}
 use Rattle.design_stages.specs.Designs.{Designs}
 use Rattle.design_stages.proofs.Judging.{can_be_judged}
@@ -23,8 +23,9 @@ pub returns-clause-found : goal.returns-clause-found
 unfolding Designs
 returns-clause-found c =
     then_finds _ _ _ _ c.in_ok-linked.ensures.found
-    (then_finds _ _ _ _ c.in_ok-selected.ensures refl)
+    (then_finds _ _ _ _ c.in_ok-selected.ensures
+    (ap (λ n. Ok (record { linked = c.in_ok-linked.linked; selected = c.in_ok-selected.selected; notices = n })) c.in_ok-notices.ensures))
 
 pub returns-clause-judged : goal.returns-clause-judged
 returns-clause-judged c =
-    can_be_judged c.in_ok-linked.linked c.args.texts.now.script c.args.judging c.in_ok-selected.selected c.in_ok-linked.ensures.usable c.in_ok-selected.ensures
+    can_be_judged c.in_ok-linked.linked c.args.texts.now.script c.args.judging c.in_ok-selected.selected c.in_ok-notices.notices c.in_ok-linked.ensures.usable c.in_ok-selected.ensures

@@ -8,4 +8,4 @@ pub returns-clause-cells : goal.returns-clause-cells
 returns-clause-cells c = cells_one c.args.text.now
 
 pub returns-clause-constraints : goal.returns-clause-constraints
-returns-clause-constraints c = constraints_one c.args.text.now
+returns-clause-constraints c = constraints_one c.args.form.now c.args.text.now

@@ -35,7 +35,7 @@ unfolding MendedBy
 returns g c =
     let o = c.args.wanted.now.options in
     let is = mends_by c.args.mendable.now o c.in_ok-judged.judged _ (Ok c.in_ok-mended.mended) c.as_slice.ensures c.in_ok-mended.ensures in
-    let lines = lines_by (mended_lines o) c.args.mendable.now o c.in_ok-judged.judged _ _ _ _ c.as_slice.ensures c.as_slice-2.ensures c.in_ok-lines.ensures in
+    let lines = lines_by (mended_lines o c.args.mendable.now.designed.notices) c.args.mendable.now o c.in_ok-judged.judged _ _ _ _ c.as_slice.ensures c.as_slice-2.ensures c.in_ok-lines.ensures in
     after_ok _ _ c.in_ok-judged.judged _ c.in_ok-judged.ensures.judged
     (after_ok _ _ c.in_ok-mended.mended _ is
     (last_planned _ _ (record {

@@ -1,7 +1,7 @@
 use Rattle.std.proofs.Common.{Err, Bool, refl, ap, subst, ◌∙◌}
 use Rattle.std.proofs.lemmas.Result.{err_from_is_err_and}
 use Rattle.sdcv_top.proofs.Alike.{AreAlike}
-use Rattle.sdcv_top.proofs.Staging.{plan_memory, last_due, stops, planned_ok, planned_err}
+use Rattle.sdcv_top.proofs.Staging.{stops, planned_ok, planned_err}
 use Rattle.sdcv_top.proofs.stages.done.Goals as goal
 
 pub verify-requires-clause-judged : goal.verify-requires-clause-judged

@@ -10,14 +10,14 @@ pub returns-in_err-texts-clause-planned : goal.returns-in_err-texts-clause-plann
 unfolding Worked
 returns-in_err-texts-clause-planned g c =
     let p = err_from_is_err_and c.from_residual.result c.from_residual.ensures.1 in
-    stops _ _ _ _ _ _ _ (p.1 ∙ ap Err p.2) (texts_err _ _ _ _ _ _ _ c.in_err-texts.ensures.found)
+    stops _ _ _ _ _ _ _ (p.1 ∙ ap Err p.2) (texts_err _ _ _ _ _ _ _ _ c.in_err-texts.ensures.found)
 
 pub returns-in_err-designed-clause-planned : goal.returns-in_err-designed-clause-planned
 unfolding Worked
 returns-in_err-designed-clause-planned g c =
     let p = err_from_is_err_and c.from_residual-in_err-designed.result c.from_residual-in_err-designed.ensures.1 in
     stops _ _ _ _ _ _ _ (p.1 ∙ ap Err p.2)
-    (texts_ok _ _ _ _ _ _ _ _ _ _ c.in_ok-texts.ensures.found c.in_ok-texts.ensures.files
+    (texts_ok _ _ _ _ _ _ _ _ _ _ _ c.in_ok-texts.ensures.found c.in_ok-texts.ensures.files
     (found_err _ _ _ _ _ _ _ c.in_err-designed.ensures.found refl))
 
 pub returns-in_err-done-clause-planned : goal.returns-in_err-done-clause-planned
@@ -25,14 +25,14 @@ unfolding Worked
 returns-in_err-done-clause-planned g c =
     let p = err_from_is_err_and c.from_residual-in_err-done.result c.from_residual-in_err-done.ensures.1 in
     stops _ _ _ _ _ _ _ (p.1 ∙ ap Err p.2)
-    (texts_ok _ _ _ _ _ _ _ _ _ _ c.in_ok-texts.ensures.found c.in_ok-texts.ensures.files
+    (texts_ok _ _ _ _ _ _ _ _ _ _ _ c.in_ok-texts.ensures.found c.in_ok-texts.ensures.files
     (found_ok _ _ _ _ _ _ _ _ c.in_ok-designed.ensures.found
     (held_as_said _ _ _ _ _ _ _ _ _ _ c.in_ok-designed.ensures.found c.in_err-done.ensures.planned)))
 
 pub returns-clause-planned : goal.returns-clause-planned
 unfolding Worked
 returns-clause-planned g c =
-    texts_ok _ _ _ _ _ _ _ _ _ _ c.in_ok-texts.ensures.found c.in_ok-texts.ensures.files
+    texts_ok _ _ _ _ _ _ _ _ _ _ _ c.in_ok-texts.ensures.found c.in_ok-texts.ensures.files
     (found_ok _ _ _ _ _ _ _ _ c.in_ok-designed.ensures.found
     (held_as_said _ _ _ _ _ _ _ _ _ _ c.in_ok-designed.ensures.found c.in_ok-done.ensures.planned))
 
