@@ -3,11 +3,11 @@ ghost use Rattle.std.specs.Prelude.{◌≤◌};
 
 use crate::commands::{Asked, DesignWords, RunWords};
 use crate::ends::{Ended, or_ended};
-use crate::reads::{bytes_of, run_texts, texts_of};
+use crate::reads::{RunTexts, bytes_of, run_texts, texts_of};
 use run_options::Reset;
-use sdcv_base::Host;
+use sdcv_base::{Host, Name, Seq};
 use std::alloc::Global;
-use view_commands::{Gate, Stop, bits, gate, groups, reset_of, shown, waved};
+use view_commands::{Gate, Stop, bits, gate, groups, names_of, reset_of, shown, waved};
 
 /// Does what the words ask for.
 pub fn answer<H: Host>(alloc: Global, host: &mut H, asked: &Asked<'_>) -> Result<u8, Ended> {
@@ -65,7 +65,8 @@ fn print_gate<H: Host>(alloc: Global, host: &mut H, name: &str) -> Result<u8, En
 // Prints a line for each bit of a stimulus.
 fn print_bits<H: Host>(alloc: Global, host: &mut H, words: &DesignWords<'_>) -> Result<u8, Ended> {
     let reset = reset_of(alloc, &words.reset)?;
-    print_bits_with(alloc, host, words, reset)
+    let names = names_of(alloc, words.skip)?;
+    print_bits_with(alloc, host, words, reset, names)
 }
 
 fn print_bits_with<H: Host>(
@@ -73,10 +74,11 @@ fn print_bits_with<H: Host>(
     host: &mut H,
     words: &DesignWords<'_>,
     reset: Reset,
+    names: Option<Seq<Name>>,
 ) -> Result<u8, Ended>
     requires { reset.len ≤ 64 }
 {
-    let texts = texts_of(alloc, host, words)?;
+    let texts = texts_of(alloc, host, words, names)?;
     printed(host, bits(alloc, &texts, reset))
 }
 
@@ -88,7 +90,8 @@ fn tell_run<H: Host>(
     out: Option<&str>,
 ) -> Result<u8, Ended> {
     let reset = reset_of(alloc, &words.design.reset)?;
-    tell_run_with(alloc, host, words, out, reset)
+    let names = names_of(alloc, words.design.skip)?;
+    tell_run_with(alloc, host, words, out, reset, names)
 }
 
 fn tell_run_with<H: Host>(
@@ -97,19 +100,13 @@ fn tell_run_with<H: Host>(
     words: &RunWords<'_>,
     out: Option<&str>,
     reset: Reset,
+    names: Option<Seq<Name>>,
 ) -> Result<u8, Ended>
     requires { reset.len ≤ 64 }
 {
-    let read = run_texts(alloc, host, words)?;
+    let RunTexts { texts, report } = run_texts(alloc, host, words, names)?;
     match out {
-        None => printed(
-            host,
-            shown(alloc, &words.pair, &read.texts, reset, &read.report),
-        ),
-        Some(out) => saved(
-            host,
-            out,
-            waved(alloc, &words.pair, &read.texts, reset, &read.report),
-        ),
+        None => printed(host, shown(alloc, &words.pair, &texts, reset, report)),
+        Some(out) => saved(host, out, waved(alloc, &words.pair, &texts, reset, report)),
     }
 }

@@ -5,12 +5,14 @@ use clap::{Arg, ArgAction, ArgMatches, Command, Error};
 use std::alloc::{AllocError, Global};
 use view_commands::{PairWords, ResetWords};
 
-/// The files of a design, and how it is reset.
+/// The files of a design, which commands of its constraints are passed over, and how it is reset.
 #[derive(Clone, Copy)]
 pub struct DesignWords<'a> {
     pub netlist: &'a str,
     pub cells: &'a str,
     pub constraints: &'a str,
+    /// The list of `--skip`.
+    pub skip: Option<&'a str>,
     pub reset: ResetWords<'a>,
 }
 
@@ -93,6 +95,14 @@ const S: ArgRow = ArgRow {
     sentence: "The constraints (SDC)",
 };
 
+const SKIP: ArgRow = ArgRow {
+    id: "skip",
+    form: Form::Valued,
+    value: "LIST",
+    rule: Rule::Text,
+    sentence: "Pass over the commands of these names, parted by commas",
+};
+
 const RESET: ArgRow = ArgRow {
     id: "reset",
     form: Form::Valued,
@@ -155,17 +165,17 @@ const ROWS: [CommandRow; 5] = [
     CommandRow {
         name: "bits",
         sentence: "Print which bit of a stimulus is which register or input",
-        args: &[V, L, S, RESET, RESET_CYCLES],
+        args: &[V, L, S, SKIP, RESET, RESET_CYCLES],
     },
     CommandRow {
         name: "show",
         sentence: "Print the run of a refuted pair by cycles, and what of it is late",
-        args: &[V, L, S, RESET, RESET_CYCLES, REPORT, PAIR],
+        args: &[V, L, S, SKIP, RESET, RESET_CYCLES, REPORT, PAIR],
     },
     CommandRow {
         name: "wave",
         sentence: "Save the run of a refuted pair as a value change dump",
-        args: &[V, L, S, RESET, RESET_CYCLES, REPORT, PAIR, OUT],
+        args: &[V, L, S, SKIP, RESET, RESET_CYCLES, REPORT, PAIR, OUT],
     },
 ];
 
@@ -230,6 +240,7 @@ fn design_of<'a>(matches: &ArgMatches<'a>) -> DesignWords<'a> {
         netlist: given(matches, "V"),
         cells: given(matches, "L"),
         constraints: given(matches, "S"),
+        skip: matches.get_str("skip"),
         reset: ResetWords {
             ports: matches.get_str("reset"),
             cycles: matches.get_str("reset-cycles"),

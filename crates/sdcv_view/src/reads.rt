@@ -6,14 +6,15 @@ ghost use Rattle.exception_expand.specs.Selections.{HasMultipliers};
 ghost use Rattle.netlist_types.specs.Lawful.{IsLawful};
 
 use crate::commands::{DesignWords, RunWords};
-use crate::ends::Ended;
+use crate::ends::{Ended, or_ended};
 use cell_types::{Library, builtin};
 use design_stages::{ReadTexts, cells, constraints, netlist};
 use netlist_types::Source;
+use run_options::ScriptForm;
 use script_types::Script;
-use sdcv_base::{Host, ReadFault};
+use sdcv_base::{Host, Name, ReadFault, Seq};
 use std::alloc::Global;
-use view_commands::Stop;
+use view_commands::{ReadReport, Stop, form_of, report_of};
 
 /// The most bytes that a file may have.
 const MOST_BYTES: usize = 67_108_864;
@@ -22,7 +23,7 @@ const MOST_BYTES: usize = 67_108_864;
 #[derive(Drop)]
 pub struct RunTexts {
     pub texts: ReadTexts,
-    pub report: Vec<u8>,
+    pub report: ReadReport,
 }
 
 // Why a file was not read.
@@ -76,44 +77,75 @@ fn library_of<H: Host>(alloc: Global, host: &mut H, name: &str) -> Result<Librar
     cells_in(alloc, host, name)
 }
 
-// The constraints in the file of that name.
-fn script_of<H: Host>(alloc: Global, host: &mut H, name: &str) -> Result<Script, Ended>
+// The constraints that a text is, in this form.
+fn script_in(alloc: Global, text: &[u8], form: &ScriptForm) -> Result<Script, Ended>
     ensures { IfOk result HasMultipliers }
 {
-    let bytes = bytes_of(alloc, host, name)?;
-    match constraints(alloc, &bytes) {
+    match constraints(alloc, text, form) {
         Ok(script) => Ok(script),
         Err(refusal) => Err(Ended::from(refusal)),
     }
 }
 
-/// The netlist, its cells and its constraints, read in this order.
+// The report in the file of that name.
+fn report_in<H: Host>(alloc: Global, host: &mut H, name: &str) -> Result<ReadReport, Ended> {
+    let bytes = bytes_of(alloc, host, name)?;
+    or_ended(report_of(alloc, name, bytes))
+}
+
+// Whether a report was read that was made as for a sign-off.
+fn is_strict(report: &Result<ReadReport, Ended>) -> bool {
+    match report {
+        Ok(read) => read.is_strict(),
+        Err(_) => false,
+    }
+}
+
+/// The netlist, its cells and its constraints, read in this order. Commands of these names are passed over.
 pub fn texts_of<H: Host>(
     alloc: Global,
     host: &mut H,
     words: &DesignWords<'_>,
+    names: Option<Seq<Name>>,
 ) -> Result<ReadTexts, Ended>
     ensures { IfOk result AreLawful }
 {
     let source = source_of(alloc, host, words.netlist)?;
     let library = library_of(alloc, host, words.cells)?;
-    let script = script_of(alloc, host, words.constraints)?;
+    let bytes = bytes_of(alloc, host, words.constraints)?;
+    let form = form_of(alloc, names, false);
+    let script = script_in(alloc, &bytes, &form)?;
     Ok(ReadTexts {
         source,
         library,
         script,
+        form,
     })
 }
 
-/// The texts of a design, and then a report.
+/// The texts of a design and a report, which says too how the constraints are read. A fault of the constraints comes first.
 pub fn run_texts<H: Host>(
     alloc: Global,
     host: &mut H,
     words: &RunWords<'_>,
+    names: Option<Seq<Name>>,
 ) -> Result<RunTexts, Ended>
     ensures { IfOk result (λ read. AreLawful read.texts) }
 {
-    let texts = texts_of(alloc, host, &words.design)?;
-    let report = bytes_of(alloc, host, words.pair.report)?;
-    Ok(RunTexts { texts, report })
+    let source = source_of(alloc, host, words.design.netlist)?;
+    let library = library_of(alloc, host, words.design.cells)?;
+    let bytes = bytes_of(alloc, host, words.design.constraints)?;
+    let report = report_in(alloc, host, words.pair.report);
+    let form = form_of(alloc, names, is_strict(&report));
+    let script = script_in(alloc, &bytes, &form)?;
+    let texts = ReadTexts {
+        source,
+        library,
+        script,
+        form,
+    };
+    Ok(RunTexts {
+        texts,
+        report: report?,
+    })
 }

@@ -5,6 +5,7 @@
 //! of a refuted pair. How words are spelled, in which order files are read and where a text goes, is left to the program.
 #![tactic(auto)]
 
+mod forms;
 mod lines;
 mod pairs;
 mod reports;
@@ -14,8 +15,9 @@ mod stops;
 mod views;
 mod words;
 
+pub use forms::{form_of, names_of};
 pub use report_groups::Gate;
-pub use reports::{gate, groups};
+pub use reports::{ReadReport, gate, groups, report_of};
 pub use resets::reset_of;
 pub use stops::Stop;
 pub use views::{bits, shown, waved};

@@ -4,7 +4,7 @@ ghost use Rattle.run_options.specs.Judging.{CanJudge};
 ghost use Rattle.view_commands.specs.Runs.{IsRefutedPair};
 
 use crate::lines::stimulus_line;
-use crate::reports::report_in;
+use crate::reports::ReadReport;
 use crate::stops::Stop;
 use crate::words::PairWords;
 use net_model::Stimulus;
@@ -70,8 +70,6 @@ fn unknown_word(head: &Head) -> Option<&'static str> {
         Some("free")
     } else if head.asked.assumed.is_some() {
         Some("assumed")
-    } else if head.asked.strict {
-        Some("strict")
     } else {
         None
     }
@@ -97,7 +95,7 @@ fn judging_of(alloc: Global, name: &str, head: &Head) -> Result<Judging, Stop>
             hazard: head.hazard,
             lag: head.lag as u8,
             hold: head.hold,
-            strict: false,
+            strict: head.asked.strict,
         });
     }
     let lag = head.lag;
@@ -154,12 +152,12 @@ fn asked_pair(
 pub(crate) fn refuted_pair(
     alloc: Global,
     words: &PairWords<'_>,
-    text: &[u8],
+    read: ReadReport,
     reset: usize,
 ) -> Result<RefutedPair, Stop>
     ensures { IfOk result IsRefutedPair }
 {
-    let report = report_in(alloc, words.report, text)?;
-    let asked = asked_pair(alloc, words, text, &report, reset)?;
+    let ReadReport { text, report } = read;
+    let asked = asked_pair(alloc, words, &text, &report, reset)?;
     Ok(RefutedPair { report, asked })
 }

@@ -156,7 +156,11 @@ pub(crate) fn pair_run(
     requires design { CanBeJudged designed.now }
     ensures { IfOk result (IsPairRun designed.now pair.now.asked.stimulus) }
 {
-    let Designed { linked, selected } = designed;
+    let Designed {
+        linked,
+        selected,
+        ..
+    } = designed;
     let row = pair.report.pairs.item(pair.asked.place);
     let place = place_of(alloc, words, row, selected)?;
     let line = line_of(selected, selected.pairs.item(place));

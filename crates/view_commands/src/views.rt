@@ -5,6 +5,7 @@ ghost use Rattle.run_views.specs.Violations.{IsShowable};
 ghost use Rattle.view_commands.specs.Runs.{IsPairRun, IsRefutedPair};
 
 use crate::pairs::{RefutedPair, refuted_pair};
+use crate::reports::ReadReport;
 use crate::runs::{PairRun, pair_run};
 use crate::stops::{Stop, or_stop};
 use crate::words::PairWords;
@@ -50,7 +51,7 @@ pub fn shown(
     words: &PairWords<'_>,
     texts: &ReadTexts,
     reset: Reset,
-    report: &[u8],
+    report: ReadReport,
 ) -> Result<Vec<u8>, Stop>
     requires lawful { AreLawful texts.now }
     requires reset { reset.len ≤ 64 }
@@ -64,7 +65,7 @@ pub fn waved(
     words: &PairWords<'_>,
     texts: &ReadTexts,
     reset: Reset,
-    report: &[u8],
+    report: ReadReport,
 ) -> Result<Vec<u8>, Stop>
     requires lawful { AreLawful texts.now }
     requires reset { reset.len ≤ 64 }
@@ -78,7 +79,7 @@ fn viewed(
     words: &PairWords<'_>,
     texts: &ReadTexts,
     reset: Reset,
-    report: &[u8],
+    report: ReadReport,
     view: View,
 ) -> Result<Vec<u8>, Stop>
     requires lawful { AreLawful texts.now }
