@@ -1,5 +1,5 @@
 -- From what reads a number to what the number is.
-use Rattle.std.proofs.Common.{◌≡◌, ◌&&◌, ◌≤◌, ap, ap₂, refl, sym, subst, ◌∙◌, true, false, Bool, ℕ, List, Option, None, Some, nat_le}
+use Rattle.std.proofs.Common.{◌≡◌, ◌&&◌, ap, ap₂, refl, true, false, Bool, ℕ, List, Option, None, Some, nat_le}
 use Rattle.std.proofs.Common.{rules, arith, inl, inr}
 use Rattle.std.specs.Str.{all_ascii_digits}
 use Rattle.std.specs.Str.Parse.{digits_value}

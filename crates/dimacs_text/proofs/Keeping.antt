@@ -1,6 +1,5 @@
 -- One more clause that is kept or left out.
-use Rattle.std.proofs.Common.{◌≡◌, ℕ, List, [], ◌∷◌, ◌++◌, subst, sym, inl, inr, append-nil}
-use Rattle.std.specs.Prelude.{◌⊎◌}
+use Rattle.std.proofs.Common.{◌≡◌, ℕ, List, [], ◌∷◌, ◌++◌, subst, sym, inl, inr}
 use Rattle.proof_log.specs.Clauses.{is_set, IsNormal, HasComplements, IsKeptOf}
 use Rattle.dimacs_text.specs.Texts.{AreKept, No_more, Is_kept, Is_true}
 

@@ -3,3 +3,4 @@ mod Keeping
 mod Taking
 mod Placing
 mod Heading
+pub mod Worked

@@ -1,13 +1,13 @@
 -- A reading after one more token.
-use Rattle.std.proofs.Common.{◌≡◌, ◌≢◌, ℕ, ◌+◌, ◌*◌, ◌^◌, ◌<◌, ◌≤◌, Bool, true, false, List, [], ◌∷◌, ◌++◌, map, length, Some, None, refl, ap, sym, ◌∙◌, subst, arith, inl, inr, append_assoc}
-use Rattle.std.specs.Prelude.{All, ◌⊎◌, Option, Result, Ok, Err, OnOk, IfErr}
+use Rattle.std.proofs.Common.{◌≡◌, ◌≢◌, ℕ, suc, ◌^◌, ◌<◌, ◌≤◌, max, Bool, true, false, List, [], ◌∷◌, ◌++◌, get_or, Some, None, refl, ap, sym, ◌∙◌, subst, arith, inl, inr, append_assoc}
+use Rattle.std.specs.Prelude.{All, Option, Result, Ok, Err, OnOk, IfErr}
 use Rattle.std.proofs.lemmas.List.{map_push, length-append}
 use Rattle.std.proofs.lemmas.List.Elements.{All-nil, All-push}
 use Rattle.proof_log.specs.Literals.{InVars, literal}
 use Rattle.proof_log.specs.Clauses.{is_set, IsNormal, IsKeptOf}
 use Rattle.proof_log.proofs.Members.{All-from_members, member_from_All}
 use Rattle.dimacs_text.specs.Tokens.{Placed, token_of}
-use Rattle.dimacs_text.specs.Texts.{Signed, number_token, lit_of, IsBegun, AreCut, No_numbers, Is_literal, Is_end, AreKept, No_more}
+use Rattle.dimacs_text.specs.Texts.{Signed, greatest_var, number_token, IsBegun, AreCut, No_numbers, Is_literal, Is_end, AreKept, No_more, IsHeaded}
 use Rattle.dimacs_text.specs.Faults.{StandsFirst, StandsAfter, IsStop}
 use Rattle.dimacs_text.specs.Readings.{IsReadAfter, IsReadBy, IsRead, IsEnded}
 use Rattle.dimacs_text.proofs.Keeping.{kept_more}
@@ -17,6 +17,27 @@ use Rattle.dimacs_text.specs.declared.tokens.Token.{Token}
 use Rattle.dimacs_text.specs.declared.tokens.Token.TheVariants.{Header, NoHeader, Number, NoNumber}
 use Rattle.dimacs_text.specs.declared.faults.DimacsFault.{DimacsFault}
 use Rattle.dimacs_text.specs.declared.faults.DimacsFault.TheVariants as fault
+
+-- the greatest variable of one more number
+greatest_more : (numbers : List Signed) (n : Signed) → greatest_var (numbers ++ n ∷ []) ≡ max (greatest_var numbers) n.1
+greatest_more [] n = omega arith
+greatest_more (m ∷ numbers) n = let rest = greatest_more numbers n in omega (arith, rest)
+
+-- the greatest variable is of the header where each one is
+greatest_within : (vars : ℕ) (numbers : List Signed) → All (λ (n : Signed). n.1 ≤ vars) numbers → greatest_var numbers ≤ vars
+greatest_within vars [] all = omega arith
+greatest_within vars (n ∷ numbers) all =
+    let first : n.1 ≤ vars = all 0 n (omega arith) in
+    let rest = greatest_within vars numbers (λ k d low. all (suc k) d (omega (arith, low))) in
+    omega (arith, first, rest)
+
+-- literals are over more variables too
+in_more : (vars more : ℕ) (lits : List ℕ) → vars ≤ more → All (InVars vars) lits → All (InVars more) lits
+in_more vars more lits low all k d here = let in_vars = all k d here in (in_vars.0, omega (arith, in_vars.1, low))
+
+all_in_more : (vars more : ℕ) (clauses : List (List ℕ)) → vars ≤ more → All (λ (c : List ℕ). All (InVars vars) c) clauses
+    → All (λ (c : List ℕ). All (InVars more) c) clauses
+all_in_more vars more clauses low all k d here = in_more vars more (get_or clauses k d) low (all k d here)
 
 -- one more number
 pub begun_more : (vars told line : ℕ) (positive : Bool) (var : ℕ) (numbers : List Signed) (placed : List Placed) → var ≤ vars
@@ -36,8 +57,8 @@ begun_first vars told line few = record { is = refl; few = few; within = All-nil
 
 -- what is read after the header alone
 pub read_first : (vars told line : ℕ) (r : Reading) → vars < 2 ^ 31 → r.clauses ≡ [] → r.count ≡ 0 → r.begun.items ≡ []
-    → IsReadAfter ((line, Header vars told) ∷ []) vars told r
-read_first vars told line r few no_clauses no_count no_begun =
+    → r.greatest ≡ 0 → IsReadAfter ((line, Header vars told) ∷ []) vars told r
+read_first vars told line r few no_clauses no_count no_begun no_var =
     record {
       numbers = [];
       clauses = [];
@@ -45,9 +66,10 @@ read_first vars told line r few no_clauses no_count no_begun =
       cut = subst (λ (ls : List ℕ). AreCut [] [] ls) (sym no_begun) No_numbers;
       kept = subst (AreKept []) (sym no_clauses) No_more;
       count = no_count;
-      begun_in_vars = subst (All (InVars vars)) (sym no_begun) (All-nil (InVars vars));
+      greatest = no_var;
+      begun_in_vars = subst (All (InVars r.greatest)) (sym no_begun) (All-nil (InVars r.greatest));
       normal = subst (All IsNormal) (sym no_clauses) (All-nil IsNormal);
-      in_vars = subst (All (λ (c : List ℕ). All (InVars vars) c)) (sym no_clauses) (All-nil (λ (c : List ℕ). All (InVars vars) c));
+      in_vars = subst (All (λ (c : List ℕ). All (InVars r.greatest) c)) (sym no_clauses) (All-nil (λ (c : List ℕ). All (InVars r.greatest) c));
     }
 
 lit_in : (vars var : ℕ) (positive : Bool) → 1 ≤ var → var ≤ vars → InVars vars (literal var positive)
@@ -57,9 +79,11 @@ lit_in vars var false from to = (omega (arith, from), omega (arith, to))
 -- what is read after one more literal
 pub read_literal : (vars told line : ℕ) (positive : Bool) (var : ℕ) (placed : List Placed) (old new : Reading) → var ≤ vars → var ≢ 0
     → new.clauses ≡ old.clauses → new.count ≡ old.count → new.begun.items ≡ old.begun.items ++ literal var positive ∷ []
-    → IsReadAfter placed vars told old → IsReadAfter (placed ++ (line, Number positive var) ∷ []) vars told new
-read_literal vars told line positive var placed old new low some clauses_are count_is begun_are so =
-    let in_vars : InVars vars (literal var positive) = lit_in vars var positive (from_one var some) low in
+    → new.greatest ≡ max old.greatest var → IsReadAfter placed vars told old → IsReadAfter (placed ++ (line, Number positive var) ∷ []) vars told new
+read_literal vars told line positive var placed old new low some clauses_are count_is begun_are greatest_is so =
+    let up : old.greatest ≤ new.greatest = omega (arith, greatest_is) in
+    let in_vars : InVars new.greatest (literal var positive) = lit_in new.greatest var positive (from_one var some) (omega (arith, greatest_is)) in
+    let before = in_more old.greatest new.greatest old.begun.items up so.begun_in_vars in
     record {
       numbers = so.numbers ++ (positive, var) ∷ [];
       clauses = so.clauses;
@@ -68,9 +92,12 @@ read_literal vars told line positive var placed old new low some clauses_are cou
           (Is_literal so.numbers (positive, var) so.clauses old.begun.items some so.cut);
       kept = subst (AreKept so.clauses) (sym clauses_are) so.kept;
       count = count_is ∙ so.count;
-      begun_in_vars = subst (All (InVars vars)) (sym begun_are) (All-push (InVars vars) old.begun.items (literal var positive) so.begun_in_vars in_vars);
+      greatest = greatest_is ∙ ap (λ (g : ℕ). max g var) so.greatest ∙ sym (greatest_more so.numbers (positive, var));
+      begun_in_vars = subst (All (InVars new.greatest)) (sym begun_are)
+          (All-push (InVars new.greatest) old.begun.items (literal var positive) before in_vars);
       normal = subst (All IsNormal) (sym clauses_are) so.normal;
-      in_vars = subst (All (λ (c : List ℕ). All (InVars vars) c)) (sym clauses_are) so.in_vars;
+      in_vars = subst (All (λ (c : List ℕ). All (InVars new.greatest) c)) (sym clauses_are)
+          (all_in_more old.greatest new.greatest old.clauses up so.in_vars);
     }
   where
     from_one : (n : ℕ) → n ≢ 0 → 1 ≤ n
@@ -104,9 +131,25 @@ read_end vars told line positive var placed old new low zero_ ended so =
           (Is_end so.numbers (positive, var) so.clauses old.begun.items zero_ so.cut);
       kept = kept_more so.clauses old.clauses new.clauses old.begun.items ended.kept so.kept;
       count = omega (arith, ended.count, so.count, length-append so.clauses (old.begun.items ∷ []));
-      begun_in_vars = subst (All (InVars vars)) (sym ended.begun) (All-nil (InVars vars));
+      greatest = ended.greatest ∙ so.greatest ∙ same_greatest so.numbers positive var zero_;
+      begun_in_vars = subst (All (InVars new.greatest)) (sym ended.begun) (All-nil (InVars new.greatest));
       normal = normal_more old.begun.items old.clauses new.clauses ended.kept so.normal;
-      in_vars = in_vars_more vars old.begun.items old.clauses new.clauses ended.kept so.begun_in_vars so.in_vars;
+      in_vars = subst (λ (g : ℕ). All (λ (c : List ℕ). All (InVars g) c) new.clauses) (sym ended.greatest)
+          (in_vars_more old.greatest old.begun.items old.clauses new.clauses ended.kept so.begun_in_vars so.in_vars);
+    }
+  where
+    same_greatest : (numbers : List Signed) (positive : Bool) (var : ℕ) → var ≡ 0 → greatest_var numbers ≡ greatest_var (numbers ++ (positive, var) ∷ [])
+    same_greatest numbers positive var zero_ = let more = greatest_more numbers (positive, var) in omega (arith, more, zero_)
+
+-- the variables of what is read are of the header
+pub headed : (placed : List Placed) (counts : Counts) (r : Reading) → IsReadAfter placed counts.vars counts.told r
+    → IsHeaded (record { vars = counts.vars; formula = record { vars = r.greatest; clauses = r.clauses } })
+headed placed counts r so =
+    let low : r.greatest ≤ counts.vars = subst (λ (n : ℕ). n ≤ counts.vars) (sym so.greatest) (greatest_within counts.vars so.numbers so.begun.within) in
+    record {
+      formula = record { few = omega (arith, low, so.begun.few); normal = so.normal; in_vars = so.in_vars };
+      within = low;
+      few = so.begun.few;
     }
 
 -- what stands after a header stands there in the text too

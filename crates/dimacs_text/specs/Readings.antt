@@ -3,11 +3,11 @@ use Rattle.std.specs.Prelude.{◌≡◌, ℕ, ◌+◌, List, [], length, All, Op
 use Rattle.proof_log.specs.Literals.{InVars}
 use Rattle.proof_log.specs.Clauses.{IsNormal, IsKeptOf}
 use Rattle.dimacs_text.specs.Tokens.{Placed}
-use Rattle.dimacs_text.specs.Texts.{Signed, IsBegun, AreCut, AreKept}
+use Rattle.dimacs_text.specs.Texts.{Signed, greatest_var, IsBegun, AreCut, AreKept}
 use Rattle.dimacs_text.specs.declared.counts.Counts.{Counts}
 use Rattle.dimacs_text.specs.declared.readings.Reading.{Reading}
 
--- after a header: the clauses that are kept, how many there were, and the literals of the clause that is begun
+-- after a header: the clauses that are kept, how many there were, the literals of the clause that is begun, and the greatest variable
 pub record IsReadAfter (placed : List Placed) (vars told : ℕ) (r : Reading) : Type 0 where
   pub numbers : List Signed
   pub clauses : List (List ℕ)
@@ -15,9 +15,10 @@ pub record IsReadAfter (placed : List Placed) (vars told : ℕ) (r : Reading) : 
   pub cut : AreCut numbers clauses r.begun.items
   pub kept : AreKept clauses r.clauses
   pub count : r.count ≡ length clauses
-  pub begun_in_vars : All (InVars vars) r.begun.items
+  pub greatest : r.greatest ≡ greatest_var numbers
+  pub begun_in_vars : All (InVars r.greatest) r.begun.items
   pub normal : All IsNormal r.clauses
-  pub in_vars : All (λ c. All (InVars vars) c) r.clauses
+  pub in_vars : All (λ c. All (InVars r.greatest) c) r.clauses
 
 abbrev pub IsReadBy : List Placed → Option Counts → Reading → Type 0
 IsReadBy placed None r = placed ≡ []
@@ -32,6 +33,7 @@ pub record IsKeptIn (old new : Reading) : Type 0 where
   pub header : new.header ≡ old.header
   pub count : new.count ≡ old.count
   pub begun : new.begun.items ≡ old.begun.items
+  pub greatest : new.greatest ≡ old.greatest
   pub kept : IsKeptOf old.begun.items old.clauses new.clauses
 
 -- the clause that was begun is ended
@@ -39,4 +41,5 @@ pub record IsEnded (old new : Reading) : Type 0 where
   pub header : new.header ≡ old.header
   pub count : new.count ≡ old.count + 1
   pub begun : new.begun.items ≡ []
+  pub greatest : new.greatest ≡ old.greatest
   pub kept : IsKeptOf old.begun.items old.clauses new.clauses

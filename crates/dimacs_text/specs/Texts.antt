@@ -1,9 +1,10 @@
 -- Which text is which formula.
-use Rattle.std.specs.Prelude.{◌≡◌, ◌≢◌, ℕ, ◌^◌, ◌<◌, ◌≤◌, Bool, List, [], ◌∷◌, ◌++◌, map, length, All}
+use Rattle.std.specs.Prelude.{◌≡◌, ◌≢◌, ℕ, ◌^◌, ◌<◌, ◌≤◌, max, Bool, List, [], ◌∷◌, ◌++◌, map, length, All}
 use Rattle.proof_log.specs.Literals.{literal}
 use Rattle.proof_log.specs.Clauses.{is_set, IsNormal, HasComplements}
-use Rattle.proof_log.specs.declared.formulas.Formula.{Formula}
+use Rattle.proof_log.specs.Formulas.{IsFormula}
 use Rattle.dimacs_text.specs.Tokens.{Placed, token_of, tokens}
+use Rattle.dimacs_text.specs.declared.headed.Headed.{Headed}
 use Rattle.dimacs_text.specs.declared.tokens.Token.{Token}
 use Rattle.dimacs_text.specs.declared.tokens.Token.TheVariants.{Header, Number}
 
@@ -16,6 +17,11 @@ number_token n = Number n.0 n.1
 
 abbrev pub lit_of : Signed → ℕ
 lit_of n = literal n.1 n.0
+
+-- the greatest variable of numbers, or 0
+abbrev pub greatest_var : List Signed → ℕ
+greatest_var [] = 0
+greatest_var (n ∷ numbers) = max n.1 (greatest_var numbers)
 
 -- a header, and after it these numbers, of its variables
 pub record IsBegun (vars told : ℕ) (numbers : List Signed) (placed : List Placed) : Type 0 where
@@ -40,10 +46,18 @@ pub data AreKept : List (List ℕ) → List (List ℕ) → Type 0 where
       → AreKept clauses kept → AreKept (clause ∷ clauses) (normal ∷ kept)
   Is_true : (clause : List ℕ) (clauses kept : List (List ℕ)) → HasComplements clause → AreKept clauses kept → AreKept (clause ∷ clauses) kept
 
--- the text is a header and as many clauses as it tells, each with its 0, and the formula has these clauses
-pub record IsTextOf (text : List ℕ) (formula : Formula) : Type 0 where
+-- the text is a header and as many clauses as it tells, each with its 0; the formula has these clauses, and no variable above the
+-- greatest one that stands there
+pub record IsTextOf (text : List ℕ) (read : Headed) : Type 0 where
   pub numbers : List Signed
   pub clauses : List (List ℕ)
-  pub begun : IsBegun formula.vars (length clauses) numbers (tokens text)
+  pub begun : IsBegun read.vars (length clauses) numbers (tokens text)
   pub cut : AreCut numbers clauses []
-  pub kept : AreKept clauses formula.clauses
+  pub kept : AreKept clauses read.formula.clauses
+  pub greatest : read.formula.vars ≡ greatest_var numbers
+
+-- a formula whose variables are of its header
+pub record IsHeaded (read : Headed) : Type 0 where
+  pub formula : IsFormula read.formula
+  pub within : read.formula.vars ≤ read.vars
+  pub few : read.vars < 2 ^ 31

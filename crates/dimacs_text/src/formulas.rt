@@ -1,15 +1,14 @@
 //! A text as a whole.
 ghost use Rattle.std.specs.Prelude.{◌≡◌, ◌++◌, map, List, OnOk, IfOk, IfErr};
-ghost use Rattle.proof_log.specs.Formulas.{IsFormula};
 ghost use Rattle.dimacs_text.specs.Tokens.{Placed, placed_in, placed_words};
-ghost use Rattle.dimacs_text.specs.Texts.{IsTextOf};
+ghost use Rattle.dimacs_text.specs.Texts.{IsTextOf, IsHeaded};
 ghost use Rattle.dimacs_text.specs.Faults.{IsStop, IsCause};
 ghost use Rattle.dimacs_text.specs.Readings.{IsRead};
 
 use crate::faults::DimacsFault;
+use crate::headed::Headed;
 use crate::readings::Reading;
 use crate::tokens::{header, lines_of, number, words_of};
-use proof_log::Formula;
 use std::alloc::Global;
 use texts::byte_at;
 
@@ -49,9 +48,9 @@ fn read_line(alloc: Global, reading: &mut Reading, at: u64, line: &[u8]) -> Resu
 }
 
 /// The formula of a text. Its clauses are in normal form, and those with complementary literals are left out.
-pub fn read_dimacs(alloc: Global, text: &[u8]) -> Result<Formula, DimacsFault>
+pub fn read_dimacs(alloc: Global, text: &[u8]) -> Result<Headed, DimacsFault>
     ensures ok { IfOk result (IsTextOf text.now) }
-    ensures formula { IfOk result IsFormula }
+    ensures formula { IfOk result IsHeaded }
     ensures err { IfErr result (IsCause text.now) }
 {
     let lines = lines_of(alloc, text)?;

@@ -8,8 +8,10 @@
 mod counts;
 mod faults;
 mod formulas;
+mod headed;
 mod readings;
 mod tokens;
 
 pub use faults::DimacsFault;
 pub use formulas::read_dimacs;
+pub use headed::Headed;

@@ -1,8 +1,7 @@
 //! A text that is read token by token.
 ghost use Rattle.std.specs.Prelude.{◌≡◌, ◌≤◌, ◌++◌, ◌∷◌, [], ℕ, List, None, Some, OnOk, IfOk, IfErr};
-ghost use Rattle.proof_log.specs.Formulas.{IsFormula};
 ghost use Rattle.dimacs_text.specs.Tokens.{Placed, IsFew, tokens};
-ghost use Rattle.dimacs_text.specs.Texts.{IsTextOf};
+ghost use Rattle.dimacs_text.specs.Texts.{IsTextOf, IsHeaded};
 ghost use Rattle.dimacs_text.specs.Faults.{IsStop, IsShort};
 ghost use Rattle.dimacs_text.specs.Readings.{IsRead, IsReadAfter, IsKeptIn, IsEnded};
 ghost use Rattle.dimacs_text.specs.declared.tokens.Token.TheVariants as token;
@@ -10,17 +9,20 @@ ghost use Rattle.dimacs_text.specs.declared.faults.DimacsFault.TheVariants as fa
 
 use crate::counts::Counts;
 use crate::faults::DimacsFault;
+use crate::headed::Headed;
 use crate::tokens::Token;
 use proof_log::{ClauseTable, Formula, Lit};
 use std::alloc::Global;
 
-/// What is read so far: the header, the clauses that are kept, how many there were, and the literals of the clause that is begun.
+/// What is read so far: the header, the clauses that are kept, how many there were, the literals of the clause that is begun, and the
+/// greatest variable of a literal.
 #[derive(Drop)]
 pub(crate) struct Reading {
     pub header: Option<Counts>,
     pub clauses: ClauseTable,
     pub count: u64,
     pub begun: Vec<Lit>,
+    pub greatest: u32,
 }
 
 impl Reading {
@@ -30,12 +32,14 @@ impl Reading {
         ensures clauses { result.clauses ≡ [] }
         ensures count { result.count ≡ 0 }
         ensures begun { result.begun.items ≡ [] }
+        ensures greatest { result.greatest ≡ 0 }
     {
         Reading {
             header,
             clauses: ClauseTable::new(alloc),
             count: 0,
             begun: Vec::new(alloc),
+            greatest: 0,
         }
     }
 
@@ -107,6 +111,7 @@ impl Reading {
             return self.end_clause();
         }
         self.begun.push(Lit::new(var, positive))?;
+        self.greatest = self.greatest.max(var);
         Ok(())
     }
 
@@ -135,9 +140,9 @@ impl Reading {
     }
 
     /// The formula, after the last token.
-    pub(crate) fn formula(self) -> Result<Formula, DimacsFault>
+    pub(crate) fn formula(self) -> Result<Headed, DimacsFault>
         ensures ok { (text : List ℕ) → IsRead (tokens text) self → IfOk result (IsTextOf text) }
-        ensures formula { (text : List ℕ) → IsRead (tokens text) self → IfOk result IsFormula }
+        ensures formula { (text : List ℕ) → IsRead (tokens text) self → IfOk result IsHeaded }
         ensures err { (text : List ℕ) → IsRead (tokens text) self → IfErr result (IsShort (tokens text)) }
     {
         let Reading {
@@ -145,6 +150,7 @@ impl Reading {
             clauses,
             count,
             begun,
+            greatest,
         } = self;
         let Some(Counts { vars, told }) = header else {
             return Err(DimacsFault::NoHeader);
@@ -155,6 +161,10 @@ impl Reading {
         if count != told {
             return Err(DimacsFault::Count(count, told));
         }
-        Ok(Formula { vars, clauses })
+        let formula = Formula {
+            vars: greatest,
+            clauses,
+        };
+        Ok(Headed { vars, formula })
     }
 }

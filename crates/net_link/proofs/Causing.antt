@@ -2,6 +2,7 @@
 use Rattle.std.proofs.Common.{◌≡◌, ◌≢◌, ℕ, ◌+◌, ◌<◌, ◌≤◌, true, List, [], ◌∷◌, ◌++◌, length, map, Some, None, refl, ap}
 use Rattle.std.proofs.Common.{subst, sym, ◌∙◌, arith, inl, inr}
 use Rattle.std.specs.Prelude.{Option, Contains, slice_get}
+use Rattle.std.proofs.lemmas.List.{length-map}
 use Rattle.sdcv_base.specs.declared.limits.LimitName.{LimitName}
 use Rattle.sdcv_base.specs.declared.limits.LimitName.TheVariants as what
 use Rattle.net_model.proofs.Members.{In-left, In-cases, in_or, In-from_Contains, Contains-from_In}
@@ -25,7 +26,7 @@ use Rattle.linked_types.specs.declared.faults.LinkFault.{LinkFault}
 use Rattle.linked_types.specs.declared.faults.LinkFault.TheVariants as fault
 use Rattle.linked_types.specs.declared.options.LinkOptions.{LinkOptions}
 use Rattle.link_defs.specs.CellNames.{Leaf, leaves}
-use Rattle.link_defs.specs.Circuits.{circuit_of, input_bits, output_bits, all_drivers, all_reads}
+use Rattle.link_defs.specs.Circuits.{PortBit, circuit_of, data_bits, input_bits, output_bits, all_drivers, all_reads}
 use Rattle.link_defs.specs.Faults.{IsInstance, IsOfModule, IsOfCell, IsOfModelled, IsUnknownPin, IsOpenInput, HasManyDrivers, StandsTwice, bit_names, Clashes}
 use Rattle.link_defs.specs.Faults.{most_pins, HasManyPins, IsWidePrim, is_counted, IsAboveLimit, IsBadSetting, IsFlatCause, IsCause, IsFaultless}
 use Rattle.link_defs.specs.Faults as link
@@ -35,6 +36,7 @@ use Rattle.link_items.specs.declared.made.LeafPlace.{LeafPlace}
 use Rattle.link_items.specs.Faults.{IsInstFault, IsItemFault, IsFaultless as IsFaultlessItem}
 use Rattle.link_items.specs.Items.{AreLeavesAt}
 use Rattle.link_circuit.specs.Flats.{AreFine, IsUnrecursive, IsCauseIn}
+use Rattle.net_link.specs.Limits.{IsBitCause}
 use Rattle.net_link.specs.Ports.{IsPortCause}
 use Rattle.link_tops.specs.Tops.{IsTopCause}
 use Rattle.link_design.proofs.Parted.{all_in}
@@ -97,6 +99,50 @@ port_cause s lib o top flat c (fault.NoTop n) cause = absurd cause
 port_cause s lib o top flat c (fault.Limit k n) cause = absurd cause
 port_cause s lib o top flat c (fault.BadSetting n) cause = cause
 port_cause s lib o top flat c fault.Memory cause = tt
+
+number_is : (s : Source) (lib : Library) (flat : Flat) (c : Circuit) (k : LimitName) (most n : ℕ) → n ≡ most → IsAboveLimit s lib flat c k most
+    → IsAboveLimit s lib flat c k n
+number_is s lib flat c k most n is above = subst (IsAboveLimit s lib flat c k) (sym is) above
+
+many_inputs : (s : Source) (lib : Library) (o : LinkOptions) (top : Module) → 2000 < length (data_bits o.clock top)
+    → 2000 < length (circuit_of s lib top o.clock).inputs
+unfolding circuit_of
+many_inputs s lib o top more = omega (arith, more, length-map (data_bits o.clock top) (λ (b : PortBit). b.net))
+
+many_outputs : (s : Source) (lib : Library) (o : LinkOptions) (top : Module) → 20000 < length (output_bits top)
+    → 20000 < length (circuit_of s lib top o.clock).outputs
+unfolding circuit_of
+many_outputs s lib o top more = omega (arith, more, length-map (output_bits top) (λ (b : PortBit). b.net))
+
+-- why bits of ports are too many
+pub bit_cause : (s : Source) (lib : Library) (o : LinkOptions) (top : Module) (e : LinkFault) → IsBitCause top o.clock e
+    → IsFlatCause s lib o top (flat_of s lib top) (circuit_of s lib top o.clock) e
+bit_cause s lib o top (fault.UnknownCell n) cause = absurd cause
+bit_cause s lib o top (fault.UnsupportedCell n) cause = absurd cause
+bit_cause s lib o top (fault.UnknownPin n) cause = absurd cause
+bit_cause s lib o top (fault.OpenInput n) cause = absurd cause
+bit_cause s lib o top (fault.Undriven n) cause = absurd cause
+bit_cause s lib o top (fault.ManyDrivers n) cause = absurd cause
+bit_cause s lib o top (fault.Loop n) cause = absurd cause
+bit_cause s lib o top (fault.NotTheClock n) cause = absurd cause
+bit_cause s lib o top (fault.ClockAsData n) cause = absurd cause
+bit_cause s lib o top (fault.Recursive n) cause = absurd cause
+bit_cause s lib o top (fault.NameClash n) cause = absurd cause
+bit_cause s lib o top (fault.NoTop n) cause = absurd cause
+bit_cause s lib o top (fault.Limit what.Inputs n) (is, more) =
+    number_is s lib (flat_of s lib top) (circuit_of s lib top o.clock) what.Inputs 2001 n is (link.Inputs (many_inputs s lib o top more))
+bit_cause s lib o top (fault.Limit what.Outputs n) (is, more) =
+    number_is s lib (flat_of s lib top) (circuit_of s lib top o.clock) what.Outputs 20001 n is (link.Outputs (many_outputs s lib o top more))
+bit_cause s lib o top (fault.Limit what.Nets n) cause = absurd cause
+bit_cause s lib o top (fault.Limit what.Registers n) cause = absurd cause
+bit_cause s lib o top (fault.Limit what.Instances n) cause = absurd cause
+bit_cause s lib o top (fault.Limit what.Pins n) cause = absurd cause
+bit_cause s lib o top (fault.Limit what.Through n) cause = absurd cause
+bit_cause s lib o top (fault.Limit what.Pairs n) cause = absurd cause
+bit_cause s lib o top (fault.Limit what.Judged n) cause = absurd cause
+bit_cause s lib o top (fault.Limit what.Hierarchy n) cause = absurd cause
+bit_cause s lib o top (fault.BadSetting n) cause = absurd cause
+bit_cause s lib o top fault.Memory cause = tt
 
 -- why names of nets are refused
 pub net_cause : (s : Source) (lib : Library) (o : LinkOptions) (top : Module) (flat : Flat) (c : Circuit) (pairs : List (List ℕ × ℕ)) (e : LinkFault)

@@ -1,12 +1,11 @@
 -- What is made of a circuit and its design is the design with its clock gates.
-use Rattle.std.proofs.Common.{◌≡◌, ℕ, zero, suc, ◌<◌, ◌≤◌, Bool, List, [], ◌∷◌, length, map, All, refl, ap, subst, sym, ◌∙◌, arith, inl, inr}
+use Rattle.std.proofs.Common.{◌≡◌, ℕ, zero, suc, ◌<◌, List, [], ◌∷◌, length, map, refl, ap, subst, sym, ◌∙◌, arith, inl, inr}
 use Rattle.std.specs.Prelude.{Contains, Option, Some, flat_map, slice_get}
 use Rattle.std.proofs.lemmas.List.{length-map}
 use Rattle.std.proofs.lemmas.Option.{get_or_from_slice_get}
 use Rattle.net_model.specs.Form.{Form, OrForm, IsOver}
-use Rattle.net_model.specs.declared.netlist.Gate.{Gate}
 use Rattle.net_model.specs.declared.netlist.Reg.{Reg}
-use Rattle.net_model.proofs.Members.{In, In-from_Contains, Contains-from_In, from_map}
+use Rattle.net_model.proofs.Members.{In, Contains-from_In, from_map}
 use Rattle.graph_order.proofs.Marked.{at_contains}
 use Rattle.icg_rewrite.specs.Gated.{AreGated, IsGateOf, IsBelowIfAny}
 use Rattle.icg_rewrite.specs.declared.clock_gates.ClockGate.{ClockGate}

@@ -8,3 +8,4 @@ pub mod Rows
 pub mod Made
 pub mod Nets
 pub mod Stages
+pub mod Limits

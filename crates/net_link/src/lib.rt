@@ -6,6 +6,7 @@
 //!
 //! - `ports.rt`: the ports of the top module and what is set at them: its data inputs and outputs by name, and the inputs that
 //!   are given a value, by their places (`specs/Ports.antt`, in the words of `link_defs`, also why they are refused).
+//! - `limits.rt`: a module of more inputs or outputs than a design may have is refused before they are named.
 //! - `designs.rt`: from a circuit and its design to the design with its clock gates: in which order these are named, which nets
 //!   are their enables, behind which of them each register stands, and which number each net has in the rewritten design, where
 //!   the output of a clock gate has that of its enable (`specs/Made.antt`, by `IsGatedOf` of `link_defs`). A design without
@@ -21,6 +22,7 @@ mod enables;
 mod gate_nets;
 mod given;
 mod inputs;
+mod limits;
 mod links;
 mod nets;
 mod numbers;

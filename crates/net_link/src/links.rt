@@ -20,6 +20,7 @@ ghost use Rattle.net_link.specs.Stages.{AreInner, IsFitting, IsFlatCircuit};
 use crate::cells::cell_names;
 use crate::circuits::{enabled_design, flat_circuit, made_design};
 use crate::designs::{GatedDesign, gated_of};
+use crate::limits::check_bits;
 use crate::nets::net_names;
 use crate::ports::{TopPorts, top_ports};
 use cell_types::Library;
@@ -155,7 +156,9 @@ fn link_below(
     ensures err { IfErr result (IsCause netlist.now.source.now netlist.now.library.now options.now) }
     ensures none { OnOk result (IsFaultless netlist.now.source.now netlist.now.library.now options.now) }
 {
-    let ports = top_ports(alloc, netlist.source.modules.item(top), options)?;
+    let body = netlist.source.modules.item(top);
+    check_bits(alloc, body, &options.clock)?;
+    let ports = top_ports(alloc, body, options)?;
     let c = flat_circuit(alloc, netlist, top, &options.clock)?;
     named_design(alloc, netlist, top, options, &c, ports)
 }

@@ -1,1 +1,3 @@
+mod Filling
+mod Widening
 pub mod Worked

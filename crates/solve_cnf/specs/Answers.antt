@@ -1,13 +1,13 @@
 -- What is told of a formula, in the form of the SAT competitions.
-use Rattle.std.specs.Prelude.{◌≡◌, ℕ, ◌+◌, ◌-◌, Bool, if◌then◌else◌, List, ◌++◌, length, codes, string_bytes}
+use Rattle.std.specs.Prelude.{◌≡◌, ℕ, ◌+◌, ◌-◌, Bool, false, if◌then◌else◌, List, ◌++◌, length, replicate, codes}
 use Rattle.std.specs.Fmt.{decimal}
 use Rattle.sdcv_base.specs.Seqs.{each_at}
 use Rattle.proof_log.specs.declared.formulas.Formula.{Formula}
+use Rattle.dimacs_text.specs.declared.headed.Headed.{Headed}
 use Rattle.sat_solver.specs.declared.counts.Counts.{Counts}
 use Rattle.sat_solver.specs.declared.solving.Answer.{Answer}
 use Rattle.sat_solver.specs.declared.solving.Answer.TheVariants.{Sat, Unsat, Spent}
 use Rattle.sat_solver.specs.Answers.{IsAnswer}
-use Rattle.solve_cnf.specs.declared.answers.Told.{Told}
 
 -- what the search did, in lines of comment
 abbrev pub counts_text : Counts → List ℕ
@@ -41,11 +41,25 @@ status_of (Sat model) = 10
 status_of (Unsat derivation) = 20
 status_of (Spent log) = 0
 
+-- the formula over all variables of its header
+abbrev pub whole : Headed → Formula
+whole read = record { vars = read.vars; clauses = read.formula.clauses }
+
+-- values of so many variables, of which the last ones are false
+abbrev pub filled : ℕ → List Bool → List Bool
+filled vars values = values ++ replicate (vars - length values) false
+
+-- an answer where a model is of so many variables
+abbrev pub widened : ℕ → Answer → Answer
+widened vars (Sat model) = Sat (record { values = filled vars model.values })
+widened vars (Unsat derivation) = Unsat derivation
+widened vars (Spent log) = Spent log
+
 -- an answer that is right is told, with its status: the literals are those of a model, and a formula is told unsatisfiable where a
 -- derivation refutes it
-pub record Tells (formula : Formula) (budget : ℕ) (told : Told) : Type 0 where
+pub record Tells (formula : Formula) (budget : ℕ) (told : List ℕ) (status : ℕ) : Type 0 where
   pub counts : Counts
   pub answer : Answer
   pub right : IsAnswer formula budget answer
-  pub text : string_bytes told.text ≡ counts_text counts ++ answer_text answer
-  pub status : told.status ≡ status_of answer
+  pub text : told ≡ counts_text counts ++ answer_text answer
+  pub code : status ≡ status_of answer

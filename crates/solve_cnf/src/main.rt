@@ -12,16 +12,15 @@ mod answers;
 mod tests;
 
 ghost use Rattle.std.specs.Prelude.{IfOk};
-ghost use Rattle.proof_log.specs.Formulas.{IsFormula};
+ghost use Rattle.dimacs_text.specs.Texts.{IsHeaded};
 
 use anyhow::{Context, bail};
-use dimacs_text::read_dimacs;
-use proof_log::Formula;
+use dimacs_text::{Headed, read_dimacs};
 use sdcv_base::read_decimal;
-use std::env;
-use std::io::{BufReader, Read};
+use std::io::{BufReader, BufWriter, Read, Write};
 use std::process::ExitCode;
 use std::rt::Env;
+use std::{env, io};
 
 fn main(rt: HostRuntime) -> ExitCode {
     match run(&rt) {
@@ -36,10 +35,10 @@ fn main(rt: HostRuntime) -> ExitCode {
 fn run(rt: &HostRuntime) -> anyhow::Result<ExitCode> {
     let budget = budget(rt)?;
     let formula = formula(rt)?;
-    let told = answers::solved(rt.alloc(), &formula, budget)?;
-    let text = told.text.as_str();
-    print!(rt; "{text}")?;
-    Ok(ExitCode::from(told.status))
+    let mut out = BufWriter::new(rt.alloc(), io::writer(rt))?;
+    let status = answers::solved(rt.alloc(), &formula, budget, &mut out)?;
+    out.flush()?;
+    Ok(ExitCode::from(status))
 }
 
 /// The budget, from the one word of the command.
@@ -53,8 +52,8 @@ fn budget(rt: &HostRuntime) -> anyhow::Result<u64> {
 }
 
 /// The formula that standard input holds.
-fn formula(rt: &HostRuntime) -> anyhow::Result<Formula>
-    ensures { IfOk result IsFormula }
+fn formula(rt: &HostRuntime) -> anyhow::Result<Headed>
+    ensures { IfOk result IsHeaded }
 {
     let alloc = rt.alloc();
     let mut text = Vec::new(alloc);

@@ -1,13 +1,25 @@
-use crate::answers::{Told, solved};
+use crate::answers::solved;
 use dimacs_text::read_dimacs;
 use std::alloc::Global;
 use std::test::Fail;
 
+// What is printed, and the status.
+#[derive(Drop)]
+struct Printed {
+    text: String,
+    status: u8,
+}
+
 // The text told of a text, or why it is none.
-fn told(alloc: Global, text: &str, budget: u64) -> Result<Told, Fail> {
+fn told(alloc: Global, text: &str, budget: u64) -> Result<Printed, Fail> {
     match read_dimacs(alloc, text.as_bytes()) {
-        Ok(formula) => Ok(solved(alloc, &formula, budget)?),
-        Err(fault) => Ok(Told {
+        Ok(read) => {
+            let mut out = Vec::new(alloc);
+            let status = solved(alloc, &read, budget, &mut out)?;
+            let text = String::from_utf8(out)?;
+            Ok(Printed { text, status })
+        }
+        Err(fault) => Ok(Printed {
             text: format!(in alloc; "{fault}")?,
             status: 1,
         }),
@@ -61,6 +73,18 @@ const ANSWERED: &[(&str, u64, u8, &str)] = &[
         9,
         20,
         "c conflicts 1\nc propagations 0\nc clauses learnt 0\nc steps 1\ns UNSATISFIABLE\n",
+    ),
+    (
+        "p cnf 5 1\n3 0\n",
+        0,
+        10,
+        "c conflicts 0\nc propagations 1\ns SATISFIABLE\nv -1 -2 3 -4 -5 0\n",
+    ),
+    (
+        "p cnf 2147483647 2\n1 0\n-1 0\n",
+        0,
+        20,
+        "c conflicts 1\nc propagations 1\nc clauses learnt 0\nc steps 1\ns UNSATISFIABLE\n",
     ),
     (
         THREE_PIGEONS,

@@ -1,4 +1,4 @@
-use Rattle.std.proofs.Common.{◌≡◌, ◌^◌, ◌-◌, ℕ, Option, Some, None, ap, sym, refl, ◌∙◌}
+use Rattle.std.proofs.Common.{◌^◌, ◌-◌, ℕ, Option, Some, None, ap, sym, ◌∙◌}
 use Rattle.dimacs_text.specs.Tokens.{header_if, decimal_of}
 use Rattle.dimacs_text.proofs.Decimals.{read_is, header_same}
 use Rattle.dimacs_text.proofs.tokens.counts.Goals as goal

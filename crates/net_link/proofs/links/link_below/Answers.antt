@@ -6,24 +6,42 @@ use Rattle.link_defs.specs.Flatten.{flat_of}
 use Rattle.link_items.specs.Items.{module_at}
 use Rattle.link_items.proofs.Pinned.{port_bits, lawful_at}
 use Rattle.link_circuit.proofs.Finding.{module_is}
+use Rattle.net_link.specs.Limits.{IsBitCause}
 use Rattle.net_link.specs.Ports.{AreTopPorts, IsPortCause}
 use Rattle.net_link.specs.Stages.{IsFitting}
-use Rattle.net_link.proofs.Causing.{cause_of, port_cause}
+use Rattle.net_link.proofs.Causing.{cause_of, bit_cause, port_cause}
 use Rattle.net_link.proofs.Joining.{top_within}
 use Rattle.net_link.proofs.Staging.{top_is}
 use Rattle.net_link.proofs.links.link_below.Goals as goal
 
-pub item-requires : goal.item-requires
-item-requires c = top_within c.args.netlist.now.source.now c.args.top c.requires.top
+pub item-body-requires : goal.item-body-requires
+item-body-requires c = top_within c.args.netlist.now.source.now c.args.top c.requires.top
 
 pub top_ports-requires-clause-bits : goal.top_ports-requires-clause-bits
 top_ports-requires-clause-bits c =
     let s = c.args.netlist.now.source.now in
-    port_bits s c.item.result.now (lawful_at s c.args.netlist.now.lawful_source c.args.top c.item.result.now c.item.ensures)
+    port_bits s c.item-body.result.now (lawful_at s c.args.netlist.now.lawful_source c.args.top c.item-body.result.now c.item-body.ensures)
+
+pub check_bits-requires : goal.check_bits-requires
+check_bits-requires c =
+    let s = c.args.netlist.now.source.now in
+    port_bits s c.item-body.result.now (lawful_at s c.args.netlist.now.lawful_source c.args.top c.item-body.result.now c.item-body.ensures)
+
+pub returns-in_err-check_bits-clause-err : goal.returns-in_err-check_bits-clause-err
+returns-in_err-check_bits-clause-err c =
+    let p = err_from_is_err_and c.from_residual.result c.from_residual.ensures.1 in
+    let s = c.args.netlist.now.source.now in
+    let lib = c.args.netlist.now.library.now in
+    let o = c.args.options.now in
+    let top = module_at s c.args.top in
+    let e = c.in_err-check_bits.field-0.0 in
+    rw (p.1, p.2) (cause_of s lib o top e (top_is s c.args.top c.requires.top)
+    (bit_cause s lib o top e
+    (subst (λ (m : Module). IsBitCause m o.clock e) (module_is s c.args.top c.item-body.result.now c.item-body.ensures) c.in_err-check_bits.ensures.err)))
 
 pub returns-in_err-ports-clause-err : goal.returns-in_err-ports-clause-err
 returns-in_err-ports-clause-err c =
-    let p = err_from_is_err_and c.from_residual.result c.from_residual.ensures.1 in
+    let p = err_from_is_err_and c.from_residual-in_err-ports.result c.from_residual-in_err-ports.ensures.1 in
     let s = c.args.netlist.now.source.now in
     let lib = c.args.netlist.now.library.now in
     let o = c.args.options.now in
@@ -31,7 +49,7 @@ returns-in_err-ports-clause-err c =
     let e = c.in_err-ports.field-0.0 in
     rw (p.1, p.2) (cause_of s lib o top e (top_is s c.args.top c.requires.top)
     (port_cause s lib o top (flat_of s lib top) (circuit_of s lib top o.clock) e
-    (subst (λ (m : Module). IsPortCause m o e) (module_is s c.args.top c.item.result.now c.item.ensures) c.in_err-ports.ensures.err)))
+    (subst (λ (m : Module). IsPortCause m o e) (module_is s c.args.top c.item-body.result.now c.item-body.ensures) c.in_err-ports.ensures.err)))
 
 pub flat_circuit-requires : goal.flat_circuit-requires
 flat_circuit-requires c = record { top = top_within c.args.netlist.now.source.now c.args.top c.requires.top }
@@ -49,9 +67,9 @@ returns-in_err-c-clause-err c =
 pub named_design-requires-clause-ports : goal.named_design-requires-clause-ports
 named_design-requires-clause-ports c =
     subst (λ (m : Module). AreTopPorts m c.args.options.now c.in_ok-ports.ports)
-    (module_is c.args.netlist.now.source.now c.args.top c.item.result.now c.item.ensures) c.in_ok-ports.ensures.ok
+    (module_is c.args.netlist.now.source.now c.args.top c.item-body.result.now c.item-body.ensures) c.in_ok-ports.ensures.ok
 
 pub named_design-requires-clause-fitting : goal.named_design-requires-clause-fitting
 named_design-requires-clause-fitting c =
-    let fitting : IsFitting c.item.result.now c.args.options.now = record { ports = c.in_ok-ports.ensures.names; settings = c.in_ok-ports.ensures.settings } in
-    subst (λ (m : Module). IsFitting m c.args.options.now) (module_is c.args.netlist.now.source.now c.args.top c.item.result.now c.item.ensures) fitting
+    let fitting : IsFitting c.item-body.result.now c.args.options.now = record { ports = c.in_ok-ports.ensures.names; settings = c.in_ok-ports.ensures.settings } in
+    subst (λ (m : Module). IsFitting m c.args.options.now) (module_is c.args.netlist.now.source.now c.args.top c.item-body.result.now c.item-body.ensures) fitting

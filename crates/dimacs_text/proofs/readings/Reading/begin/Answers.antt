@@ -9,4 +9,4 @@ returns-in-Header-clause-ok c =
     let r = c.of.result in
     rw c.in-Header.is (read_by ((c.args.line, Header c.in-Header.vars c.in-Header.told) ∷ []) r _ c.of.ensures.header
     (read_first c.in-Header.vars c.in-Header.told c.args.line r (subst IsFew c.in-Header.is c.requires.few) c.of.ensures.clauses c.of.ensures.count
-    c.of.ensures.begun))
+    c.of.ensures.begun c.of.ensures.greatest))

@@ -1,4 +1,4 @@
-use Rattle.std.proofs.Common.{◌≡◌, ◌++◌, [], ◌∷◌, List, ℕ, arith, ap, refl, ◌∙◌}
+use Rattle.std.proofs.Common.{◌++◌, [], ◌∷◌, ℕ, arith, ap, refl, ◌∙◌}
 use Rattle.dimacs_text.specs.Readings.{IsRead, IsEnded}
 use Rattle.dimacs_text.specs.declared.tokens.Token.TheVariants.{Number}
 use Rattle.dimacs_text.proofs.Taking.{read_literal, read_end, read_by, on_ok}
@@ -23,4 +23,4 @@ returns-clause-ok c placed line so =
     let more = placed ++ (line, Number c.args.positive c.args.var) ∷ [] in
     read_by more _ c.args.counts c.requires.header
     (read_literal c.args.counts.vars c.args.counts.told line c.args.positive c.args.var placed old _ c.requires.within c.if-var-eq0.false refl refl
-    (c.in_ok-push.ensures.items ∙ ap (λ (l : ℕ). old.begun.items ++ l ∷ []) c.new.ensures) so)
+    (c.in_ok-push.ensures.items ∙ ap (λ (l : ℕ). old.begun.items ++ l ∷ []) c.new.ensures) c.max-self.ensures so)

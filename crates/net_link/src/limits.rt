@@ -1,0 +1,35 @@
+//! Limits of the ports of the top module.
+ghost use Rattle.std.specs.Prelude.{◌<◌, All, length, IfErr, OnOk};
+ghost use Rattle.net_model.specs.Netlist.{AllBelow};
+ghost use Rattle.netlist_types.specs.declared.sources.Port.{Port as PortRecord};
+ghost use Rattle.net_link.specs.Limits.{HasFewBits, IsBitCause};
+
+use link_circuit::port_nets;
+use linked_types::LinkFault;
+use net_model::MOST_OUTPUTS;
+use netlist_types::Module;
+use sdcv_base::{LimitName, Name};
+use std::alloc::Global;
+
+/// As many data inputs as a design may have.
+const MOST_LINKED_INPUTS: usize = 2_000;
+
+/// Refuses a module of more data inputs or outputs than a design may have, before a bit of them is named.
+pub(crate) fn check_bits(
+    alloc: Global,
+    body: &Module,
+    clock: &Option<Name>,
+) -> Result<(), LinkFault>
+    requires { All (λ (p : PortRecord). AllBelow (length body.now.nets) p.bits) body.now.ports }
+    ensures ok { OnOk result (HasFewBits body.now clock.now) }
+    ensures err { IfErr result (IsBitCause body.now clock.now) }
+{
+    let nets = port_nets(alloc, body, clock)?;
+    if nets.inputs.len() > MOST_LINKED_INPUTS {
+        return Err(LinkFault::Limit(LimitName::Inputs, 2_001));
+    }
+    if nets.outputs.len() > MOST_OUTPUTS {
+        return Err(LinkFault::Limit(LimitName::Outputs, 20_001));
+    }
+    Ok(())
+}
