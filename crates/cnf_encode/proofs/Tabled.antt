@@ -55,6 +55,24 @@ code-opposite keys l = by_sign l.positive where
       let less : 2 * number_of keys l.key ≡ 2 * number_of keys l.key + 1 - 1 = omega arith in
       less ∙ sym (negated_odd (2 * number_of keys l.key + 1) odd)
 
+-- a key's code, or its complement
+pub signed_code : (keys : List Key) (k : Key) (code : ℕ) (b : Bool) → IsCode keys (lit true k) code → HasKey keys (lit true k)
+    → cond b code (negated code) ≡ code_of keys (lit b k)
+signed_code keys k code true is has = is has
+signed_code keys k code false is has = ap negated (is has) ∙ sym (code-opposite keys (lit true k))
+
+-- the code of the rail that says that the output may have a value
+pub rail_code : (keys : List Key) (high low : KeyLit) (h l : ℕ) (b : Bool) → IsCode keys high h → IsCode keys low l
+    → HasKey keys (may_be b high low) → cond b h l ≡ code_of keys (may_be b high low)
+rail_code keys high low h l true of_high of_low has = of_high has
+rail_code keys high low h l false of_high of_low has = of_low has
+
+-- and of its complement
+pub not_rail_code : (keys : List Key) (high low : KeyLit) (h l : ℕ) (b : Bool) → IsCode keys high h → IsCode keys low l
+    → HasKey keys (opposite (may_be b high low)) → negated (cond b h l) ≡ code_of keys (opposite (may_be b high low))
+not_rail_code keys high low h l b of_high of_low has =
+    ap negated (rail_code keys high low h l b of_high of_low has) ∙ sym (code-opposite keys (may_be b high low))
+
 -- the codes of complements
 pub AreCodes-opposite : (keys : List Key) (ls : List KeyLit) (codes : List ℕ) → AreCodes keys ls codes
     → AreCodes keys (map opposite ls) (map negated codes)

@@ -1,5 +1,6 @@
 //! Literals over keys as literals over the numbers of these keys.
-ghost use Rattle.std.specs.Prelude.{◌≡◌, map, All, IfOk};
+ghost use Rattle.std.specs.Prelude.{◌≡◌, map, All, IfOk, if◌then◌else◌};
+ghost use Rattle.proof_log.specs.Literals.{negated};
 ghost use Rattle.query_model.specs.Variables.{code_of};
 ghost use Rattle.cnf_encode.specs.Coded.{HasKey, AreCodes, IsCode};
 
@@ -41,7 +42,7 @@ pub fn known_codes(
 }
 
 /// The literal of the number of this literal's key, or any literal where the key has no number.
-fn known_code(frames: &Frames, l: &KeyLit) -> Lit
+pub fn known_code(frames: &Frames, l: &KeyLit) -> Lit
     ensures { IsCode frames.now l.now result }
 {
     match frames.number(&l.key) {
@@ -51,6 +52,13 @@ fn known_code(frames: &Frames, l: &KeyLit) -> Lit
             Lit::new(number, l.positive)
         }
     }
+}
+
+/// The literal, or where not positive its complement.
+pub fn signed(lit: Lit, positive: bool) -> Lit
+    ensures { result ≡ (if positive then lit else negated lit) }
+{
+    if positive { lit } else { lit.negated() }
 }
 
 /// The literal of the number of this literal's key.

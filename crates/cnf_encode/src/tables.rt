@@ -1,21 +1,22 @@
 //! The clauses by which a function of what its places read defines a key, or the two keys of its rails.
-ghost use Rattle.std.specs.Prelude.{◌≡◌, [], ◌∷◌, ◌++◌, true, map, length, OnOk};
+ghost use Rattle.std.specs.Prelude.{◌≡◌, [], ◌∷◌, ◌++◌, true, map, length, IfOk, OnOk, if◌then◌else◌};
 ghost use Rattle.query_model.specs.Keys.{lit};
-ghost use Rattle.query_model.specs.Tables.{may_be, plain_clauses};
+ghost use Rattle.query_model.specs.Tables.{plain_clauses};
 ghost use Rattle.cnf_encode.specs.CellLists.{AreWide};
 ghost use Rattle.cnf_encode.specs.Coded.{HasKeys, Adds, AddsNormals};
 ghost use Rattle.cnf_encode.specs.Chosen.{chosen};
-ghost use Rattle.cnf_encode.specs.Railed.{may_be_so, must_be_so, rail_clauses};
+ghost use Rattle.cnf_encode.specs.Railed.{may_be_so, must_be_so, rail_clauses, AreRailCodes};
 
 use crate::chosen_lits::{complements, cube_lits};
 use crate::clauses::{lit, push_normal};
-use crate::codes::{code, known_codes};
+use crate::codes::{known_code, known_codes, signed};
 use frame_unroll::Frames;
 use net_model::Tern;
 use prime_cubes::Cell;
 use proof_log::{ClauseTable, Lit};
 use query_model::{Cube, Key, KeyLit};
 use sdcv_base::Seq;
+use smallvec::SmallVec;
 use std::alloc::{AllocError, Global};
 
 /// What the places of a function may be on each rail, and the keys by which its output may be 1 and may be 0.
@@ -42,8 +43,9 @@ pub fn push_plain(
 {
     let zeros = known_codes(alloc, frames, reads.as_slice())?;
     let ones = complements(alloc, zeros.as_slice())?;
+    let defined = known_code(frames, &lit(true, out));
     for cube in cubes {
-        let value = code(frames, &lit(cube.value, out));
+        let value = signed(defined, cube.value);
         push_cube(
             alloc,
             zeros.as_slice(),
@@ -54,6 +56,27 @@ pub fn push_plain(
         )?;
     }
     Ok(())
+}
+
+/// The literals of the numbers of what the places of a function may be on each rail, and of the two keys.
+#[derive(Drop)]
+pub struct RailCodes {
+    pub highs: SmallVec<Lit, 8>,
+    pub lows: SmallVec<Lit, 8>,
+    pub high: Lit,
+    pub low: Lit,
+}
+
+/// These literals. Each key is looked up once.
+fn rail_codes(alloc: Global, frames: &Frames, rails: &Rails) -> Result<RailCodes, AllocError>
+    ensures { IfOk result (AreRailCodes frames.now rails.now) }
+{
+    Ok(RailCodes {
+        highs: known_codes(alloc, frames, rails.highs.as_slice())?,
+        lows: known_codes(alloc, frames, rails.lows.as_slice())?,
+        high: known_code(frames, &lit(true, rails.high)),
+        low: known_code(frames, &lit(true, rails.low)),
+    })
 }
 
 /// Adds the clauses by which an output may be 1 and may be 0: for each cube of the first kind some place that it fixes cannot
@@ -72,8 +95,9 @@ pub fn push_rails(
     requires keys { HasKeys frames.now (rail_clauses rails.now cell.now) }
     ensures { OnOk result (Adds frames.now (rail_clauses rails.now cell.now) clauses.old clauses.new) }
 {
-    push_may(alloc, frames, rails, cell.covering(), clauses)?;
-    push_must(alloc, frames, rails, cell.settling(), clauses)
+    let codes = rail_codes(alloc, frames, rails)?;
+    push_may(alloc, frames, rails, &codes, cell.covering(), clauses)?;
+    push_must(alloc, frames, rails, &codes, cell.settling(), clauses)
 }
 
 /// Adds the clauses of what the output may be.
@@ -81,20 +105,20 @@ fn push_may(
     alloc: Global,
     frames: &Frames,
     rails: &Rails,
+    codes: &RailCodes,
     cubes: &[Cube],
     clauses: &mut ClauseTable,
 ) -> Result<(), AllocError>
     requires long { length rails.now.lows.now ≡ length rails.now.highs.now }
+    requires codes { AreRailCodes frames.now rails.now codes.now }
     requires wide { AreWide (length rails.now.highs.now) cubes.now }
     requires keys { HasKeys frames.now (map (may_be_so rails.now) cubes.now) }
     ensures { OnOk result (Adds frames.now (map (may_be_so rails.now) cubes.now) clauses.old clauses.new) }
 {
-    let highs = known_codes(alloc, frames, rails.highs.as_slice())?;
-    let lows = known_codes(alloc, frames, rails.lows.as_slice())?;
-    let zeros = complements(alloc, lows.as_slice())?;
-    let ones = complements(alloc, highs.as_slice())?;
+    let zeros = complements(alloc, codes.lows.as_slice())?;
+    let ones = complements(alloc, codes.highs.as_slice())?;
     for cube in cubes {
-        let may = code(frames, &lit(true, rail(cube.value, rails.high, rails.low)));
+        let may = rail_of(cube.value, codes);
         push_cube(
             alloc,
             zeros.as_slice(),
@@ -112,25 +136,22 @@ fn push_must(
     alloc: Global,
     frames: &Frames,
     rails: &Rails,
+    codes: &RailCodes,
     cubes: &[Cube],
     clauses: &mut ClauseTable,
 ) -> Result<(), AllocError>
     requires long { length rails.now.lows.now ≡ length rails.now.highs.now }
+    requires codes { AreRailCodes frames.now rails.now codes.now }
     requires wide { AreWide (length rails.now.highs.now) cubes.now }
     requires keys { HasKeys frames.now (map (must_be_so rails.now) cubes.now) }
     ensures { OnOk result (Adds frames.now (map (must_be_so rails.now) cubes.now) clauses.old clauses.new) }
 {
-    let zeros = known_codes(alloc, frames, rails.highs.as_slice())?;
-    let ones = known_codes(alloc, frames, rails.lows.as_slice())?;
     for cube in cubes {
-        let cannot = code(
-            frames,
-            &lit(false, rail(!cube.value, rails.high, rails.low)),
-        );
+        let cannot = rail_of(!cube.value, codes).negated();
         push_cube(
             alloc,
-            zeros.as_slice(),
-            ones.as_slice(),
+            codes.highs.as_slice(),
+            codes.lows.as_slice(),
             cube.fixed.as_slice(),
             cannot,
             clauses,
@@ -139,11 +160,11 @@ fn push_must(
     Ok(())
 }
 
-/// The rail that says that the output may have this value.
-fn rail(value: bool, high: Key, low: Key) -> Key
-    ensures { lit true result ≡ may_be value (lit true high) (lit true low) }
+/// The literal of the rail that says that the output may have this value.
+fn rail_of(value: bool, codes: &RailCodes) -> Lit
+    ensures { result ≡ (if value then codes.now.high else codes.now.low) }
 {
-    if value { high } else { low }
+    if value { codes.high } else { codes.low }
 }
 
 /// Adds the clause of a cube: some place that is fixed has the other bit, or the last literal is true.

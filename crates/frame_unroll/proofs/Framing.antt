@@ -1,7 +1,7 @@
 -- A key's number is its place in a list, and 1 more.
-use Rattle.std.proofs.Common.{◌≡◌, ℕ, zero, suc, ◌+◌, ◌-◌, Bool, true, false, not, cond, List, [], ◌∷◌, length, slice_get, Some, None, refl, ap, sym}
-use Rattle.std.proofs.Common.{subst, ◌∙◌, arith, nat_lt, nat_eq}
-use Rattle.std.specs.Prelude.{◌&&◌, ◌||◌, position}
+use Rattle.std.proofs.Common.{◌≡◌, ℕ, zero, suc, ◌+◌, ◌-◌, Bool, true, false, not, cond, List, [], ◌∷◌, slice_get, Some, None, refl, ap, sym}
+use Rattle.std.proofs.Common.{subst, ◌∙◌, arith, nat_eq}
+use Rattle.std.specs.Prelude.{◌&&◌, ◌||◌}
 use Rattle.std.specs.List.{position_or_len, AllByRecursion, IsDistinct}
 use Rattle.std.proofs.lemmas.Bool.{or_left, or_right, cond-true, cond-false}
 use Rattle.query_model.specs.Formula.{same_key, has_key}
@@ -26,12 +26,6 @@ same_key-turned a b =
 next_place : (p : ℕ) → p + 1 ≡ 1 + p
 next_place p = omega arith
 
-later_less : (a b : ℕ) → nat_lt a b ≡ nat_lt (1 + a) (suc b)
-later_less a b = grind arith
-
-first_less : (n : ℕ) → true ≡ nat_lt 0 (suc n)
-first_less n = grind arith
-
 number_place : (keys : List Key) (k : Key) → number_of keys k ≡ position_or_len (same_key k) keys + 1
 number_place [] k = refl
 number_place (j ∷ js) k = by (same_key j k) (same_key k j) (same_key-turned j k) (number_place js k)
@@ -42,27 +36,6 @@ number_place (j ∷ js) k = by (same_key j k) (same_key k j) (same_key-turned j 
     by true false e rest = absurd cc
     by false true e rest = absurd cc
     by false false e rest = ap (λ (n : ℕ). n + 1) (rest ∙ next_place (position_or_len (same_key k) js))
-
-place_had : (keys : List Key) (k : Key) → has_key keys k ≡ nat_lt (position_or_len (same_key k) keys) (length keys)
-place_had [] k = refl
-place_had (j ∷ js) k = by (same_key k j) (place_had js k)
-  where
-    by : (y : Bool) → has_key js k ≡ nat_lt (position_or_len (same_key k) js) (length js) → (y || has_key js k) ≡ nat_lt
-        (cond (not y) (1 + position_or_len (same_key k) js) 0) (length (j ∷ js))
-    by true rest = first_less (length js)
-    by false rest = rest ∙ later_less (position_or_len (same_key k) js) (length js)
-
--- what a search for the key finds
-pub number-found : (keys : List Key) (k : Key) (place : ℕ) → position (same_key k) keys ≡ Some place → number_if_any keys k ≡ Some (place + 1)
-number-found keys k place found = by (has_key keys k) (nat_lt (position_or_len (same_key k) keys) (length keys)) (place_had keys k) found
-  where
-    by : (x y : Bool) → x ≡ y → cond y (Some (position_or_len (same_key k) keys)) None ≡ Some place → cond x (Some (number_of keys k)) None ≡ Some (place + 1)
-    by true true e at =
-        let here : position_or_len (same_key k) keys ≡ place = cc in
-        ap Some (number_place keys k ∙ ap (λ (n : ℕ). n + 1) here)
-    by true false e at = absurd cc
-    by false true e at = absurd cc
-    by false false e at = absurd cc
 
 -- a key that is there stands at its number
 pub key-numbered : (keys : List Key) (k : Key) (n : ℕ) → number_if_any keys k ≡ Some n → key_of keys n ≡ Some k
@@ -75,7 +48,7 @@ key-numbered keys k n found = by (has_key keys k) refl found
         ap (key_of keys) next ∙ at_number keys k (In-from_Contains keys k (Contains-list_any same_key same_key-true keys k has))
     by false has is = absurd cc
 
-other_key : (j k : Key) (js : List Key) (i : ℕ) → AllByRecursion (λ y. same_key j y ≡ false) js → slice_get js i ≡ Some k → same_key j k ≡ false
+pub other_key : (j k : Key) (js : List Key) (i : ℕ) → AllByRecursion (λ y. same_key j y ≡ false) js → slice_get js i ≡ Some k → same_key j k ≡ false
 other_key j k [] i apart at = absurd cc
 other_key j k (x ∷ xs) zero apart at = let is : x ≡ k = cc in subst (λ y. same_key j y ≡ false) is apart.0
 other_key j k (x ∷ xs) (suc i) apart at = other_key j k xs i apart.1 at

@@ -27,3 +27,5 @@ mod KeyOrder
 mod Needed
 pub mod Asking
 pub mod Bounded
+mod KeyPages
+mod KeySets

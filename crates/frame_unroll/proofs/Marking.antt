@@ -1,23 +1,21 @@
 -- What counts of what is read at a site in a layer.
-use Rattle.std.proofs.Common.{◌≡◌, ◌∙◌, ℕ, ◌+◌, Bool, true, false, cond, Option, Some, None, List, [], ◌∷◌, ◌++◌, length, ap, subst, sym}
+use Rattle.std.proofs.Common.{◌≡◌, ◌∙◌, ℕ, Bool, true, false, cond, Some, None, List, [], ◌∷◌, ◌++◌, length, ap, subst, sym}
 use Rattle.std.specs.Prelude.{slice_get}
-use Rattle.net_model.specs.Form.{value}
 use Rattle.net_model.specs.Cycles.{reg_capture}
 use Rattle.net_model.specs.declared.netlist.Design.{Design}
-use Rattle.net_model.specs.declared.netlist.Gate.{Gate}
 use Rattle.net_model.specs.declared.netlist.Reg.{Reg}
 use Rattle.net_model.specs.declared.claims.Claim.{Claim}
 use Rattle.query_model.specs.Keys.{lit}
-use Rattle.query_model.specs.Defined.{gate_reads, reg_reads}
+use Rattle.query_model.specs.Defined.{reg_reads}
 use Rattle.query_model.specs.declared.keys.KeyLit.{KeyLit}
-use Rattle.frame_unroll.specs.Counted.{gate_marks, reg_marks}
+use Rattle.frame_unroll.specs.Counted.{reg_marks}
 use Rattle.frame_unroll.specs.Tabled.{CodedDesign}
 use Rattle.frame_unroll.specs.Origins.{on_rails}
 use Rattle.frame_unroll.specs.Found.{marked_rail, marked_low, marked_rails}
-use Rattle.frame_unroll.specs.Sites.{both_rails, gate_rail, late_gate_site, own_sign, reg_rail, late_reg_site, counted_rail}
+use Rattle.frame_unroll.specs.Sites.{both_rails, own_sign, reg_rail, late_reg_site, counted_rail}
 use Rattle.frame_unroll.specs.declared.sites.Rail.{Rail}
 use Rattle.frame_unroll.specs.declared.sites.Site.{Site}
-use Rattle.frame_unroll.proofs.Tabled.{gate_long, gate_counted, reg_long, reg_counted, length-gate_reads, length-reg_reads}
+use Rattle.frame_unroll.proofs.Tabled.{reg_long, reg_counted, length-reg_reads}
 
 -- there are as many marks as literals on each rail
 pub record AreLong (marks : List Bool) (site : Site) : Type 0 where
@@ -41,28 +39,6 @@ rails_marked marks claim high low f site is first second = ap (marked_rails mark
     by : (h : Bool) → marked_rail marks high ++ marked_low marks (cond h (Some low) None) ≡ f 0 ++ cond h (f 1) []
     by true = ap (λ (ls : List KeyLit). ls ++ marked_rail marks low) first ∙ ap (λ (ls : List KeyLit). f 0 ++ ls) second
     by false = ap (λ (ls : List KeyLit). ls ++ []) first
-
--- of a gate
-pub gate_longs : (t : CodedDesign) (d : Design) (claim : Claim) (moved : List (List Bool)) (c layer k : ℕ) (g : Gate) (marks : List Bool) (site : Site)
-    → t.design ≡ d → slice_get d.gates k ≡ Some g → ((h : Gate) → slice_get t.design.gates k ≡ Some h → marks ≡ gate_marks t.coding h)
-    → site ≡ late_gate_site d claim moved c layer k g → AreLong marks site
-gate_longs t d claim moved c layer k g marks site same at says is =
-    let long : (rail : ℕ) → length marks ≡ length (gate_reads d claim moved c layer rail k g) =
-    λ rail. gate_long t d k g marks (gate_reads d claim moved c layer rail k g)
-    same at says (length-gate_reads d claim moved c layer rail k g) in
-    rails_long marks claim (gate_rail d claim moved c layer 0 k g) (gate_rail d claim moved c layer 1 k g) site is (long 0) (long 1)
-
-pub gate_marked : (t : CodedDesign) (d : Design) (claim : Claim) (moved : List (List Bool)) (c layer k : ℕ) (g : Gate) (marks : List Bool) (site : Site)
-    → t.design ≡ d → slice_get d.gates k ≡ Some g → ((h : Gate) → slice_get t.design.gates k ≡ Some h → marks ≡ gate_marks t.coding h)
-    → site ≡ late_gate_site d claim moved c layer k g
-    → marked_rails marks site ≡ on_rails claim (λ rail. counted_rail t.coding (value g.func) (gate_rail d claim moved c layer rail k g))
-gate_marked t d claim moved c layer k g marks site same at says is =
-    let counts : (rail : ℕ) → marked_rail marks (gate_rail d claim moved c layer rail k g)
-    ≡ counted_rail t.coding (value g.func) (gate_rail d claim moved c layer rail k g) =
-    λ rail. ap (λ (ls : List KeyLit). ls ++ lit true (gate_rail d claim moved c layer rail k g).out ∷ [])
-    (gate_counted t d k g marks (gate_reads d claim moved c layer rail k g) same at says (length-gate_reads d claim moved c layer rail k g)) in
-    rails_marked marks claim (gate_rail d claim moved c layer 0 k g) (gate_rail d claim moved c layer 1 k g)
-    (λ rail. counted_rail t.coding (value g.func) (gate_rail d claim moved c layer rail k g)) site is (counts 0) (counts 1)
 
 -- of a late capture
 pub reg_longs : (t : CodedDesign) (d : Design) (claim : Claim) (moved : List (List Bool)) (c r : ℕ) (reg : Reg) (marks : List Bool) (site : Site)

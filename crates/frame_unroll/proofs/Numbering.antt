@@ -25,3 +25,17 @@ numbered-take f xs i x at =
     let more = take_at xs i x at in
     let place : 0 + length (take i xs) ≡ i = omega (arith, more.1) in
     ap (numbered f 0) more.0 ∙ numbered-push f 0 (take i xs) x ∙ ap (λ (n : ℕ). numbered f 0 (take i xs) ++ f n x ∷ []) place
+
+-- the item at a place
+numbered_from : {X A : Type 0} (f : ℕ → X → A) (n : ℕ) (xs : List X) (i : ℕ) (x : X) → slice_get xs i ≡ Some x → slice_get (numbered f n xs) i ≡ Some (f (n + i) x)
+numbered_from f n [] i x at = absurd cc
+numbered_from f n (y ∷ ys) zero x at =
+    let e : n ≡ n + 0 = omega arith in
+    let same : y ≡ x = cc in
+    ap (λ (m : ℕ). Some (f m y)) e ∙ ap (λ z. Some (f (n + 0) z)) same
+numbered_from f n (y ∷ ys) (suc i) x at =
+    let e : n + 1 + i ≡ n + suc i = omega arith in
+    numbered_from f (n + 1) ys i x at ∙ ap (λ (m : ℕ). Some (f m x)) e
+
+pub numbered_at : {X A : Type 0} (f : ℕ → X → A) (xs : List X) (i : ℕ) (x : X) → slice_get xs i ≡ Some x → slice_get (numbered f 0 xs) i ≡ Some (f i x)
+numbered_at f xs i x at = let e : 0 + i ≡ i = omega arith in numbered_from f 0 xs i x at ∙ ap (λ (m : ℕ). Some (f m x)) e

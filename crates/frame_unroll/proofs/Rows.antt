@@ -1,5 +1,5 @@
 -- What is read on the rails of a layer.
-use Rattle.std.proofs.Common.{◌≡◌, ℕ, suc, ◌-◌, ◌<◌, Bool, List, Some, ap, ◌∙◌, arith}
+use Rattle.std.proofs.Common.{◌≡◌, ℕ, suc, ◌-◌, ◌<◌, Bool, true, false, cond, List, [], ◌++◌, Some, ap, ◌∙◌, arith}
 use Rattle.std.specs.Prelude.{slice_get}
 use Rattle.net_model.specs.Form.{value}
 use Rattle.net_model.specs.Cycles.{reg_capture}
@@ -12,6 +12,8 @@ use Rattle.query_model.specs.declared.keys.KeyLit.{KeyLit}
 use Rattle.query_model.specs.declared.keys.Coding.{Coding}
 use Rattle.frame_unroll.specs.declared.origins.Origin.{Origin}
 use Rattle.frame_unroll.specs.Origins.{on_rails, gate_late, reg_late, late_reads, reads_in_layer, claim_origin, claim_reads}
+use Rattle.frame_unroll.specs.Found.{with_keys}
+use Rattle.frame_unroll.proofs.Adding.{with_keys-append}
 use Rattle.frame_unroll.specs.Sites.{gate_rail, own_sign, reg_rail, counted_rail}
 
 -- of a gate and of a late capture
@@ -35,3 +37,9 @@ pub late_reads_at : (coding : Coding) (d : Design) (claim : Claim) (moved : List
 late_reads_at coding d claim moved cycles k origin late is =
     let e : suc (k.layer - 1) ≡ k.layer = omega arith in
     ap (λ (l : ℕ). reads_in_layer coding d claim moved k l origin) e ∙ ap (reads_in_layer coding d claim moved k k.layer) is
+
+-- what is found on the first rail, and where hazards count on the other
+pub rails_found : (keys : List Key) (first second : List KeyLit) (hazard : Bool)
+    → with_keys keys (first ++ cond hazard second []) ≡ cond hazard (with_keys (with_keys keys first) second) (with_keys keys first)
+rails_found keys first second true = with_keys-append keys first second
+rails_found keys first second false = with_keys-append keys first []

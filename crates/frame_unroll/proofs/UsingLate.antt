@@ -17,9 +17,9 @@ use Rattle.net_model.specs.declared.claims.End.{End}
 use Rattle.net_model.specs.declared.claims.End.TheVariants.{Reg as RegEnd, Output as OutputEnd}
 use Rattle.query_model.specs.Keys.{key, lit, below}
 use Rattle.net_model.specs.Queries.{Query, Violates}
-use Rattle.query_model.specs.Defined.{Definition, numbered, plain, rails, exclusive, both, with_own, base_definitions, has_own, layer_gate}
-use Rattle.query_model.specs.Defined.{start_units, layer_definitions, late_key, late_reg, end_definition, start_lit, capture_lit, late_capture_lit}
-use Rattle.query_model.specs.Defined.{extra, toggle_key, change_key, differ_key, stale_key, toggle_definition, differ_definition, extra_definitions}
+use Rattle.query_model.specs.Defined.{Definition, numbered, plain, exclusive, base_definitions, has_own, layer_gate}
+use Rattle.query_model.specs.Defined.{start_units, layer_definitions, late_key, late_reg, end_definition, start_lit, capture_lit}
+use Rattle.query_model.specs.Defined.{extra, change_key, stale_key, toggle_definition, differ_definition, extra_definitions}
 use Rattle.query_model.specs.Defined.{claim_definitions, gate_reads, reg_reads, plain_gate, rails_gate, plain_reg, rails_reg, stale_definition}
 use Rattle.query_model.specs.Formula.{Mentions, definitions, cycle_definitions, question_definitions}
 use Rattle.query_model.proofs.Members.{In-below}
@@ -34,7 +34,7 @@ use Rattle.frame_unroll.specs.Sites.{own_sign}
 use Rattle.frame_unroll.specs.Pairs.{reads_of, toggle_pair, differ_pair}
 use Rattle.frame_unroll.specs.declared.origins.Origin.{Origin}
 use Rattle.frame_unroll.specs.declared.origins.Origin.TheVariants.{Free, Reg as OfReg, Stale}
-use Rattle.frame_unroll.proofs.Saying.{Among, Among-left, Among-right, ReadsOf, plain_read, plain_out, rails_reads, rails_read, exclusive_read}
+use Rattle.frame_unroll.proofs.Saying.{Among, ReadsOf, plain_read, plain_out, rails_reads, rails_read, exclusive_read}
 use Rattle.frame_unroll.proofs.Paired.{toggle_says, toggle_outs, differ_says, differ_outs}
 use Rattle.frame_unroll.proofs.Tabled.{length-gate_reads, length-reg_reads}
 use Rattle.frame_unroll.proofs.Using.{key_at, use_by, gate_found, base_used}

@@ -11,3 +11,4 @@ pub mod Counted
 pub mod Tabled
 pub mod Origins
 pub mod Found
+pub mod KeySets

@@ -13,12 +13,12 @@ ghost use Rattle.frame_unroll.specs.Framed.{AreFramesOf, AreNeededOfClaim, AreNe
 
 use crate::asked::{claim_asked, clause_asked};
 use crate::found_keys::add_clauses;
+use crate::key_sets::KeySet;
 use crate::reached_keys::{reach_of_claim, reach_of_clause};
 use crate::spans::{claim_span, clause_span};
 use crate::subjects::Subject;
 use crate::tables::Tables;
-use indexmap::IndexSet;
-use net_model::{Claim, InvClause, Phase};
+use net_model::{Claim, Design, InvClause, Phase};
 use query_model::{Key, KeyLit};
 use sdcv_base::Seq;
 use std::alloc::{AllocError, Global};
@@ -29,7 +29,7 @@ use std::marker::Model;
 /// Contracts see the list of these keys in the order of their numbers. What always holds: there are fewer than 2^31.
 #[derive(Drop)]
 pub struct Frames {
-    keys: IndexSet<Key>,
+    keys: KeySet,
 }
 
 impl Model for Frames {
@@ -38,15 +38,24 @@ impl Model for Frames {
 
     ghost Value = { List Key };
 
-    ghost view = { λ f. f.keys.keys };
+    ghost view = { λ f. f.keys };
 
-    ghost invariant = { λ f. length f.keys.keys < 2 ^ 31 };
+    ghost invariant = { λ f. length f.keys < 2 ^ 31 };
+}
+
+/// How many points a cycle of a query may have: nets, register bits, and its further points.
+fn point_count(design: &Design) -> usize
+    requires { IsSound design.now }
+    ensures { result ≤ 220050 }
+{
+    design.nets + design.regs.len() + 50
 }
 
 impl Frames {
     /// The keys that are needed where it is asked about a claim, of which `asked` is what is asked of the keys.
     ///
-    /// It takes the time and memory that the needed keys take, and not those of all keys that a query could have.
+    /// It takes the time and memory of the needed keys, each with its page of 128 numbers at most, and beside them 3 bytes for each
+    /// 8 points of each cycle. No other key that a query could have is looked at.
     pub fn by_claim(
         alloc: Global,
         subject: &Subject,
@@ -58,10 +67,10 @@ impl Frames {
         requires within { AreWithin subject.now.design.now cycles asked.now }
         ensures { IfOk result (AreNeededOfClaim subject.now.tables.now.coding subject.now.design.now subject.now.claim.now cycles subject.now.moved asked.now) }
     {
-        let mut found = IndexSet::new(alloc);
+        let mut found = KeySet::new(alloc, point_count(subject.design))?;
         add_clauses(asked, &mut found)?;
         reach_of_claim(alloc, subject, cycles, &mut found)?;
-        Frames::in_order(found)
+        Frames::in_order(alloc, found)
     }
 
     /// The same where it is asked about a clause over register bits.
@@ -76,10 +85,10 @@ impl Frames {
         requires within { AreWithin tables.now.design cycles asked.now }
         ensures { IfOk result (AreNeededOfClause tables.now.coding tables.now.design cycles asked.now) }
     {
-        let mut found = IndexSet::new(alloc);
+        let mut found = KeySet::new(alloc, point_count(tables.design()))?;
         add_clauses(asked, &mut found)?;
         reach_of_clause(alloc, tables, cycles, &mut found)?;
-        Frames::in_order(found)
+        Frames::in_order(alloc, found)
     }
 
     /// The needed keys of the query whether a claim is violated at a depth.
@@ -127,12 +136,11 @@ impl Frames {
         Frames::by_clause(alloc, tables, span.cycles, &asked)
     }
 
-    fn in_order(found: IndexSet<Key>) -> Result<Frames, AllocError>
-        requires { AreSmall found.keys }
-        ensures { IfOk result (AreAscending found.keys) }
+    fn in_order(alloc: Global, found: KeySet) -> Result<Frames, AllocError>
+        requires { AreSmall found }
+        ensures { IfOk result (AreAscending found) }
     {
-        let mut keys = found;
-        keys.sort()?;
+        let keys = found.in_order(alloc)?;
         Ok(Frames { keys })
     }
 
@@ -150,8 +158,7 @@ impl Frames {
         ensures value { result ≡ number_if_any self.now key.now }
         ensures inverse { (n : ℕ) → result ≡ Some n → key_of self.now n ≡ Some key.now }
     {
-        let place = self.keys.get_index_of(key)?;
-        Some(place as u32 + 1)
+        self.keys.number(*key)
     }
 
     /// The key of a variable, where there is one of that number.
@@ -162,6 +169,6 @@ impl Frames {
         if var == 0 || var > self.vars() {
             return None;
         }
-        self.keys.get_index(var as usize - 1).copied()
+        Some(self.keys.key(var as usize - 1))
     }
 }

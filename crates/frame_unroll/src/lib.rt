@@ -15,6 +15,8 @@ mod frames;
 mod gate_tables;
 mod gathered;
 mod kept;
+mod key_pages;
+mod key_sets;
 mod moved_nets;
 mod origins;
 mod pairs;

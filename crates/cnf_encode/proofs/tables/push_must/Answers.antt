@@ -1,5 +1,6 @@
 use Rattle.std.proofs.Common.{◌≡◌, List, [], ◌∷◌, ◌++◌, true, not, map, length, ap, sym, ◌∙◌, subst, arith}
 use Rattle.std.proofs.lemmas.List.{take_all}
+use Rattle.proof_log.specs.Literals.{negated}
 use Rattle.query_model.specs.Keys.{lit, opposite}
 use Rattle.query_model.specs.Tables.{may_be, escapes}
 use Rattle.query_model.specs.Variables.{code_of}
@@ -7,57 +8,42 @@ use Rattle.query_model.specs.declared.keys.KeyLit.{KeyLit}
 use Rattle.query_model.specs.declared.keys.Cube.{Cube}
 use Rattle.net_model.specs.declared.terns.Tern.{Tern}
 use Rattle.cnf_encode.specs.Chosen.{chosen}
-use Rattle.cnf_encode.specs.Coded.{HasKey, AreCodes, Adds}
+use Rattle.cnf_encode.specs.Coded.{AreCodes, Adds}
 use Rattle.cnf_encode.specs.Railed.{must_be_so}
-use Rattle.cnf_encode.proofs.Tabled.{length-AreCodes, last_key, must_codes}
+use Rattle.cnf_encode.proofs.Tabled.{length-AreCodes, last_key, not_rail_code, must_codes}
 use Rattle.cnf_encode.proofs.Cubed.{cube_places, cube_keys, cubes_more}
 use Rattle.cnf_encode.proofs.tables.push_must.Goals as goal
-
-pub code-cannot-requires : goal.code-cannot-requires
-code-cannot-requires c =
-    let keys = c.args.frames.now in
-    let hs : List KeyLit = c.args.rails.now.highs.now in
-    let ls : List KeyLit = c.args.rails.now.lows.now in
-    let high : KeyLit = lit true c.args.rails.now.high in
-    let low : KeyLit = lit true c.args.rails.now.low in
-    let cube : Cube = c.cube-item.result in
-    let has = cube_keys keys (must_be_so c.args.rails.now) c.args.cubes.now c.loop-cube.cube-index cube c.loop-cube-test.true c.cube-item.is c.requires.keys in
-    subst (HasKey keys) (sym (c.lit.ensures ∙ ap opposite c.rail.ensures))
-    (last_key keys (escapes hs ls cube.fixed) (opposite (may_be (not cube.value) high low)) has)
 
 pub push_cube-requires : goal.push_cube-requires
 push_cube-requires c =
     let keys = c.args.frames.now in
-    let zeros = ap length c.as_slice-in-loop-cube.ensures ∙ length-AreCodes keys c.as_slice.result.now c.in_ok-zeros.zeros.items c.in_ok-zeros.ensures
-    ∙ ap length c.as_slice.ensures in
-    let ones = ap length c.as_slice-in-loop-cube-2.ensures ∙ length-AreCodes keys c.as_slice-2.result.now c.in_ok-ones.ones.items c.in_ok-ones.ensures
-    ∙ ap length c.as_slice-2.ensures in
+    let codes = c.requires.codes in
+    let zeros = ap length c.as_slice.ensures ∙ length-AreCodes keys c.args.rails.now.highs.now c.args.codes.now.highs.items codes.highs in
+    let ones = ap length c.as_slice-in-loop-cube.ensures ∙ length-AreCodes keys c.args.rails.now.lows.now c.args.codes.now.lows.items codes.lows in
     let places = cube_places (length c.args.rails.now.highs.now) c.args.cubes.now c.loop-cube.cube-index c.cube-item.result c.requires.wide
     c.loop-cube-test.true c.cube-item.is in
-    record { ones = ones ∙ c.requires.long ∙ sym zeros; fixed = ap length c.as_slice-in-loop-cube-3.ensures ∙ places ∙ sym zeros }
+    record { ones = ones ∙ c.requires.long ∙ sym zeros; fixed = ap length c.as_slice-in-loop-cube-2.ensures ∙ places ∙ sym zeros }
 
 pub loop-cube-preserved : goal.loop-cube-preserved
 loop-cube-preserved c =
     let keys = c.args.frames.now in
+    let codes = c.requires.codes in
     let hs : List KeyLit = c.args.rails.now.highs.now in
     let ls : List KeyLit = c.args.rails.now.lows.now in
     let high : KeyLit = lit true c.args.rails.now.high in
     let low : KeyLit = lit true c.args.rails.now.low in
     let cube : Cube = c.cube-item.result in
     let has = cube_keys keys (must_be_so c.args.rails.now) c.args.cubes.now c.loop-cube.cube-index cube c.loop-cube-test.true c.cube-item.is c.requires.keys in
-    let zeros : AreCodes keys hs c.as_slice-in-loop-cube.result.now =
-    subst (AreCodes keys hs) (sym c.as_slice-in-loop-cube.ensures)
-    (subst (λ (rs : List KeyLit). AreCodes keys rs c.in_ok-zeros.zeros.items) c.as_slice.ensures c.in_ok-zeros.ensures) in
-    let ones : AreCodes keys ls c.as_slice-in-loop-cube-2.result.now =
-    subst (AreCodes keys ls) (sym c.as_slice-in-loop-cube-2.ensures)
-    (subst (λ (rs : List KeyLit). AreCodes keys rs c.in_ok-ones.ones.items) c.as_slice-2.ensures c.in_ok-ones.ensures) in
-    let last : c.code-cannot.result ≡ code_of keys (opposite (may_be (not cube.value) high low)) =
-    c.code-cannot.ensures ∙ ap (code_of keys) (c.lit.ensures ∙ ap opposite c.rail.ensures) in
+    let zeros : AreCodes keys hs c.as_slice.result.now = subst (AreCodes keys hs) (sym c.as_slice.ensures) codes.highs in
+    let ones : AreCodes keys ls c.as_slice-in-loop-cube.result.now = subst (AreCodes keys ls) (sym c.as_slice-in-loop-cube.ensures) codes.lows in
+    let last : c.negated-cannot.result ≡ code_of keys (opposite (may_be (not cube.value) high low)) =
+    c.negated-cannot.ensures ∙ ap negated c.rail_of.ensures
+    ∙ not_rail_code keys high low c.args.codes.now.high c.args.codes.now.low (not cube.value) codes.high codes.low
+    (last_key keys (escapes hs ls cube.fixed) (opposite (may_be (not cube.value) high low)) has) in
     cubes_more keys (must_be_so c.args.rails.now) c.args.cubes.now c.loop-cube.cube-index cube _ c.args.clauses.now c.loop-cube.clauses c.push_cube.new.clauses
     c.loop-cube-test.true c.cube-item.is c.loop-cube.invariant
-    (ap (λ (ts : List Tern). chosen c.as_slice-in-loop-cube.result.now c.as_slice-in-loop-cube-2.result.now ts ++ c.code-cannot.result ∷ [])
-    c.as_slice-in-loop-cube-3.ensures
-    ∙ must_codes keys hs ls high low cube c.as_slice-in-loop-cube.result.now c.as_slice-in-loop-cube-2.result.now c.code-cannot.result zeros ones last has)
+    (ap (λ (ts : List Tern). chosen c.as_slice.result.now c.as_slice-in-loop-cube.result.now ts ++ c.negated-cannot.result ∷ []) c.as_slice-in-loop-cube-2.ensures
+    ∙ must_codes keys hs ls high low cube c.as_slice.result.now c.as_slice-in-loop-cube.result.now c.negated-cannot.result zeros ones last has)
     c.in_ok-push_cube.ensures
 
 pub returns : goal.returns

@@ -8,16 +8,10 @@ use Rattle.query_model.specs.declared.keys.KeyLit.{KeyLit}
 use Rattle.query_model.specs.declared.keys.Cube.{Cube}
 use Rattle.net_model.specs.declared.terns.Tern.{Tern}
 use Rattle.cnf_encode.specs.Chosen.{chosen}
-use Rattle.cnf_encode.specs.Coded.{HasKey, AreCodes, Adds}
-use Rattle.cnf_encode.proofs.Tabled.{length-AreCodes, cube_codes}
+use Rattle.cnf_encode.specs.Coded.{IsCode, AreCodes, Adds}
+use Rattle.cnf_encode.proofs.Tabled.{length-AreCodes, signed_code, cube_codes}
 use Rattle.cnf_encode.proofs.Cubed.{cube_places, cube_keys, plain_out, cubes_more}
 use Rattle.cnf_encode.proofs.tables.push_plain.Goals as goal
-
-pub code-value-requires : goal.code-value-requires
-code-value-requires c =
-    subst (HasKey c.args.frames.now) (sym c.lit.ensures)
-    (plain_out c.args.frames.now c.args.reads.now c.args.out c.args.cubes.now c.loop-cube.cube-index c.cube-item.result c.loop-cube-test.true c.cube-item.is
-    c.requires.keys)
 
 pub push_cube-requires : goal.push_cube-requires
 push_cube-requires c =
@@ -39,14 +33,18 @@ loop-cube-preserved c =
     (subst (λ (ls : List KeyLit). AreCodes keys ls c.in_ok-zeros.zeros.items) c.as_slice.ensures c.in_ok-zeros.ensures) in
     let ones : c.as_slice-in-loop-cube-2.result.now ≡ map negated c.as_slice-in-loop-cube.result.now =
     c.as_slice-in-loop-cube-2.ensures ∙ c.in_ok-ones.ensures ∙ ap (map negated) (c.as_slice-2.ensures ∙ sym c.as_slice-in-loop-cube.ensures) in
-    let last : c.code-value.result ≡ code_of keys (lit cube.value c.args.out) = c.code-value.ensures ∙ ap (code_of keys) c.lit.ensures in
+    let is : IsCode keys (lit true c.args.out) c.known_code-defined.result =
+    subst (λ (l : KeyLit). IsCode keys l c.known_code-defined.result) c.lit.ensures c.known_code-defined.ensures in
+    let out = plain_out keys reads c.args.out c.args.cubes.now c.loop-cube.cube-index cube c.loop-cube-test.true c.cube-item.is c.requires.keys in
+    let last : c.signed-value.result ≡ code_of keys (lit cube.value c.args.out) =
+    c.signed-value.ensures ∙ signed_code keys c.args.out c.known_code-defined.result cube.value is out in
     let has = cube_keys keys (cube_clause reads (lit true c.args.out)) c.args.cubes.now c.loop-cube.cube-index cube c.loop-cube-test.true c.cube-item.is
     c.requires.keys in
     cubes_more keys (cube_clause reads (lit true c.args.out)) c.args.cubes.now c.loop-cube.cube-index cube _ c.args.clauses.now
     c.loop-cube.clauses c.push_cube.new.clauses c.loop-cube-test.true c.cube-item.is c.loop-cube.invariant
-    (ap (λ (ts : List Tern). chosen c.as_slice-in-loop-cube.result.now c.as_slice-in-loop-cube-2.result.now ts ++ c.code-value.result ∷ [])
+    (ap (λ (ts : List Tern). chosen c.as_slice-in-loop-cube.result.now c.as_slice-in-loop-cube-2.result.now ts ++ c.signed-value.result ∷ [])
     c.as_slice-in-loop-cube-3.ensures
-    ∙ cube_codes keys reads c.args.out cube c.as_slice-in-loop-cube.result.now c.as_slice-in-loop-cube-2.result.now c.code-value.result zeros ones last has)
+    ∙ cube_codes keys reads c.args.out cube c.as_slice-in-loop-cube.result.now c.as_slice-in-loop-cube-2.result.now c.signed-value.result zeros ones last has)
     c.in_ok-push_cube.ensures
 
 pub returns : goal.returns

@@ -5,4 +5,4 @@ use Rattle.cnf_encode.specs.Coded.{Adds}
 use Rattle.cnf_encode.proofs.tables.push_plain.Given as goal
 
 abbrev pub invariant-loop-cube : goal.invariant-loop-cube
-invariant-loop-cube l = Adds l.frames (map (cube_clause l.reads (lit true l.out)) (take l.cube-index l.cubes)) l.fn.clauses l.clauses
+invariant-loop-cube l = Adds l.frames (map (cube_clause l.reads (lit true l.fn.out)) (take l.cube-index l.cubes)) l.fn.clauses l.clauses

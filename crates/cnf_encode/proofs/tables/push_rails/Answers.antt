@@ -15,6 +15,7 @@ push_may-requires c =
     let must = map (must_be_so rails) c.args.cell.now.settling in
     record {
       long = c.requires.long;
+      codes = c.in_ok-codes.ensures;
       wide = subst (AreWide (length rails.highs.now)) (sym c.covering.ensures) c.requires.covering;
       keys =
           subst (λ (cs : List Cube). HasKeys c.args.frames.now (map (may_be_so rails) cs)) (sym c.covering.ensures)
@@ -28,6 +29,7 @@ push_must-requires c =
     let must = map (must_be_so rails) c.args.cell.now.settling in
     record {
       long = c.requires.long;
+      codes = c.in_ok-codes.ensures;
       wide = subst (AreWide (length rails.highs.now)) (sym c.settling.ensures) c.requires.settling;
       keys =
           subst (λ (cs : List Cube). HasKeys c.args.frames.now (map (must_be_so rails) cs)) (sym c.settling.ensures)

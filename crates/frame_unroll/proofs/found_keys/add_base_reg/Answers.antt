@@ -32,5 +32,5 @@ returns c =
     (ap (λ (s : Site). length s.high.reads) site
     ∙ length-bit_reads t.design c.args.cycle c.args.reg reg.0)
     ∙ ap (λ (s : Site). counted t.coding (reg_capture reg.0) s.high.reads) site in
-    let whole = ap (with_keys c.args.found.now.keys) (counts ∙ sym (ap (reg_base t.coding t.design c.args.cycle c.args.reg) reg.1)) in
-    subst (λ (keys : List Key). OnOk c.add_counted.result (c.add_counted.new.found.keys ≡ keys)) whole c.add_counted.ensures
+    let whole = ap (with_keys c.args.found.now) (counts ∙ sym (ap (reg_base t.coding t.design c.args.cycle c.args.reg) reg.1)) in
+    subst (λ (keys : List Key). OnOk c.add_counted.result (c.add_counted.new.found ≡ keys)) whole c.add_counted.ensures

@@ -26,5 +26,5 @@ returns-else-key-eq0 c =
     let reads = late_reads_at c.args.subject.now.tables.now.coding d claim c.args.subject.now.moved c.args.cycles c.args.key c.claim_origin-origin.result
     (omega arith)
     c.claim_origin-origin.ensures in
-    subst (λ (keys : List Key). OnOk c.add_late_reads.result (c.add_late_reads.new.found.keys ≡ keys)) (ap (with_keys c.args.found.now.keys) reads)
+    subst (λ (keys : List Key). OnOk c.add_late_reads.result (c.add_late_reads.new.found ≡ keys)) (ap (with_keys c.args.found.now) reads)
     c.add_late_reads.ensures

@@ -8,4 +8,4 @@ pub loop-i-preserved : goal.loop-i-preserved
 loop-i-preserved c =
     c.in_ok-add_keys.ensures
     ∙ ap (λ (keys : List Key). with_keys keys c.item.result.now) c.loop-i.invariant
-    ∙ sym (with_clauses-take c.args.found.now.keys c.args.clauses.now c.loop-i.i c.item.result.now c.item.ensures)
+    ∙ sym (with_clauses-take c.args.found.now c.args.clauses.now c.loop-i.i c.item.result.now c.item.ensures)

@@ -3,4 +3,4 @@ use Rattle.frame_unroll.specs.Found.{with_clauses}
 use Rattle.frame_unroll.proofs.found_keys.add_clauses.Given as goal
 
 abbrev pub invariant-loop-i : goal.invariant-loop-i
-invariant-loop-i l = l.found.keys ≡ with_clauses l.initial.found.keys (take l.i l.clauses)
+invariant-loop-i l = l.found ≡ with_clauses l.initial.found (take l.i l.clauses)

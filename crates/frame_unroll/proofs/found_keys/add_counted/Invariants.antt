@@ -4,4 +4,4 @@ use Rattle.frame_unroll.specs.Found.{with_keys}
 use Rattle.frame_unroll.proofs.found_keys.add_counted.Given as goal
 
 abbrev pub invariant-loop-i : goal.invariant-loop-i
-invariant-loop-i l = l.found.keys ≡ with_keys l.initial.found.keys (marked (take l.i l.places) (take l.i l.lits))
+invariant-loop-i l = l.found ≡ with_keys l.initial.found (marked (take l.i l.places) (take l.i l.lits))

@@ -6,6 +6,6 @@ use Rattle.frame_unroll.proofs.found_keys.add_keys.Goals as goal
 
 pub loop-i-preserved : goal.loop-i-preserved
 loop-i-preserved c =
-    c.in_ok-insert.ensures.keys
+    c.in_ok-insert.ensures
     ∙ ap (λ (keys : List Key). with_key keys c.at.result.key) c.loop-i.invariant
-    ∙ sym (with_keys-take c.args.found.now.keys c.args.lits.now c.loop-i.i c.at.result c.at.ensures)
+    ∙ sym (with_keys-take c.args.found.now c.args.lits.now c.loop-i.i c.at.result c.at.ensures)

@@ -3,4 +3,4 @@ use Rattle.frame_unroll.specs.Found.{with_keys}
 use Rattle.frame_unroll.proofs.found_keys.add_keys.Given as goal
 
 abbrev pub invariant-loop-i : goal.invariant-loop-i
-invariant-loop-i l = l.found.keys ≡ with_keys l.initial.found.keys (take l.i l.lits)
+invariant-loop-i l = l.found ≡ with_keys l.initial.found (take l.i l.lits)

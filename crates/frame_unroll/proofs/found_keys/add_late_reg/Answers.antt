@@ -21,5 +21,5 @@ returns c =
     let is = reg_marked s.tables.now s.design.now s.claim.now s.moved c.args.cycle c.args.reg reg.0 c.reg_places.result.now c.in_ok-site.site
     c.requires.subject.tables reg.1 c.reg_places.ensures (c.in_ok-site.ensures reg.0 reg.1) in
     let rows = reg_late-rows s.tables.now.coding s.design.now s.claim.now s.moved c.args.cycle c.args.reg reg.0 reg.1 in
-    subst (λ (keys : List Key). OnOk c.add_site.result (c.add_site.new.found.keys ≡ keys)) (ap (with_keys c.args.found.now.keys) (is ∙ sym rows))
+    subst (λ (keys : List Key). OnOk c.add_site.result (c.add_site.new.found ≡ keys)) (ap (with_keys c.args.found.now) (is ∙ sym rows))
     c.add_site.ensures

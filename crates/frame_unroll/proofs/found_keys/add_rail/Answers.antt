@@ -9,5 +9,5 @@ use Rattle.frame_unroll.proofs.found_keys.add_rail.Goals as goal
 pub returns : goal.returns
 returns c =
     let rail = c.args.rail.now in
-    c.in_ok-insert.ensures.keys ∙ ap (λ (keys : List Key). with_key keys rail.out) c.in_ok-add_counted.ensures
-    ∙ sym (with_keys-append c.args.found.now.keys (marked c.args.places.now rail.reads) (lit true rail.out ∷ []))
+    c.in_ok-insert.ensures ∙ ap (λ (keys : List Key). with_key keys rail.out) c.in_ok-add_counted.ensures
+    ∙ sym (with_keys-append c.args.found.now (marked c.args.places.now rail.reads) (lit true rail.out ∷ []))

@@ -9,5 +9,5 @@ returns c =
     let site = c.args.site.now in
     let places = c.args.places.now in
     let whole = ap (λ (keys : List Key). with_keys keys (marked_low places site.low)) c.in_ok-add_rail.ensures
-    ∙ sym (with_keys-append c.args.found.now.keys (marked_rail places site.high) (marked_low places site.low)) in
-    subst (λ (keys : List Key). OnOk c.add_low.result (c.add_low.new.found.keys ≡ keys)) whole c.add_low.ensures
+    ∙ sym (with_keys-append c.args.found.now (marked_rail places site.high) (marked_low places site.low)) in
+    subst (λ (keys : List Key). OnOk c.add_low.result (c.add_low.new.found ≡ keys)) whole c.add_low.ensures

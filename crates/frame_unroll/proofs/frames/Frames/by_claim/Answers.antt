@@ -18,7 +18,7 @@ pub reach_of_claim-requires-clause-within : goal.reach_of_claim-requires-clause-
 reach_of_claim-requires-clause-within c =
     let d = c.args.subject.now.design.now in
     let asked = c.args.asked.now in
-    let start = c.in_ok-add_clauses.ensures ∙ ap (λ (keys : List Key). with_clauses keys asked) c.new-found.ensures.empty in
+    let start = c.in_ok-add_clauses.ensures ∙ ap (λ (keys : List Key). with_clauses keys asked) c.in_ok-found.ensures in
     subst (AreKeysWithin d c.args.cycles) (sym start) (start_within d c.args.cycles asked c.requires.within)
 
 pub in_order-requires : goal.in_order-requires
@@ -28,10 +28,10 @@ in_order-requires c k has =
     let claim = c.args.subject.now.claim.now in
     let asked = c.args.asked.now in
     let is = c.requires.subject in
-    let start = c.in_ok-add_clauses.ensures ∙ ap (λ (keys : List Key). with_clauses keys asked) c.new-found.ensures.empty in
+    let start = c.in_ok-add_clauses.ensures ∙ ap (λ (keys : List Key). with_clauses keys asked) c.in_ok-found.ensures in
     let within = subst (AreKeysWithin d c.args.cycles) (sym start) (start_within d c.args.cycles asked c.requires.within) in
     small_within d c.args.cycles k is.sound c.requires.cycles
-    (claim_keys_within coding d claim c.args.subject.now.moved c.args.cycles c.add_clauses.new.found.keys is.sound is.fits within k
+    (claim_keys_within coding d claim c.args.subject.now.moved c.args.cycles c.add_clauses.new.found is.sound is.fits within k
     (c.in_ok-reach_of_claim.ensures.only k has))
 
 pub returns : goal.returns
@@ -42,8 +42,8 @@ returns c =
     let moved = c.args.subject.now.moved in
     let cycles = c.args.cycles in
     let asked = c.args.asked.now in
-    let found = c.reach_of_claim.new.found.keys in
-    let start = c.in_ok-add_clauses.ensures ∙ ap (λ (keys : List Key). with_clauses keys asked) c.new-found.ensures.empty in
+    let found = c.reach_of_claim.new.found in
+    let start = c.in_ok-add_clauses.ensures ∙ ap (λ (keys : List Key). with_clauses keys asked) c.in_ok-found.ensures in
     let reached = subst (λ (keys : List Key). AreReached (claim_reads coding d claim moved cycles) keys found) start c.in_ok-reach_of_claim.ensures in
     let needed : (keys : List Key) → AreAscending found keys → (q : Query) (offset clean : ℕ) → q.design ≡ d → q.cycles ≡ cycles
     → q.question ≡ Violates claim offset clean → AreNeeded (definitions coding q moved) asked keys =

@@ -18,10 +18,10 @@ in_order-requires c k has =
     let coding = c.args.tables.now.coding in
     let d = c.args.tables.now.design in
     let asked = c.args.asked.now in
-    let start = c.in_ok-add_clauses.ensures ∙ ap (λ (keys : List Key). with_clauses keys asked) c.new-found.ensures.empty in
+    let start = c.in_ok-add_clauses.ensures ∙ ap (λ (keys : List Key). with_clauses keys asked) c.in_ok-found.ensures in
     let within = subst (AreKeysWithin d c.args.cycles) (sym start) (start_within d c.args.cycles asked c.requires.within) in
     small_within d c.args.cycles k c.requires.sound c.requires.cycles
-    (clause_keys_within coding d c.args.cycles c.add_clauses.new.found.keys c.requires.sound within k (c.in_ok-reach_of_clause.ensures.only k has))
+    (clause_keys_within coding d c.args.cycles c.add_clauses.new.found c.requires.sound within k (c.in_ok-reach_of_clause.ensures.only k has))
 
 pub returns : goal.returns
 returns c =
@@ -29,8 +29,8 @@ returns c =
     let d = c.args.tables.now.design in
     let cycles = c.args.cycles in
     let asked = c.args.asked.now in
-    let found = c.reach_of_clause.new.found.keys in
-    let start = c.in_ok-add_clauses.ensures ∙ ap (λ (keys : List Key). with_clauses keys asked) c.new-found.ensures.empty in
+    let found = c.reach_of_clause.new.found in
+    let start = c.in_ok-add_clauses.ensures ∙ ap (λ (keys : List Key). with_clauses keys asked) c.in_ok-found.ensures in
     let reached = subst (λ (keys : List Key). AreReached (clause_reads coding d cycles) keys found) start c.in_ok-reach_of_clause.ensures in
     let needed : (keys : List Key) → AreAscending found keys → (q : Query) (clause : InvClause) → q.design ≡ d → q.cycles ≡ cycles
     → q.question ≡ Breaks clause → AreNeeded (definitions coding q []) asked keys =

@@ -1,0 +1,9 @@
+use Rattle.std.proofs.Common.{◌≡◌, take}
+use Rattle.frame_unroll.specs.Counting.{marked}
+use Rattle.frame_unroll.specs.Found.{with_keys}
+use Rattle.frame_unroll.specs.Gathered.{reads_at}
+use Rattle.frame_unroll.proofs.found_keys.add_pins_at.Given as goal
+
+abbrev pub invariant-loop-i : goal.invariant-loop-i
+invariant-loop-i l = l.found ≡ with_keys l.initial.found (marked (take l.i l.places)
+    (take l.i (reads_at l.subject.design.now l.subject.claim.now l.subject.moved l.owner l.ins l.rail_at)))
