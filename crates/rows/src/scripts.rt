@@ -1,5 +1,7 @@
 //! Scripts as lines.
-use sdc_text::{Checks, Class, Exception, Held, Object, Script, SdcFault, What, read_sdc};
+use sdc_text::{
+    Checks, Class, Exception, Held, Object, Script, ScriptForm, SdcFault, What, read_sdc,
+};
 use sdcv_base::{Edge, Kind, Name, Seq};
 use std::alloc::{AllocError, Global};
 
@@ -162,7 +164,7 @@ fn push_fault(out: &mut String, fault: &SdcFault) -> Result<(), AllocError> {
 /// `script FILE`: the commands of a script, or its fault.
 pub fn script_text(alloc: Global, text: &[u8]) -> Result<String, AllocError> {
     let mut out = String::new(alloc);
-    match read_sdc(alloc, text) {
+    match read_sdc(alloc, text, &ScriptForm::Narrow) {
         Ok(script) => push_script(&mut out, &script)?,
         Err(fault) => {
             push_fault(&mut out, &fault)?;

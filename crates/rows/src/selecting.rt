@@ -9,7 +9,7 @@ use crate::sessions::Session;
 use crate::steps::{number_of, word_after, word_at};
 use cell_types::{Library, builtin};
 use design_stages::{Designed, ReadTexts, Refusal, cells, constraints, designed, netlist};
-use run_options::{Judging, Reset};
+use run_options::{Judging, Reset, ScriptForm};
 use sdcv_base::{Name, Seq, Setting};
 use std::alloc::{AllocError, Global};
 
@@ -50,11 +50,13 @@ fn read(session: &Session, words: &str) -> Result<ReadTexts, Refusal>
 {
     let source = netlist(session.alloc(), session.bytes(word_at(words, 0)))?;
     let library = library(session, word_at(words, 1))?;
-    let script = constraints(session.alloc(), session.bytes(word_at(words, 2)))?;
+    let form = ScriptForm::Narrow;
+    let script = constraints(session.alloc(), session.bytes(word_at(words, 2)), &form)?;
     Ok(ReadTexts {
         source,
         library,
         script,
+        form,
     })
 }
 
