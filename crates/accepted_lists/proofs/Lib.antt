@@ -1,0 +1,5 @@
+mod Rests
+mod Decimals
+mod Parts
+mod ListSteps
+mod Worked
