@@ -1,3 +1,5 @@
 mod Counting
 mod GroupSteps
 mod Worked
+mod Ranking
+mod WorkedDifferences

@@ -13,6 +13,8 @@ use Rattle.report_rows.specs.declared.reports.Said.{Said}
 use Rattle.report_rows.specs.declared.reports.Said.TheVariants.{Does, Warns}
 use Rattle.report_rows.specs.declared.reports.ScriptRow.{ScriptRow}
 use Rattle.report_rows.specs.declared.reports.Report.{Report}
+use Rattle.accepted_lists.specs.Accepted.{accepts_note, open_of}
+use Rattle.accepted_lists.specs.declared.lists.AcceptedList.{AcceptedList}
 use Rattle.report_groups.specs.Groups.{◌⁀◌, groups_of, group_text}
 use Rattle.report_groups.specs.declared.findings.Finding.{Finding}
 use Rattle.report_groups.specs.declared.findings.Finding.TheVariants.{NoException, Note, Pairs}
@@ -78,5 +80,22 @@ passes (Note text) = false
 passes (Pairs group) = is_justified group.row.verdict
 
 -- those that stop a build
+abbrev pub stopping_among : List Finding → List Finding
+stopping_among fs = filter (λ f. not (passes f)) fs
+
 abbrev pub stopping : Report → List Finding
-stopping report = filter (λ f. not (passes f)) (findings_of report)
+stopping report = stopping_among (findings_of report)
+
+-- a note that is accepted; that there is no exception never is
+abbrev pub is_accepted : AcceptedList → Finding → Bool
+is_accepted list NoException = false
+is_accepted list (Note text) = accepts_note list text
+is_accepted list (Pairs group) = false
+
+-- what is left without the accepted notes
+abbrev pub unaccepted : AcceptedList → List Finding → List Finding
+unaccepted list fs = filter (λ f. not (is_accepted list f)) fs
+
+-- those that stop a build of the report without accepted pairs, but for accepted notes
+abbrev pub stopping_with : AcceptedList → Report → List Finding
+stopping_with list report = stopping_among (unaccepted list (findings_of (open_of list report)))

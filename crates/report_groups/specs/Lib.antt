@@ -4,3 +4,5 @@ pub mod Groups
 pub mod Findings
 pub mod Csv
 pub mod Firsts
+pub mod Marks
+pub mod Differences

@@ -24,13 +24,20 @@ impl Model for Counts {
 }
 
 impl Counts {
+    /// No key.
+    pub fn new(alloc: Global) -> Counts
+        ensures { AreCountsOf [] result }
+    {
+        Counts {
+            counts: IndexMap::new(alloc),
+        }
+    }
+
     /// The keys of a list, each counted.
     pub fn of(alloc: Global, keys: &[Name]) -> Result<Counts, AllocError>
         ensures { IfOk result (AreCountsOf keys.now) }
     {
-        let mut counts = Counts {
-            counts: IndexMap::new(alloc),
-        };
+        let mut counts = Counts::new(alloc);
         for key in keys {
             counts.add(alloc, key)?;
         }
@@ -44,8 +51,8 @@ impl Counts {
         self.counts.get(key).copied().unwrap_or(0)
     }
 
-    // Counts a key once more.
-    fn add(&mut self, alloc: Global, key: &Name) -> Result<(), AllocError>
+    /// Counts a key once more.
+    pub fn add(&mut self, alloc: Global, key: &Name) -> Result<(), AllocError>
         requires { spec.count_in self.old key.now < 2 ^ 63 }
         ensures { OnOk result (IsCountedOnce self.old key.now self.new) }
     {

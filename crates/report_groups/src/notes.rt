@@ -19,8 +19,8 @@ fn is_quiet(what: &Name, pairs: u64) -> bool
     what.as_bytes() == b"hold".as_slice() || pairs > 0
 }
 
-// The text of the note on an exception, where there is one.
-fn said_text(alloc: Global, said: &Said) -> Result<Option<String>, AllocError>
+/// The text of the note on an exception, where there is one.
+pub(crate) fn said_text(alloc: Global, said: &Said) -> Result<Option<String>, AllocError>
     ensures { IfOk result (λ o. MatchOption o (spec.said_texts said.now ≡ []) (λ text. spec.said_texts said.now ≡ string_bytes text ∷ [])) }
 {
     match said {

@@ -1,5 +1,5 @@
 //! What is told, as text, and what of it stops a build.
-ghost use Rattle.std.specs.Prelude.{◌≡◌, ◌↔◌, ◌++◌, [], not, filter, IsTrue, IfOk, OnOk, string_bytes};
+ghost use Rattle.std.specs.Prelude.{◌≡◌, ◌↔◌, ◌++◌, [], IsTrue, IfOk, OnOk, string_bytes};
 ghost use Rattle.witness_replay.specs.StimulusTexts.{line_of};
 ghost use Rattle.report_groups.specs.Groups.{group_text};
 ghost use Rattle.report_groups.specs.Findings as spec;
@@ -61,15 +61,14 @@ fn passes(finding: &Finding) -> bool
     }
 }
 
-/// The lines of `groups_text` that stop a build: all but those of justified groups. A report with no exception stops it too.
-pub fn gate(alloc: Global, report: &Report) -> Result<Gate, AllocError>
-    ensures text { IfOk result (λ gate. gate.text.items ≡ spec.findings_text (spec.stopping report.now)) }
-    ensures passes { IfOk result (λ gate. IsTrue gate.passes ↔ (spec.stopping report.now ≡ [])) }
+/// The lines of the findings that stop a build.
+pub(crate) fn gate_among(alloc: Global, findings: &[Finding]) -> Result<Gate, AllocError>
+    ensures text { IfOk result (λ gate. gate.text.items ≡ spec.findings_text (spec.stopping_among findings.now)) }
+    ensures passes { IfOk result (λ gate. IsTrue gate.passes ↔ (spec.stopping_among findings.now ≡ [])) }
 {
-    let all = findings_of(alloc, report)?;
     let mut text = Vec::new(alloc);
     let mut passed = true;
-    for finding in all.as_slice() {
+    for finding in findings {
         if !passes(finding) {
             push_line(alloc, &mut text, finding)?;
             passed = false;
@@ -79,4 +78,13 @@ pub fn gate(alloc: Global, report: &Report) -> Result<Gate, AllocError>
         text,
         passes: passed,
     })
+}
+
+/// The lines of `groups_text` that stop a build: all but those of justified groups. A report with no exception stops it too.
+pub fn gate(alloc: Global, report: &Report) -> Result<Gate, AllocError>
+    ensures text { IfOk result (λ gate. gate.text.items ≡ spec.findings_text (spec.stopping report.now)) }
+    ensures passes { IfOk result (λ gate. IsTrue gate.passes ↔ (spec.stopping report.now ≡ [])) }
+{
+    let all = findings_of(alloc, report)?;
+    gate_among(alloc, all.as_slice())
 }

@@ -7,13 +7,17 @@ use crate::reads::{RunTexts, bytes_of, run_texts, texts_of};
 use run_options::Reset;
 use sdcv_base::{Host, Name, Seq};
 use std::alloc::Global;
-use view_commands::{Gate, Stop, bits, gate, groups, names_of, reset_of, shown, waved};
+use view_commands::{
+    Difference, Gate, NamedText, Stop, bits, diff, gate, gate_with, groups, names_of, reset_of,
+    shown, waved,
+};
 
 /// Does what the words ask for.
 pub fn answer<H: Host>(alloc: Global, host: &mut H, asked: &Asked<'_>) -> Result<u8, Ended> {
     match *asked {
         Asked::Groups { report, csv } => print_groups(alloc, host, report, csv),
-        Asked::Gate { report } => print_gate(alloc, host, report),
+        Asked::Gate { report, accepted } => print_gate(alloc, host, report, accepted),
+        Asked::Diff { old, new } => print_diff(alloc, host, old, new),
         Asked::Bits(words) => print_bits(alloc, host, &words),
         Asked::Show(words) => tell_run(alloc, host, &words, None),
         Asked::Wave { run, out } => tell_run(alloc, host, &run, Some(out)),
@@ -50,16 +54,80 @@ fn print_groups<H: Host>(alloc: Global, host: &mut H, name: &str, csv: bool) -> 
     printed(host, groups(alloc, name, &report, csv))
 }
 
+// What of a report stops a build.
 fn gate_of<H: Host>(alloc: Global, host: &mut H, name: &str) -> Result<Gate, Ended> {
     let report = bytes_of(alloc, host, name)?;
     or_ended(gate(alloc, name, &report))
 }
 
+// What of a report stops a build beside what the list in the file of that name accepts.
+fn open_gate_of<H: Host>(
+    alloc: Global,
+    host: &mut H,
+    name: &str,
+    accepted: &str,
+) -> Result<Gate, Ended> {
+    let report = bytes_of(alloc, host, name)?;
+    let list = bytes_of(alloc, host, accepted)?;
+    let report = NamedText {
+        name,
+        text: &report,
+    };
+    let list = NamedText {
+        name: accepted,
+        text: &list,
+    };
+    or_ended(gate_with(alloc, &report, &list))
+}
+
+fn any_gate_of<H: Host>(
+    alloc: Global,
+    host: &mut H,
+    name: &str,
+    accepted: Option<&str>,
+) -> Result<Gate, Ended> {
+    match accepted {
+        None => gate_of(alloc, host, name),
+        Some(accepted) => open_gate_of(alloc, host, name, accepted),
+    }
+}
+
 // Prints what stops a build; the status is 0 where nothing does, and else 1.
-fn print_gate<H: Host>(alloc: Global, host: &mut H, name: &str) -> Result<u8, Ended> {
-    let gate = gate_of(alloc, host, name)?;
+fn print_gate<H: Host>(
+    alloc: Global,
+    host: &mut H,
+    name: &str,
+    accepted: Option<&str>,
+) -> Result<u8, Ended> {
+    let gate = any_gate_of(alloc, host, name, accepted)?;
     host.print(&gate.text)?;
     Ok(if gate.passes { 0 } else { 1 })
+}
+
+fn diff_of<H: Host>(
+    alloc: Global,
+    host: &mut H,
+    old: &str,
+    new: &str,
+) -> Result<Difference, Ended> {
+    let olds = bytes_of(alloc, host, old)?;
+    let news = bytes_of(alloc, host, new)?;
+    let olds = NamedText {
+        name: old,
+        text: &olds,
+    };
+    let news = NamedText {
+        name: new,
+        text: &news,
+    };
+    or_ended(diff(alloc, &olds, &news))
+}
+
+// Prints how a report differs from an older one; the status is 0 where it does not, and else 1.
+fn print_diff<H: Host>(alloc: Global, host: &mut H, old: &str, new: &str) -> Result<u8, Ended> {
+    let made = diff_of(alloc, host, old, new)?;
+    host.print(&made.text)?;
+    Ok(made.status)
 }
 
 // Prints a line for each bit of a stimulus.

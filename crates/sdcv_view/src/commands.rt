@@ -26,11 +26,24 @@ pub struct RunWords<'a> {
 /// What the words ask for.
 #[derive(Clone, Copy)]
 pub enum Asked<'a> {
-    Groups { report: &'a str, csv: bool },
-    Gate { report: &'a str },
+    Groups {
+        report: &'a str,
+        csv: bool,
+    },
+    Gate {
+        report: &'a str,
+        accepted: Option<&'a str>,
+    },
+    Diff {
+        old: &'a str,
+        new: &'a str,
+    },
     Bits(DesignWords<'a>),
     Show(RunWords<'a>),
-    Wave { run: RunWords<'a>, out: &'a str },
+    Wave {
+        run: RunWords<'a>,
+        out: &'a str,
+    },
 }
 
 /// How an argument stands in the words.
@@ -127,12 +140,36 @@ const REPORT: ArgRow = ArgRow {
     sentence: "A report of sdcv verify, by lines or with --json",
 };
 
+const OLD: ArgRow = ArgRow {
+    id: "OLD",
+    form: Form::Place,
+    value: "OLD",
+    rule: Rule::Text,
+    sentence: "A report of sdcv verify, by lines or with --json",
+};
+
+const NEW: ArgRow = ArgRow {
+    id: "NEW",
+    form: Form::Place,
+    value: "NEW",
+    rule: Rule::Text,
+    sentence: "A report that was made later",
+};
+
 const PAIR: ArgRow = ArgRow {
     id: "PAIR",
     form: Form::Place,
     value: "PAIR",
     rule: Rule::Number(1, u64::MAX),
     sentence: "The number of a refuted pair",
+};
+
+const ACCEPTED: ArgRow = ArgRow {
+    id: "accepted",
+    form: Form::Valued,
+    value: "FILE",
+    rule: Rule::Text,
+    sentence: "Leave out the pairs and the notes that the list in FILE accepts",
 };
 
 const CSV: ArgRow = ArgRow {
@@ -151,7 +188,7 @@ const OUT: ArgRow = ArgRow {
     sentence: "Save the wave as FILE",
 };
 
-const ROWS: [CommandRow; 5] = [
+const ROWS: [CommandRow; 6] = [
     CommandRow {
         name: "groups",
         sentence: "Print a report by groups: pairs that differ in the indices of their names alone",
@@ -160,7 +197,12 @@ const ROWS: [CommandRow; 5] = [
     CommandRow {
         name: "gate",
         sentence: "Print what of a report stops a build; the status is 0 where nothing does, else 1",
-        args: &[REPORT],
+        args: &[REPORT, ACCEPTED],
+    },
+    CommandRow {
+        name: "diff",
+        sentence: "Print how a report differs from an older one; the status is 0 where it does not, else 1",
+        args: &[OLD, NEW],
     },
     CommandRow {
         name: "bits",
@@ -265,6 +307,10 @@ fn asked_of<'a>(name: &str, matches: &ArgMatches<'a>) -> Asked<'a> {
             report: given(matches, "REPORT"),
             csv: matches.get_flag("csv"),
         },
+        "diff" => Asked::Diff {
+            old: given(matches, "OLD"),
+            new: given(matches, "NEW"),
+        },
         "bits" => Asked::Bits(design_of(matches)),
         "show" => Asked::Show(run_of(matches)),
         "wave" => Asked::Wave {
@@ -273,6 +319,7 @@ fn asked_of<'a>(name: &str, matches: &ArgMatches<'a>) -> Asked<'a> {
         },
         _ => Asked::Gate {
             report: given(matches, "REPORT"),
+            accepted: matches.get_str("accepted"),
         },
     }
 }
@@ -281,7 +328,10 @@ fn asked_of<'a>(name: &str, matches: &ArgMatches<'a>) -> Asked<'a> {
 fn asked_in<'a>(matches: &ArgMatches<'a>) -> Asked<'a> {
     match matches.subcommand() {
         Some((name, inner)) => asked_of(name, inner),
-        None => Asked::Gate { report: "" },
+        None => Asked::Gate {
+            report: "",
+            accepted: None,
+        },
     }
 }
 

@@ -1,10 +1,10 @@
 //! The program that shows a report of `sdcv` from other sides. It proves and refutes nothing.
 //!
-//! `groups` tells the pairs of a report by groups, `gate` what of it stops a build, `bits` which bit of a stimulus is which
-//! register or input; `show` tells the run of a refuted pair by cycles, and `wave` saves it as a waveform. Texts are read from
-//! the files of the system, and an answer goes to standard output or to the file that is named; everything else is told on
-//! standard error. The status is 0, 1 where something stops the build, 2 where the words are no command, 3 where a text is
-//! refused, 5 where the host fails, 6 where memory is wanted, and 9 where a word is not UTF-8.
+//! `groups` tells the pairs of a report by groups, `gate` what of it stops a build, `diff` how it differs from an older one, `bits`
+//! which bit of a stimulus is which register or input; `show` tells the run of a refuted pair by cycles, and `wave` saves it as a
+//! waveform. Texts are read from the files of the system, and an answer goes to standard output or to the file that is named;
+//! everything else is told on standard error. The status is 0, 1 where something stops the build or differs, 2 where the words are no
+//! command, 3 where a text is refused, 5 where the host fails, 6 where memory is wanted, and 9 where a word is not UTF-8.
 #![tactic(auto)]
 
 mod answers;

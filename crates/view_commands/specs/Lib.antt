@@ -1,3 +1,4 @@
+pub mod Differences
 pub mod Forms
 pub mod Runs
 pub mod Stops

@@ -1,10 +1,11 @@
 //! What the commands that show a report print or save, from the texts and the words: no file is read or written here.
 //!
-//! Read `groups`, `gate`, `bits`, `shown` and `waved`: each gives its command's text, or the `Stop` with the line and the status
-//! of a program that has none. What the texts are is said in `specs/`: `Reports` for a report alone, `Pairs` and `Runs` for the run
+//! Read `groups`, `gate`, `gate_with`, `diff`, `bits`, `shown` and `waved`: each gives its command's text, or the `Stop` with
+//! the line and the status of a program that has none. What the texts are is said in `specs/`: `Reports` for a report alone, `Pairs` and `Runs` for the run
 //! of a refuted pair. How words are spelled, in which order files are read and where a text goes, is left to the program.
 #![tactic(auto)]
 
+mod differences;
 mod forms;
 mod lines;
 mod pairs;
@@ -15,9 +16,10 @@ mod stops;
 mod views;
 mod words;
 
+pub use differences::{Difference, diff};
 pub use forms::{form_of, names_of};
 pub use report_groups::Gate;
-pub use reports::{ReadReport, gate, groups, report_of};
+pub use reports::{NamedText, ReadReport, gate, gate_with, groups, report_of};
 pub use resets::reset_of;
 pub use stops::Stop;
 pub use views::{bits, shown, waved};

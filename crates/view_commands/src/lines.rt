@@ -1,5 +1,6 @@
-//! Why a report is refused, in a line.
+//! Why a report or an accepted list is refused, in a line.
 use crate::words::PairWords;
+use accepted_lists::ListFault;
 use report_rows::ReportFault;
 use std::alloc::{AllocError, Global};
 use witness_replay::{ReplayFault, StimFault};
@@ -60,5 +61,13 @@ pub(crate) fn replay_line(
             "{report} is of other texts: in cycle {cycle} of pair {pair} a reset or fixed input has another value"
         ),
         ReplayFault::Memory => Err(AllocError),
+    }
+}
+
+/// The line of a text that is no accepted list. `name` is that of its file.
+pub(crate) fn list_line(alloc: Global, name: &str, fault: ListFault) -> Result<String, AllocError> {
+    match fault {
+        ListFault::Line(line) => format!(in alloc; "{name}:{line}: no line of an accepted list"),
+        ListFault::Memory => Err(AllocError),
     }
 }
