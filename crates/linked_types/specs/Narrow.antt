@@ -1,13 +1,10 @@
 -- What is linked without cut cells and assumptions.
-use Rattle.std.specs.Prelude.{◌≡◌, false, [], None}
+use Rattle.std.specs.Prelude.{◌≡◌, false, []}
 use Rattle.linked_types.specs.declared.options.LinkOptions.{LinkOptions}
 use Rattle.linked_types.specs.declared.names.Names.{Names}
 
--- no cell may be cut out, and the top module goes by no name
-pub record IsNarrow (o : LinkOptions) : Type 0 where
-  pub wide : o.wide ≡ false
-  pub top : o.top ≡ None
-  pub free : o.free ≡ []
+-- registers and clock gates are not cut out, on whatever clock they are
+pub record IsOnOneClock (o : LinkOptions) : Type 0 where
   pub cut_clocks : o.cut_clocks ≡ false
 
 -- nothing is cut out, and nothing is assumed

@@ -11,6 +11,6 @@ mod selections;
 mod warnings;
 
 pub use faults::ExpandFault;
-pub use notices::{Notices, Skipped, Unjudged};
+pub use notices::{CutCells, Notices, Skipped, Unjudged};
 pub use selections::{CommandLine, Listing, PairLine, Selected};
 pub use warnings::Warning;

@@ -1,4 +1,4 @@
-//! What a user is told of a script beside its exceptions.
+//! What a user is told of a netlist and a script beside the exceptions.
 use sdcv_base::{Name, Seq};
 
 /// So many commands of this name are passed over.
@@ -16,10 +16,21 @@ pub struct Unjudged {
     pub name: Name,
 }
 
-/// What is told of a script: which commands are passed over, where any may be; which are not judged; and how many false paths
-/// take hold checks off that are not judged.
+/// So many cells of this reference are cut out of the design; a path may lead through them where they are open.
+#[derive(Drop)]
+pub struct CutCells {
+    pub cell: Name,
+    pub count: u64,
+    pub open: bool,
+}
+
+/// What is told of a netlist and a script: the top module, where it is asked for by its name; which cells are cut out, by
+/// reference; which commands are passed over, where any may be; which are not judged; and how many false paths take hold checks
+/// off that are not judged.
 #[derive(Drop)]
 pub struct Notices {
+    pub top: Option<Name>,
+    pub cuts: Seq<CutCells>,
     pub skipped: Option<Seq<Skipped>>,
     pub unjudged: Seq<Unjudged>,
     pub hold_commands: u64,
