@@ -4,3 +4,4 @@ pub mod Inversions
 pub mod LawfulCells
 pub mod ScopeLemmas
 pub mod TextLemmas
+pub mod Worked

@@ -26,7 +26,7 @@ use Rattle.verilog_scope.specs.declared.ranges.Run.{Run}
 use Rattle.verilog_scope.specs.declared.scopes.Scope.{Scope}
 use Rattle.verilog_scope.specs.Folds.{fold_ok, fold_both, each, pushing}
 use Rattle.verilog_scope.specs.Decls.{with_new}
-use Rattle.verilog_scope.specs.Scopes.{net_names, all_bits, run_of}
+use Rattle.verilog_scope.specs.Scopes.{net_names, all_bits, run_of, bit_name}
 use Rattle.verilog_scope.proofs.KeepLemmas.{step_gave, fold_keeps, fold_keeps_all, both_keeps, each_holds}
 use Rattle.verilog_scope.proofs.ScopeLemmas.{IsScope}
 use Rattle.verilog_scope.proofs.RunLemmas.{HasPlace, bits_below, run_below}
@@ -39,17 +39,22 @@ use Rattle.netlist_types.specs.declared.sources.Item.TheVariants as item
 use Rattle.verilog_net.specs.declared.hierarchies.Hierarchy.{Hierarchy}
 use Rattle.verilog_net.specs.Wires.{numbers, nets, constants, with_run, add_part, wires_of, only, driven, wire_of, net_of}
 use Rattle.verilog_net.specs.Hierarchies.{inner_of, fits}
-use Rattle.verilog_net.specs.Items.{conn_of, inst_of, has_terminals, prim_of, add_copy, add_assign, tied, supplies_of, add_nets, add_prim, add_inst, add_item}
+use Rattle.verilog_net.specs.Spreads.{bit_conn, bit_conns, spread, add_spread, wide_conns}
+use Rattle.verilog_net.specs.Items.{conn_of, plain_conns, conns_of, inst_of, has_terminals, prim_of, add_copy, add_assign, tied, supplies_of, add_nets, add_prim, add_inst, add_item}
 use Rattle.netlist_types.specs.Lawful.{IsBelow, IsWireBelow, AreWiresBelow, HasTerminals}
 
 -- the wires of a connection fit its pin
 abbrev pub FitsPin : Option Scope → Conn → Type 0
 FitsPin inner c = (wires : List Wire) → c.wires ≡ Some wires → fits inner c.pin (length wires) ≡ true
 
+-- connections of different pins, whose wires fit
+abbrev pub AreGood : ℕ → Option Scope → List Conn → Type 0
+AreGood count inner conns =
+    (are_distinct (map (λ (c : Conn). c.pin) conns) ≡ true) × (All (λ (c : Conn). AreWiresBelow count c.wires) conns × All (FitsPin inner) conns)
+
 -- a lawful item, where widths are asked of the modules' scopes
 abbrev pub IsGood : Hierarchy → ℕ → Item → Type 0
-IsGood h count (item.Inst cell name conns) =
-    (are_distinct (map (λ (c : Conn). c.pin) conns) ≡ true) × (All (λ (c : Conn). AreWiresBelow count c.wires) conns × All (FitsPin (inner_of h cell)) conns)
+IsGood h count (item.Inst cell name conns) = AreGood count (inner_of h cell) conns
 IsGood h count (item.Prim k name outs ins) = HasTerminals k (length outs) (length ins) × (All (IsBelow count) outs × All (IsWireBelow count) ins)
 IsGood h count (item.Copy to from) = (to < count) × IsWireBelow count from
 
@@ -95,6 +100,33 @@ wires_same count inner pin ws conn below named is fit = (
 
 open_same : (count : ℕ) (inner : Option Scope) (pin : List ℕ) (conn : Conn) → conn.pin ≡ pin → conn.wires ≡ None → IsConn count inner pin conn
 open_same count inner pin conn named is = (named, (subst (AreWiresBelow count) (sym is) tt, λ wires there. absurd cc))
+
+-- a connection of one bit, as one of a cell has to be
+abbrev IsBitConn : ℕ → Conn → Type 0
+IsBitConn count c = AreWiresBelow count c.wires × FitsPin None c
+
+one_wire : (pin : List ℕ) (ws : List Wire) → (length ws == 1) ≡ true → FitsPin None (record { pin = pin; wires = Some ws })
+one_wire pin ws one = λ wires there. let same : ws ≡ wires = cc in subst (λ (l : List Wire). (length l == 1) ≡ true) same one
+
+open_conn : (count : ℕ) (pin : List ℕ) → IsBitConn count (record { pin = pin; wires = None })
+open_conn count pin = (tt, λ wires there. absurd cc)
+
+bits_good : (count : ℕ) (pin : List ℕ) (ws : List Wire) → All (IsWireBelow count) ws → All (IsBitConn count) (bit_conns pin ws)
+unfolding bit_conns
+bits_good count pin [] below = All-nil (IsBitConn count)
+bits_good count pin (w ∷ ws) below =
+    All-cons (IsBitConn count) (bit_conn pin (length ws) w) (bit_conns pin ws) (
+      All-cons (IsWireBelow count) w [] (All-head (IsWireBelow count) w ws below) (All-nil (IsWireBelow count)),
+      one_wire (bit_name pin (length ws)) (w ∷ []) refl,
+    )
+    (bits_good count pin ws (All-tail (IsWireBelow count) w ws below))
+
+-- each connection that one of any width is has one bit
+spread_good : (count : ℕ) (pin : List ℕ) (ws : List Wire) (one : Bool) → (length ws == 1) ≡ one → All (IsWireBelow count) ws
+    → All (IsBitConn count) (if one then record { pin = pin; wires = Some ws } ∷ [] else bit_conns pin ws)
+spread_good count pin ws true is below =
+    All-cons (IsBitConn count) (record { pin = pin; wires = Some ws }) [] (below, one_wire pin ws is) (All-nil (IsBitConn count))
+spread_good count pin ws false is below = bits_good count pin ws below
 
 pushed_pins : (found : List Conn) (conn : Conn) (pin : List ℕ) (pins : List (List ℕ)) → map (λ (c : Conn). c.pin) found ≡ pins → conn.pin ≡ pin
     → map (λ (c : Conn). c.pin) (found ++ conn ∷ []) ≡ pins ++ pin ∷ []
@@ -194,23 +226,68 @@ module _ (h : Hierarchy) (m : ModuleDecl) (s : Scope) (made : IsScope m s) where
       let more = ap (map (λ (c : Conn). c.pin)) (sym same) ∙ pushed_pins found conn c.pin pins named pin.0 in
       pins_kept inner next (pins ++ c.pin ∷ []) cs last more rest ∙ append_assoc pins (c.pin ∷ []) (map (λ (c : ConnDecl). c.pin) cs)
 
-  inst_good : (cell : List ℕ) (i : InstDecl) (x : Item) → inst_of s (inner_of h cell) cell i ≡ Ok x → IsGood h count x
-  unfolding inst_of
-  inst_good cell i x e =
-      let inner = inner_of h cell in
-      let (pins, differ, e1) = step_gave (fold_ok with_new [] (map (λ (c : ConnDecl). c.pin) i.conns)) _ x e in
-      let (conns, found, e2) = step_gave (each (conn_of s inner) i.conns) _ x e1 in
-      let same : item.Inst cell i.name conns ≡ x = cc in
-      let (is, distinct) = new_distinct (map (λ (c : ConnDecl). c.pin) i.conns) pins differ in
-      let named = pins_kept inner [] [] i.conns conns refl found in
-      subst (IsGood h count) same (
+  plain_good : (inner : Option Scope) (cs : List ConnDecl) (conns : List Conn) → plain_conns s inner cs ≡ Ok conns → AreGood count inner conns
+  unfolding plain_conns
+  plain_good inner cs conns e =
+      let (pins, differ, found) = step_gave (fold_ok with_new [] (map (λ (c : ConnDecl). c.pin) cs)) _ conns e in
+      let (is, distinct) = new_distinct (map (λ (c : ConnDecl). c.pin) cs) pins differ in
+      let named = pins_kept inner [] [] cs conns refl found in (
         rw named distinct,
         (
-          each_holds (λ (c : Conn). AreWiresBelow count c.wires) (conn_of s inner) (λ c conn gives. let g = conn_good inner c conn gives in g.1.0)
-              i.conns conns found,
-          each_holds (FitsPin inner) (conn_of s inner) (λ c conn gives. let g = conn_good inner c conn gives in g.1.1) i.conns conns found,
+          each_holds (λ (c : Conn). AreWiresBelow count c.wires) (conn_of s inner) (λ c conn gives. let g = conn_good inner c conn gives in g.1.0) cs conns
+              found,
+          each_holds (FitsPin inner) (conn_of s inner) (λ c conn gives. let g = conn_good inner c conn gives in g.1.1) cs conns found,
         ),
       )
+
+  spread_case : (found : List Conn) (pin : List ℕ) (parts : Option (List PartDecl)) (next : List Conn) → All (IsBitConn count) found
+      → ◌≡◌ {A = Result (List Conn) VerFault} (elim parts [
+        | None ↦ Ok (found ++ record { pin = pin; wires = None } ∷ [])
+        | Some parts ↦ wires_of s parts >>= λ ws. Ok (found ++ spread pin ws)
+      ]) (Ok next) → All (IsBitConn count) next
+  spread_case found pin None next all e =
+      let opened : Conn = record { pin = pin; wires = None } in
+      let same : found ++ opened ∷ [] ≡ next = cc in
+      subst (All (IsBitConn count)) same (All-push (IsBitConn count) found opened all (open_conn count pin))
+  spread_case found pin (Some parts) next all e =
+      let (ws, wires, made) = step_gave (wires_of s parts) _ next e in
+      let same : found ++ spread pin ws ≡ next = cc in
+      subst (All (IsBitConn count)) same
+      (All-append (IsBitConn count) found (spread pin ws) all (spread_good count pin ws (length ws == 1) refl (wires_below parts ws wires)))
+
+  spread_keeps : (found : List Conn) (c : ConnDecl) (next : List Conn) → All (IsBitConn count) found → add_spread s found c ≡ Ok next
+      → All (IsBitConn count) next
+  unfolding add_spread
+  spread_keeps found c next all e = spread_case found c.pin c.parts next all e
+
+  wide_good : (cs : List ConnDecl) (conns : List Conn) → wide_conns s cs ≡ Ok conns → AreGood count None conns
+  unfolding wide_conns
+  wide_good cs conns e =
+      let (made, spreads, e1) = step_gave (fold_ok (add_spread s) [] cs) _ conns e in
+      let (pins, differ, e2) = step_gave (fold_ok with_new [] (map (λ (c : Conn). c.pin) made)) _ conns e1 in
+      let same : made ≡ conns = cc in
+      let (is, distinct) = new_distinct (map (λ (c : Conn). c.pin) made) pins differ in
+      let all = fold_keeps (All (IsBitConn count)) (add_spread s) spread_keeps [] cs made (All-nil (IsBitConn count)) spreads in
+      subst (AreGood count None) same (
+        distinct,
+        (
+          All-weaker (IsBitConn count) (λ (c : Conn). AreWiresBelow count c.wires) (λ c is. is.0) made all,
+          All-weaker (IsBitConn count) (FitsPin None) (λ c is. is.1) made all,
+        ),
+      )
+
+  conns_good : (wide : Bool) (inner : Option Scope) (cs : List ConnDecl) (conns : List Conn) → conns_of wide s inner cs ≡ Ok conns
+      → AreGood count inner conns
+  conns_good true None cs conns e = wide_good cs conns e
+  conns_good true (Some found) cs conns e = plain_good (Some found) cs conns e
+  conns_good false inner cs conns e = plain_good inner cs conns e
+
+  inst_good : (cell : List ℕ) (i : InstDecl) (x : Item) → inst_of h.wide s (inner_of h cell) cell i ≡ Ok x → IsGood h count x
+  unfolding inst_of
+  inst_good cell i x e =
+      let (conns, found, made) = step_gave (conns_of h.wide s (inner_of h cell) i.conns) _ x e in
+      let same : item.Inst cell i.name conns ≡ x = cc in
+      subst (IsGood h count) same (conns_good h.wide (inner_of h cell) i.conns conns found)
 
   prim_case : (kind : PrimKind) (p : PrimDecl) (outs : List ℕ) (ins : List Wire) (b : Bool) (why : VerFault) (x : Item)
       → All (IsBelow count) outs → All (IsWireBelow count) ins → has_terminals kind (length outs) (length ins) ≡ b
@@ -261,10 +338,10 @@ module _ (h : Hierarchy) (m : ModuleDecl) (s : Scope) (made : IsScope m s) where
       subst Good same (All-push (IsGood h count) found x good (prim_good kind p x gives))
 
   added_inst : (cell : List ℕ) (found : List Item) (i : InstDecl) (next : List Item) → Good found
-      → add_inst s (inner_of h cell) cell found i ≡ Ok next → Good next
+      → add_inst h.wide s (inner_of h cell) cell found i ≡ Ok next → Good next
   unfolding add_inst
   added_inst cell found i next good e =
-      let (x, gives, made) = step_gave (inst_of s (inner_of h cell) cell i) _ next e in
+      let (x, gives, made) = step_gave (inst_of h.wide s (inner_of h cell) cell i) _ next e in
       let same : found ++ x ∷ [] ≡ next = cc in
       subst Good same (All-push (IsGood h count) found x good (inst_good cell i x gives))
 
@@ -301,7 +378,7 @@ module _ (h : Hierarchy) (m : ModuleDecl) (s : Scope) (made : IsScope m s) where
   item_good found (Assigns list) next places good e = fold_keeps Good (add_assign s) assign_good found list next good e
   item_good found (Prims kind list) next places good e = fold_keeps Good (add_prim s kind) (added_prim kind) found list next good e
   item_good found (Insts cell list) next places good e =
-      fold_keeps Good (add_inst s (inner_of h cell) cell) (added_inst cell) found list next good e
+      fold_keeps Good (add_inst h.wide s (inner_of h cell) cell) (added_inst cell) found list next good e
 
   -- the items of a module are lawful
   pub items_good : (items : List ItemDecl) (last : List Item) → All Places items → fold_ok (add_item h s) [] items ≡ Ok last → Good last

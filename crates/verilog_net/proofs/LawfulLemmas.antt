@@ -166,10 +166,10 @@ module _ (h : Hierarchy) (ms : List ModuleDecl) (xs : List Module) (names : h.na
       All-cons (IsLawfulModule source) y ys (module_lawful s m y part.0) (all_lawful ns ss ys part.1)
 
 -- the modules of a hierarchy are a lawful source
-pub made_lawful : (ms : List ModuleDecl) (h : Hierarchy) (made : List Module) → hierarchy_of ms ≡ Ok h → modules_made h ms ≡ Ok made
+pub made_lawful : (wide : Bool) (ms : List ModuleDecl) (h : Hierarchy) (made : List Module) → hierarchy_of wide ms ≡ Ok h → modules_made h ms ≡ Ok made
     → IsLawful (record { modules = made })
-made_lawful ms h made first second =
-    let (names, scopes) = hierarchy_parts ms h first in
+made_lawful wide ms h made first second =
+    let (names, scopes) = hierarchy_parts wide ms h first in
     let (is, differ) = new_distinct (map decl_name ms) h.names names in
     let scoped = scopes_are ms h.scopes scopes in
     let (xs, (found, all)) = modules_are h [] ms h.scopes made scoped second in

@@ -1,9 +1,11 @@
 pub mod PinLemmas
 pub mod RunLemmas
 pub mod SourceLemmas
+pub mod SpreadLemmas
 pub mod ItemLemmas
 pub mod PortLemmas
 pub mod ModuleLemmas
 pub mod LawfulLemmas
 pub mod UseLemmas
 pub mod UsedLemmas
+pub mod Worked

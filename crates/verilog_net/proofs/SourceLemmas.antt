@@ -1,5 +1,5 @@
 -- The modules of a text and their scopes.
-use Rattle.std.proofs.Common.{arith, ◌≡◌, ℕ, zero, suc, ◌<◌, true, false, List, [], ◌∷◌, ◌++◌, length, map, get_or, Ok, refl, sym, ap, ◌∙◌, subst}
+use Rattle.std.proofs.Common.{arith, ◌≡◌, ℕ, zero, suc, ◌<◌, Bool, true, false, List, [], ◌∷◌, ◌++◌, length, map, get_or, Ok, refl, sym, ap, ◌∙◌, subst}
 use Rattle.std.proofs.Common.{append_assoc, append-nil}
 use Rattle.std.proofs.lemmas.Slice.Zip.{length-zip, get_or-zip}
 use Rattle.std.specs.List.{zip}
@@ -13,13 +13,13 @@ use Rattle.verilog_net.specs.declared.hierarchies.Hierarchy.{Hierarchy}
 use Rattle.verilog_net.specs.Hierarchies.{hierarchy_of}
 
 -- names that differ, and the scopes
-pub hierarchy_parts : (ms : List ModuleDecl) (h : Hierarchy) → hierarchy_of ms ≡ Ok h
+pub hierarchy_parts : (wide : Bool) (ms : List ModuleDecl) (h : Hierarchy) → hierarchy_of wide ms ≡ Ok h
     → (fold_ok with_new [] (map (λ (m : ModuleDecl). m.name) ms) ≡ Ok h.names) × (each scope_of ms ≡ Ok h.scopes)
 unfolding hierarchy_of
-hierarchy_parts ms h e =
+hierarchy_parts wide ms h e =
     let (names, differ, rest) = step_gave (fold_ok with_new [] (map (λ (m : ModuleDecl). m.name) ms)) _ h e in
     let (scopes, found, made) = step_gave (each scope_of ms) _ h rest in
-    let made_of : Hierarchy = record { names = names; scopes = scopes } in
+    let made_of : Hierarchy = record { names = names; scopes = scopes; wide = wide } in
     let same : made_of ≡ h = cc in
     (differ ∙ ap (λ (h : Hierarchy). Ok h.names) same, found ∙ ap (λ (h : Hierarchy). Ok h.scopes) same)
 

@@ -1,5 +1,5 @@
 -- The modules of a text by name, each with its scope.
-use Rattle.std.specs.Prelude.{ℕ, Bool, true, ◌==◌, List, [], map, slice_get, Option, Some, None, Result, Ok}
+use Rattle.std.specs.Prelude.{ℕ, Bool, true, not, ◌==◌, ◌&&◌, List, [], map, slice_get, Option, Some, None, is_some, Result, Ok}
 use Rattle.texts.specs.Names.{place_of}
 use Rattle.texts.specs.Rules.{◌>>=◌}
 use Rattle.verilog_syntax.specs.declared.declarations.ModuleDecl.{ModuleDecl}
@@ -21,9 +21,13 @@ abbrev pub fits : Option Scope → List ℕ → ℕ → Bool
 fits None pin count = count == 1
 fits (Some inner) pin count = elim (decl_of inner pin).dir [ None ↦ true | Some dir ↦ count == width (decl_of inner pin).range ]
 
+-- where the netlist is read wide, connections of an instance of no module of the text may have any width
+abbrev pub takes_any_width : Bool → Option Scope → Bool
+takes_any_width wide inner = wide && not (is_some inner)
+
 -- the modules have names that differ, and each a scope
-unfoldable pub hierarchy_of : List ModuleDecl → Result Hierarchy VerFault
-hierarchy_of ms =
+unfoldable pub hierarchy_of : Bool → List ModuleDecl → Result Hierarchy VerFault
+hierarchy_of wide ms =
     fold_ok with_new [] (map (λ (m : ModuleDecl). m.name) ms) >>= λ names.
     each scope_of ms >>= λ scopes.
-    Ok (record { names = names; scopes = scopes })
+    Ok (record { names = names; scopes = scopes; wide = wide })

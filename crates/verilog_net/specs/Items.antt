@@ -25,7 +25,9 @@ use Rattle.netlist_types.specs.declared.sources.Item.{Item}
 use Rattle.netlist_types.specs.declared.sources.Item.TheVariants as item
 use Rattle.verilog_net.specs.declared.hierarchies.Hierarchy.{Hierarchy}
 use Rattle.verilog_net.specs.Wires.{wires_of, wire_of, net_of, driven, numbers}
-use Rattle.verilog_net.specs.Hierarchies.{inner_of, fits}
+use Rattle.verilog_net.specs.Hierarchies.{inner_of, fits, takes_any_width}
+use Rattle.verilog_net.specs.Pins.{pins_of}
+use Rattle.verilog_net.specs.Spreads.{wide_conns}
 
 -- a connection of a pin; the two sides have one width
 unfoldable pub conn_of : Scope → Option Scope → ConnDecl → Result Conn VerFault
@@ -35,12 +37,16 @@ conn_of scope inner c = elim c.parts [
       if fits inner c.pin (length ws) then Ok (record { pin = c.pin; wires = Some ws }) else Err (fault.Width c.offset)
 ]
 
+-- the connections of an instance, each of its pin's width; no two of them are of one pin
+unfoldable pub plain_conns : Scope → Option Scope → List ConnDecl → Result (List Conn) VerFault
+plain_conns scope inner cs = fold_ok with_new [] (pins_of cs) >>= λ pins. each (conn_of scope inner) cs
+
+abbrev pub conns_of : Bool → Scope → Option Scope → List ConnDecl → Result (List Conn) VerFault
+conns_of wide scope inner cs = if takes_any_width wide inner then wide_conns scope cs else plain_conns scope inner cs
+
 -- an instance, which names no pin twice
-unfoldable pub inst_of : Scope → Option Scope → List ℕ → InstDecl → Result Item VerFault
-inst_of scope inner cell i =
-    fold_ok with_new [] (map (λ (c : ConnDecl). c.pin) i.conns) >>= λ pins.
-    each (conn_of scope inner) i.conns >>= λ conns.
-    Ok (item.Inst cell i.name conns)
+unfoldable pub inst_of : Bool → Scope → Option Scope → List ℕ → InstDecl → Result Item VerFault
+inst_of wide scope inner cell i = conns_of wide scope inner i.conns >>= λ conns. Ok (item.Inst cell i.name conns)
 
 -- a `buf` or `not` has outputs and one input, any other primitive one output and inputs
 abbrev pub has_terminals : PrimKind → ℕ → ℕ → Bool
@@ -83,8 +89,8 @@ add_nets scope (Some bit) found names = found ++ flat_map (supplies_of scope bit
 unfoldable pub add_prim : Scope → PrimKind → List Item → PrimDecl → Result (List Item) VerFault
 add_prim scope kind found p = prim_of scope kind p >>= λ i. Ok (found ++ i ∷ [])
 
-unfoldable pub add_inst : Scope → Option Scope → List ℕ → List Item → InstDecl → Result (List Item) VerFault
-add_inst scope inner cell found d = inst_of scope inner cell d >>= λ i. Ok (found ++ i ∷ [])
+unfoldable pub add_inst : Bool → Scope → Option Scope → List ℕ → List Item → InstDecl → Result (List Item) VerFault
+add_inst wide scope inner cell found d = inst_of wide scope inner cell d >>= λ i. Ok (found ++ i ∷ [])
 
 -- the items before it, with those of a statement
 unfoldable pub add_item : Hierarchy → Scope → List Item → ItemDecl → Result (List Item) VerFault
@@ -92,4 +98,4 @@ add_item h scope found (Ports ports) = Ok found
 add_item h scope found (Nets kind range names) = Ok (add_nets scope (tied kind) found names)
 add_item h scope found (Assigns list) = fold_ok (add_assign scope) found list
 add_item h scope found (Prims kind list) = fold_ok (add_prim scope kind) found list
-add_item h scope found (Insts cell list) = fold_ok (add_inst scope (inner_of h cell) cell) found list
+add_item h scope found (Insts cell list) = fold_ok (add_inst h.wide scope (inner_of h cell) cell) found list

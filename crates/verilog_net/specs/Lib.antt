@@ -1,6 +1,7 @@
 pub mod Wires
 pub mod Hierarchies
 pub mod Pins
+pub mod Spreads
 pub mod Items
 pub mod Uses
 pub mod Orders

@@ -1,5 +1,5 @@
 -- The netlist that a text is.
-use Rattle.std.specs.Prelude.{ℕ, List, Result, Ok, Err}
+use Rattle.std.specs.Prelude.{ℕ, Bool, List, Result, Ok, Err}
 use Rattle.texts.specs.Rules.{◌>>=◌}
 use Rattle.verilog_words.specs.declared.faults.SyntaxFault.{SyntaxFault}
 use Rattle.verilog_syntax.specs.Modules.{modules_of}
@@ -14,10 +14,10 @@ abbrev pub told : {A : Type 0} → Result A SyntaxFault → Result A VerFault
 told (Ok a) = Ok a
 told (Err e) = Err (of_syntax e)
 
--- the netlist of a text, or the fault that the text has
-unfoldable pub source_of : List ℕ → Result Source VerFault
-source_of text =
-    told (modules_of text) >>= λ ms.
-    hierarchy_of ms >>= λ h.
+-- the netlist of a text, read wide or not, or the fault that the text has
+unfoldable pub source_of : Bool → List ℕ → Result Source VerFault
+source_of wide text =
+    told (modules_of wide text) >>= λ ms.
+    hierarchy_of wide ms >>= λ h.
     modules_made h ms >>= λ made.
     Ok (record { modules = made })

@@ -1,21 +1,19 @@
 //! Instances of cells and modules.
-ghost use Rattle.std.specs.Prelude.{◌≡◌, ◌++◌, ◌∷◌, [], slice_get};
-ghost use Rattle.texts.specs.Names.{is_among};
+ghost use Rattle.std.specs.Prelude.{slice_get};
 ghost use Rattle.texts.specs.Rules.{Gives};
 ghost use Rattle.verilog_scope.specs.Fails.{Fails};
 ghost use Rattle.verilog_scope.specs.Folds.{fold_ok, each};
-ghost use Rattle.verilog_scope.specs.Decls.{with_new};
 ghost use Rattle.verilog_net.specs.Hierarchies.{inner_of};
 ghost use Rattle.verilog_net.specs.Items as spec;
-ghost use Rattle.verilog_net.specs.Pins.{pins_of};
 
 use crate::hierarchies::Hierarchy;
+use crate::pins::check_pins;
+use crate::spreads::wide_conns;
 use crate::wires::wires_of;
 use netlist_types::{Conn, Item};
 use sdcv_base::{Name, Seq};
 use std::alloc::Global;
-use texts::NameTable;
-use verilog_scope::{Scope, VerFault, add_new};
+use verilog_scope::{Scope, VerFault};
 use verilog_syntax::{ConnDecl, InstDecl};
 
 /// Appends the instances of a cell, or of the module that stands at its name's place.
@@ -28,7 +26,7 @@ pub fn add_insts(
     list: &[InstDecl],
 ) -> Result<(), VerFault>
     ensures { Gives Fails (λ _. items.new) result
-        (fold_ok (spec.add_inst scope.now (inner_of hierarchy.now cell.now) cell.now) items.old list.now) }
+        (fold_ok (spec.add_inst hierarchy.now.wide scope.now (inner_of hierarchy.now cell.now) cell.now) items.old list.now) }
 {
     for decl in list {
         add_inst(alloc, hierarchy, scope, items, cell, decl)?;
@@ -46,56 +44,47 @@ fn add_inst(
     decl: &InstDecl,
 ) -> Result<(), VerFault>
     ensures { Gives Fails (λ _. items.new) result
-        (spec.add_inst scope.now (inner_of hierarchy.now cell.now) cell.now items.old decl.now) }
+        (spec.add_inst hierarchy.now.wide scope.now (inner_of hierarchy.now cell.now) cell.now items.old decl.now) }
 {
-    check_pins(alloc, decl.conns.as_slice())?;
     let place = hierarchy.names.place(cell);
-    let conns = conns(alloc, hierarchy, scope, place, decl.conns.as_slice())?;
+    let conns = conns_of(alloc, hierarchy, scope, place, decl.conns.as_slice())?;
     let cell = cell.copy(alloc)?;
     let name = decl.name.copy(alloc)?;
     items.push(Item::Inst { cell, name, conns })?;
     Ok(())
 }
 
-/// An instance of no more pins than these has them compared with each other.
-const FEW: usize = 8;
-
-/// Checks that no pin is named twice.
-#[tactic(auto, using(crate::proofs::PinLemmas::all_new))]
-fn check_pins(alloc: Global, list: &[ConnDecl]) -> Result<(), VerFault>
-    ensures { Gives Fails (λ _. pins_of list.now) result (fold_ok with_new [] (pins_of list.now)) }
+/// The connections of an instance of the module at a place, or of a cell.
+fn conns_of(
+    alloc: Global,
+    hierarchy: &Hierarchy,
+    scope: &Scope,
+    place: usize,
+    list: &[ConnDecl],
+) -> Result<Seq<Conn>, VerFault>
+    ensures { Gives Fails (λ conns. conns) result
+        (spec.conns_of hierarchy.now.wide scope.now (slice_get hierarchy.now.scopes place) list.now) }
 {
-    if list.len() <= FEW {
-        return check_few(alloc, list);
-    }
-    let mut names = NameTable::new(alloc);
-    add_new(alloc, &mut names, list)
-}
-
-fn check_few(alloc: Global, list: &[ConnDecl]) -> Result<(), VerFault>
-    ensures { Gives Fails (λ _. pins_of list.now) result (fold_ok with_new [] (pins_of list.now)) }
-{
-    for (place, conn) in list.iter().enumerate() {
-        check_pin(alloc, &list[..place], &conn.pin)?;
-    }
-    Ok(())
-}
-
-/// Checks that a pin is none of those before it.
-fn check_pin(alloc: Global, before: &[ConnDecl], pin: &Name) -> Result<(), VerFault>
-    ensures { Gives Fails (λ _. pins_of before.now ++ pin.now ∷ []) result (with_new (pins_of before.now) pin.now) }
-{
-    if has_pin(before, pin) {
-        Err(VerFault::TwiceName(pin.copy(alloc)?))
+    if hierarchy.takes_any_width(place) {
+        wide_conns(alloc, scope, list)
     } else {
-        Ok(())
+        plain_conns(alloc, hierarchy, scope, place, list)
     }
 }
 
-fn has_pin(list: &[ConnDecl], pin: &Name) -> bool
-    ensures { result ≡ is_among pin.now (pins_of list.now) }
+/// Connections each of its pin's width.
+#[tactic(auto, unfolding(crate::specs::Items::plain_conns))]
+fn plain_conns(
+    alloc: Global,
+    hierarchy: &Hierarchy,
+    scope: &Scope,
+    place: usize,
+    list: &[ConnDecl],
+) -> Result<Seq<Conn>, VerFault>
+    ensures { Gives Fails (λ conns. conns) result (spec.plain_conns scope.now (slice_get hierarchy.now.scopes place) list.now) }
 {
-    list.iter().any(|conn| *pin == conn.pin)
+    check_pins(alloc, list)?;
+    conns(alloc, hierarchy, scope, place, list)
 }
 
 fn conns(

@@ -12,8 +12,10 @@ mod insts;
 mod items;
 mod modules;
 mod numbers;
+mod pins;
 mod prims;
 mod sources;
+mod spreads;
 mod uses;
 mod wires;
 

@@ -19,7 +19,7 @@ pub fn bit_name(
 {
     match range {
         None => name.copy(alloc),
-        Some(bits) => spelled(alloc, name, index_at(bits, bit)),
+        Some(bits) => indexed_name(alloc, name, index_at(bits, bit)),
     }
 }
 
@@ -35,7 +35,7 @@ fn index_at(range: &Range, bit: usize) -> u64
 }
 
 /// The name of a bit of this index of a bus, as `n[3]`.
-fn spelled(alloc: Global, name: &Name, index: u64) -> Result<Name, AllocError>
+pub fn indexed_name(alloc: Global, name: &Name, index: u64) -> Result<Name, AllocError>
     ensures { IfOk result (λ bit_name. bit_name ≡ spec.bit_name name.now index) }
 {
     let mut bytes = Vec::from_slice(alloc, name.as_bytes())?;

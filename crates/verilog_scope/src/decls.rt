@@ -49,8 +49,8 @@ fn put(decls: &mut Seq<Decl>, place: usize, decl: Decl)
     }
 }
 
-/// Adds a name that has to be new.
-fn add_one(alloc: Global, names: &mut NameTable, name: &Name) -> Result<(), VerFault>
+/// Adds a name that has to be new, and else is told as `TwiceName`.
+pub fn add_one(alloc: Global, names: &mut NameTable, name: &Name) -> Result<(), VerFault>
     ensures { Gives Fails (λ _. names.new) result (spec.with_new names.old name.now) }
 {
     if names.add(alloc, name)? {

@@ -13,7 +13,8 @@ mod ranges;
 mod scopes;
 mod standing;
 
-pub use decls::{Decl, add_new};
+pub use bits::indexed_name;
+pub use decls::{Decl, add_new, add_one};
 pub use netlist_types::VerFault;
 pub use ranges::{Run, width};
 pub use scopes::Scope;

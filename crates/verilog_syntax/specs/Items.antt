@@ -1,5 +1,5 @@
 -- The items of a module.
-use Rattle.std.specs.Prelude.{ℕ, true, false, Bool, ◌&&◌, if◌then◌else◌, List, [], ◌∷◌, ◌++◌, Option, None, Some, Ok, Err}
+use Rattle.std.specs.Prelude.{ℕ, true, false, Bool, not, ◌&&◌, if◌then◌else◌, List, [], ◌∷◌, ◌++◌, Option, None, Some, Ok, Err}
 use Rattle.std.specs.List.{list_any}
 use Rattle.texts.specs.Rules.{◌>>=◌, offset_of}
 use Rattle.verilog_words.specs.declared.faults.SyntaxFault.TheVariants as fault
@@ -22,6 +22,7 @@ use Rattle.verilog_syntax.specs.declared.declarations.Part.TheVariants as part
 use Rattle.verilog_syntax.specs.declared.declarations.PartDecl.{PartDecl}
 use Rattle.verilog_syntax.specs.declared.declarations.PrimDecl.{PrimDecl}
 use Rattle.verilog_syntax.specs.declared.declarations.TermDecl.{TermDecl}
+use Rattle.verilog_syntax.specs.declared.items.Items.{Items}
 use Rattle.verilog_syntax.specs.declared.prims.Prims.{Prims}
 use Rattle.verilog_syntax.specs.declared.prims.Terms.{Terms}
 use Rattle.verilog_syntax.specs.Exprs.{expr_at}
@@ -135,30 +136,36 @@ insts_at total s = do
   Ok (item.Insts n.0 l.0, l.1)
 
 -- an item that this word begins
-unfoldable pub word_item_at : Word → Rule ItemDecl
-word_item_at word.Input total s = ports_at total s >>= λ l. Ok (item.Ports l.0, l.1)
-word_item_at word.Output total s = ports_at total s >>= λ l. Ok (item.Ports l.0, l.1)
-word_item_at word.Wire total s = nets_at net.Wire total (after_identifier s)
-word_item_at word.Supply0 total s = nets_at net.Supply0 total (after_identifier s)
-word_item_at word.Supply1 total s = nets_at net.Supply1 total (after_identifier s)
-word_item_at word.Assign total s = assigns_at total (after_identifier s)
-word_item_at (word.Gate kind) total s = prims_at kind total (after_identifier s)
-word_item_at _ total s = refused total s
+unfoldable pub word_item_at : Bool → Word → Rule ItemDecl
+word_item_at wide word.Input total s = ports_at wide total s >>= λ l. Ok (item.Ports l.0, l.1)
+word_item_at wide word.Output total s = ports_at wide total s >>= λ l. Ok (item.Ports l.0, l.1)
+word_item_at wide word.Inout total s = ports_at wide total s >>= λ l. Ok (item.Ports l.0, l.1)
+word_item_at wide word.Wire total s = nets_at net.Wire total (after_identifier s)
+word_item_at wide word.Supply0 total s = nets_at net.Supply0 total (after_identifier s)
+word_item_at wide word.Supply1 total s = nets_at net.Supply1 total (after_identifier s)
+word_item_at wide word.Assign total s = assigns_at total (after_identifier s)
+word_item_at wide (word.Gate kind) total s = prims_at kind total (after_identifier s)
+word_item_at wide _ total s = refused total s
 
-abbrev pub is_left_out : Option Word → Bool
-is_left_out (Some word.Unsupported) = true
-is_left_out _ = false
+-- the word is left out; so is `inout`, unless the netlist is read wide
+abbrev pub is_left_out : Bool → Option Word → Bool
+is_left_out wide (Some word.Unsupported) = true
+is_left_out wide (Some word.Inout) = not wide
+is_left_out wide _ = false
 
 -- a word that is left out is told with its place
-unfoldable pub supported_at : ℕ → List ℕ → After
-supported_at total s = if is_left_out (next_word s) then Err (fault.Unsupported (offset_of total s) (identifier s)) else Ok s
+unfoldable pub supported_at : Bool → ℕ → List ℕ → After
+supported_at wide total s = if is_left_out wide (next_word s) then Err (fault.Unsupported (offset_of total s) (identifier s)) else Ok s
 
 -- an item: by its word, or instances of the cell or module of a name
-unfoldable pub item_at : Rule ItemDecl
-item_at total s = supported_at total s >>= λ r. elim (next_word r) [
-  | Some w ↦ word_item_at w total r
+unfoldable pub item_at : Bool → Rule ItemDecl
+item_at wide total s = supported_at wide total s >>= λ r. elim (next_word r) [
+  | Some w ↦ word_item_at wide w total r
   | None ↦ insts_at total r
 ]
 
-abbrev pub adds_item : List ItemDecl → Rule (List ItemDecl)
-adds_item found total s = item_at total s >>= λ i. Ok (found ++ i.0 ∷ [], i.1)
+abbrev pub with_item : Items → ItemDecl → Items
+with_item found i = record found { list = found.list ++ i ∷ [] }
+
+abbrev pub adds_item : Items → Rule Items
+adds_item found total s = item_at found.wide total s >>= λ i. Ok (with_item found i.0, i.1)

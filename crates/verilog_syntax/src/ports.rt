@@ -24,6 +24,13 @@ struct Turn {
     range: Option<Range>,
 }
 
+/// The ports of a list of declarations so far, and whether `inout` is a direction.
+#[derive(Drop)]
+struct Ports {
+    wide: bool,
+    list: Seq<PortDecl>,
+}
+
 /// Takes a name, with its place.
 #[tactic(auto, unfolding(crate::specs::Ports::spelled_at))]
 fn take_spelled(alloc: Global, c: &mut Cursor<'_>) -> Result<Spelled, SyntaxFault>
@@ -48,26 +55,27 @@ impl Gather for Seq<Spelled> {
     }
 }
 
-/// The direction that comes next.
+/// The direction that comes next. `inout` is one where the netlist is read wide.
 #[tactic(auto, unfolding(crate::specs::Ports::next_dir))]
-fn next_dir(c: &Cursor<'_>) -> Option<Dir>
-    ensures value { result ≡ spec.next_dir (rest c.now) }
+fn next_dir(c: &Cursor<'_>, wide: bool) -> Option<Dir>
+    ensures value { result ≡ spec.next_dir wide (rest c.now) }
     ensures some { IsSome result → 0 < identifier_len (rest c.now) }
 {
     match next_word(c) {
         Some(Word::Input) => Some(Dir::Input),
         Some(Word::Output) => Some(Dir::Output),
+        Some(Word::Inout) if wide => Some(Dir::Inout),
         _ => None,
     }
 }
 
 #[tactic(auto, unfolding(crate::specs::Ports::dir_at))]
-fn take_dir(c: &mut Cursor<'_>) -> Result<Dir, SyntaxFault>
-    ensures value { Reads c.old c.new Fails (λ d. d) result spec.dir_at }
+fn take_dir(c: &mut Cursor<'_>, wide: bool) -> Result<Dir, SyntaxFault>
+    ensures value { Reads c.old c.new Fails (λ d. d) result (spec.dir_at wide) }
     ensures text { text_of c.new ≡ text_of c.old }
     ensures shorter { OnOk result (length (rest c.new) < length (rest c.old)) }
 {
-    let Some(dir) = next_dir(c) else {
+    let Some(dir) = next_dir(c, wide) else {
         return Err(refused(c));
     };
     skip_identifier(c);
@@ -76,12 +84,12 @@ fn take_dir(c: &mut Cursor<'_>) -> Result<Dir, SyntaxFault>
 
 /// Takes a direction, `wire` or not, and a range or none.
 #[tactic(auto, unfolding(crate::specs::Ports::turn_at))]
-fn take_turn(c: &mut Cursor<'_>) -> Result<Turn, SyntaxFault>
-    ensures value { Reads c.old c.new Fails (λ t. t) result spec.turn_at }
+fn take_turn(c: &mut Cursor<'_>, wide: bool) -> Result<Turn, SyntaxFault>
+    ensures value { Reads c.old c.new Fails (λ t. t) result (spec.turn_at wide) }
     ensures text { text_of c.new ≡ text_of c.old }
     ensures shorter { OnOk result (length (rest c.new) < length (rest c.old)) }
 {
-    let dir = take_dir(c)?;
+    let dir = take_dir(c, wide)?;
     let _is_wire = try_word(c, "wire");
     let range = range_or_none(c)?;
     Ok(Turn { dir, range })
@@ -89,15 +97,15 @@ fn take_turn(c: &mut Cursor<'_>) -> Result<Turn, SyntaxFault>
 
 /// The direction and range of the next port: those that stand here, or else those of the port before it.
 #[tactic(auto, unfolding(crate::specs::Ports::inherited_at))]
-fn inherit(c: &mut Cursor<'_>, found: &[PortDecl]) -> Result<Turn, SyntaxFault>
+fn inherit(c: &mut Cursor<'_>, found: &Ports) -> Result<Turn, SyntaxFault>
     ensures value { Reads c.old c.new Fails (λ t. t) result (spec.inherited_at found.now) }
     ensures text { text_of c.new ≡ text_of c.old }
     ensures within { OnOk result (length (rest c.new) ≤ length (rest c.old)) }
 {
-    if next_dir(c).is_some() {
-        return take_turn(c);
+    if next_dir(c, found.wide).is_some() {
+        return take_turn(c, found.wide);
     }
-    match found.last() {
+    match found.list.as_slice().last() {
         Some(port) => Ok(Turn {
             dir: port.dir,
             range: port.range,
@@ -107,22 +115,22 @@ fn inherit(c: &mut Cursor<'_>, found: &[PortDecl]) -> Result<Turn, SyntaxFault>
 }
 
 /// A port of a list of declarations.
-impl Gather for Seq<PortDecl> {
+impl Gather for Ports {
     ghost adds = { spec.adds_port };
 
     #[tactic(auto, unfolding(crate::specs::Ports::adds_port))]
     fn add(&mut self, alloc: Global, c: &mut Cursor<'_>) -> Result<(), SyntaxFault> {
-        let Turn { dir, range } = inherit(c, self.as_slice())?;
+        let Turn { dir, range } = inherit(c, self)?;
         let name = take_spelled(alloc, c)?;
-        self.push(PortDecl { dir, range, name })?;
+        self.list.push(PortDecl { dir, range, name })?;
         Ok(())
     }
 }
 
 /// Takes what follows the `(` of a port list: nothing, declarations where a direction comes first, or names.
 #[tactic(auto, unfolding(crate::specs::Ports::listed_at))]
-fn take_listed(alloc: Global, c: &mut Cursor<'_>) -> Result<Head, SyntaxFault>
-    ensures value { Reads c.old c.new Fails (λ h. h) result spec.listed_at }
+fn take_listed(alloc: Global, c: &mut Cursor<'_>, wide: bool) -> Result<Head, SyntaxFault>
+    ensures value { Reads c.old c.new Fails (λ h. h) result (spec.listed_at wide) }
     ensures text { text_of c.new ≡ text_of c.old }
     ensures shorter { OnOk result (length (rest c.new) < length (rest c.old)) }
 {
@@ -130,10 +138,11 @@ fn take_listed(alloc: Global, c: &mut Cursor<'_>) -> Result<Head, SyntaxFault>
     if try_pass(c, b')') {
         return Ok(Head::Names(names));
     }
-    if next_dir(c).is_some() {
-        let mut ports = Seq::new(alloc);
+    if next_dir(c, wide).is_some() {
+        let list = Seq::new(alloc);
+        let mut ports = Ports { wide, list };
         take_list(alloc, c, b')', &mut ports)?;
-        return Ok(Head::Ports(ports));
+        return Ok(Head::Ports(ports.list));
     }
     take_list(alloc, c, b')', &mut names)?;
     Ok(Head::Names(names))
@@ -141,8 +150,8 @@ fn take_listed(alloc: Global, c: &mut Cursor<'_>) -> Result<Head, SyntaxFault>
 
 /// Takes a port list where one stands.
 #[tactic(auto, unfolding(crate::specs::Ports::head_at))]
-pub fn take_head(alloc: Global, c: &mut Cursor<'_>) -> Result<Head, SyntaxFault>
-    ensures value { Reads c.old c.new Fails (λ h. h) result spec.head_at }
+pub fn take_head(alloc: Global, c: &mut Cursor<'_>, wide: bool) -> Result<Head, SyntaxFault>
+    ensures value { Reads c.old c.new Fails (λ h. h) result (spec.head_at wide) }
     ensures text { text_of c.new ≡ text_of c.old }
     ensures within { OnOk result (length (rest c.new) ≤ length (rest c.old)) }
 {
@@ -150,7 +159,7 @@ pub fn take_head(alloc: Global, c: &mut Cursor<'_>) -> Result<Head, SyntaxFault>
         return Ok(Head::Names(Seq::new(alloc)));
     }
     bump(c);
-    take_listed(alloc, c)
+    take_listed(alloc, c, wide)
 }
 
 /// Ports of these names.
@@ -170,12 +179,16 @@ fn ports_of(alloc: Global, turn: Turn, names: Seq<Spelled>) -> Result<Seq<PortDe
 
 /// Takes a declaration of ports in a body.
 #[tactic(auto, unfolding(crate::specs::Ports::ports_at))]
-pub fn take_ports(alloc: Global, c: &mut Cursor<'_>) -> Result<Seq<PortDecl>, SyntaxFault>
-    ensures value { Reads c.old c.new Fails (λ l. l) result spec.ports_at }
+pub fn take_ports(
+    alloc: Global,
+    c: &mut Cursor<'_>,
+    wide: bool,
+) -> Result<Seq<PortDecl>, SyntaxFault>
+    ensures value { Reads c.old c.new Fails (λ l. l) result (spec.ports_at wide) }
     ensures text { text_of c.new ≡ text_of c.old }
     ensures shorter { OnOk result (length (rest c.new) < length (rest c.old)) }
 {
-    let turn = take_turn(c)?;
+    let turn = take_turn(c, wide)?;
     let mut names = Seq::new(alloc);
     take_list(alloc, c, b';', &mut names)?;
     Ok(ports_of(alloc, turn, names)?)

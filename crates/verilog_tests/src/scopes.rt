@@ -74,7 +74,7 @@ const MODULES: &[(&str, &str)] = &[
 
 // The modules of a text, one after the other.
 fn told_text(alloc: Global, text: &str) -> Result<String, SyntaxFault> {
-    let decls = read_modules(alloc, text.as_bytes())?;
+    let decls = read_modules(alloc, text.as_bytes(), false)?;
     let mut all = String::new(alloc);
     for decl in decls.as_slice() {
         let told = told(alloc, decl)?;

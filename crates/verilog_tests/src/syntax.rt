@@ -249,7 +249,7 @@ const TEXTS: &[(&str, &str)] = &[
 ];
 
 fn told(alloc: Global, text: &str) -> Result<String, AllocError> {
-    match read_modules(alloc, text.as_bytes()) {
+    match read_modules(alloc, text.as_bytes(), false) {
         Ok(modules) => listing(alloc, modules.as_slice()),
         Err(fault) => format!(in alloc; "{fault}"),
     }

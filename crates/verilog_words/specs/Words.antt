@@ -16,6 +16,7 @@ module_word x = in_table (
     ∷ (codes "endmodule", word.Endmodule)
     ∷ (codes "input", word.Input)
     ∷ (codes "output", word.Output)
+    ∷ (codes "inout", word.Inout)
     ∷ (codes "wire", word.Wire)
     ∷ (codes "supply0", word.Supply0)
     ∷ (codes "supply1", word.Supply1)
@@ -40,9 +41,9 @@ unfoldable pub is_behaviour : List ℕ → Bool
 is_behaviour x = list_any (bytes_eq x) (codes "always" ∷ codes "initial" ∷ codes "reg" ∷ codes "integer" ∷ codes "parameter" ∷ codes "localparam"
     ∷ codes "defparam" ∷ codes "specify" ∷ codes "function" ∷ codes "task" ∷ codes "generate" ∷ codes "genvar" ∷ [])
 
--- words of strengths, directions and three-state gates, which no netlist of the subset has
+-- words of strengths and three-state gates, which no netlist of the subset has
 unfoldable pub is_strength : List ℕ → Bool
-is_strength x = list_any (bytes_eq x) (codes "inout" ∷ codes "tri" ∷ codes "tri0" ∷ codes "tri1" ∷ codes "wand" ∷ codes "wor" ∷ codes "trireg"
+is_strength x = list_any (bytes_eq x) (codes "tri" ∷ codes "tri0" ∷ codes "tri1" ∷ codes "wand" ∷ codes "wor" ∷ codes "trireg"
     ∷ codes "bufif0" ∷ codes "bufif1" ∷ codes "notif0" ∷ codes "notif1" ∷ codes "primitive" ∷ [])
 
 -- the word that these bytes are

@@ -12,6 +12,8 @@ pub enum Word {
     Endmodule,
     Input,
     Output,
+    /// A direction where a netlist is read wide; else it is outside the subset.
+    Inout,
     Wire,
     Supply0,
     Supply1,
@@ -39,6 +41,8 @@ fn module_word(name: &[u8]) -> Option<Word>
         Some(Word::Input)
     } else if is(name, "output") {
         Some(Word::Output)
+    } else if is(name, "inout") {
+        Some(Word::Inout)
     } else if is(name, "wire") {
         Some(Word::Wire)
     } else if is(name, "supply0") {
@@ -99,8 +103,7 @@ fn is_behaviour(name: &[u8]) -> bool
 fn is_strength(name: &[u8]) -> bool
     ensures { result ≡ spec.is_strength name.now }
 {
-    is(name, "inout")
-        || is(name, "tri")
+    is(name, "tri")
         || is(name, "tri0")
         || is(name, "tri1")
         || is(name, "wand")

@@ -163,10 +163,15 @@ behaviour_is_told_as_left_out : word_of (codes "always") ≡ Some word.Unsupport
 unfolding word_of module_word gate_word is_behaviour
 behaviour_is_told_as_left_out = refl
 
--- and so are directions and strengths beyond the subset
-inout_is_told_as_left_out : word_of (codes "inout") ≡ Some word.Unsupported
+-- and so are strengths
+strength_is_told_as_left_out : word_of (codes "wand") ≡ Some word.Unsupported
 unfolding word_of module_word gate_word is_behaviour is_strength
-inout_is_told_as_left_out = refl
+strength_is_told_as_left_out = refl
+
+-- a direction that only a wide netlist has is a word of its own, and no name
+inout_is_a_word_of_its_own : word_of (codes "inout") ≡ Some word.Inout
+unfolding word_of module_word
+inout_is_a_word_of_its_own = refl
 
 -- the greatest number of a range
 number_of_65535_is_taken : number_at 6 (codes "65535]") ≡ Ok (65535, codes "]")

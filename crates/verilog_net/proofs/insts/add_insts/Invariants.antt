@@ -5,5 +5,5 @@ use Rattle.verilog_net.specs.Items as spec
 use Rattle.verilog_net.proofs.insts.add_insts.Given as goal
 
 abbrev pub invariant-loop-decl : goal.invariant-loop-decl
-invariant-loop-decl l = fold_ok (spec.add_inst l.scope (inner_of l.hierarchy l.cell) l.cell) l.fn.items l.list ≡ fold_ok
-    (spec.add_inst l.scope (inner_of l.hierarchy l.cell) l.cell) l.items (drop l.decl-index l.list)
+invariant-loop-decl l = fold_ok (spec.add_inst l.hierarchy.wide l.scope (inner_of l.hierarchy l.cell) l.cell) l.fn.items l.list ≡ fold_ok
+    (spec.add_inst l.hierarchy.wide l.scope (inner_of l.hierarchy l.cell) l.cell) l.items (drop l.decl-index l.list)

@@ -12,4 +12,4 @@ returns-in-Some c =
     let low : i < width (Some bits) = rw c.in-Some.is at c.requires in
     let same : get_or (spec.bit_names name (Some bits)) i [] ≡ spec.bit_name name (spec.index_at bits i) =
     get_or-map-range_with_len (λ (k : ℕ). spec.bit_name name (spec.index_at bits k)) 0 (width (Some bits)) i i [] low (omega arith) in
-    rw (c.in-Some.is, same) (rw c.index_at.ensures at c.spelled.ensures)
+    rw (c.in-Some.is, same) (rw c.index_at.ensures at c.indexed_name.ensures)
