@@ -103,8 +103,6 @@ no_options = record {
   resets = [];
   reset_len = 0;
   wide = false;
-  top = None;
-  free = [];
   cut_clocks = false;
 }
 

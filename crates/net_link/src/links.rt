@@ -4,7 +4,7 @@ ghost use Rattle.netlist_types.specs.Lawful.{IsLawful};
 ghost use Rattle.cell_types.specs.Libraries.{IsLawful as IsLawfulLibrary};
 ghost use Rattle.link_defs.specs.Faults.{IsCause, IsFaultless};
 ghost use Rattle.link_defs.specs.Links.{IsLinked};
-ghost use Rattle.linked_types.specs.Narrow.{IsNarrow};
+ghost use Rattle.linked_types.specs.Narrow.{IsOnOneClock};
 ghost use Rattle.linked_types.specs.Usable.{IsUsable};
 ghost use Rattle.link_tops.specs.Tops.{IsTop};
 ghost use Rattle.link_design.specs.declared.designs.Held.{Held as HeldRecord};
@@ -46,7 +46,7 @@ pub fn link(
     requires source { IsLawful source.now }
     requires library { IsLawfulLibrary library.now.cells }
     requires resets { options.now.reset_len ≤ 64 }
-    requires narrow { IsNarrow options.now }
+    requires one_clock { IsOnOneClock options.now }
     ensures ok { IfOk result (IsLinked source.now library.now options.now) }
     ensures usable { IfOk result IsUsable }
     ensures err { IfErr result (IsCause source.now library.now options.now) }
