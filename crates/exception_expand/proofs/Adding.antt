@@ -22,7 +22,7 @@ use Rattle.exception_expand.specs.declared.choices.Choice.{Choice}
 use Rattle.selected_types.specs.declared.selections.Selected.{Selected}
 use Rattle.exception_expand.specs.Sides.{sides_by, most_pairs}
 use Rattle.exception_expand.specs.Asking.{Asked, asked, listing_of}
-use Rattle.exception_expand.specs.Pairs.{claim_with}
+use Rattle.exception_expand.specs.Pairs.{claim_for}
 use Rattle.exception_expand.specs.Selections as spec
 use Rattle.exception_expand.specs.Causes.{IsExpandCause}
 use Rattle.exception_expand.specs.Choices.{IsChoiceOf, IsChoiceCause}
@@ -37,18 +37,18 @@ pub adds_choice : (l : Linked) (script : Script) (judging : Judging) (line : ℕ
     → length old.claims ≤ 100000
     → new.commands ≡ old.commands ++ spec.command_line line (listing_of by (length (flat_map (sides_by by.sides) choice.pairs))) choice.warnings ∷ []
     → new.pairs ≡ old.pairs ++ map (spec.side_line l (length new.commands)) (flat_map (sides_by by.sides) choice.pairs)
-    → new.claims ≡ old.claims ++ map (claim_with by.exception.kind by.exception.edge judging choice.sets) (flat_map (sides_by by.sides) choice.pairs)
+    → new.claims ≡ old.claims ++ map (claim_for (length l.names.ins) by.exception.kind by.exception.edge judging choice.sets) (flat_map (sides_by by.sides) choice.pairs)
     → Adds l script judging line what old new
 adds_choice l script judging line what by most choice old new asks is room few commands pairs claims =
     let e = by.exception in
-    let of = claim_with e.kind e.edge judging in
+    let of = claim_for (length l.names.ins) e.kind e.edge judging in
     let more = flat_map (sides_by by.sides) choice.pairs in
     let listed = listing_of by (length more) in
     let fits : length choice.pairs ≤ most_pairs by.sides (100000 - length old.claims) = subst (λ (n : ℕ). length choice.pairs ≤ n) room is.few in
     record {
       more = more;
-      those = subst (λ (o : Option Asked). AreThose (spec.IsAskedOf l script judging.strict o) (spec.all_sides l.design) more) (sym asks)
-          (those_sides by.sides (spec.Selects l script judging.strict e) (spec.all_pairs l.design) choice.pairs is.pairs);
+      those = subst (λ (o : Option Asked). AreThose (spec.IsAskedOf l script judging.strict o) (spec.all_sides l) more) (sym asks)
+          (those_sides by.sides (spec.Selects l script judging.strict e) (spec.all_pairs l) choice.pairs is.pairs);
       commands = commands
           ∙ ap (λ (w : List Warning). old.commands ++ spec.command_line line listed w ∷ []) is.warnings
           ∙ ap (λ (o : Option Asked). old.commands ++ spec.lines_asked l script judging.strict (length more) line what o) (sym asks);
@@ -74,8 +74,8 @@ pub adds_unasked : (l : Linked) (script : Script) (judging : Judging) (line : �
     → Adds l script judging line what old new
 adds_unasked l script judging line what old new asks few commands pairs claims = record {
   more = [];
-  those = subst (λ (o : Option Asked). AreThose (spec.IsAskedOf l script judging.strict o) (spec.all_sides l.design) []) (sym asks)
-      (those_none (spec.IsAskedOf l script judging.strict None) (spec.all_sides l.design) (λ s selects. selects));
+  those = subst (λ (o : Option Asked). AreThose (spec.IsAskedOf l script judging.strict o) (spec.all_sides l) []) (sym asks)
+      (those_none (spec.IsAskedOf l script judging.strict None) (spec.all_sides l) (λ s selects. selects));
   commands = commands ∙ ap (λ (o : Option Asked). old.commands ++ spec.lines_asked l script judging.strict 0 line what o) (sym asks);
   pairs = pairs ∙ sym (append-nil old.pairs);
   claims = ap (map Some) claims ∙ sym (append-nil (map Some old.claims));
@@ -95,7 +95,7 @@ choice_cause l script judging k c by old here asks before (Limit limit.Through n
 choice_cause l script judging k c by old here asks before (Limit limit.Pairs number) cause = (
   cause.0,
   more_in_script l script judging k c by old here asks before
-      (more_sides by.sides (spec.Selects l script judging.strict by.exception) (spec.all_pairs l.design) (100000 - length old.claims) cause.1),
+      (more_sides by.sides (spec.Selects l script judging.strict by.exception) (spec.all_pairs l) (100000 - length old.claims) cause.1),
 )
 choice_cause l script judging k c by old here asks before (Limit limit.Nets number) cause = absurd cause
 choice_cause l script judging k c by old here asks before (Limit limit.Registers number) cause = absurd cause

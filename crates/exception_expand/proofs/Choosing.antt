@@ -21,9 +21,9 @@ abbrev IsListed : Linked → Script → Bool → Exception → Pair → Type 0
 IsListed l script strict e p = IsFrom l script strict e.edge e.from p.start × IsTo l script strict e.to p.end
 
 listed_pairs : (l : Linked) (script : Script) (strict : Bool) (e : Exception) (lists : Lists) → AreListsOf l script strict e lists
-    → AreThose (IsListed l script strict e) (all_pairs l.design) (pairs_between lists.starts lists.ends)
+    → AreThose (IsListed l script strict e) (all_pairs l) (pairs_between lists.starts lists.ends)
 listed_pairs l script strict e lists are =
-    those_pairs pair (IsFrom l script strict e.edge e.from) (IsTo l script strict e.to) (IsListed l script strict e) (all_starts l.design) lists.starts
+    those_pairs pair (IsFrom l script strict e.edge e.from) (IsTo l script strict e.to) (IsListed l script strict e) (all_starts l) lists.starts
     (all_ends l.design) lists.ends
     (λ a b p q. (p, q)) (λ a b r. r.0) (λ a b r. r.1) are.starts are.ends
 
@@ -36,24 +36,24 @@ connected_by l script strict e lists first found are those =
 pub choice_exact : (l : Linked) (script : Script) (strict : Bool) (e : Exception) (lists : Lists) (most : ℕ) (found : List Pair)
     → AreListsOf l script strict e lists
     → IsCut (IsConnected l.design lists.sets) (pairs_between lists.starts lists.ends) most found → length found ≤ most
-    → AreThose (Selects l script strict e) (all_pairs l.design) found
+    → AreThose (Selects l script strict e) (all_pairs l) found
 choice_exact l script strict e lists most found are cut few =
     let all = pairs_between lists.starts lists.ends in
     let whole : cut.first ≡ all = sym (append-nil cut.first) ∙ sym (ap (λ (r : List Pair). cut.first ++ r) (cut.done few)) ∙ sym cut.whole in
     let those : AreThose (IsConnected l.design (sets_of l script e)) all found =
     subst (λ (ps : List Pair). AreThose (IsConnected l.design (sets_of l script e)) ps found) whole
     (connected_by l script strict e lists cut.first found are cut.those) in
-    those_within (IsListed l script strict e) (IsConnected l.design (sets_of l script e)) (all_pairs l.design) all found
+    those_within (IsListed l script strict e) (IsConnected l.design (sets_of l script e)) (all_pairs l) all found
     (listed_pairs l script strict e lists are) those
 
 -- more than so many among those that come first
 pub choice_more : (l : Linked) (script : Script) (strict : Bool) (e : Exception) (lists : Lists) (most : ℕ) (found : List Pair)
     → AreListsOf l script strict e lists
     → IsCut (IsConnected l.design lists.sets) (pairs_between lists.starts lists.ends) most found → most < length found
-    → HasMore (Selects l script strict e) (all_pairs l.design) most
+    → HasMore (Selects l script strict e) (all_pairs l) most
 choice_more l script strict e lists most found are cut more =
-    let begun : First (IsListed l script strict e) (all_pairs l.design) cut.first =
-    those_first (IsListed l script strict e) (all_pairs l.design) cut.first cut.rest (pairs_between lists.starts lists.ends) cut.whole
+    let begun : First (IsListed l script strict e) (all_pairs l) cut.first =
+    those_first (IsListed l script strict e) (all_pairs l) cut.first cut.rest (pairs_between lists.starts lists.ends) cut.whole
     (listed_pairs l script strict e lists are) in
     record {
       first = begun.first;

@@ -53,21 +53,21 @@ asked_fits l script judging what s claim (Some by) asks usable short kind few se
     })
 
 -- a side of the script is one of the design
-script_side : (l : Linked) (script : Script) (x : Chosen) → In x (spec.script_pairs l script) → In x.side (spec.all_sides l.design)
+script_side : (l : Linked) (script : Script) (x : Chosen) → In x (spec.script_pairs l script) → In x.side (spec.all_sides l)
 script_side l script x has =
-    let by = from_each (spec.pairs_at l.design) 0 script.commands x has in
-    let is = from_map (spec.chosen_by (0 + by.place)) x (spec.all_sides l.design) by.of in
+    let by = from_each (spec.pairs_at l) 0 script.commands x has in
+    let is = from_map (spec.chosen_by (0 + by.place)) x (spec.all_sides l) by.of in
     let same : is.0 ≡ x.side = ap (λ (c : Chosen). c.side) is.2 in
-    subst (λ (s : Side). In s (spec.all_sides l.design)) same is.1
+    subst (λ (s : Side). In s (spec.all_sides l)) same is.1
 
 at_command : (l : Linked) (script : Script) (judging : Judging) (x : Chosen) (claim : Claim) → IsUsable l → judging.lag ≤ 8 → spec.HasMultipliers script
-    → All (λ (c : Command). spec.HasFewSets judging.hold c.what) script.commands → In x.side (spec.all_sides l.design)
+    → All (λ (c : Command). spec.HasFewSets judging.hold c.what) script.commands → In x.side (spec.all_sides l)
     → spec.IsSelected l script judging x → Some claim ≡ spec.claim_of l script judging x → Fits l.design claim
 at_command l script judging x claim usable short kinds sets there sel is =
     let c = sel.0 in
     asked_fits l script judging c.what x.side claim (asked judging.hold c.what) refl usable short
     (All-at (λ (d : Command). spec.HasMultiplier d.what) script.commands x.command c sel.1 kinds)
-    (All-at (λ (d : Command). spec.HasFewSets judging.hold d.what) script.commands x.command c sel.1 sets) sel.2 (side_in l.design x.side there)
+    (All-at (λ (d : Command). spec.HasFewSets judging.hold d.what) script.commands x.command c sel.1 sets) sel.2 (side_in l x.side there)
     (is ∙ ap (spec.claim_at l script judging x.side) sel.1)
 
 -- the claims of what a script selects

@@ -1,7 +1,7 @@
 -- What the objects of a list stand for in a design is of the design.
 use Rattle.std.proofs.Common.{arith, ◌≡◌, ℕ, suc, ◌+◌, ◌<◌, Bool, true, false, List, [], ◌∷◌, ◌++◌, length}
 use Rattle.std.proofs.Common.{map, refl, subst, inl, inr, ◌⊎◌}
-use Rattle.std.specs.Prelude.{Option, Some, None, slice_get, slice_index, All, if◌then◌else◌}
+use Rattle.std.specs.Prelude.{Option, Some, None, slice_get, slice_index, All, not, ◌&&◌, if◌then◌else◌}
 use Rattle.std.proofs.lemmas.List.Elements.{All-contains}
 use Rattle.std.proofs.lemmas.Option.{slice_get_within}
 use Rattle.net_model.specs.Netlist.{IsSound}
@@ -36,6 +36,7 @@ use Rattle.sdc_objects.specs.declared.things.Place.TheVariants.{Through}
 use Rattle.sdc_objects.specs.declared.things.Side.TheVariants.{In as InSide, Out as OutSide}
 use Rattle.sdcv_base.specs.Seqs.{each_at, where_true}
 use Rattle.sdc_objects.specs.Things as named
+use Rattle.sdc_objects.specs.Cuts.{is_cut}
 use Rattle.sdc_settings.specs.Inputs.{names_bit}
 use Rattle.std.specs.Option.{is_some}
 use Rattle.sdc_objects.specs.Standing as spec
@@ -63,44 +64,47 @@ one_in : (d : Design) (x pin : PinRef) → IsPinIn d x → In pin (x ∷ []) →
 one_in d x pin fits (inl here) = subst (IsPinIn d) here fits
 one_in d x pin fits (inr none) = absurd none
 
-abbrev tree_outs : CellName → Bool → Option (List PinRef)
-tree_outs c b = if b then spec.dropped else Some (map NetPin c.outs)
+-- some pins, or none where they are dropped
+kept_in : (d : Design) (drop : Bool) (pins : List PinRef) (pin : PinRef) → In pin (spec.meant_by (if drop then spec.dropped else Some pins)) → In pin pins
+kept_in d true pins pin has = absurd has
+kept_in d false pins pin has = has
 
-outs_in : (d : Design) (c : CellName) (reg : Option ℕ) (on_tree : Bool) (pin : PinRef) → IsCellOf d c → spec.is_on_tree c ≡ on_tree
-    → In pin (spec.meant_by (spec.cell_outs c reg)) → IsPinIn d pin
-outs_in d c (Some r) on_tree pin is same has = nets_in d c.outs pin is.outs has
-outs_in d c None true pin is same has = absurd (subst (λ (b : Bool). In pin (spec.meant_by (tree_outs c b))) same has)
-outs_in d c None false pin is same has = nets_in d c.outs pin is.outs (subst (λ (b : Bool). In pin (spec.meant_by (tree_outs c b))) same has)
+outs_in : (d : Design) (cut : Bool) (c : CellName) (reg : Option ℕ) (pin : PinRef) → IsCellOf d c
+    → In pin (spec.meant_by (spec.cell_outs cut c reg)) → IsPinIn d pin
+outs_in d cut c (Some r) pin is has = nets_in d c.outs pin is.outs has
+outs_in d cut c None pin is has = nets_in d c.outs pin is.outs (kept_in d (not cut && spec.is_on_tree c) (map NetPin c.outs) pin has)
 
-role_in : (d : Design) (reg : Option ℕ) (role : PinRole) (pin : PinRef) → IsSound d → IsRoleOf d role
-    → In pin (spec.meant_by (spec.pin_row d reg role).through) → IsPinIn d pin
-role_in d reg ClockRole pin sound is has = absurd has
-role_in d reg (Drive net) pin sound is has = one_in d (NetPin net) pin is has
-role_in d reg (Load pins) pin sound is has = all_in (IsPinIn d) pins pin is has
-role_in d reg (Source i) pin sound is has = one_in d (NetPin (slice_index d.inputs i)) pin (sound.in_range.inputs i 0 is) has
-role_in d reg (Sink o) pin sound is has = one_in d (OutPort o) pin is has
+role_in : (d : Design) (cut : Bool) (reg : Option ℕ) (role : PinRole) (pin : PinRef) → IsSound d → IsRoleOf d role
+    → In pin (spec.meant_by (spec.pin_row d cut reg role).through) → IsPinIn d pin
+role_in d cut reg ClockRole pin sound is has = absurd has
+role_in d cut reg (Drive net) pin sound is has = one_in d (NetPin net) pin is has
+role_in d cut reg (Load pins) pin sound is has = all_in (IsPinIn d) pins pin is (kept_in d cut pins pin has)
+role_in d cut reg (Source i) pin sound is has = one_in d (NetPin (slice_index d.inputs i)) pin (sound.in_range.inputs i 0 is) has
+role_in d cut reg (Sink o) pin sound is has = one_in d (OutPort o) pin is has
 
-cell_in : (d : Design) (cells : List CellName) (k : ℕ) (c : Option CellName) (pin : PinRef) → All (IsCellOf d) cells → slice_get cells k ≡ c
-    → In pin (spec.meant_by (spec.cell_at_row c).through) → IsPinIn d pin
-cell_in d cells k None pin all is has = absurd has
-cell_in d cells k (Some c) pin all is has = outs_in d c c.reg (spec.is_on_tree c) pin (All-at (IsCellOf d) cells k c is all) refl has
+cell_in : (d : Design) (cut : Bool) (cells : List CellName) (k : ℕ) (c : Option CellName) (pin : PinRef) → All (IsCellOf d) cells
+    → slice_get cells k ≡ c → In pin (spec.meant_by (spec.cell_at_row cut c).through) → IsPinIn d pin
+cell_in d cut cells k None pin all is has = absurd has
+cell_in d cut cells k (Some c) pin all is has = outs_in d cut c c.reg pin (All-at (IsCellOf d) cells k c is all) has
 
-place_in : (d : Design) (c : CellName) (place : ℕ) (p : Option PinName) (pin : PinRef) → IsSound d → IsCellOf d c → slice_get c.pins place ≡ p
-    → In pin (spec.meant_by (spec.role_row d c.reg p).through) → IsPinIn d pin
-place_in d c place None pin sound is here has = absurd has
-place_in d c place (Some p) pin sound is here has =
-    role_in d c.reg p.role pin sound (All-at (λ (q : PinName). IsRoleOf d q.role) c.pins place p here is.pins) has
+place_in : (d : Design) (cut : Bool) (c : CellName) (place : ℕ) (p : Option PinName) (pin : PinRef) → IsSound d → IsCellOf d c
+    → slice_get c.pins place ≡ p → In pin (spec.meant_by (spec.role_row d cut c.reg p).through) → IsPinIn d pin
+place_in d cut c place None pin sound is here has = absurd has
+place_in d cut c place (Some p) pin sound is here has =
+    role_in d cut c.reg p.role pin sound (All-at (λ (q : PinName). IsRoleOf d q.role) c.pins place p here is.pins) has
 
-pin_at_in : (d : Design) (cells : List CellName) (k place : ℕ) (c : Option CellName) (pin : PinRef) → IsSound d → All (IsCellOf d) cells
-    → slice_get cells k ≡ c → In pin (spec.meant_by (spec.pin_at_row d c place).through) → IsPinIn d pin
-pin_at_in d cells k place None pin sound all is has = absurd has
-pin_at_in d cells k place (Some c) pin sound all is has =
-    place_in d c place (slice_get c.pins place) pin sound (All-at (IsCellOf d) cells k c is all) refl has
+pin_at_in : (d : Design) (cut : Bool) (cells : List CellName) (k place : ℕ) (c : Option CellName) (pin : PinRef) → IsSound d → All (IsCellOf d) cells
+    → slice_get cells k ≡ c → In pin (spec.meant_by (spec.pin_at_row d cut c place).through) → IsPinIn d pin
+pin_at_in d cut cells k place None pin sound all is has = absurd has
+pin_at_in d cut cells k place (Some c) pin sound all is has =
+    place_in d cut c place (slice_get c.pins place) pin sound (All-at (IsCellOf d) cells k c is all) refl has
 
 -- the pins that a thing stands for
 pin_in : (l : Linked) (t : Thing) (pin : PinRef) → IsUsable l → IsThingIn l t → In pin (spec.meant_by (spec.through_column l t)) → IsPinIn l.design pin
-pin_in l (thing.Cell k) pin usable is has = cell_in l.design l.names.cells k (slice_get l.names.cells k) pin usable.cells refl has
-pin_in l (thing.Pin k place) pin usable is has = pin_at_in l.design l.names.cells k place (slice_get l.names.cells k) pin usable.sound usable.cells refl has
+pin_in l (thing.Cell k) pin usable is has =
+    cell_in l.design (is_cut l.names k) l.names.cells k (slice_get l.names.cells k) pin usable.cells refl has
+pin_in l (thing.Pin k place) pin usable is has =
+    pin_at_in l.design (is_cut l.names k) l.names.cells k place (slice_get l.names.cells k) pin usable.sound usable.cells refl has
 pin_in l (thing.In i) pin usable is has =
     one_in l.design (NetPin (slice_index l.design.inputs i)) pin (usable.sound.in_range.inputs i 0 is) has
 pin_in l (thing.Out o) pin usable is has = one_in l.design (OutPort o) pin is has

@@ -4,6 +4,7 @@ pub mod Placing
 pub mod Cutting
 pub mod Ranging
 pub mod Choosing
+pub mod Driving
 pub mod Fitting
 pub mod Siding
 pub mod Asking

@@ -4,6 +4,7 @@ use Rattle.std.specs.Prelude.{All}
 use Rattle.std.proofs.lemmas.Grind.{flat_map-append}
 use Rattle.std.proofs.lemmas.List.Elements.{All-contains}
 use Rattle.net_model.specs.declared.netlist.Design.{Design}
+use Rattle.linked_types.specs.declared.names.Linked.{Linked}
 use Rattle.net_model.proofs.Members.{In, from_flat, Contains-from_In}
 use Rattle.net_paths.specs.Those.{AreThose, All_seen, Taken, Left_out}
 use Rattle.net_paths.proofs.Sifting.{those_append}
@@ -102,5 +103,5 @@ sides_in d S ps are =
     all_from_in (λ (s : Side). IsPairIn d s.pair) (flat_map (sides_by S) ps)
     (λ s has. All-contains (IsPairIn d) ps s.pair are (Contains-from_In ps s.pair (from_sides S ps s has)))
 
-pub side_in : (d : Design) (s : Side) → In s (all_sides d) → IsPairIn d s.pair
-side_in d s has = pair_in d s.pair (from_sides Both (all_pairs d) s has)
+pub side_in : (l : Linked) (s : Side) → In s (all_sides l) → IsPairIn l.design s.pair
+side_in l s has = pair_in l s.pair (from_sides Both (all_pairs l) s has)

@@ -51,15 +51,15 @@ command_those l script judging k c all more here those =
 
 more_those : (l : Linked) (script : Script) (judging : Judging) (k : ℕ) (c : Command) (chosen : List Chosen) (more : List Side)
     → slice_get script.commands k ≡ Some c
-    → AreThose (spec.IsSelected l script judging) (each_at (spec.pairs_at l.design) 0 (take k script.commands)) chosen
-    → AreThose (spec.SelectsBy l script judging c.what) (spec.all_sides l.design) more
-    → AreThose (spec.IsSelected l script judging) (each_at (spec.pairs_at l.design) 0 (take (k + 1) script.commands)) (chosen ++ map (spec.chosen_by k) more)
+    → AreThose (spec.IsSelected l script judging) (each_at (spec.pairs_at l) 0 (take k script.commands)) chosen
+    → AreThose (spec.SelectsBy l script judging c.what) (spec.all_sides l) more
+    → AreThose (spec.IsSelected l script judging) (each_at (spec.pairs_at l) 0 (take (k + 1) script.commands)) (chosen ++ map (spec.chosen_by k) more)
 more_those l script judging k c chosen more here before those =
     subst (λ (xs : List Chosen). AreThose (spec.IsSelected l script judging) xs (chosen ++ map (spec.chosen_by k) more))
-    (sym (each_at_more (spec.pairs_at l.design) script.commands k c here))
-    (those_append (spec.IsSelected l script judging) (each_at (spec.pairs_at l.design) 0 (take k script.commands)) chosen
-    (map (spec.chosen_by k) (spec.all_sides l.design))
-    (map (spec.chosen_by k) more) before (command_those l script judging k c (spec.all_sides l.design) more here those))
+    (sym (each_at_more (spec.pairs_at l) script.commands k c here))
+    (those_append (spec.IsSelected l script judging) (each_at (spec.pairs_at l) 0 (take k script.commands)) chosen
+    (map (spec.chosen_by k) (spec.all_sides l))
+    (map (spec.chosen_by k) more) before (command_those l script judging k c (spec.all_sides l) more here those))
 
 count_more : (chosen : List Chosen) (k place : ℕ) (more : List Side) → spec.count_at (chosen ++ map (spec.chosen_by k) more) place ≡
     spec.count_at chosen place + spec.count_at (map (spec.chosen_by k) more) place
@@ -154,11 +154,11 @@ upto_none l script judging s commands pairs claims = record {
 pub more_in_script : (l : Linked) (script : Script) (judging : Judging) (k : ℕ) (c : Command) (a : Asked) (old : Selected)
     → slice_get script.commands k ≡ Some c
     → asked judging.hold c.what ≡ Some a → IsUpTo l script judging k old
-    → HasMore (spec.IsAskedOf l script judging.strict (Some a)) (spec.all_sides l.design) (100000 - length old.claims)
+    → HasMore (spec.IsAskedOf l script judging.strict (Some a)) (spec.all_sides l) (100000 - length old.claims)
     → HasMore (spec.IsSelected l script judging) (spec.script_pairs l script) 100000
 more_in_script l script judging k c a old here asks before has =
     let by = spec.chosen_by k in
-    let at = spec.pairs_at l.design in
+    let at = spec.pairs_at l in
     let cs = script.commands in
     let E = each_at at 0 (take k cs) in
     let R = each_at at (0 + length (take (k + 1) cs)) (drop (k + 1) cs) in
@@ -191,7 +191,7 @@ selection_of l script judging s usable short kinds upto few =
     let count : length upto.chosen ≡ length s.claims =
     sym (length-map upto.chosen (spec.claim_of l script judging)) ∙ sym (ap (λ (xs : List (Option Claim)). length xs) upto.claims) ∙ length-map s.claims Some in
     let those : AreThose (spec.IsSelected l script judging) (spec.script_pairs l script) upto.chosen =
-    subst (λ (cs : List Command). AreThose (spec.IsSelected l script judging) (each_at (spec.pairs_at l.design) 0 cs) upto.chosen) whole upto.those in
+    subst (λ (cs : List Command). AreThose (spec.IsSelected l script judging) (each_at (spec.pairs_at l) 0 cs) upto.chosen) whole upto.those in
     let sets : All (λ (d : Command). spec.HasFewSets judging.hold d.what) script.commands =
     subst (All (λ (d : Command). spec.HasFewSets judging.hold d.what)) whole upto.sets in
     record {

@@ -1,5 +1,5 @@
 -- Pairs of a start and an end, the paths between them, and claims of them.
-use Rattle.std.specs.Prelude.{ℕ, Bool, true, not, if◌then◌else◌, ◌&&◌, ◌||◌, ◌==◌, nat_lt, List, map, flat_map}
+use Rattle.std.specs.Prelude.{ℕ, Bool, true, false, not, if◌then◌else◌, ◌&&◌, ◌||◌, ◌==◌, nat_lt, List, map, flat_map}
 use Rattle.std.specs.List.{list_any}
 use Rattle.net_model.specs.Judge.{judged_count}
 use Rattle.sdcv_base.specs.declared.kinds.Kind.{Kind}
@@ -39,16 +39,26 @@ abbrev pub lag_for : Bool → Kind → ℕ → ℕ
 lag_for early False lag = if early then 0 else lag
 lag_for early (Multi k) lag = 0
 
--- in a strict run the rise of a register's clock pin begins the paths from it, at both changes of its bit; a port keeps the edge
-abbrev pub edge_of : Bool → Edge → Start → Edge
-edge_of true Rise (RegStart r) = Any
-edge_of strict edge start = edge
+-- the rise of a clock pin begins the paths from a register at both changes of its bit, and so it is of a cell that is cut out,
+-- which drives an input after those of so many port bits; a port keeps the edge
+abbrev pub clocked_rise : ℕ → Start → Edge
+clocked_rise ports (RegStart r) = Any
+clocked_rise ports (InputStart i) = if nat_lt i ports then Rise else Any
 
--- a claim of a side of a pair, by what the claims of an exception have in common
+abbrev pub rise_of : ℕ → Bool → Start → Edge
+rise_of ports false start = Rise
+rise_of ports true start = clocked_rise ports start
+
+-- so it is in a strict run
+abbrev pub edge_of : ℕ → Bool → Edge → Start → Edge
+edge_of ports strict Rise start = rise_of ports strict start
+edge_of ports strict edge start = edge
+
+-- a claim of a side of a pair, at the changes of an edge
 abbrev pub claim_with : Kind → Edge → Judging → List (List PinRef) → Side → Claim
 claim_with kind edge judging sets s = record {
   kind = kind;
-  edge = edge_of judging.strict edge s.pair.start;
+  edge = edge;
   lag = lag_for s.early kind judging.lag;
   hazard = judging.hazard;
   early = s.early;
@@ -56,6 +66,10 @@ claim_with kind edge judging sets s = record {
   end = s.pair.end;
   through = sets;
 }
+
+-- a claim of a side of a pair, by what the claims of an exception have in common, with so many port bits among the inputs
+abbrev pub claim_for : ℕ → Kind → Edge → Judging → List (List PinRef) → Side → Claim
+claim_for ports kind edge judging sets s = claim_with kind (edge_of ports judging.strict edge s.pair.start) judging sets s
 
 -- the input is one of those that have a value
 abbrev pub is_set : ℕ → List Fixed → Bool

@@ -1,13 +1,19 @@
 -- The starts and the ends of a design in its order, and those that an exception means.
-use Rattle.std.specs.Prelude.{◌≡◌, ℕ, ◌+◌, nat_lt, Bool, true, false, if◌then◌else◌, ◌↔◌, List, [], ◌∷◌, ◌++◌, length, Contains}
-use Rattle.std.specs.Prelude.{Option, Some, None, slice_get, slice_index_or}
+use Rattle.std.specs.Prelude.{◌≡◌, ℕ, ◌+◌, nat_lt, ◌==◌, ◌||◌, Bool, true, false, if◌then◌else◌, ◌↔◌, List, [], ◌∷◌, ◌++◌, length, Contains}
+use Rattle.std.specs.Prelude.{Option, Some, None, slice_get, slice_index_or, filter}
+use Rattle.std.specs.List.{list_any}
 use Rattle.sdcv_base.specs.declared.kinds.Edge.{Edge}
 use Rattle.net_model.specs.declared.netlist.Design.{Design}
 use Rattle.net_model.specs.declared.claims.Start.{Start}
-use Rattle.net_model.specs.declared.claims.Start.TheVariants.{Input as InputStart}
+use Rattle.net_model.specs.declared.claims.Start.TheVariants.{Reg as RegStart, Input as InputStart}
 use Rattle.net_model.specs.declared.claims.End.{End}
 use Rattle.net_model.specs.declared.claims.End.TheVariants.{Output as OutputEnd}
 use Rattle.linked_types.specs.declared.names.Linked.{Linked}
+use Rattle.linked_types.specs.declared.names.Names.{Names}
+use Rattle.linked_types.specs.declared.names.CellName.{CellName}
+use Rattle.linked_types.specs.declared.names.PinName.{PinName}
+use Rattle.linked_types.specs.declared.names.PinRole.{PinRole}
+use Rattle.linked_types.specs.declared.names.PinRole.TheVariants.{Source}
 use Rattle.script_types.specs.declared.objects.Object.{Object}
 use Rattle.script_types.specs.declared.scripts.Script.{Script}
 use Rattle.sdcv_base.specs.Seqs.{each_at, where_true}
@@ -20,11 +26,33 @@ input_starts nets = each_at (λ i (net : ℕ). InputStart i ∷ []) 0 nets
 abbrev pub output_ends : List ℕ → List End
 output_ends nets = each_at (λ o (net : ℕ). OutputEnd o ∷ []) 0 nets
 
--- the starts in the order of the design: the registers, and then the inputs
-abbrev pub all_starts : Design → List Start
-all_starts d = all_reg_starts d ++ input_starts d.inputs
+-- the registers and then the inputs, in the order of the design
+abbrev pub start_points : Design → List Start
+start_points d = all_reg_starts d ++ input_starts d.inputs
 
--- the ends in the order of the design: the registers, and then the outputs
+-- a pin is the source of the input
+abbrev pub is_source_of : ℕ → PinRole → Bool
+is_source_of i (Source input) = input == i
+is_source_of i _ = false
+
+abbrev pub drives : ℕ → List PinName → Bool
+drives i pins = list_any (λ (p : PinName). is_source_of i p.role) pins
+
+-- a cell that is cut out drives the input, and has the judged clock
+abbrev pub is_driven : List CellName → ℕ → Bool
+is_driven cells i = list_any (λ (c : CellName). drives i c.pins) cells
+
+-- paths begin at each register, at each bit of an input port, and at each input that a clocked cell drives which is cut out; at no
+-- other input
+abbrev pub begins : Names → Start → Bool
+begins n (RegStart r) = true
+begins n (InputStart i) = nat_lt i (length n.ins) || is_driven n.cells i
+
+-- the starts in the order of the design
+abbrev pub all_starts : Linked → List Start
+all_starts l = filter (begins l.names) (start_points l.design)
+
+-- the ends in the order of the design: the registers, and then the outputs, those of ports before the sinks
 abbrev pub all_ends : Design → List End
 all_ends d = all_reg_ends d ++ output_ends d.outputs
 

@@ -26,14 +26,14 @@ pub record IsTask (t : Task) : Type 0 where
   pub usable : IsUsable t.scope.linked.now
   pub sound : IsSound t.scope.linked.now.design
   pub tables : IsTablesOf t.scope.linked.now t.scope.tables.now
-  pub points : ArePointsOf t.scope.linked.now.design t.points.now
+  pub points : ArePointsOf t.scope.linked.now t.points.now
   pub cells : AreRegCells t.scope.linked.now t.cells.now
   pub strict : t.scope.strict ≡ t.judging.strict
 
 -- exactly what the commands before a place select
 pub record IsUpTo (l : Linked) (script : Script) (judging : Judging) (k : ℕ) (s : Selected) : Type 0 where
   pub chosen : List spec.Chosen
-  pub those : AreThose (spec.IsSelected l script judging) (each_at (spec.pairs_at l.design) 0 (take k script.commands)) chosen
+  pub those : AreThose (spec.IsSelected l script judging) (each_at (spec.pairs_at l) 0 (take k script.commands)) chosen
   pub none_after : (place : ℕ) → k ≤ place → spec.count_at chosen place ≡ 0
   pub pairs : s.pairs ≡ map (spec.line_of l script) chosen
   pub claims : map Some s.claims ≡ map (spec.claim_of l script judging) chosen
@@ -44,7 +44,7 @@ pub record IsUpTo (l : Linked) (script : Script) (judging : Judging) (k : ℕ) (
 -- exactly what one command selects is added
 pub record Adds (l : Linked) (script : Script) (judging : Judging) (line : ℕ) (what : What) (old new : Selected) : Type 0 where
   pub more : List Side
-  pub those : AreThose (spec.SelectsBy l script judging what) (spec.all_sides l.design) more
+  pub those : AreThose (spec.SelectsBy l script judging what) (spec.all_sides l) more
   pub commands : new.commands ≡ old.commands ++ spec.lines_by l script judging (length more) line what
   pub pairs : new.pairs ≡ old.pairs ++ map (spec.side_line l (length new.commands)) more
   pub claims : map Some new.claims ≡ map Some old.claims ++ map (λ s. spec.claim_by l script judging s what) more

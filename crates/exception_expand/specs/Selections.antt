@@ -3,7 +3,6 @@ use Rattle.std.specs.Prelude.{◌≡◌, ℕ, ◌+◌, ◌≤◌, Bool, true, fa
 use Rattle.std.specs.Prelude.{map, flat_map, take, length, All, Option, Some, None, slice_get, count_by}
 use Rattle.net_model.specs.Fits.{IsKindFit, Fits}
 use Rattle.net_model.specs.Paths.{HasPath}
-use Rattle.net_model.specs.declared.netlist.Design.{Design}
 use Rattle.net_model.specs.declared.claims.PinRef.{PinRef}
 use Rattle.net_model.specs.declared.claims.Claim.{Claim}
 use Rattle.net_paths.specs.Those.{AreThose}
@@ -26,15 +25,15 @@ use Rattle.selected_types.specs.declared.selections.Selected.{Selected}
 use Rattle.exception_expand.specs.declared.pairs.Pair.{Pair}
 use Rattle.exception_expand.specs.declared.sides.Side.{Side}
 use Rattle.exception_expand.specs.declared.sides.Sides.TheVariants.{Both}
-use Rattle.exception_expand.specs.Pairs.{pairs_between, claim_with, is_judged}
+use Rattle.exception_expand.specs.Pairs.{pairs_between, claim_for, is_judged}
 use Rattle.exception_expand.specs.Sides.{sides_by, HasSide}
 use Rattle.exception_expand.specs.Asking.{Asked, asked, listing_of}
 use Rattle.exception_expand.specs.Points.{all_starts, all_ends, IsFrom, IsTo, given}
 use Rattle.exception_expand.specs.Naming.{start_name, end_name}
 
 -- all pairs of a design, in its order
-abbrev pub all_pairs : Design → List Pair
-all_pairs d = pairs_between (all_starts d) (all_ends d)
+abbrev pub all_pairs : Linked → List Pair
+all_pairs l = pairs_between (all_starts l) (all_ends l.design)
 
 -- the through sets of an exception, in their order
 abbrev pub sets_of : Linked → Script → Exception → List (List PinRef)
@@ -47,8 +46,8 @@ Selects l script strict e p =
     (IsFrom l script strict e.edge e.from p.start × IsTo l script strict e.to p.end) × HasPath l.design p.start p.end (sets_of l script e)
 
 -- both sides of all pairs, pair by pair, late before early
-abbrev pub all_sides : Design → List Side
-all_sides d = flat_map (sides_by Both) (all_pairs d)
+abbrev pub all_sides : Linked → List Side
+all_sides l = flat_map (sides_by Both) (all_pairs l)
 
 -- what is asked is asked of this side, and selects its pair; nothing is selected where nothing is asked
 abbrev pub IsAskedOf : Linked → Script → Bool → Option Asked → Side → Type 0
@@ -68,11 +67,11 @@ abbrev pub chosen_by : ℕ → Side → Chosen
 chosen_by command s = record { command = command; side = s }
 
 -- all sides once more for each command, command by command
-abbrev pub pairs_at : Design → ℕ → Command → List Chosen
-pairs_at d command c = map (chosen_by command) (all_sides d)
+abbrev pub pairs_at : Linked → ℕ → Command → List Chosen
+pairs_at l command c = map (chosen_by command) (all_sides l)
 
 abbrev pub script_pairs : Linked → Script → List Chosen
-script_pairs l script = each_at (pairs_at l.design) 0 script.commands
+script_pairs l script = each_at (pairs_at l) 0 script.commands
 
 -- the command at its place claims something of the side of the pair
 abbrev pub IsSelected : Linked → Script → Judging → Chosen → Type 0
@@ -100,7 +99,7 @@ line_of l script x = side_line l (number_of script x.command) x.side
 
 -- what an exception claims of a side of a pair
 abbrev pub claim : Linked → Script → Judging → Exception → Side → Claim
-claim l script judging e s = claim_with e.kind e.edge judging (sets_of l script e) s
+claim l script judging e s = claim_for (length l.names.ins) e.kind e.edge judging (sets_of l script e) s
 
 abbrev pub claim_asked : Linked → Script → Judging → Side → Option Asked → Option Claim
 claim_asked l script judging s None = None

@@ -36,7 +36,7 @@ pub fn choose(
 ) -> Result<Choice, ExpandFault>
     requires sound { IsSound scope.now.linked.now.design }
     requires tables { IsTablesOf scope.now.linked.now scope.now.tables.now }
-    requires points { ArePointsOf scope.now.linked.now.design points.now }
+    requires points { ArePointsOf scope.now.linked.now points.now }
     requires search { IsSearchOf scope.now.linked.now.design search.old }
     ensures ok { IfOk result (IsChoiceOf scope.now.linked.now scope.now.script.now scope.now.strict (asked_by ask.now).exception most) }
     ensures err { IfErr result (IsChoiceCause scope.now.linked.now scope.now.script.now scope.now.strict (asked_by ask.now).exception most) }

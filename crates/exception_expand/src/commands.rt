@@ -6,7 +6,7 @@ ghost use Rattle.exception_expand.specs.Progress.{IsTask, IsUpTo, Adds, IsWhatCa
 ghost use Rattle.exception_expand.specs.Asking.{asked_by, listing_of};
 ghost use Rattle.exception_expand.specs.Sides.{sides_by};
 ghost use Rattle.exception_expand.specs.Causes.{IsExpandCause};
-ghost use Rattle.exception_expand.specs.Pairs.{IsPairIn, claim_with};
+ghost use Rattle.exception_expand.specs.Pairs.{IsPairIn, claim_for};
 ghost use Rattle.exception_expand.specs.Selections as spec;
 
 use crate::asks::Ask;
@@ -170,7 +170,7 @@ fn add_choice(
     ensures pairs { OnOk result (selected.new.pairs ≡ selected.old.pairs
         ++ map (spec.side_line task.now.scope.linked.now (length selected.new.commands)) (flat_map (sides_by ask.now.sides) choice.pairs)) }
     ensures claims { OnOk result (selected.new.claims ≡ selected.old.claims
-        ++ map (claim_with ask.now.kind ask.now.edge task.now.judging choice.sets) (flat_map (sides_by ask.now.sides) choice.pairs)) }
+        ++ map (claim_for (length task.now.scope.linked.now.names.ins) ask.now.kind ask.now.edge task.now.judging choice.sets) (flat_map (sides_by ask.now.sides) choice.pairs)) }
 {
     let Choice {
         pairs,
@@ -191,6 +191,7 @@ fn add_choice(
     let number = selected.commands.len() as u64;
     push_lines(alloc, &names, number, &sides, &mut selected.pairs)?;
     let terms = Terms {
+        ports: task.scope.linked.names.ins.len(),
         kind: ask.kind,
         edge: ask.edge,
         judging: task.judging,

@@ -12,6 +12,7 @@ mod asks;
 mod choices;
 mod claims;
 mod commands;
+mod driven;
 mod judged;
 mod limits;
 mod lines;

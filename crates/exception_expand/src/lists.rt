@@ -34,12 +34,13 @@ pub fn lists_of(
 ) -> Result<Lists, AllocError>
     requires sound { IsSound scope.now.linked.now.design }
     requires tables { IsTablesOf scope.now.linked.now scope.now.tables.now }
-    requires points { ArePointsOf scope.now.linked.now.design points.now }
+    requires points { ArePointsOf scope.now.linked.now points.now }
     ensures lists { IfOk result (AreListsOf scope.now.linked.now scope.now.script.now scope.now.strict (asked_by ask.now).exception) }
     ensures warnings { OnOk result (warnings.new ≡ warnings.old ++
         exception_warnings scope.now.linked.now scope.now.script.now scope.now.strict (asked_by ask.now).exception) }
 {
-    let starts = wanted(alloc, scope, ask.edge, &points.starts, ask.from, warnings)?;
+    let meant = wanted(alloc, scope, ask.edge, &points.starts, ask.from, warnings)?;
+    let starts = points.begun(alloc, &meant)?;
     let sets = pin_sets(alloc, scope, ask.through, warnings)?;
     let ends = wanted(alloc, scope, Edge::Any, &points.ends, ask.to, warnings)?;
     Ok(Lists { starts, sets, ends })

@@ -29,7 +29,7 @@ pub(crate) fn wanted<T: Listed>(
     requires all { all.now ≡ T.all scope.now.linked.now.design }
     ensures those { IfOk result (AreThose
         (spec.IsMeant (standing.meant (T.column scope.now.linked.now scope.now.script.now scope.now.strict edge)
-        scope.now.linked.now scope.now.script.now T.at) objects.now) (T.all scope.now.linked.now.design)) }
+        scope.now.linked.now scope.now.script.now scope.now.strict T.at) objects.now) (T.all scope.now.linked.now.design)) }
     ensures warnings { OnOk result (warnings.new ≡ warnings.old ++
         standing.warnings (T.column scope.now.linked.now scope.now.script.now scope.now.strict edge)
         scope.now.linked.now scope.now.script.now scope.now.strict T.at (spec.given objects.now)) }
@@ -53,7 +53,7 @@ fn listed<T: Listed>(
     requires all { all.now ≡ T.all scope.now.linked.now.design }
     ensures those { IfOk result (AreThose
         (Contains (standing.meant (T.column scope.now.linked.now scope.now.script.now scope.now.strict edge)
-        scope.now.linked.now scope.now.script.now T.at objects.now)) (T.all scope.now.linked.now.design)) }
+        scope.now.linked.now scope.now.script.now scope.now.strict T.at objects.now)) (T.all scope.now.linked.now.design)) }
     ensures warnings { OnOk result (warnings.new ≡ warnings.old ++
         standing.warnings (T.column scope.now.linked.now scope.now.script.now scope.now.strict edge)
         scope.now.linked.now scope.now.script.now scope.now.strict T.at objects.now) }

@@ -1,38 +1,88 @@
 //! The starts and the ends of a design in its order.
-ghost use Rattle.std.specs.Prelude.{◌≡◌, ◌≤◌, ◌++◌, ℕ, List, length, Option, Some, IfOk, OnOk, slice_get};
+ghost use Rattle.std.specs.Prelude.{◌≡◌, ◌≤◌, ◌++◌, ℕ, List, length, filter, Option, Some, IfOk, OnOk, slice_get};
 ghost use Rattle.net_model.specs.Netlist.{IsSound};
 ghost use Rattle.net_model.specs.declared.netlist.Design.{Design as DesignRecord};
 ghost use Rattle.exception_expand.specs.Points as spec;
-ghost use Rattle.exception_expand.specs.Choices.{ArePointsOf};
+ghost use Rattle.exception_expand.specs.Choices.{ArePointsOf, has_begun};
 ghost use Rattle.sdc_objects.specs.Standing.{all_reg_starts, all_reg_ends};
+ghost use Rattle.sdcv_base.specs.Seqs.{where_true};
 
+use crate::driven::driven;
+use linked_types::Linked;
 use net_model::{Design, End, Start};
 use sdc_objects::Column;
 use sdcv_base::Seq;
 use std::alloc::{AllocError, Global};
 
-/// The starts and the ends of a design, made once for it.
+/// The registers, the inputs and the outputs of a design, and at which inputs paths begin, made once for it.
 ///
 /// What always holds of a design's (`ArePointsOf`):
-/// - starts, ends: they are all of them, in the order of the design.
+/// - starts, ends: they are all registers and inputs, and all ends, in the order of the design.
+/// - ports: so many inputs are bits of ports, which come first.
+/// - driven: for each input, whether a clocked cell drives it which is cut out.
 #[derive(Drop)]
 pub struct Points {
     pub(crate) starts: Seq<Start>,
     pub(crate) ends: Seq<End>,
+    pub(crate) ports: usize,
+    pub(crate) driven: Seq<bool>,
 }
 
 impl Points {
     /// Those of this design.
-    pub fn of(alloc: Global, design: &Design) -> Result<Points, AllocError>
-        ensures { IfOk result (ArePointsOf design.now) }
+    pub fn of(alloc: Global, linked: &Linked) -> Result<Points, AllocError>
+        ensures { IfOk result (ArePointsOf linked.now) }
     {
-        let starts = Start::all_of(alloc, design)?;
-        let ends = End::all_of(alloc, design)?;
-        Ok(Points { starts, ends })
+        let starts = Start::all_of(alloc, &linked.design)?;
+        let ends = End::all_of(alloc, &linked.design)?;
+        let ports = linked.names.ins.len();
+        let driven = driven(alloc, &linked.names.cells, linked.design.inputs.len())?;
+        Ok(Points {
+            starts,
+            ends,
+            ports,
+            driven,
+        })
+    }
+
+    /// Those of some registers and inputs at which paths begin.
+    pub(crate) fn begun(&self, alloc: Global, starts: &Seq<Start>) -> Result<Seq<Start>, AllocError>
+        ensures { IfOk result (λ found. found ≡ filter (has_begun self.now) starts.now) }
+    {
+        let mut found = Seq::new(alloc);
+        for k in 0..starts.len() {
+            let start = starts.at(k);
+            add_where(self.has_begun(start), start, &mut found)?;
+        }
+        Ok(found)
+    }
+
+    fn has_begun(&self, start: Start) -> bool
+        ensures { result ≡ has_begun self.now start }
+    {
+        match start {
+            Start::Reg(_) => true,
+            Start::Input(input) => input < self.ports || is_marked(&self.driven, input),
+        }
     }
 }
 
-/// What can stand in a list of an exception, and has a place in the order of a design.
+fn add_where(wanted: bool, start: Start, found: &mut Seq<Start>) -> Result<(), AllocError>
+    ensures { OnOk result (found.new ≡ found.old ++ where_true wanted start) }
+{
+    if wanted {
+        found.push(start)?;
+    }
+    Ok(())
+}
+
+fn is_marked(marks: &Seq<bool>, place: usize) -> bool
+    ensures { result ≡ spec.has_mark marks.now place }
+{
+    marks.as_slice().get(place).copied().unwrap_or(false)
+}
+
+/// What can stand in a list of an exception, and has a place in the order of a design: a register or an input, or an end.
 pub trait Listed: Column {
     ghost all: { DesignRecord → List Self };
 
@@ -48,7 +98,7 @@ pub trait Listed: Column {
 }
 
 impl Listed for Start {
-    ghost all = { spec.all_starts };
+    ghost all = { spec.start_points };
 
     fn all_of(alloc: Global, design: &Design) -> Result<Seq<Start>, AllocError> {
         let mut starts = Seq::new(alloc);

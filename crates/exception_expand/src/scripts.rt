@@ -34,7 +34,7 @@ pub fn expand(
     ensures err { IfErr result (IsExpandCause linked.now script.now judging) }
 {
     let tables = Tables::of(alloc, linked)?;
-    let points = Points::of(alloc, &linked.design)?;
+    let points = Points::of(alloc, linked)?;
     let cells = reg_cells(alloc, linked)?;
     let task = Task {
         scope: Scope {

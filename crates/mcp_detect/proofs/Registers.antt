@@ -11,13 +11,15 @@ use Rattle.net_model.proofs.Members.{In, In-map, from_map, from_flat, In-from_Co
 use Rattle.net_paths.specs.Those.{AreThose, All_seen, Taken, Left_out}
 use Rattle.linked_types.specs.declared.names.Linked.{Linked}
 use Rattle.linked_types.specs.declared.names.CellName.{CellName}
+use Rattle.linked_types.specs.declared.names.PinName.{PinName}
 use Rattle.script_types.specs.declared.objects.Object.TheVariants.{AllRegisters}
 use Rattle.script_types.specs.declared.scripts.Command.{Command}
 use Rattle.sdcv_base.specs.declared.kinds.Edge.TheVariants.{Any}
 use Rattle.sdc_objects.specs.declared.things.Thing.{Thing}
 use Rattle.sdc_objects.specs.declared.things.Thing.TheVariants as thing
 use Rattle.sdc_objects.specs.declared.things.Place.TheVariants.{From}
-use Rattle.sdc_objects.specs.Standing.{cell_at_row, reg_start, meant_by, meant_of, from_column}
+use Rattle.sdc_objects.specs.Standing.{cell_at_row, cell_starts, reg_start, meant_by, meant_of, from_column}
+use Rattle.sdc_objects.specs.Cuts.{is_cut}
 use Rattle.sdc_objects.specs.Things.{cell_of_reg, things_of}
 use Rattle.run_options.specs.Judging.{judging_by}
 use Rattle.exception_expand.specs.declared.pairs.Pair.{Pair}
@@ -63,9 +65,10 @@ reg_free d None start has = absurd has
 reg_free d (Some r) start (inl here) = subst (λ (s : Start). is_free d s ≡ true) here refl
 reg_free d (Some r) start (inr none) = absurd none
 
-cell_free : (d : Design) (c : Option CellName) (start : Start) → In start (meant_by (cell_at_row c).from) → is_free d start ≡ true
-cell_free d None start has = absurd has
-cell_free d (Some c) start has = reg_free d c.reg start has
+item_free : (d : Design) (pins : List PinName) (reg : Option ℕ) (k : ℕ) (t : Thing) (start : Start) → In t (cell_of_reg k reg)
+    → In start (meant_by (cell_starts pins reg)) → is_free d start ≡ true
+item_free d pins None k t start of has = absurd of
+item_free d pins (Some r) k t start of has = reg_free d (Some r) start has
 
 -- what stands for a cell that has a register is that cell
 cell_thing : (k : ℕ) (reg : Option ℕ) (t : Thing) → In t (cell_of_reg k reg) → thing.Cell k ≡ t
@@ -77,9 +80,14 @@ thing_free : (l : Linked) (t : Thing) (start : Start) → In t (things_of l regi
     → In start (meant_by (from_column l registers_script false Any t)) → is_free l.design start ≡ true
 thing_free l t start has there =
     let made = from_each (λ k (c : CellName). cell_of_reg k c.reg) 0 l.names.cells t has in
-    let is = cell_thing (0 + made.place) made.item.reg t made.of in
-    cell_free l.design (slice_get l.names.cells (0 + made.place)) start
-    (subst (λ (u : Thing). In start (meant_by (from_column l registers_script false Any u))) (sym is) there)
+    let k = 0 + made.place in
+    let is = cell_thing k made.item.reg t made.of in
+    let at : k ≡ made.place = omega arith in
+    let here : slice_get l.names.cells k ≡ Some made.item = ap (slice_get l.names.cells) at ∙ made.here in
+    let stands : In start (meant_by (cell_at_row (is_cut l.names k) (slice_get l.names.cells k)).from) =
+    subst (λ (u : Thing). In start (meant_by (from_column l registers_script false Any u))) (sym is) there in
+    item_free l.design made.item.pins made.item.reg k t start made.of
+    (subst (λ (c : Option CellName). In start (meant_by (cell_at_row (is_cut l.names k) c).from)) here stands)
 
 -- a start of the command may toggle
 starts_free : (l : Linked) (p : Pair) → spec.Selects l registers_script false registers_exception p → is_free l.design p.start ≡ true

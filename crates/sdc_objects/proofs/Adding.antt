@@ -9,8 +9,7 @@ use Rattle.script_types.specs.declared.scripts.Script.{Script}
 use Rattle.selected_types.specs.declared.warnings.Warning.{Warning}
 use Rattle.sdc_objects.specs.declared.things.Place.{Place}
 use Rattle.sdc_objects.specs.declared.things.Thing.{Thing}
-use Rattle.sdc_objects.specs.Things.{things_of}
-use Rattle.sdc_objects.specs.Standing.{is_dropped, meant_by, meant_of, dropped_of, meant, warnings, warnings_of}
+use Rattle.sdc_objects.specs.Standing.{is_dropped, meant_by, meant_of, dropped_of, named, meant, warnings, warnings_of}
 use Rattle.list_laws.proofs.Joining.{flat_next, pushed}
 
 was : (b : Bool) → false ≡ not b → b ≡ true
@@ -45,11 +44,11 @@ meant_more {A} column xs k t old now new here before turn =
     pushed old now new (of t) (flat_map of (take (k + 1) xs)) (flat_map of (take k xs)) before turn (flat_next of xs k t here)
 
 -- what one object more stands for, and its warnings
-pub object_more : {A : Type 0} (column : Thing → Option (List A)) (l : Linked) (script : Script) (place : Place) (xs : List Object) (k : ℕ) (o : Object)
-    (now new : List A) → slice_get xs k ≡ Some o → now ≡ meant column l script place (take k xs)
-    → new ≡ now ++ meant_of column (things_of l script place o) → new ≡ meant column l script place (take (k + 1) xs)
-object_more {A} column l script place xs k o now new here before turn =
-    let of : Object → List A = λ (x : Object). meant_of column (things_of l script place x) in
+pub object_more : {A : Type 0} (column : Thing → Option (List A)) (l : Linked) (script : Script) (strict : Bool) (place : Place) (xs : List Object)
+    (k : ℕ) (o : Object) (now new : List A) → slice_get xs k ≡ Some o → now ≡ meant column l script strict place (take k xs)
+    → new ≡ now ++ meant_of column (named l script strict place o) → new ≡ meant column l script strict place (take (k + 1) xs)
+object_more {A} column l script strict place xs k o now new here before turn =
+    let of : Object → List A = λ (x : Object). meant_of column (named l script strict place x) in
     turn ∙ ap (λ (ys : List A). ys ++ of o) before ∙ sym (flat_next of xs k o here)
 
 pub warnings_more : {A : Type 0} (column : Thing → Option (List A)) (l : Linked) (script : Script) (strict : Bool) (place : Place) (xs : List Object)

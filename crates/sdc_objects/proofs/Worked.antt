@@ -1,28 +1,30 @@
--- What lists mean in a strict run, at values worked by hand.
-use Rattle.std.proofs.Common.{◌≡◌, ℕ, true, false, List, [], ◌∷◌, Some, None, refl}
+-- What lists mean, in a strict run and with cells that are cut out, at values worked by hand.
+use Rattle.std.proofs.Common.{◌≡◌, ℕ, true, false, List, [], ◌∷◌, Some, None, map, refl}
 use Rattle.std.specs.Prelude.{codes}
 use Rattle.glob.specs.Match.{matches_whole, star}
 use Rattle.net_model.specs.Form.{PinForm}
 use Rattle.net_model.specs.declared.netlist.Design.{Design}
 use Rattle.net_model.specs.declared.claims.Start.TheVariants.{Reg as RegStart, Input as InputStart}
 use Rattle.net_model.specs.declared.claims.End.TheVariants.{Reg as RegEnd, Output as OutputEnd}
-use Rattle.net_model.specs.declared.claims.PinRef.TheVariants.{RegIn}
+use Rattle.net_model.specs.declared.claims.PinRef.TheVariants.{RegIn, Net as NetPin, OutPort}
 use Rattle.linked_types.specs.declared.names.Linked.{Linked}
+use Rattle.linked_types.specs.declared.names.Names.{Names}
 use Rattle.linked_types.specs.declared.names.CellName.{CellName}
-use Rattle.linked_types.specs.declared.names.PinRole.TheVariants.{Clock as ClockRole, Load, Drive}
+use Rattle.linked_types.specs.declared.names.PinRole.TheVariants.{Clock as ClockRole, Load, Drive, Source, Sink}
 use Rattle.linked_types.specs.Inputs.{whole_names}
 use Rattle.script_types.specs.declared.objects.Class.{Class}
 use Rattle.script_types.specs.declared.objects.Class.TheVariants as class
 use Rattle.script_types.specs.declared.objects.Object.{Object}
-use Rattle.script_types.specs.declared.objects.Object.TheVariants.{Named, AllInputs, AllOutputs, AllClocks}
+use Rattle.script_types.specs.declared.objects.Object.TheVariants.{Named, AllInputs, AllOutputs, AllRegisters, AllClocks}
 use Rattle.script_types.specs.declared.scripts.What.{What}
 use Rattle.script_types.specs.declared.scripts.What.TheVariants.{Clock, Delay}
 use Rattle.script_types.specs.declared.scripts.Command.{Command}
 use Rattle.script_types.specs.declared.scripts.Script.{Script}
 use Rattle.sdcv_base.specs.declared.kinds.Edge.TheVariants.{Any, Rise, Fall}
 use Rattle.selected_types.specs.declared.warnings.Warning.TheVariants.{Dropped, Several}
-use Rattle.sdc_objects.specs.declared.things.Place.TheVariants.{From, Through}
-use Rattle.sdc_objects.specs.Standing.{starts_of, ends_of, warnings, from_column, through_column}
+use Rattle.sdc_objects.specs.declared.things.Place.TheVariants.{From, To, Through}
+use Rattle.sdc_objects.specs.Standing.{starts_of, ends_of, pins_of, warnings, from_column, to_column, through_column}
+use Rattle.sdc_objects.specs.Cuts.{is_cut}
 
 -- the register s reads the input d, and the register a the input a; s/QN shows the complement of its bit
 abbrev design : Design
@@ -164,3 +166,175 @@ port_and_net_are_one = refl
 cell_and_net_are_two : warnings (through_column l) l script true Through (of class.Any (codes "a")) ≡ Several (codes "a") ∷ []
 unfolding matches_whole star
 cell_and_net_are_two = refl
+
+-- a design of the register a, which reads the port d, and three cells that are cut out: the memory m with the judged clock, whose
+-- pin A is a sink and whose pin Q is the source of an input; the latch h without it; and f, of which no pin is connected
+abbrev cell_m : CellName
+cell_m = record {
+  name = codes "m";
+  reg = None;
+  outs = 2 ∷ 3 ∷ [];
+  pins = record { name = codes "A"; role = Sink 1 } ∷ record { name = codes "CLK"; role = Load [] } ∷ record { name = codes "Q"; role = Source 1 }
+      ∷ record { name = codes "B"; role = Drive 3 } ∷ [];
+}
+
+abbrev cell_h : CellName
+cell_h = record {
+  name = codes "h";
+  reg = None;
+  outs = 3 ∷ [];
+  pins = record { name = codes "D"; role = Load [] } ∷ record { name = codes "Q"; role = Drive 3 } ∷ [];
+}
+
+abbrev cell_f : CellName
+cell_f = record { name = codes "f"; reg = None; outs = []; pins = [] }
+
+-- a modelled cell with an input pin that nothing of the design reads with, and a buffer of the clock tree
+abbrev cell_n : CellName
+cell_n = record { name = codes "n"; reg = None; outs = []; pins = record { name = codes "A"; role = Load [] } ∷ [] }
+
+abbrev cell_b : CellName
+cell_b = record { name = codes "b"; reg = None; outs = []; pins = record { name = codes "A"; role = ClockRole } ∷ [] }
+
+abbrev cut_design : Design
+cut_design = record {
+  nets = 4;
+  gates = [];
+  regs = record { next = PinForm 0; clear = None; preset = None; both = false; ins = 0 ∷ []; outs = record { net = 1; inverted = false } ∷ [] } ∷ [];
+  inputs = 0 ∷ 2 ∷ 3 ∷ [];
+  outputs = 1 ∷ 1 ∷ [];
+  fixed = [];
+  resets = [];
+  reset_len = 0;
+}
+
+abbrev cut_names : Names
+cut_names = record {
+  cells = record { name = codes "a"; reg = Some 0; outs = 1 ∷ []; pins = record { name = codes "Q"; role = Drive 1 } ∷ [] }
+      ∷ cell_n ∷ cell_b ∷ cell_m ∷ cell_h ∷ cell_f ∷ [];
+  ins = record { name = codes "d"; bus = None } ∷ [];
+  outs = record { name = codes "y"; bus = None } ∷ [];
+  nets = [];
+  clock = Some (codes "clk");
+  free = codes "m/Q" ∷ codes "m/B" ∷ [];
+  sinks = codes "m/A" ∷ [];
+  cuts = record { cell = codes "RAM"; count = 1; «open» = false } ∷ record { cell = codes "X"; count = 2; «open» = false } ∷ [];
+  assumed = [];
+}
+
+abbrev cut : Linked
+cut = record { design = cut_design; names = cut_names }
+
+abbrev clock_script : Script
+clock_script = record { commands = command (Clock (Some (codes "ck")) (object class.Ports (codes "clk") ∷ [])) ∷ [] }
+
+-- the cells that are cut out are the last three
+last_cells_are_cut : map (is_cut cut_names) (0 ∷ 1 ∷ 2 ∷ 3 ∷ 4 ∷ 5 ∷ []) ≡ false ∷ false ∷ false ∷ true ∷ true ∷ true ∷ []
+last_cells_are_cut = refl
+
+-- a clocked cell stands for its source in from, for its sink in to, and in through for the nets that it may drive
+clocked_cell_starts : starts_of cut clock_script false Any (of class.Cells (codes "m")) ≡ InputStart 1 ∷ []
+unfolding matches_whole star
+clocked_cell_starts = refl
+
+clocked_cell_ends : ends_of cut clock_script false (of class.Cells (codes "m")) ≡ OutputEnd 1 ∷ []
+unfolding matches_whole star
+clocked_cell_ends = refl
+
+clocked_cell_drives : pins_of cut clock_script (of class.Cells (codes "m")) ≡ NetPin 2 ∷ NetPin 3 ∷ []
+unfolding matches_whole star
+clocked_cell_drives = refl
+
+-- a latch has no edge of the judged clock: it is dropped in from and in to
+latch_is_no_start : warnings (from_column cut clock_script false Any) cut clock_script false From (of class.Cells (codes "h")) ≡ Dropped (codes "h") 1 ∷ []
+unfolding matches_whole star
+latch_is_no_start = refl
+
+latch_is_no_end : warnings (to_column cut clock_script false) cut clock_script false To (of class.Cells (codes "h")) ≡ Dropped (codes "h") 1 ∷ []
+unfolding matches_whole star
+latch_is_no_end = refl
+
+latch_drives : pins_of cut clock_script (of class.Cells (codes "h")) ≡ NetPin 3 ∷ []
+unfolding matches_whole star
+latch_drives = refl
+
+-- a pin that is the source of an input is that input, a sink that output; a pin on a net that another cell owns is its net in
+-- through alone, and any other pin nothing
+pins_of_cut_start : starts_of cut clock_script false Any (of class.Pins (codes "m/*")) ≡ InputStart 1 ∷ []
+unfolding matches_whole star
+pins_of_cut_start = refl
+
+pins_of_cut_end : ends_of cut clock_script false (of class.Pins (codes "m/*")) ≡ OutputEnd 1 ∷ []
+unfolding matches_whole star
+pins_of_cut_end = refl
+
+pins_of_cut_pass : pins_of cut clock_script (of class.Pins (codes "m/*")) ≡ OutPort 1 ∷ NetPin 2 ∷ NetPin 3 ∷ []
+unfolding matches_whole star
+pins_of_cut_pass = refl
+
+other_pin_is_dropped : warnings (through_column cut) cut clock_script false Through (of class.Pins (codes "m/CLK")) ≡ Dropped (codes "m/CLK") 1 ∷ []
+unfolding matches_whole star
+other_pin_is_dropped = refl
+
+-- as no pin of a modelled cell is that nothing reads with
+modelled_pin_is_kept : warnings (through_column cut) cut clock_script false Through (of class.Pins (codes "n/A")) ≡ []
+unfolding matches_whole star
+modelled_pin_is_kept = refl
+
+-- a buffer of the clock tree is dropped in through, a cell that is cut out never
+tree_buffer_is_dropped : warnings (through_column cut) cut clock_script false Through (of class.Cells (codes "b")) ≡ Dropped (codes "b") 1 ∷ []
+unfolding matches_whole star
+tree_buffer_is_dropped = refl
+
+filler_is_kept : warnings (through_column cut) cut clock_script false Through (of class.Cells (codes "f")) ≡ []
+unfolding matches_whole star
+filler_is_kept = refl
+
+-- all_registers are the modelled ones; in a strict run the clocked cells that are cut out too, and the others are told
+registers_alone : starts_of cut clock_script false Any (AllRegisters ∷ []) ≡ RegStart 0 ∷ []
+registers_alone = refl
+
+registers_and_sources : starts_of cut clock_script true Any (AllRegisters ∷ []) ≡ RegStart 0 ∷ InputStart 1 ∷ []
+registers_and_sources = refl
+
+registers_and_sinks : ends_of cut clock_script true (AllRegisters ∷ []) ≡ RegEnd 0 ∷ OutputEnd 1 ∷ []
+registers_and_sinks = refl
+
+unclocked_cells_are_told : warnings (from_column cut clock_script true Any) cut clock_script true From (AllRegisters ∷ []) ≡
+    Dropped (codes "all_registers") 2 ∷ []
+unclocked_cells_are_told = refl
+
+-- so it is with the clock
+unclocked_cells_are_told_of_a_clock : warnings (from_column cut clock_script true Any) cut clock_script true From (of class.Clocks (codes "ck")) ≡
+    Dropped (codes "ck") 2 ∷ []
+unfolding matches_whole star
+unclocked_cells_are_told_of_a_clock = refl
+
+clock_has_registers : starts_of cut clock_script false Any (of class.Clocks (codes "ck")) ≡ RegStart 0 ∷ []
+unfolding matches_whole star
+clock_has_registers = refl
+
+clock_has_sources : starts_of cut clock_script true Any (of class.Clocks (codes "ck")) ≡ RegStart 0 ∷ InputStart 1 ∷ []
+unfolding matches_whole star
+clock_has_sources = refl
+
+clock_has_sinks : ends_of cut clock_script true (of class.Clocks (codes "ck")) ≡ RegEnd 0 ∷ OutputEnd 1 ∷ []
+unfolding matches_whole star
+clock_has_sinks = refl
+
+-- the input of a source toggles at the rise of the clock that its cell has: in a strict run after -rise_from it is a start, and after
+-- -fall_from dropped
+source_rises : starts_of cut clock_script true Rise (of class.Pins (codes "m/Q")) ≡ InputStart 1 ∷ []
+unfolding matches_whole star
+source_rises = refl
+
+source_falls_nowhere : warnings (from_column cut clock_script true Fall) cut clock_script true From (of class.Pins (codes "m/Q")) ≡ Dropped (codes "m/Q") 1 ∷ []
+unfolding matches_whole star
+source_falls_nowhere = refl
+
+-- the inputs and outputs are those of the ports
+all_inputs_are_ports : starts_of cut clock_script false Any (AllInputs ∷ []) ≡ InputStart 0 ∷ []
+all_inputs_are_ports = refl
+
+all_outputs_are_ports : ends_of cut clock_script false (AllOutputs ∷ []) ≡ OutputEnd 0 ∷ []
+all_outputs_are_ports = refl

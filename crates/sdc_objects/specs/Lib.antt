@@ -1,4 +1,5 @@
 pub mod Things
 pub mod Delays
+pub mod Cuts
 pub mod Standing
 pub mod Tables

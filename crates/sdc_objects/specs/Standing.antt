@@ -1,7 +1,8 @@
 -- What each thing stands for in each place of an exception.
-use Rattle.std.specs.Prelude.{ℕ, Bool, true, false, ◌&&◌, ◌==◌, if◌then◌else◌, List, [], ◌∷◌, ◌++◌, map, flat_map, length}
+use Rattle.std.specs.Prelude.{ℕ, Bool, true, false, not, ◌&&◌, ◌||◌, ◌==◌, if◌then◌else◌, List, [], ◌∷◌, ◌++◌, map, flat_map, length}
 use Rattle.std.specs.Prelude.{Option, Some, None, slice_get, slice_index, count_by}
 use Rattle.std.specs.List.{list_all, list_any}
+use Rattle.std.specs.Option.{is_some}
 use Rattle.sdcv_base.specs.declared.kinds.Edge.{Edge}
 use Rattle.sdcv_base.specs.declared.kinds.Edge.TheVariants as edges
 use Rattle.net_model.specs.declared.netlist.Design.{Design}
@@ -14,12 +15,13 @@ use Rattle.net_model.specs.declared.claims.End.TheVariants.{Reg as RegEnd, Outpu
 use Rattle.net_model.specs.declared.claims.PinRef.{PinRef}
 use Rattle.net_model.specs.declared.claims.PinRef.TheVariants.{Net as NetPin, OutPort}
 use Rattle.linked_types.specs.declared.names.Linked.{Linked}
+use Rattle.linked_types.specs.declared.names.Names.{Names}
 use Rattle.linked_types.specs.declared.names.CellName.{CellName}
 use Rattle.linked_types.specs.declared.names.PinName.{PinName}
 use Rattle.linked_types.specs.declared.names.PinRole.{PinRole}
 use Rattle.linked_types.specs.declared.names.PinRole.TheVariants.{Clock as ClockRole, Load, Drive, Source, Sink}
 use Rattle.script_types.specs.declared.objects.Object.{Object}
-use Rattle.script_types.specs.declared.objects.Object.TheVariants.{Named}
+use Rattle.script_types.specs.declared.objects.Object.TheVariants.{Named, AllRegisters}
 use Rattle.script_types.specs.declared.scripts.Script.{Script}
 use Rattle.sdc_settings.specs.Inputs.{object_text}
 use Rattle.sdc_objects.specs.declared.things.Thing.{Thing}
@@ -31,6 +33,7 @@ use Rattle.selected_types.specs.declared.warnings.Warning.{Warning}
 use Rattle.selected_types.specs.declared.warnings.Warning.TheVariants.{Nothing, Dropped, Several}
 use Rattle.sdcv_base.specs.Seqs.{each_at, where_true}
 use Rattle.sdc_objects.specs.Things.{things_of, is_several}
+use Rattle.sdc_objects.specs.Cuts.{is_cut, is_clocked, source_starts, sink_ends, all_sources, all_sinks}
 use Rattle.sdc_objects.specs.Delays.{delayed_at}
 
 -- a row of the table: what a thing stands for in each place; None where it is dropped there
@@ -75,38 +78,48 @@ is_clock_role (Sink output) = false
 abbrev pub is_on_tree : CellName → Bool
 is_on_tree c = length c.outs == 0 && list_all (λ (p : PinName). is_clock_role p.role) c.pins
 
--- the output nets of a cell
-abbrev pub cell_outs : CellName → Option ℕ → Option (List PinRef)
-cell_outs c (Some r) = Some (map NetPin c.outs)
-cell_outs c None = if is_on_tree c then dropped else Some (map NetPin c.outs)
+-- a cell as a start and as an end: its register, or the sources and the sinks of a clocked cell that is cut out
+abbrev pub cell_starts : List PinName → Option ℕ → Option (List Start)
+cell_starts pins (Some r) = reg_start (Some r)
+cell_starts pins None = if is_clocked pins then Some (source_starts pins) else dropped
+
+abbrev pub cell_ends : List PinName → Option ℕ → Option (List End)
+cell_ends pins (Some r) = reg_end (Some r)
+cell_ends pins None = if is_clocked pins then Some (sink_ends pins) else dropped
+
+-- the output nets of a cell; of one that is cut out, the nets that it may drive
+abbrev pub cell_outs : Bool → CellName → Option ℕ → Option (List PinRef)
+cell_outs cut c (Some r) = Some (map NetPin c.outs)
+cell_outs cut c None = if not cut && is_on_tree c then dropped else Some (map NetPin c.outs)
 
 -- the three columns: in from, in to, in through
-abbrev pub cell_row : CellName → Stands
-cell_row c = row (reg_start c.reg) (reg_end c.reg) (cell_outs c c.reg)
+abbrev pub cell_row : Bool → CellName → Stands
+cell_row cut c = row (cell_starts c.pins c.reg) (cell_ends c.pins c.reg) (cell_outs cut c c.reg)
 
--- a source stands for the input that it drives, a sink for the output that it reads for
-abbrev pub pin_row : Design → Option ℕ → PinRole → Stands
-pin_row d reg ClockRole = row (reg_start reg) dropped dropped
-pin_row d reg (Drive net) = row (reg_start reg) dropped (one (NetPin net))
-pin_row d reg (Load pins) = row dropped (reg_end reg) (Some pins)
-pin_row d reg (Source input) = row (one (InputStart input)) dropped (one (NetPin (slice_index d.inputs input)))
-pin_row d reg (Sink output) = row dropped (one (OutputEnd output)) (one (OutPort output))
+-- a source stands for the input that it drives, a sink for the output that it reads for; no other pin of a cell that is cut out
+-- reads anything of the design
+abbrev pub pin_row : Design → Bool → Option ℕ → PinRole → Stands
+pin_row d cut reg ClockRole = row (reg_start reg) dropped dropped
+pin_row d cut reg (Drive net) = row (reg_start reg) dropped (one (NetPin net))
+pin_row d cut reg (Load pins) = row dropped (reg_end reg) (if cut then dropped else Some pins)
+pin_row d cut reg (Source input) = row (one (InputStart input)) dropped (one (NetPin (slice_index d.inputs input)))
+pin_row d cut reg (Sink output) = row dropped (one (OutputEnd output)) (one (OutPort output))
 
-abbrev pub cell_at_row : Option CellName → Stands
-cell_at_row None = row dropped dropped dropped
-cell_at_row (Some c) = cell_row c
+abbrev pub cell_at_row : Bool → Option CellName → Stands
+cell_at_row cut None = row dropped dropped dropped
+cell_at_row cut (Some c) = cell_row cut c
 
-abbrev pub role_row : Design → Option ℕ → Option PinName → Stands
-role_row d reg None = row dropped dropped dropped
-role_row d reg (Some p) = pin_row d reg p.role
+abbrev pub role_row : Design → Bool → Option ℕ → Option PinName → Stands
+role_row d cut reg None = row dropped dropped dropped
+role_row d cut reg (Some p) = pin_row d cut reg p.role
 
-abbrev pub pin_at_row : Design → Option CellName → ℕ → Stands
-pin_at_row d None place = row dropped dropped dropped
-pin_at_row d (Some c) place = role_row d c.reg (slice_get c.pins place)
+abbrev pub pin_at_row : Design → Bool → Option CellName → ℕ → Stands
+pin_at_row d cut None place = row dropped dropped dropped
+pin_at_row d cut (Some c) place = role_row d cut c.reg (slice_get c.pins place)
 
 abbrev pub stands : Linked → Thing → Stands
-stands l (thing.Cell k) = cell_at_row (slice_get l.names.cells k)
-stands l (thing.Pin k place) = pin_at_row l.design (slice_get l.names.cells k) place
+stands l (thing.Cell k) = cell_at_row (is_cut l.names k) (slice_get l.names.cells k)
+stands l (thing.Pin k place) = pin_at_row l.design (is_cut l.names k) (slice_get l.names.cells k) place
 stands l (thing.In i) = row (one (InputStart i)) dropped (one (NetPin (slice_index l.design.inputs i)))
 stands l (thing.Out o) = row dropped (one (OutputEnd o)) (one (OutPort o))
 stands l thing.ClockPort = row dropped dropped dropped
@@ -186,15 +199,22 @@ abbrev pub output_of : Thing → List End
 output_of (thing.Out output) = OutputEnd output ∷ []
 output_of _ = []
 
--- in a strict run a clock stands also for the inputs with an input delay of it, and for the outputs with an output delay
+-- in a strict run a clock with a source stands also for the clocked cells that are cut out, at their sources and sinks; and each
+-- clock for the inputs with an input delay of it, and for the outputs with an output delay
+abbrev pub cut_starts : Linked → Bool → List Start
+cut_starts l sourced = if sourced then all_sources l.names.cells else []
+
+abbrev pub cut_ends : Linked → Bool → List End
+cut_ends l sourced = if sourced then all_sinks l.names.cells else []
+
 abbrev pub clock_starts : Linked → Script → Thing → Option (List Start)
 clock_starts l script (thing.Clock place sourced) =
-    Some (meant_by (stands l (thing.Clock place sourced)).from ++ flat_map input_of (delayed_at l script In place))
+    Some (meant_by (stands l (thing.Clock place sourced)).from ++ cut_starts l sourced ++ flat_map input_of (delayed_at l script In place))
 clock_starts l script t = (stands l t).from
 
 abbrev pub clock_ends : Linked → Script → Thing → Option (List End)
 clock_ends l script (thing.Clock place sourced) =
-    Some (meant_by (stands l (thing.Clock place sourced)).to ++ flat_map output_of (delayed_at l script Out place))
+    Some (meant_by (stands l (thing.Clock place sourced)).to ++ cut_ends l sourced ++ flat_map output_of (delayed_at l script Out place))
 clock_ends l script t = (stands l t).to
 
 -- the three columns by their places, in a run that is strict or not; that of the starts by the edge of its option
@@ -221,9 +241,41 @@ meant_of column things = flat_map (λ t. meant_by (column t)) things
 abbrev pub dropped_of : {A : Type 0} → (Thing → Option (List A)) → List Thing → ℕ
 dropped_of column things = count_by (λ t. is_dropped (column t)) things
 
+-- all registers and all cells that are cut out
+abbrev pub registers_and_cuts : Names → List Thing
+registers_and_cuts n = each_at (λ k (c : CellName). where_true (is_some c.reg || is_cut n k) (thing.Cell k)) 0 n.cells
+
+-- the cells that are cut out and do not have the judged clock
+abbrev pub unclocked : Names → List Thing
+unclocked n = each_at (λ k (c : CellName). where_true (is_cut n k && not (is_clocked c.pins)) (thing.Cell k)) 0 n.cells
+
+abbrev pub is_sourced_clock : Thing → Bool
+is_sourced_clock (thing.Clock place sourced) = sourced
+is_sourced_clock _ = false
+
+-- what is named, and where a clock with a source is named, these cells
+abbrev pub with_unclocked : Names → List Thing → List Thing
+with_unclocked n things = things ++ (if list_any is_sourced_clock things then unclocked n else [])
+
+-- in a strict run `all_registers` and a clock with a source name cells that are cut out too, so that those without the judged clock
+-- are told as dropped
+abbrev pub strict_named : Linked → Script → Place → Object → List Thing
+strict_named l script place AllRegisters = registers_and_cuts l.names
+strict_named l script place o = with_unclocked l.names (things_of l script place o)
+
+abbrev pub point_named : Linked → Script → Bool → Place → Object → List Thing
+point_named l script false place o = things_of l script place o
+point_named l script true place o = strict_named l script place o
+
+-- all that an object names in a place of an exception, in a run that is strict or not
+abbrev pub named : Linked → Script → Bool → Place → Object → List Thing
+named l script strict From = point_named l script strict From
+named l script strict To = point_named l script strict To
+named l script strict Through = things_of l script Through
+
 -- what the objects of a list stand for in one place
-abbrev pub meant : {A : Type 0} → (Thing → Option (List A)) → Linked → Script → Place → List Object → List A
-meant column l script place objects = flat_map (λ o. meant_of column (things_of l script place o)) objects
+abbrev pub meant : {A : Type 0} → (Thing → Option (List A)) → Linked → Script → Bool → Place → List Object → List A
+meant column l script strict place objects = flat_map (λ o. meant_of column (named l script strict place o)) objects
 
 -- nothing is named, or so many of the things that are named are dropped
 abbrev pub warning : List ℕ → List Thing → ℕ → List Warning
@@ -237,22 +289,23 @@ several l script place _ = []
 
 -- the warnings of an object, in a run that is strict or not, and those of a list of objects
 abbrev pub warnings_of : {A : Type 0} → (Thing → Option (List A)) → Linked → Script → Bool → Place → Object → List Warning
-warnings_of column l script false place o = warning (object_text o) (things_of l script place o) (dropped_of column (things_of l script place o))
+warnings_of column l script false place o =
+    warning (object_text o) (named l script false place o) (dropped_of column (named l script false place o))
 warnings_of column l script true place o =
-    warning (object_text o) (things_of l script place o) (dropped_of column (things_of l script place o)) ++ several l script place o
+    warning (object_text o) (named l script true place o) (dropped_of column (named l script true place o)) ++ several l script place o
 
 abbrev pub warnings : {A : Type 0} → (Thing → Option (List A)) → Linked → Script → Bool → Place → List Object → List Warning
 warnings column l script strict place objects = flat_map (warnings_of column l script strict place) objects
 
 -- the starts, the ends and the through pins that the objects of a list stand for
 abbrev pub starts_of : Linked → Script → Bool → Edge → List Object → List Start
-starts_of l script strict edge = meant (from_column l script strict edge) l script From
+starts_of l script strict edge = meant (from_column l script strict edge) l script strict From
 
 abbrev pub ends_of : Linked → Script → Bool → List Object → List End
-ends_of l script strict = meant (to_column l script strict) l script To
+ends_of l script strict = meant (to_column l script strict) l script strict To
 
 abbrev pub pins_of : Linked → Script → List Object → List PinRef
-pins_of l script = meant (through_column l) l script Through
+pins_of l script = meant (through_column l) l script false Through
 
 -- the list of what there is, and dropped where there is nothing
 abbrev pub one_of : {A : Type 0} → Option A → Option (List A)

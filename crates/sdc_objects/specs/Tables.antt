@@ -8,6 +8,7 @@ use Rattle.linked_types.specs.declared.names.CellName.{CellName}
 use Rattle.linked_types.specs.declared.names.PortName.{PortName}
 use Rattle.linked_types.specs.declared.names.NetName.{NetName}
 use Rattle.sdcv_base.specs.Seqs.{option_list}
+use Rattle.sdc_objects.specs.Cuts.{first_cut}
 use Rattle.sdc_objects.specs.declared.tables.Tables.{Tables}
 
 -- the names of cells and of nets, in their order
@@ -30,3 +31,4 @@ pub record IsTablesOf (l : Linked) (t : Tables) : Type 0 where
   pub ports : t.ports ≡ each_once (port_names l.names)
   pub cells : IsIndexOf (cell_names l.names.cells) t.cells
   pub nets : IsIndexOf (net_names l.names.nets) t.nets
+  pub first_cut : t.first_cut ≡ first_cut l.names

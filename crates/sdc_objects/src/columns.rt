@@ -7,6 +7,7 @@ ghost use Rattle.net_model.specs.declared.claims.PinRef.TheVariants.{Net as NetP
 ghost use Rattle.sdcv_base.specs.declared.kinds.Edge.{Edge as EdgeEnum};
 ghost use Rattle.linked_types.specs.declared.names.Linked.{Linked as LinkedRecord};
 ghost use Rattle.sdc_objects.specs.declared.things.Thing.{Thing as ThingEnum};
+ghost use Rattle.sdc_objects.specs.declared.things.Thing.TheVariants as things;
 ghost use Rattle.sdc_objects.specs.declared.things.Place.{Place as PlaceEnum};
 ghost use Rattle.sdc_objects.specs.declared.things.Place.TheVariants as places;
 ghost use Rattle.sdcv_base.specs.Seqs.{option_list};
@@ -14,6 +15,7 @@ ghost use Rattle.script_types.specs.declared.scripts.Script.{Script as ScriptRec
 ghost use Rattle.sdc_objects.specs.Tables.{IsTablesOf};
 ghost use Rattle.sdc_objects.specs.Standing as spec;
 
+use crate::cuts::{add_cell_ends, add_cell_starts};
 use crate::scopes::Scope;
 use crate::strict::{add_clock_ends, add_clock_starts, add_fall_start, add_rise_start};
 use crate::things::{Place, Thing};
@@ -115,10 +117,9 @@ impl Column for PinRef {
         found: &mut Seq<PinRef>,
     ) -> Result<bool, AllocError> {
         let linked = scope.linked;
-        let cells = &linked.names.cells;
         match thing {
-            Thing::Cell(k) => add_cell_pins(cells, k, found),
-            Thing::Pin(k, place) => add_pin(linked, k, place, found),
+            Thing::Cell(k) => add_cell_pins(scope, k, found),
+            Thing::Pin(k, place) => add_pin(scope, k, place, found),
             Thing::In(input) => add_one(Some(PinRef::Net(input_net(&linked.design, input))), found),
             Thing::Out(output) => add_one(Some(PinRef::OutPort(output)), found),
             Thing::Net(net) => add_one(Some(PinRef::Net(net)), found),
@@ -139,7 +140,7 @@ pub(crate) fn add_start(
 {
     let cells = &linked.names.cells;
     match thing {
-        Thing::Cell(k) => add_one(reg_start(cell_reg(cells, k)), found),
+        Thing::Cell(k) => add_cell_starts(cells, k, found),
         Thing::Pin(k, place) => add_one(pin_start(linked, k, place), found),
         Thing::In(input) => add_one(Some(Start::Input(input)), found),
         Thing::Out(_) | Thing::ClockPort | Thing::Net(_) => Ok(false),
@@ -170,7 +171,7 @@ pub(crate) fn add_end(
 {
     let cells = &linked.names.cells;
     match thing {
-        Thing::Cell(k) => add_one(reg_end(cell_reg(cells, k)), found),
+        Thing::Cell(k) => add_cell_ends(cells, k, found),
         Thing::Pin(k, place) => add_one(pin_end(linked, k, place), found),
         Thing::Out(output) => add_one(Some(End::Output(output)), found),
         Thing::In(_) | Thing::ClockPort | Thing::Net(_) => Ok(false),
@@ -214,19 +215,9 @@ fn reg_end(reg: Option<usize>) -> Option<End>
     }
 }
 
-// The register of a cell.
-fn cell_reg(cells: &Seq<CellName>, k: usize) -> Option<usize>
-    ensures { result ≡ spec.reg_of (slice_get cells.now k) }
-{
-    match cells.as_slice().get(k) {
-        Some(cell) => cell.reg,
-        None => None,
-    }
-}
-
 // The register whose clock or output pin it is, or the input that the pin drives.
 fn pin_start(linked: &Linked, k: usize, place: usize) -> Option<Start>
-    ensures { spec.one_of result ≡ (spec.pin_at_row linked.now.design (slice_get linked.now.names.cells k) place).from }
+    ensures { (cut : Bool) → spec.one_of result ≡ (spec.pin_at_row linked.now.design cut (slice_get linked.now.names.cells k) place).from }
 {
     let cell = linked.names.cells.as_slice().get(k)?;
     let pin = cell.pins.as_slice().get(place)?;
@@ -290,7 +281,7 @@ fn has_inverted(outs: &Seq<RegOut>, net: usize) -> bool
 
 // The register whose other input pin it is, or the output that the pin reads for.
 fn pin_end(linked: &Linked, k: usize, place: usize) -> Option<End>
-    ensures { spec.one_of result ≡ (spec.pin_at_row linked.now.design (slice_get linked.now.names.cells k) place).to }
+    ensures { (cut : Bool) → spec.one_of result ≡ (spec.pin_at_row linked.now.design cut (slice_get linked.now.names.cells k) place).to }
 {
     let cell = linked.names.cells.as_slice().get(k)?;
     let pin = cell.pins.as_slice().get(place)?;
@@ -350,28 +341,38 @@ fn input_net(design: &Design, input: usize) -> usize
     design.inputs.as_slice().get(input).copied().unwrap_or(0)
 }
 
-// The output nets of a cell that is a register or stands off the clock tree.
-fn add_cell_pins(
+// The output nets of a cell that is a register, stands off the clock tree or is cut out.
+fn add_cell_pins(scope: &Scope, k: usize, found: &mut Seq<PinRef>) -> Result<bool, AllocError>
+    requires { IsTablesOf scope.now.linked.now scope.now.tables.now }
+    ensures kept { IfOk result (λ kept. kept ≡ not (spec.is_dropped (spec.stands scope.now.linked.now (things.Cell k)).through)) }
+    ensures added { OnOk result (found.new ≡ found.old ++ spec.meant_by (spec.stands scope.now.linked.now (things.Cell k)).through) }
+{
+    let cut = scope.tables.is_cut(k);
+    add_cell_at(&scope.linked.names.cells, cut, k, found)
+}
+
+fn add_cell_at(
     cells: &Seq<CellName>,
+    cut: bool,
     k: usize,
     found: &mut Seq<PinRef>,
 ) -> Result<bool, AllocError>
-    ensures kept { IfOk result (λ kept. kept ≡ not (spec.is_dropped (spec.cell_at_row (slice_get cells.now k)).through)) }
-    ensures added { OnOk result (found.new ≡ found.old ++ spec.meant_by (spec.cell_at_row (slice_get cells.now k)).through) }
+    ensures kept { IfOk result (λ kept. kept ≡ not (spec.is_dropped (spec.cell_at_row cut (slice_get cells.now k)).through)) }
+    ensures added { OnOk result (found.new ≡ found.old ++ spec.meant_by (spec.cell_at_row cut (slice_get cells.now k)).through) }
 {
     match cells.as_slice().get(k) {
-        Some(cell) => add_cell(cell, found),
+        Some(cell) => add_cell(cell, cut, found),
         None => Ok(false),
     }
 }
 
-fn add_cell(cell: &CellName, found: &mut Seq<PinRef>) -> Result<bool, AllocError>
-    ensures kept { IfOk result (λ kept. kept ≡ not (spec.is_dropped (spec.cell_outs cell.now cell.now.reg))) }
-    ensures added { OnOk result (found.new ≡ found.old ++ spec.meant_by (spec.cell_outs cell.now cell.now.reg)) }
+fn add_cell(cell: &CellName, cut: bool, found: &mut Seq<PinRef>) -> Result<bool, AllocError>
+    ensures kept { IfOk result (λ kept. kept ≡ not (spec.is_dropped (spec.cell_outs cut cell.now cell.now.reg))) }
+    ensures added { OnOk result (found.new ≡ found.old ++ spec.meant_by (spec.cell_outs cut cell.now cell.now.reg)) }
 {
     match cell.reg {
         Some(_) => add_outs(cell, found),
-        None => add_free_outs(cell, found),
+        None => add_free_outs(cell, cut, found),
     }
 }
 
@@ -384,11 +385,11 @@ fn add_outs(cell: &CellName, found: &mut Seq<PinRef>) -> Result<bool, AllocError
 }
 
 // Of a cell that is no register.
-fn add_free_outs(cell: &CellName, found: &mut Seq<PinRef>) -> Result<bool, AllocError>
-    ensures kept { IfOk result (λ kept. kept ≡ not (spec.is_dropped (spec.cell_outs cell.now None))) }
-    ensures added { OnOk result (found.new ≡ found.old ++ spec.meant_by (spec.cell_outs cell.now None)) }
+fn add_free_outs(cell: &CellName, cut: bool, found: &mut Seq<PinRef>) -> Result<bool, AllocError>
+    ensures kept { IfOk result (λ kept. kept ≡ not (spec.is_dropped (spec.cell_outs cut cell.now None))) }
+    ensures added { OnOk result (found.new ≡ found.old ++ spec.meant_by (spec.cell_outs cut cell.now None)) }
 {
-    if is_on_tree(cell) {
+    if !cut && is_on_tree(cell) {
         return Ok(false);
     }
     add_outs(cell, found)
@@ -430,18 +431,33 @@ fn add_nets(nets: &Seq<usize>, found: &mut Seq<PinRef>) -> Result<(), AllocError
 }
 
 fn add_pin(
+    scope: &Scope,
+    k: usize,
+    place: usize,
+    found: &mut Seq<PinRef>,
+) -> Result<bool, AllocError>
+    requires { IsTablesOf scope.now.linked.now scope.now.tables.now }
+    ensures kept { IfOk result (λ kept. kept ≡ not (spec.is_dropped (spec.stands scope.now.linked.now (things.Pin k place)).through)) }
+    ensures added { OnOk result (found.new ≡ found.old ++ spec.meant_by (spec.stands scope.now.linked.now (things.Pin k place)).through) }
+{
+    let cut = scope.tables.is_cut(k);
+    add_pin_at(scope.linked, cut, k, place, found)
+}
+
+fn add_pin_at(
     linked: &Linked,
+    cut: bool,
     k: usize,
     place: usize,
     found: &mut Seq<PinRef>,
 ) -> Result<bool, AllocError>
     ensures kept { IfOk result (λ kept.
-        kept ≡ not (spec.is_dropped (spec.pin_at_row linked.now.design (slice_get linked.now.names.cells k) place).through)) }
+        kept ≡ not (spec.is_dropped (spec.pin_at_row linked.now.design cut (slice_get linked.now.names.cells k) place).through)) }
     ensures added { OnOk result
-        (found.new ≡ found.old ++ spec.meant_by (spec.pin_at_row linked.now.design (slice_get linked.now.names.cells k) place).through) }
+        (found.new ≡ found.old ++ spec.meant_by (spec.pin_at_row linked.now.design cut (slice_get linked.now.names.cells k) place).through) }
 {
     match linked.names.cells.as_slice().get(k) {
-        Some(cell) => add_pin_of(&linked.design, cell, place, found),
+        Some(cell) => add_pin_of(&linked.design, cell, cut, place, found),
         None => Ok(false),
     }
 }
@@ -449,32 +465,49 @@ fn add_pin(
 fn add_pin_of(
     design: &Design,
     cell: &CellName,
+    cut: bool,
     place: usize,
     found: &mut Seq<PinRef>,
 ) -> Result<bool, AllocError>
-    ensures kept { IfOk result (λ kept. kept ≡ not (spec.is_dropped (spec.role_row design.now cell.now.reg (slice_get cell.now.pins place)).through)) }
-    ensures added { OnOk result (found.new ≡ found.old ++ spec.meant_by (spec.role_row design.now cell.now.reg (slice_get cell.now.pins place)).through) }
+    ensures kept { IfOk result (λ kept.
+        kept ≡ not (spec.is_dropped (spec.role_row design.now cut cell.now.reg (slice_get cell.now.pins place)).through)) }
+    ensures added { OnOk result
+        (found.new ≡ found.old ++ spec.meant_by (spec.role_row design.now cut cell.now.reg (slice_get cell.now.pins place)).through) }
 {
     match cell.pins.as_slice().get(place) {
-        Some(pin) => add_role(design, &pin.role, found),
+        Some(pin) => add_role(design, cut, &pin.role, found),
         None => Ok(false),
     }
 }
 
-fn add_role(design: &Design, role: &PinRole, found: &mut Seq<PinRef>) -> Result<bool, AllocError>
-    ensures kept { (reg : Option ℕ) → IfOk result (λ kept. kept ≡ not (spec.is_dropped (spec.pin_row design.now reg role.now).through)) }
-    ensures added { (reg : Option ℕ) → OnOk result (found.new ≡ found.old ++ spec.meant_by (spec.pin_row design.now reg role.now).through) }
+fn add_role(
+    design: &Design,
+    cut: bool,
+    role: &PinRole,
+    found: &mut Seq<PinRef>,
+) -> Result<bool, AllocError>
+    ensures kept { (reg : Option ℕ) → IfOk result (λ kept. kept ≡ not (spec.is_dropped (spec.pin_row design.now cut reg role.now).through)) }
+    ensures added { (reg : Option ℕ) → OnOk result (found.new ≡ found.old ++ spec.meant_by (spec.pin_row design.now cut reg role.now).through) }
 {
     match role {
         PinRole::Clock => Ok(false),
         PinRole::Drive(net) => add_one(Some(PinRef::Net(*net)), found),
         PinRole::Source(input) => add_one(Some(PinRef::Net(input_net(design, *input))), found),
         PinRole::Sink(output) => add_one(Some(PinRef::OutPort(*output)), found),
-        PinRole::Load(pins) => {
-            add_loads(pins, found)?;
-            Ok(true)
-        }
+        PinRole::Load(pins) => add_load(cut, pins, found),
     }
+}
+
+// The pins that read with an input pin, of a cell that is not cut out.
+fn add_load(cut: bool, pins: &Seq<PinRef>, found: &mut Seq<PinRef>) -> Result<bool, AllocError>
+    ensures kept { IfOk result (λ kept. kept ≡ not cut) }
+    ensures added { OnOk result (found.new ≡ found.old ++ (if cut then [] else pins.now)) }
+{
+    if cut {
+        return Ok(false);
+    }
+    add_loads(pins, found)?;
+    Ok(true)
 }
 
 fn add_loads(pins: &Seq<PinRef>, found: &mut Seq<PinRef>) -> Result<(), AllocError>

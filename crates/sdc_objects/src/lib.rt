@@ -8,9 +8,11 @@
 #![tactic(auto)]
 
 mod columns;
+mod cuts;
 mod delays;
 mod found;
 mod lists;
+mod named;
 mod pins;
 mod scopes;
 mod several;

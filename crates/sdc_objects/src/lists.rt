@@ -2,10 +2,9 @@
 ghost use Rattle.std.specs.Prelude.{◌≡◌, ◌++◌, ◌≤◌, IfOk, OnOk, length};
 ghost use Rattle.sdc_objects.specs.Tables.{IsTablesOf};
 ghost use Rattle.sdc_objects.specs.Standing as spec;
-ghost use Rattle.sdc_objects.specs.Things.{things_of as things};
 
 use crate::columns::Column;
-use crate::found::things_of;
+use crate::named::named_in;
 use crate::scopes::Scope;
 use crate::things::Thing;
 use crate::warnings::{warn, warn_several};
@@ -27,7 +26,7 @@ pub fn meant<T: Column>(
 ) -> Result<Seq<T>, AllocError>
     requires { IsTablesOf scope.now.linked.now scope.now.tables.now }
     ensures items { IfOk result (λ items. items ≡ spec.meant (T.column scope.now.linked.now scope.now.script.now scope.now.strict edge)
-        scope.now.linked.now scope.now.script.now T.at objects.now) }
+        scope.now.linked.now scope.now.script.now scope.now.strict T.at objects.now) }
     ensures warnings { OnOk result (warnings.new ≡ warnings.old ++ spec.warnings (T.column scope.now.linked.now scope.now.script.now scope.now.strict edge)
         scope.now.linked.now scope.now.script.now scope.now.strict T.at objects.now) }
 {
@@ -48,11 +47,11 @@ fn add_object<T: Column>(
 ) -> Result<(), AllocError>
     requires { IsTablesOf scope.now.linked.now scope.now.tables.now }
     ensures items { OnOk result (items.new ≡ items.old ++ spec.meant_of (T.column scope.now.linked.now scope.now.script.now scope.now.strict edge)
-        (things scope.now.linked.now scope.now.script.now T.at object.now)) }
+        (spec.named scope.now.linked.now scope.now.script.now scope.now.strict T.at object.now)) }
     ensures warnings { OnOk result (warnings.new ≡ warnings.old ++ spec.warnings_of (T.column scope.now.linked.now scope.now.script.now scope.now.strict edge)
         scope.now.linked.now scope.now.script.now scope.now.strict T.at object.now) }
 {
-    let things = things_of(alloc, scope, T::place(), object)?;
+    let things = named_in(alloc, scope, T::place(), object)?;
     let dropped = add_things(alloc, scope, edge, &things, items)?;
     warn(alloc, object, &things, dropped, warnings)?;
     if scope.strict {

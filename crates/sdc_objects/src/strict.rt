@@ -1,13 +1,15 @@
 //! What things stand for in a strict run: what a timing analyser takes them for.
-ghost use Rattle.std.specs.Prelude.{◌≡◌, ◌++◌, not, flat_map, IfOk, OnOk, slice_get};
+ghost use Rattle.std.specs.Prelude.{◌≡◌, ◌++◌, [], not, if◌then◌else◌, flat_map, IfOk, OnOk, slice_get};
+ghost use Rattle.sdc_objects.specs.Cuts as cuts;
 ghost use Rattle.sdc_objects.specs.Tables.{IsTablesOf};
 ghost use Rattle.sdc_objects.specs.Standing as spec;
 
 use crate::columns::{add_end, add_one, add_start, edge_role, reg_start};
+use crate::cuts::{add_all_sinks, add_all_sources};
 use crate::delays::delayed_at;
 use crate::scopes::Scope;
 use crate::things::{Side, Thing};
-use linked_types::{Linked, PinRole};
+use linked_types::{CellName, Linked, PinRole};
 use net_model::{End, Start};
 use sdcv_base::Seq;
 use std::alloc::{AllocError, Global};
@@ -24,10 +26,24 @@ pub(crate) fn add_clock_starts(
     ensures added { OnOk result (found.new ≡ found.old ++ spec.meant_by (spec.clock_starts scope.now.linked.now scope.now.script.now thing)) }
 {
     let kept = add_start(scope.linked, thing, found)?;
-    if let Thing::Clock(place, _) = thing {
+    if let Thing::Clock(place, sourced) = thing {
+        add_cut_starts(&scope.linked.names.cells, sourced, found)?;
         add_inputs(&delayed_at(alloc, scope, Side::In, place)?, found)?;
     }
     Ok(kept)
+}
+
+fn add_cut_starts(
+    cells: &Seq<CellName>,
+    sourced: bool,
+    found: &mut Seq<Start>,
+) -> Result<(), AllocError>
+    ensures { OnOk result (found.new ≡ found.old ++ (if sourced then cuts.all_sources cells.now else [])) }
+{
+    if sourced {
+        add_all_sources(cells, found)?;
+    }
+    Ok(())
 }
 
 fn add_inputs(things: &Seq<Thing>, found: &mut Seq<Start>) -> Result<(), AllocError>
@@ -99,10 +115,24 @@ pub(crate) fn add_clock_ends(
     ensures added { OnOk result (found.new ≡ found.old ++ spec.meant_by (spec.clock_ends scope.now.linked.now scope.now.script.now thing)) }
 {
     let kept = add_end(scope.linked, thing, found)?;
-    if let Thing::Clock(place, _) = thing {
+    if let Thing::Clock(place, sourced) = thing {
+        add_cut_ends(&scope.linked.names.cells, sourced, found)?;
         add_outputs(&delayed_at(alloc, scope, Side::Out, place)?, found)?;
     }
     Ok(kept)
+}
+
+fn add_cut_ends(
+    cells: &Seq<CellName>,
+    sourced: bool,
+    found: &mut Seq<End>,
+) -> Result<(), AllocError>
+    ensures { OnOk result (found.new ≡ found.old ++ (if sourced then cuts.all_sinks cells.now else [])) }
+{
+    if sourced {
+        add_all_sinks(cells, found)?;
+    }
+    Ok(())
 }
 
 fn add_outputs(things: &Seq<Thing>, found: &mut Seq<End>) -> Result<(), AllocError>

@@ -4,6 +4,8 @@ ghost use Rattle.texts.specs.Names.{with_names, each_once};
 ghost use Rattle.glob.specs.Indexes.{IsIndexOf};
 ghost use Rattle.sdcv_base.specs.Seqs.{option_list};
 ghost use Rattle.sdc_objects.specs.Tables.{IsTablesOf, port_names, bit_names, cell_names, net_names};
+ghost use Rattle.sdc_objects.specs.Cuts as cuts;
+ghost use Rattle.linked_types.specs.declared.names.Linked.{Linked as LinkedRecord};
 
 use glob::Index;
 use linked_types::{CellName, Linked, Names, NetName, PortName};
@@ -11,13 +13,14 @@ use sdcv_base::{Name, Seq};
 use std::alloc::{AllocError, Global};
 use texts::NameTable;
 
-/// The names of a design: those of its ports and their buses, and those of its cells and nets with their places. It is made
-/// once for a design.
+/// The names of a design: those of its ports and their buses, and those of its cells and nets with their places; and the place
+/// of the first cell that is cut out. It is made once for a design.
 #[derive(Drop)]
 pub struct Tables {
     pub(crate) ports: NameTable,
     pub(crate) cells: Index,
     pub(crate) nets: Index,
+    pub(crate) first_cut: usize,
 }
 
 impl Tables {
@@ -29,6 +32,7 @@ impl Tables {
             ports: NameTable::new(alloc),
             cells: Index::new(alloc),
             nets: Index::new(alloc),
+            first_cut: first_cut(&linked.names),
         };
         tables.fill(alloc, &linked.names)?;
         Ok(tables)
@@ -41,11 +45,30 @@ impl Tables {
         ensures ports { OnOk result (self.new.ports ≡ each_once (port_names names.now)) }
         ensures cells { OnOk result (IsIndexOf (cell_names names.now.cells) self.new.cells) }
         ensures nets { OnOk result (IsIndexOf (net_names names.now.nets) self.new.nets) }
+        ensures first_cut { self.new.first_cut ≡ self.old.first_cut }
     {
         add_ports(alloc, names, &mut self.ports)?;
         add_cells(alloc, &names.cells, &mut self.cells)?;
         add_nets(alloc, &names.nets, &mut self.nets)
     }
+
+    /// Whether the cell at a place is cut out.
+    pub(crate) fn is_cut(&self, k: usize) -> bool
+        ensures { (l : LinkedRecord) → IsTablesOf l self.now → result ≡ cuts.is_cut l.names k }
+    {
+        k >= self.first_cut
+    }
+}
+
+// Those that are cut out stand after all other cells.
+fn first_cut(names: &Names) -> usize
+    ensures { result ≡ cuts.first_cut names.now }
+{
+    let mut first = names.cells.len();
+    for k in 0..names.cuts.len() {
+        first = first.saturating_sub(names.cuts.item(k).count);
+    }
+    first
 }
 
 // Adds the names by which ports are found.

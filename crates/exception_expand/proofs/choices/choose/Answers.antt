@@ -11,7 +11,7 @@ pub connected-requires-clause-starts : goal.connected-requires-clause-starts
 connected-requires-clause-starts c =
     let l = c.args.scope.now.linked.now in
     let e = (asked_by c.args.ask.now).exception in
-    starts_in l.design (IsFrom l c.args.scope.now.script.now c.args.scope.now.strict e.edge e.from) c.in_ok-lists.lists.starts
+    starts_in l (IsFrom l c.args.scope.now.script.now c.args.scope.now.strict e.edge e.from) c.in_ok-lists.lists.starts
     c.in_ok-lists.ensures.lists.starts
 
 pub connected-requires-clause-ends : goal.connected-requires-clause-ends

@@ -11,5 +11,5 @@ returns-in-None-clause-added c =
     let past : length c.args.cell.now.pins ≤ c.args.place =
     subst (λ (l : List PinName). length l ≤ c.args.place) c.as_slice.ensures c.in-None.ensures.lookup.3 in
     added_nothing c.args.found.now _
-    (ap (λ (o : Option PinName). spec.meant_by (spec.role_row c.args.design.now c.args.cell.now.reg o).through)
+    (ap (λ (o : Option PinName). spec.meant_by (spec.role_row c.args.design.now c.args.cut c.args.cell.now.reg o).through)
     (slice_get_past c.args.cell.now.pins c.args.place past))

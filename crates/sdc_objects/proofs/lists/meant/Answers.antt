@@ -8,7 +8,7 @@ loop-k-preserved g c =
     let strict = c.args.scope.now.strict in
     let column = g.T.Column.column l script strict c.args.edge in
     record {
-      items = object_more column l script g.T.Column.at c.args.objects.now c.loop-k.k c.item.result.now c.loop-k.items c.add_object.new.items
+      items = object_more column l script strict g.T.Column.at c.args.objects.now c.loop-k.k c.item.result.now c.loop-k.items c.add_object.new.items
           c.item.ensures c.loop-k.invariant.items c.in_ok-add_object.ensures.items;
       warnings = warnings_more column l script strict g.T.Column.at c.args.objects.now c.loop-k.k c.item.result.now c.args.warnings.now
           c.loop-k.warnings c.add_object.new.warnings c.item.ensures c.loop-k.invariant.warnings c.in_ok-add_object.ensures.warnings;

@@ -11,7 +11,7 @@ use Rattle.exception_expand.proofs.commands.Progress.add_what.Goals as goal
 pub add_choice-requires-clause-pairs : goal.add_choice-requires-clause-pairs
 add_choice-requires-clause-pairs c =
     let l = c.args.task.now.scope.linked.now in
-    pairs_in l.design (Selects l c.args.task.now.scope.script.now c.args.task.now.scope.strict (asked_by c.in-Some.ask).exception) c.in_ok-choice.choice.pairs
+    pairs_in l (Selects l c.args.task.now.scope.script.now c.args.task.now.scope.strict (asked_by c.in-Some.ask).exception) c.in_ok-choice.choice.pairs
     c.in_ok-choice.ensures.ok.pairs
 
 pub returns-in_default-clause-ok : goal.returns-in_default-clause-ok

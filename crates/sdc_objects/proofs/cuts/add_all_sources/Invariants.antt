@@ -1,0 +1,6 @@
+use Rattle.std.proofs.Common.{◌≡◌, ◌++◌, take}
+use Rattle.sdc_objects.specs.Cuts.{all_sources}
+use Rattle.sdc_objects.proofs.cuts.add_all_sources.Given as goal
+
+abbrev pub invariant-loop-k : goal.invariant-loop-k
+invariant-loop-k l = l.found ≡ l.fn.found ++ all_sources (take l.k l.cells)
