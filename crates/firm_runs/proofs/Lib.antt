@@ -1,0 +1,9 @@
+pub mod Completing3
+pub mod TernRows
+pub mod Settled3
+pub mod Late3
+pub mod Runs3
+pub mod Firming
+pub mod Deciding3
+pub mod Lists3
+pub mod Worked
