@@ -1,3 +1,4 @@
 pub mod Texts
 pub mod Certs
 pub mod Stimuli
+pub mod Graphs

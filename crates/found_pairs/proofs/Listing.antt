@@ -11,7 +11,8 @@ use Rattle.linked_types.specs.declared.names.Linked.{Linked}
 use Rattle.linked_types.specs.Usable.{IsUsable}
 use Rattle.script_types.specs.declared.scripts.Script.{Script}
 use Rattle.sdcv_base.specs.Seqs.{each_at}
-use Rattle.sdc_objects.specs.Standing.{cell_at_row, reg_start, reg_end, dropped_of, from_column, to_column, warning, warnings}
+use Rattle.sdc_objects.specs.Standing.{cell_at_row, cell_starts, cell_ends, dropped_of, from_column, to_column, warning, warnings}
+use Rattle.sdc_objects.specs.Cuts.{is_cut}
 use Rattle.sdc_objects.specs.declared.things.Place.TheVariants.{From, To}
 use Rattle.sdc_objects.specs.declared.things.Thing.{Thing}
 use Rattle.sdc_objects.specs.declared.things.Thing.TheVariants as thing
@@ -89,7 +90,7 @@ start_warns : (l : Linked) (script : Script) (r : ℕ) (name : List ℕ) → IsU
 start_warns l script r name usable can c =
     let can_cell : is_writable c.cell.name ≡ true = subst (λ (n : List ℕ). is_writable n ≡ true) (sym c.named) can in
     let stands : from_column l script false Any (thing.Cell c.place) ≡ Some (RegStart r ∷ []) =
-    ap (λ (o : Option CellName). (cell_at_row o).from) c.here ∙ ap reg_start c.reg in
+    ap (λ (o : Option CellName). (cell_at_row (is_cut l.names c.place) o).from) c.here ∙ ap (cell_starts c.cell.pins) c.reg in
     let one : warning c.cell.name (thing.Cell c.place ∷ []) (dropped_of (from_column l script false Any) (thing.Cell c.place ∷ [])) ≡ [] =
     no_warning (from_column l script false Any) c.cell.name (thing.Cell c.place) (RegStart r ∷ []) stands in
     subst (λ (n : List ℕ). warnings (from_column l script false Any) l script false From (cell_named n) ≡ []) c.named
@@ -103,7 +104,7 @@ end_warns : (l : Linked) (script : Script) (r : ℕ) (name : List ℕ) → IsUsa
 end_warns l script r name usable can c =
     let can_cell : is_writable c.cell.name ≡ true = subst (λ (n : List ℕ). is_writable n ≡ true) (sym c.named) can in
     let stands : to_column l script false (thing.Cell c.place) ≡ Some (RegEnd r ∷ []) =
-    ap (λ (o : Option CellName). (cell_at_row o).to) c.here ∙ ap reg_end c.reg in
+    ap (λ (o : Option CellName). (cell_at_row (is_cut l.names c.place) o).to) c.here ∙ ap (cell_ends c.cell.pins) c.reg in
     let one : warning c.cell.name (thing.Cell c.place ∷ []) (dropped_of (to_column l script false) (thing.Cell c.place ∷ [])) ≡ [] =
     no_warning (to_column l script false) c.cell.name (thing.Cell c.place) (RegEnd r ∷ []) stands in
     subst (λ (n : List ℕ). warnings (to_column l script false) l script false To (cell_named n) ≡ []) c.named

@@ -7,7 +7,9 @@ use Rattle.net_model.specs.declared.claims.End.TheVariants.{Reg as RegEnd, Outpu
 use Rattle.net_paths.specs.Those.{AreThose, All_seen, Taken, Left_out}
 use Rattle.net_paths.proofs.Sifting.{those_append}
 use Rattle.sdcv_base.specs.Seqs.{each_at}
-use Rattle.exception_expand.specs.Points.{all_starts, all_ends}
+use Rattle.exception_expand.specs.Points.{begins, start_points, all_starts, all_ends}
+use Rattle.linked_types.specs.declared.names.Linked.{Linked}
+use Rattle.exception_expand.proofs.Driving.{those_kept}
 use Rattle.exception_expand.proofs.Placing.{same_or}
 
 -- not among what is made of places from one on
@@ -48,13 +50,15 @@ no_input r i e = cc
 no_output : (r o : ℕ) → ¬ (OutputEnd o ≡ RegEnd r)
 no_output r o e = cc
 
--- a register's start
-pub start_once : (d : Design) (r : ℕ) → r < length d.regs → AreThose (λ s. s ≡ RegStart r) (all_starts d) (RegStart r ∷ [])
-start_once d r low =
+-- a register's start, at which paths begin
+pub start_once : (l : Linked) (r : ℕ) → r < length l.design.regs → AreThose (λ s. s ≡ RegStart r) (all_starts l) (RegStart r ∷ [])
+start_once l r low =
+    let d = l.design in
     let regs = each_at (λ i (reg : Reg). RegStart i ∷ []) 0 d.regs in
     let inputs = each_at (λ i (net : ℕ). InputStart i ∷ []) 0 d.inputs in
-    those_append (λ s. s ≡ RegStart r) regs (RegStart r ∷ []) inputs [] (made_once RegStart reg_starts_differ r 0 d.regs (omega arith) (omega (arith, low)))
-    (not_made InputStart (RegStart r) 0 d.inputs (λ i past. no_input r i))
+    those_kept (λ s. s ≡ RegStart r) (begins l.names) (start_points d) (RegStart r ∷ [])
+    (those_append (λ s. s ≡ RegStart r) regs (RegStart r ∷ []) inputs [] (made_once RegStart reg_starts_differ r 0 d.regs (omega arith) (omega (arith, low)))
+    (not_made InputStart (RegStart r) 0 d.inputs (λ i past. no_input r i)))
 
 -- a register's end
 pub end_once : (d : Design) (r : ℕ) → r < length d.regs → AreThose (λ e. e ≡ RegEnd r) (all_ends d) (RegEnd r ∷ [])

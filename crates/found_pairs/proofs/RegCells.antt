@@ -18,7 +18,8 @@ use Rattle.linked_types.specs.Usable.{IsUsable, IsCellOf, IsRegOf, is_reg}
 use Rattle.script_types.specs.declared.objects.Object.TheVariants.{AllRegisters}
 use Rattle.script_types.specs.declared.scripts.Script.{Script}
 use Rattle.sdcv_base.specs.declared.kinds.Edge.TheVariants.{Any}
-use Rattle.sdc_objects.specs.Standing.{cell_at_row, reg_start, reg_end, meant_by, meant_of, from_column, to_column}
+use Rattle.sdc_objects.specs.Standing.{cell_at_row, cell_starts, cell_ends, meant_by, meant_of, from_column, to_column}
+use Rattle.sdc_objects.specs.Cuts.{is_cut}
 use Rattle.sdc_objects.specs.Things.{cell_of_reg, things_of}
 use Rattle.sdc_objects.specs.declared.things.Place.TheVariants.{From, To}
 use Rattle.sdc_objects.specs.declared.things.Thing.{Thing}
@@ -109,22 +110,15 @@ pub record IsRegPair (l : Linked) (p : Pair) : Type 0 where
   pub end_cell : IsRegCell l second (end_name l p.end)
   pub path : HasPath l.design p.start p.end []
 
--- a cell of a register, as `[all_registers]` names it
-started : (reg : Option ℕ) (s : Start) → In s (meant_by (reg_start reg)) → (r : ℕ) × (reg ≡ Some r) × (s ≡ RegStart r)
-started None s has = absurd has
-started (Some r) s (inl here) = (r, refl, sym here)
-started (Some r) s (inr none) = absurd none
-
--- the same of an end
-ended : (reg : Option ℕ) (e : End) → In e (meant_by (reg_end reg)) → (r : ℕ) × (reg ≡ Some r) × (e ≡ RegEnd r)
-ended None e has = absurd has
-ended (Some r) e (inl here) = (r, refl, sym here)
-ended (Some r) e (inr none) = absurd none
+-- the one thing of a list
+single : {A : Type 0} (x y : A) → In y (x ∷ []) → y ≡ x
+single x y (inl here) = sym here
+single x y (inr none) = absurd none
 
 -- what stands for a cell that has a register is that cell
-cell_thing : (k : ℕ) (reg : Option ℕ) (t : Thing) → In t (cell_of_reg k reg) → thing.Cell k ≡ t
+cell_thing : (k : ℕ) (reg : Option ℕ) (t : Thing) → In t (cell_of_reg k reg) → (r : ℕ) × (reg ≡ Some r) × (thing.Cell k ≡ t)
 cell_thing k None t has = absurd has
-cell_thing k (Some r) t (inl here) = here
+cell_thing k (Some r) t (inl here) = (r, refl, here)
 cell_thing k (Some r) t (inr none) = absurd none
 
 -- a start is that of a register, whose cell has its name
@@ -140,24 +134,36 @@ record IsEndOf (l : Linked) (e : End) : Type 0 where
   cell : IsRegCell l reg (reg_name l.names.cells reg)
 
 -- a start that a cell stands for
-start_by : (l : Linked) (k : ℕ) (o : Option CellName) (s : Start) → slice_get l.names.cells k ≡ o → In s (meant_by (cell_at_row o).from) → IsStartOf l s
-start_by l k None s here has = absurd has
-start_by l k (Some c) s here has =
-    let of = started c.reg s has in
-    record { reg = of.0; is = of.2; cell = reg_cell l of.0 k c here of.1 }
+start_by : (l : Linked) (k r : ℕ) (c : CellName) (s : Start) → slice_get l.names.cells k ≡ Some c → c.reg ≡ Some r
+    → In s (meant_by (cell_at_row (is_cut l.names k) (slice_get l.names.cells k)).from) → IsStartOf l s
+start_by l k r c s here reg has =
+    let at : In s (meant_by (cell_starts c.pins c.reg)) = subst (λ (o : Option CellName). In s (meant_by (cell_at_row (is_cut l.names k) o).from)) here has in
+    let of : In s (RegStart r ∷ []) = subst (λ (o : Option ℕ). In s (meant_by (cell_starts c.pins o))) reg at in
+    record { reg = r; is = single (RegStart r) s of; cell = reg_cell l r k c here reg }
 
 -- an end that a cell stands for
-end_by : (l : Linked) (k : ℕ) (o : Option CellName) (e : End) → slice_get l.names.cells k ≡ o → In e (meant_by (cell_at_row o).to) → IsEndOf l e
-end_by l k None e here has = absurd has
-end_by l k (Some c) e here has =
-    let of = ended c.reg e has in
-    record { reg = of.0; is = of.2; cell = reg_cell l of.0 k c here of.1 }
+end_by : (l : Linked) (k r : ℕ) (c : CellName) (e : End) → slice_get l.names.cells k ≡ Some c → c.reg ≡ Some r
+    → In e (meant_by (cell_at_row (is_cut l.names k) (slice_get l.names.cells k)).to) → IsEndOf l e
+end_by l k r c e here reg has =
+    let at : In e (meant_by (cell_ends c.pins c.reg)) = subst (λ (o : Option CellName). In e (meant_by (cell_at_row (is_cut l.names k) o).to)) here has in
+    let of : In e (RegEnd r ∷ []) = subst (λ (o : Option ℕ). In e (meant_by (cell_ends c.pins o))) reg at in
+    record { reg = r; is = single (RegEnd r) e of; cell = reg_cell l r k c here reg }
 
--- a thing that `[all_registers]` names is a cell
-register_thing : (l : Linked) (t : Thing) → In t (things_of l (record { commands = [] }) From AllRegisters) → (k : ℕ) × (thing.Cell k ≡ t)
+-- a thing that `[all_registers]` names is a cell with a register
+record IsRegThing (l : Linked) (t : Thing) : Type 0 where
+  place : ℕ
+  reg : ℕ
+  cell : CellName
+  here : slice_get l.names.cells place ≡ Some cell
+  has : cell.reg ≡ Some reg
+  is : thing.Cell place ≡ t
+
+register_thing : (l : Linked) (t : Thing) → In t (things_of l (record { commands = [] }) From AllRegisters) → IsRegThing l t
 register_thing l t has =
     let made = from_each (λ k (c : CellName). cell_of_reg k c.reg) 0 l.names.cells t has in
-    (0 + made.place, cell_thing (0 + made.place) made.item.reg t made.of)
+    let of = cell_thing (0 + made.place) made.item.reg t made.of in
+    let at : 0 + made.place ≡ made.place = omega arith in
+    record { place = 0 + made.place; reg = of.0; cell = made.item; here = ap (slice_get l.names.cells) at ∙ made.here; has = of.1; is = of.2 }
 
 -- a start that `[all_registers]` means
 start_of_registers : (l : Linked) (script : Script) (s : Start) → IsFrom l script false Any (Some (AllRegisters ∷ [])) s → IsStartOf l s
@@ -167,8 +173,8 @@ start_of_registers l script s has =
       | inl here ↦
           let of = from_flat (λ t. meant_by (from_column l script false Any t)) s things here in
           let cell = register_thing l of.0 of.1 in
-          start_by l cell.0 (slice_get l.names.cells cell.0) s refl
-          (subst (λ (t : Thing). In s (meant_by (from_column l script false Any t))) (sym cell.1) of.2)
+          start_by l cell.place cell.reg cell.cell s cell.here cell.has
+          (subst (λ (t : Thing). In s (meant_by (from_column l script false Any t))) (sym cell.is) of.2)
       | inr none ↦ absurd none
     ]
 
@@ -180,7 +186,8 @@ end_of_registers l script e has =
       | inl here ↦
           let of = from_flat (λ t. meant_by (to_column l script false t)) e things here in
           let cell = register_thing l of.0 of.1 in
-          end_by l cell.0 (slice_get l.names.cells cell.0) e refl (subst (λ (t : Thing). In e (meant_by (to_column l script false t))) (sym cell.1) of.2)
+          end_by l cell.place cell.reg cell.cell e cell.here cell.has
+          (subst (λ (t : Thing). In e (meant_by (to_column l script false t))) (sym cell.is) of.2)
       | inr none ↦ absurd none
     ]
 

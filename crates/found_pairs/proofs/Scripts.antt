@@ -98,7 +98,7 @@ command_those l script k c all more here those =
 -- what the lines select
 pub lines_select : (l : Linked) (script : Script) (place number : ℕ) (lines : List CheckLine) (pairs : List Pair) → IsUsable l
     → AreLines l lines pairs → StandFrom script place (commands_from number lines)
-    → AreThose (spec.IsSelected l script (judging_by false 0)) (each_at (spec.pairs_at l.design) place (commands_from number lines))
+    → AreThose (spec.IsSelected l script (judging_by false 0)) (each_at (spec.pairs_at l) place (commands_from number lines))
     (chosen_from place lines pairs)
 lines_select l script place number [] [] usable are stand = All_seen
 lines_select l script place number [] (p ∷ pairs) usable are stand = absurd are
@@ -107,17 +107,17 @@ lines_select l script place number (Setup x ∷ lines) (p ∷ pairs) usable (is,
     let c : Command = record { line = number; what = exception_by (Setup x) } in
     let cs = commands_from (number + 1) lines in
     let one = line_selects l script x p usable is.readable.start is.readable.end is.start is.end_ is.regs in
-    those_append (spec.IsSelected l script (judging_by false 0)) (map (chosen_by place) (spec.all_sides l.design)) (chosen_by place (side false p) ∷ [])
-    (each_at (spec.pairs_at l.design) (place + 1) cs) (chosen_from (place + 1) lines pairs)
-    (command_those l script place c (spec.all_sides l.design) (side false p ∷ []) (stand_here script place c cs stand) one)
+    those_append (spec.IsSelected l script (judging_by false 0)) (map (chosen_by place) (spec.all_sides l)) (chosen_by place (side false p) ∷ [])
+    (each_at (spec.pairs_at l) (place + 1) cs) (chosen_from (place + 1) lines pairs)
+    (command_those l script place c (spec.all_sides l) (side false p ∷ []) (stand_here script place c cs stand) one)
     (lines_select l script (place + 1) (number + 1) lines pairs usable are (stand_later script place c cs stand))
 lines_select l script place number (Hold x ∷ lines) pairs usable (is, are) stand =
     let c : Command = record { line = number; what = exception_by (Hold x) } in
     let cs = commands_from (number + 1) lines in
-    let none = those_none (spec.SelectsBy l script (judging_by false 0) c.what) (spec.all_sides l.design) (λ s selects. selects) in
-    those_append (spec.IsSelected l script (judging_by false 0)) (map (chosen_by place) (spec.all_sides l.design)) []
-    (each_at (spec.pairs_at l.design) (place + 1) cs) (chosen_from (place + 1) lines pairs)
-    (command_those l script place c (spec.all_sides l.design) [] (stand_here script place c cs stand) none)
+    let none = those_none (spec.SelectsBy l script (judging_by false 0) c.what) (spec.all_sides l) (λ s selects. selects) in
+    those_append (spec.IsSelected l script (judging_by false 0)) (map (chosen_by place) (spec.all_sides l)) []
+    (each_at (spec.pairs_at l) (place + 1) cs) (chosen_from (place + 1) lines pairs)
+    (command_those l script place c (spec.all_sides l) [] (stand_here script place c cs stand) none)
     (lines_select l script (place + 1) (number + 1) lines pairs usable are (stand_later script place c cs stand))
 
 -- the claims of the pairs

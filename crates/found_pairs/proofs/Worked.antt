@@ -8,6 +8,7 @@ use Rattle.mcp_detect.specs.declared.options.DetectOptions.{DetectOptions}
 use Rattle.mcp_detect.specs.declared.detections.Tried.{Tried}
 use Rattle.mcp_detect.specs.declared.detections.Detected.{Detected}
 use Rattle.selected_types.specs.declared.notices.Notices.{Notices}
+use Rattle.selected_types.specs.declared.notices.CutCells.{CutCells}
 use Rattle.selected_types.specs.declared.notices.Skipped.{Skipped}
 use Rattle.selected_types.specs.declared.selections.Listing.TheVariants.{Claiming, Hold}
 use Rattle.selected_types.specs.declared.selections.PairLine.{PairLine}
@@ -60,18 +61,33 @@ hold_between : commands_listed 1 (lines true)
 hold_between = refl
 
 abbrev passed_over : List Skipped → Notices
-passed_over skipped = record { skipped = Some skipped; unjudged = []; hold_commands = 0 }
+passed_over skipped = record { top = None; cuts = []; skipped = Some skipped; unjudged = []; hold_commands = 0 }
 
 -- what is passed over stands between the header and the found pairs
 skipped_are_told : (o : DetectOptions) (found : Detected)
-    → detected_lines o 1 (passed_over (record { name = codes "set_dont_use"; count = 2 } ∷ [])) (record found { tried = pair (codes "a") (codes "b") 2 ∷ [] })
-    ≡ header_line o 1 ∷ (codes "skipped set_dont_use 2" ++ 10 ∷ []) ∷ (codes "found a -> b multi 2" ++ 10 ∷ [])
+    → detected_lines o 1 None (passed_over (record { name = codes "set_dont_use"; count = 2 } ∷ []))
+    (record found { tried = pair (codes "a") (codes "b") 2 ∷ [] })
+    ≡ header_line o 1 None ∷ (codes "skipped set_dont_use 2" ++ 10 ∷ []) ∷ (codes "found a -> b multi 2" ++ 10 ∷ [])
     ∷ (codes "total tried 1 found 1 written 1" ++ 10 ∷ []) ∷ []
 unfolding digits
 skipped_are_told o found = refl
 
 -- where nothing is, nothing is told
-none_is_told : (o : DetectOptions) (found : Detected) → detected_lines o 1 (passed_over []) (record found { tried = [] })
-    ≡ header_line o 1 ∷ (codes "total tried 0 found 0 written 0" ++ 10 ∷ []) ∷ []
+none_is_told : (o : DetectOptions) (found : Detected) → detected_lines o 1 None (passed_over []) (record found { tried = [] })
+    ≡ header_line o 1 None ∷ (codes "total tried 0 found 0 written 0" ++ 10 ∷ []) ∷ []
 unfolding digits
 none_is_told o found = refl
+
+abbrev trying : DetectOptions
+trying = record { hazard = false; depth = 8; budget = 20000; inv_depth = 1; bound = 4 }
+
+abbrev rams : CutCells
+rams = record { cell = codes "RAM"; count = 2; «open» = false }
+
+-- the top module and what is cut out stand before what is passed over, and the header has the free nets
+cuts_are_told : (found : Detected)
+    → detected_lines trying 1 (Some 3) (record (passed_over []) { top = Some (codes "chip"); cuts = rams ∷ [] }) (record found { tried = [] })
+    ≡ (codes "sdcv 1 detect mode plain reset 1 depth 8 budget 20000 inv 1 bound 4 free 3" ++ 10 ∷ []) ∷ (codes "top chip" ++ 10 ∷ [])
+    ∷ (codes "cut RAM 2" ++ 10 ∷ []) ∷ (codes "total tried 0 found 0 written 0" ++ 10 ∷ []) ∷ []
+unfolding digits
+cuts_are_told found = refl

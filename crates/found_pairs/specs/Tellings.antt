@@ -6,7 +6,7 @@ use Rattle.sdcv_base.specs.Shown.{shown}
 use Rattle.sdcv_base.specs.Limits.{limit_text}
 use Rattle.selected_types.specs.declared.notices.Notices.{Notices}
 use Rattle.report_text.specs.Notices.{notice_lines}
-use Rattle.report_text.specs.Words.{mode_text}
+use Rattle.report_text.specs.Words.{mode_text, number_text}
 use Rattle.answer_lines.specs.Texts.{◌⁀◌, newline}
 use Rattle.found_pairs.specs.Lines.{is_written}
 use Rattle.mcp_detect.specs.declared.options.DetectOptions.{DetectOptions}
@@ -21,8 +21,9 @@ header_text o reset_len =
     codes "sdcv 1 detect mode " ⁀ mode_text o.hazard ⁀ codes " reset " ⁀ decimal reset_len ⁀ codes " depth " ⁀ decimal o.depth ⁀ codes " budget "
     ⁀ decimal o.budget ⁀ codes " inv " ⁀ decimal o.inv_depth ⁀ codes " bound " ⁀ decimal o.bound
 
-abbrev pub header_line : DetectOptions → ℕ → List ℕ
-header_line o reset_len = header_text o reset_len ⁀ newline
+-- and how many nets are free, where cells may be cut out
+abbrev pub header_line : DetectOptions → ℕ → Option ℕ → List ℕ
+header_line o reset_len free = header_text o reset_len ⁀ number_text (codes "free") free ⁀ newline
 
 -- a multiplier is found for the pair
 abbrev pub is_found : Tried → Bool
@@ -43,10 +44,10 @@ total_line tried =
     codes "total tried " ⁀ decimal (length tried) ⁀ codes " found " ⁀ decimal (count_by is_found tried) ⁀ codes " written "
     ⁀ decimal (count_by is_written tried) ⁀ newline
 
--- how the pairs were tried, what is told of the constraints, each found pair, and how many there are
-abbrev pub detected_lines : DetectOptions → ℕ → Notices → Detected → List (List ℕ)
-detected_lines o reset_len n found =
-    header_line o reset_len ∷ (notice_lines n ++ (flat_map pair_lines found.tried ++ total_line found.tried ∷ []))
+-- how the pairs were tried, what is told of the netlist and of the constraints, each found pair, and how many there are
+abbrev pub detected_lines : DetectOptions → ℕ → Option ℕ → Notices → Detected → List (List ℕ)
+detected_lines o reset_len free n found =
+    header_line o reset_len free ∷ (notice_lines n ++ (flat_map pair_lines found.tried ++ total_line found.tried ∷ []))
 
 -- why the pairs are not tried
 abbrev pub detect_line : DetectFault → Option (List ℕ)

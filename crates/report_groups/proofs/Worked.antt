@@ -4,11 +4,11 @@ use Rattle.std.specs.Fmt.{digits}
 use Rattle.std.specs.Prelude.{codes}
 use Rattle.report_rows.specs.declared.reports.PairRow.{PairRow}
 use Rattle.report_rows.specs.declared.reports.Said.TheVariants.{Does}
-use Rattle.report_rows.specs.declared.reports.Told.TheVariants.{Skipped, Unjudged, HoldSides}
-use Rattle.report_rows.specs.declared.reports.Word.TheVariants.{Refuted}
+use Rattle.report_rows.specs.declared.reports.Told.TheVariants.{Cut, Skipped, Unjudged, HoldSides}
+use Rattle.report_rows.specs.declared.reports.Word.TheVariants.{Refuted, Undecided}
 use Rattle.report_groups.specs.Groups.{group_text}
 use Rattle.report_groups.specs.Findings.{said_texts, told_notes, passes}
-use Rattle.report_groups.specs.declared.findings.Finding.TheVariants.{Note}
+use Rattle.report_groups.specs.declared.findings.Finding.TheVariants.{Note, Pairs}
 
 hold_sides_of_no_pair_are_told : said_texts (Does (codes "false hold") 0) ≡ codes "false hold selects nothing" ∷ []
 hold_sides_of_no_pair_are_told = refl
@@ -47,3 +47,17 @@ what_is_passed_over_is_not_told = refl
 
 hold_sides_that_are_not_judged_are_not_told : told_notes (HoldSides 2) ≡ []
 hold_sides_that_are_not_judged_are_not_told = refl
+
+what_is_cut_out_is_not_told : told_notes (Cut (codes "RAM") 2 false) ≡ []
+what_is_cut_out_is_not_told = refl
+
+-- a pair that what is free may violate stops a build as any that is undecided
+abbrev free_pair : PairRow
+free_pair = record failing { verdict = Undecided; why = codes "free 0" }
+
+a_pair_that_what_is_free_may_violate_stops_a_build : passes (Pairs (record { row = free_pair; pairs = 4 })) ≡ false
+a_pair_that_what_is_free_may_violate_stops_a_build = refl
+
+it_is_told_by_its_cause : group_text (record { row = free_pair; pairs = 4 }) ≡ codes "a[*] -> b 4 undecided free 0 command 2 false hold rise first 5"
+unfolding digits
+it_is_told_by_its_cause = refl

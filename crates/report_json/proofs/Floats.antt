@@ -1,12 +1,13 @@
 -- No report has a float, so its text is a function of it.
 use Rattle.std.proofs.Common.{◌≡◌, ◌==◌, ℕ, ◌+◌, Bool, true, false, List, [], ◌∷◌, map, refl}
-use Rattle.std.specs.Prelude.{codes, Option, None, Some, if◌then◌else◌}
+use Rattle.std.specs.Prelude.{codes, Option, None, Some, is_some, if◌then◌else◌}
 use Rattle.serde_json.specs.Data.{Members, member, no_members, string}
 use Rattle.serde_json.specs.View.{items_of}
 use Rattle.serde_json.specs.Written.{has_float, items_have_float, members_have_float}
 use Rattle.net_model.specs.declared.claims.Claim.{Claim}
 use Rattle.sdcv_base.specs.Seqs.{each_at}
 use Rattle.selected_types.specs.declared.notices.Notices.{Notices}
+use Rattle.selected_types.specs.declared.notices.CutCells.{CutCells}
 use Rattle.selected_types.specs.declared.notices.Skipped.{Skipped}
 use Rattle.selected_types.specs.declared.notices.Unjudged.{Unjudged}
 use Rattle.selected_types.specs.declared.selections.CommandLine.{CommandLine}
@@ -22,6 +23,7 @@ use Rattle.report_text.specs.Words.{mode_text, warning_text}
 use Rattle.report_json.specs.Reports.{count_data, command_data, commands_data, one_command, evidence_data, pair_data, one_pair, pairs_data, total_data}
 use Rattle.report_json.specs.Reports.{flag_member, lag_member, number_member, holds_member, skipped_member, unjudged_member, tells_holds, report_data}
 use Rattle.report_json.specs.Reports.{one_skipped, one_unjudged, unjudged_data}
+use Rattle.report_json.specs.Reports.{one_cut, cuts_data, cuts_member, top_member}
 
 texts_have_none : {A : Type 0} (text : A → List ℕ) (xs : List A) → items_have_float (items_of (map (λ x. string (text x)) xs)) ≡ false
 texts_have_none text [] = refl
@@ -92,27 +94,45 @@ unjudged_has_none : (told : Bool) (unjudged : List Unjudged) (following : Member
 unjudged_has_none true unjudged following = rw (unjudged_have_none unjudged) refl
 unjudged_has_none false unjudged following = refl
 
+-- nor those of what is told of the netlist
+cuts_have_none : (cuts : List CutCells) → items_have_float (items_of (map one_cut cuts)) ≡ false
+cuts_have_none [] = refl
+cuts_have_none (c ∷ cs) = cuts_have_none cs
+
+cuts_has_none : (told : Bool) (cuts : List CutCells) (following : Members)
+    → members_have_float (if told then member (codes "cuts") (cuts_data cuts) following else following) ≡ members_have_float following
+cuts_has_none true cuts following = rw (cuts_have_none cuts) refl
+cuts_has_none false cuts following = refl
+
+top_has_none : (top : Option (List ℕ)) (following : Members) → members_have_float (top_member top following) ≡ members_have_float following
+top_has_none None following = refl
+top_has_none (Some name) following = refl
+
 pub report_has_none : (o : RunOptions) (n : Notices) (selected : Selected) (vs : List Verdict) → has_float (report_data o n selected vs) ≡ false
 report_has_none o n selected vs =
     let total : Members = member (codes "total") (total_data vs) (unjudged_member o n no_members) in
-    let strict : Members = flag_member (codes "strict") o.strict total in
+    let top : Members = top_member n.top total in
+    let strict : Members = flag_member (codes "strict") o.strict top in
     let mode : Members = member (codes "mode") (string (mode_text o.hazard)) (member (codes "pairs") (pairs_data o.depth selected vs)
     (member (codes "reset") (count_data o.reset_len) (skipped_member n.skipped strict))) in
     let inv : Members = member (codes "inv") (count_data o.inv_depth) (lag_member o.lag mode) in
     let holds : Members = holds_member o n inv in
     let hold : Members = flag_member (codes "hold") o.hold holds in
+    let depth : Members = member (codes "depth") (count_data o.depth) (number_member (codes "free") o.free hold) in
     let budget : Members = member (codes "budget") (count_data o.budget) (member (codes "commands") (commands_data selected.commands)
-    (member (codes "depth") (count_data o.depth) (number_member (codes "free") o.free hold))) in
+    (cuts_member o n depth)) in
     rw (
       number_has_none (codes "assist") o.assist (number_member (codes "assumed") o.assumed budget),
       number_has_none (codes "assumed") o.assumed budget,
       commands_have_none 0 selected.commands,
+      cuts_has_none (is_some o.free) n.cuts depth,
       number_has_none (codes "free") o.free hold,
       flag_has_none (codes "hold") o.hold holds,
       holds_has_none (tells_holds o) n.hold_commands inv,
       lag_has_none (o.lag == 0) o.lag mode,
       pairs_have_none o.depth 1 selected.pairs selected.claims vs,
       skipped_has_none n.skipped strict,
-      flag_has_none (codes "strict") o.strict total,
+      flag_has_none (codes "strict") o.strict top,
+      top_has_none n.top total,
       unjudged_has_none o.strict n.unjudged no_members,
     ) refl

@@ -1,5 +1,5 @@
 -- A report as JSON: the value, and its text.
-use Rattle.std.specs.Prelude.{ℕ, ◌+◌, ◌==◌, ◌&&◌, not, if◌then◌else◌, Bool, true, List, [], ◌∷◌, ◌++◌, map, codes, Option, None, Some}
+use Rattle.std.specs.Prelude.{ℕ, ◌+◌, ◌==◌, ◌&&◌, not, if◌then◌else◌, Bool, true, List, [], ◌∷◌, ◌++◌, map, codes, Option, None, Some, is_some}
 use Rattle.serde_json.specs.Data.{Data, Members, null, boolean, number, unsigned, string, array, object, member, no_members}
 use Rattle.serde_json.specs.View.{items_of}
 use Rattle.serde_json.specs.Written.{compact_text}
@@ -14,6 +14,7 @@ use Rattle.selected_types.specs.declared.selections.CommandLine.{CommandLine}
 use Rattle.selected_types.specs.declared.selections.PairLine.{PairLine}
 use Rattle.selected_types.specs.declared.selections.Selected.{Selected}
 use Rattle.selected_types.specs.declared.notices.Notices.{Notices}
+use Rattle.selected_types.specs.declared.notices.CutCells.{CutCells}
 use Rattle.selected_types.specs.declared.notices.Skipped.{Skipped}
 use Rattle.selected_types.specs.declared.notices.Unjudged.{Unjudged}
 use Rattle.verdict_types.specs.declared.outcomes.Cause.TheVariants.{Free}
@@ -96,6 +97,14 @@ total_data vs =
     (member (codes "refuted") (count_data (tally_of vs).refuted)
     (member (codes "undecided") (count_data (tally_of vs).undecided) no_members))))
 
+-- so many cells of a reference are cut out, and a path may lead through them where they are open
+abbrev pub one_cut : CutCells → Data
+one_cut c =
+    object (member (codes "cells") (count_data c.count) (member (codes "name") (string (shown c.cell)) (member (codes "open") (boolean c.open) no_members)))
+
+abbrev pub cuts_data : List CutCells → Data
+cuts_data cuts = array (items_of (map one_cut cuts))
+
 -- so many commands of a name are passed over
 abbrev pub one_skipped : Skipped → Data
 one_skipped s = object (member (codes "count") (count_data s.count) (member (codes "name") (string (shown s.name)) no_members))
@@ -121,6 +130,15 @@ number_member key (Some count) following = member key (count_data count) followi
 abbrev pub flag_member : List ℕ → Bool → Members → Members
 flag_member key stands following = if stands then member key (boolean true) following else following
 
+-- a member of what is told of the netlist, before those that follow it: which cells are cut out, in a run in which cells may be, and the
+-- name of the top module, where it is asked for by it
+abbrev pub cuts_member : RunOptions → Notices → Members → Members
+cuts_member o n following = if is_some o.free then member (codes "cuts") (cuts_data n.cuts) following else following
+
+abbrev pub top_member : Option (List ℕ) → Members → Members
+top_member None following = following
+top_member (Some name) following = member (codes "top") (string (shown name)) following
+
 -- a member of what is told beside the exceptions, before those that follow it: of how many false paths the hold side is not judged, in a
 -- strict run that doesn't judge hold sides; which commands are passed over, where any may be; and which are not judged, in a strict run
 abbrev pub tells_holds : RunOptions → Bool
@@ -142,6 +160,7 @@ report_data o n selected verdicts =
     (number_member (codes "assumed") o.assumed
     (member (codes "budget") (count_data o.budget)
     (member (codes "commands") (commands_data selected.commands)
+    (cuts_member o n
     (member (codes "depth") (count_data o.depth)
     (number_member (codes "free") o.free
     (flag_member (codes "hold") o.hold
@@ -153,8 +172,9 @@ report_data o n selected verdicts =
     (member (codes "reset") (count_data o.reset_len)
     (skipped_member n.skipped
     (flag_member (codes "strict") o.strict
+    (top_member n.top
     (member (codes "total") (total_data verdicts)
-    (unjudged_member o n no_members)))))))))))))))))
+    (unjudged_member o n no_members)))))))))))))))))))
 
 -- the text without spaces, and a newline
 abbrev pub json_text : RunOptions → Notices → Selected → List Verdict → List ℕ

@@ -4,6 +4,7 @@
 #![tactic(auto)]
 
 mod commands;
+mod netlists;
 mod notices;
 mod objects;
 mod pairs;

@@ -1,7 +1,7 @@
 //! Objects, member by member.
 ghost use Rattle.std.specs.Prelude.{◌≡◌, OnOk};
 ghost use Rattle.sdcv_base.specs.Shown.{shown};
-ghost use Rattle.serde_json.specs.Data.{array, number, unsigned, string, object, no_members};
+ghost use Rattle.serde_json.specs.Data.{array, boolean, number, unsigned, string, object, no_members};
 ghost use Rattle.serde_json.specs.Data.{put as with_member};
 ghost use Rattle.serde_json.specs.View.{view, items_view};
 ghost use Rattle.report_json.specs.Objects.{made, with_number, with_flag};
@@ -66,12 +66,18 @@ impl Object {
         }
     }
 
+    pub fn put_truth(&mut self, alloc: Global, key: &str, truth: bool) -> Result<(), AllocError>
+        ensures { OnOk result (made self.new ≡ with_member key.now (boolean truth) (made self.old)) }
+    {
+        self.put_value(alloc, key, Value::from(truth))
+    }
+
     /// Puts `true`, where the word stands.
     pub fn put_flag(&mut self, alloc: Global, key: &str, stands: bool) -> Result<(), AllocError>
         ensures { OnOk result (made self.new ≡ with_flag key.now stands (made self.old)) }
     {
         if stands {
-            self.put_value(alloc, key, Value::from(true))
+            self.put_truth(alloc, key, true)
         } else {
             Ok(())
         }

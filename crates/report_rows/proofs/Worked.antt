@@ -9,7 +9,7 @@ use Rattle.report_rows.specs.declared.heads.Asked.{Asked}
 use Rattle.report_rows.specs.declared.heads.Head.{Head}
 use Rattle.report_rows.specs.declared.reports.Report.{Report}
 use Rattle.report_rows.specs.declared.reports.Said.TheVariants.{Does}
-use Rattle.report_rows.specs.declared.reports.Word.TheVariants.{Refuted}
+use Rattle.report_rows.specs.declared.reports.Word.TheVariants.{Refuted, Undecided}
 
 abbrev read : List ℕ → Option Head
 read line = head_of (words line)
@@ -74,3 +74,17 @@ hold_side_of_a_pair : after (codes "pair 1 command 3 false hold rise a -> b refu
     })
 unfolding with_line places_of arrow_of verdict_in number_in
 hold_side_of_a_pair = refl
+
+-- a pair that what is free may violate, and one that what is cut out may
+abbrev open_pair : List ℕ → Report
+open_pair why = record before {
+  pairs = record { number = 1; command = 3; kind = codes "false"; start = codes "a"; end = codes "m/A"; verdict = Undecided; why = why } ∷ [];
+}
+
+free_pair : after (codes "pair 1 command 3 false a -> m/A undecided free 0") ≡ Some (open_pair (codes "free 0"))
+unfolding with_line places_of arrow_of verdict_in number_in
+free_pair = refl
+
+cut_pair : after (codes "pair 1 command 3 false a -> m/A undecided cut") ≡ Some (open_pair (codes "cut"))
+unfolding with_line places_of arrow_of verdict_in number_in
+cut_pair = refl

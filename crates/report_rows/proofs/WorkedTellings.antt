@@ -1,14 +1,14 @@
--- What reports tell of a script beside its exceptions, read back, worked out by hand.
+-- What reports tell of a netlist, and of a script beside its exceptions, read back, worked out by hand.
 use Rattle.std.proofs.Common.{◌≡◌, ℕ, List, true, false, refl}
 use Rattle.std.specs.Prelude.{codes, Option, None, Some}
 use Rattle.report_rows.specs.Words.{words, number_in}
 use Rattle.report_rows.specs.Heads.{rowless}
 use Rattle.report_rows.specs.Rows.{with_told}
-use Rattle.report_rows.specs.Tellings.{skipped_count, unjudged_line, noted_count}
+use Rattle.report_rows.specs.Tellings.{cut_count, skipped_count, unjudged_line, noted_count}
 use Rattle.report_rows.specs.Lines.{with_line}
 use Rattle.report_rows.specs.declared.heads.Head.{Head}
 use Rattle.report_rows.specs.declared.reports.Report.{Report}
-use Rattle.report_rows.specs.declared.reports.Told.TheVariants.{Skipped, Unjudged, HoldSides}
+use Rattle.report_rows.specs.declared.reports.Told.TheVariants.{Top, Cut, Skipped, Unjudged, HoldSides}
 
 abbrev plain : Head
 plain = record { hazard = false; reset = 1; lag = 0; hold = false; asked = record { assist = None; free = None; assumed = None; strict = false } }
@@ -76,3 +76,54 @@ skipped_is_told_without_the_word = refl
 note_is_told_without_hold_sides : after 2 (record strict { head = record (strict.head) { hold = true } }) (codes "note hold side not judged commands 2") ≡ None
 unfolding with_line noted_count number_in
 note_is_told_without_hold_sides = refl
+
+-- a report of a run in which cells may be cut out
+abbrev free : Report
+free = rowless (record plain { asked = record { assist = None; free = Some 2; assumed = None; strict = false } })
+
+abbrev topped : Report
+topped = with_told free (Top (codes "chip"))
+
+abbrev cut : Report
+cut = with_told topped (Cut (codes "RAM") 3 false)
+
+top_is_the_second_line : after 2 free (codes "top chip") ≡ Some topped
+unfolding with_line
+top_is_the_second_line = refl
+
+top_comes_once : after 3 topped (codes "top chip") ≡ None
+unfolding with_line
+top_comes_once = refl
+
+cut_comes_after_top : after 3 topped (codes "cut RAM 3") ≡ Some cut
+unfolding with_line cut_count number_in
+cut_comes_after_top = refl
+
+open_cut_comes_after_another : after 4 cut (codes "cut TBUF 2 open") ≡ Some (with_told cut (Cut (codes "TBUF") 2 true))
+unfolding with_line cut_count number_in
+open_cut_comes_after_another = refl
+
+skipped_comes_after_cut : after 4 cut (codes "skipped set_sense 12") ≡ Some (with_told cut (Skipped (codes "set_sense") 12))
+unfolding with_line skipped_count number_in
+skipped_comes_after_cut = refl
+
+top_does_not_come_after_cut : after 4 cut (codes "top chip") ≡ None
+unfolding with_line
+top_does_not_come_after_cut = refl
+
+cut_does_not_come_after_skipped : after 3 (with_told free (Skipped (codes "set_sense") 12)) (codes "cut RAM 3") ≡ None
+unfolding with_line cut_count number_in
+cut_does_not_come_after_skipped = refl
+
+cut_counts_some : after 2 free (codes "cut RAM 0 open") ≡ None
+unfolding with_line cut_count number_in
+cut_counts_some = refl
+
+-- without the word no cell is cut out, and no top module is asked for
+cut_is_told_where_it_is_asked_for : after 2 strict (codes "cut RAM 3") ≡ None
+unfolding with_line cut_count number_in
+cut_is_told_where_it_is_asked_for = refl
+
+top_is_told_where_it_is_asked_for : after 2 strict (codes "top chip") ≡ None
+unfolding with_line
+top_is_told_where_it_is_asked_for = refl

@@ -5,7 +5,7 @@ use Rattle.std.specs.Str.{bytes_eq}
 use Rattle.texts.specs.Reads.{◌>>=◌}
 use Rattle.report_rows.specs.Words.{word_at, is_word, part, joined, number_in}
 use Rattle.report_rows.specs.Rows.{verdict_in, with_script, last_script, with_pair}
-use Rattle.report_rows.specs.Tellings.{with_skipped, with_unjudged, with_note}
+use Rattle.report_rows.specs.Tellings.{with_top, with_cut, with_skipped, with_unjudged, with_note}
 use Rattle.report_rows.specs.declared.pair_lines.PairPlaces.{PairPlaces}
 use Rattle.report_rows.specs.declared.script_lines.CommandPlaces.{CommandPlaces}
 use Rattle.report_rows.specs.declared.reports.Said.TheVariants.{Does, Warns}
@@ -92,6 +92,12 @@ is_stimulus ws = is_word ws 0 (codes "stimulus") || (is_word ws 0 (codes "state"
 abbrev pub with_any_warning : ℕ → Report → List (List ℕ) → Option Report
 with_any_warning number found ws = if is_word ws 1 (codes "line") then with_unjudged number found ws else with_warning found ws
 
+-- the line is on the netlist, or is one of a stimulus
+abbrev pub with_netlist_line : ℕ → Report → List (List ℕ) → Option Report
+with_netlist_line number found ws =
+    if is_word ws 0 (codes "top") then with_top number found ws
+    else (if is_word ws 0 (codes "cut") then with_cut number found ws else (if is_stimulus ws then Some found else None))
+
 -- the report with what the words of the line of this number say
 unfoldable pub with_line : ℕ → Report → List (List ℕ) → Option Report
 with_line number found ws =
@@ -100,7 +106,7 @@ with_line number found ws =
     else (if is_word ws 0 (codes "pair") then with_pair_line found ws
     else (if is_word ws 0 (codes "skipped") then with_skipped number found ws
     else (if is_word ws 0 (codes "note") then with_note number found ws
-    else (if is_stimulus ws then Some found else None)))))
+    else with_netlist_line number found ws))))
 
 -- the line begins as the last one does
 abbrev pub begins_total : List (List ℕ) → Bool

@@ -8,8 +8,8 @@ use Rattle.report_rows.specs.Rows.{verdict_in, hazard_in, with_told, with_script
 use Rattle.report_rows.specs.Heads.{rowless}
 use Rattle.report_rows.specs.declared.heads.Asked.{Asked}
 use Rattle.report_rows.specs.declared.heads.Head.{Head}
-use Rattle.report_rows.specs.Tellings.{tells_holds}
-use Rattle.report_rows.specs.declared.reports.Told.TheVariants.{Skipped, Unjudged, HoldSides}
+use Rattle.report_rows.specs.Tellings.{tells_cuts, tells_holds}
+use Rattle.report_rows.specs.declared.reports.Told.TheVariants.{Top, Cut, Skipped, Unjudged, HoldSides}
 use Rattle.report_rows.specs.declared.reports.Said.TheVariants.{Does, Warns}
 use Rattle.report_rows.specs.declared.reports.ScriptRow.{ScriptRow}
 use Rattle.report_rows.specs.declared.reports.PairRow.{PairRow}
@@ -115,6 +115,16 @@ total_in d =
     count_in (codes "refuted") total >>= λ refuted. count_in (codes "undecided") total >>= λ undecided.
     Some (record { pairs = pairs; justified = justified; refuted = refuted; undecided = undecided })
 
+-- the truth of a key
+abbrev pub flag_in : List ℕ → Data → Option Bool
+flag_in key d = option_and_then as_bool (get key d)
+
+-- the row of a reference of which cells are cut out
+abbrev pub with_cut_data : Report → Data → Option Report
+with_cut_data found d =
+    text_in (codes "name") d >>= λ cell. count_in (codes "cells") d >>= λ count. flag_in (codes "open") d >>= λ leads.
+    Some (with_told found (Cut cell count leads))
+
 -- the row of a name of which commands are passed over, and of a command that is not judged
 abbrev pub with_skipped_data : Report → Data → Option Report
 with_skipped_data found d =
@@ -127,6 +137,21 @@ with_unjudged_data found d =
 -- the report, where the key is missing
 abbrev pub without : List ℕ → Report → Data → Option Report
 without key found d = if lacks key d then Some found else None
+
+-- where the first line has the word and there alone, the row on the top module, where the key stands, and those on cells that are cut out
+abbrev pub with_top_key : Report → Data → Option Report
+with_top_key found d = if lacks (codes "top") d then Some found else (text_in (codes "top") d >>= λ name. Some (with_told found (Top name)))
+
+abbrev pub with_top_in : Report → Data → Option Report
+with_top_in found d = if tells_cuts found.head then with_top_key found d else without (codes "top") found d
+
+abbrev pub with_cuts_in : Report → Data → Option Report
+with_cuts_in found d =
+    if tells_cuts found.head then (list_in (codes "cuts") d >>= λ rows. with_all with_cut_data found rows)
+    else without (codes "cuts") found d
+
+unfoldable pub with_netlist_in : Report → Data → Option Report
+with_netlist_in found d = with_top_in found d >>= λ more. with_cuts_in more d
 
 -- the rows on what is passed over, where the key stands; and, where the first line has the words and there alone, those on what is not
 -- judged, and that on hold sides, of which there may be none
@@ -148,7 +173,8 @@ with_holds_in found d =
     else without (codes "hold_commands") found d
 
 unfoldable pub with_told_in : Report → Data → Option Report
-with_told_in found d = with_skipped_in found d >>= λ more. with_unjudged_in more d >>= λ all. with_holds_in all d
+with_told_in found d =
+    with_netlist_in found d >>= λ first. with_skipped_in first d >>= λ more. with_unjudged_in more d >>= λ all. with_holds_in all d
 
 -- the rows of an object
 unfoldable pub report_in : Data → Option Report

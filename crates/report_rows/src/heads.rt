@@ -2,7 +2,7 @@
 ghost use Rattle.std.specs.Prelude.{◌≡◌};
 ghost use Rattle.std.specs.Option.{option_map};
 ghost use Rattle.report_rows.specs.Words.{texts};
-ghost use Rattle.report_rows.specs.Tellings.{tells_holds};
+ghost use Rattle.report_rows.specs.Tellings.{tells_cuts, tells_holds};
 ghost use Rattle.report_rows.specs.Heads as spec;
 
 use crate::cuts::{is_word, number_at, rest_from, word_at};
@@ -32,6 +32,13 @@ pub struct Asked {
 }
 
 impl Head {
+    /// Whether the report says which cells are cut out.
+    pub fn tells_cuts(&self) -> bool
+        ensures { result ≡ tells_cuts self.now }
+    {
+        self.asked.free.is_some()
+    }
+
     /// Whether the report says of how many false paths the hold side is not judged.
     pub fn tells_holds(&self) -> bool
         ensures { result ≡ tells_holds self.now }

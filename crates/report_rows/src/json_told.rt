@@ -1,9 +1,10 @@
-//! What a report as JSON tells of a script beside its exceptions.
+//! What a report as JSON tells of a netlist, and of a script beside its exceptions.
 ghost use Rattle.std.specs.Prelude.{◌≡◌, IfOk, OnOk, map};
 ghost use Rattle.serde_json.specs.View.{view};
 ghost use Rattle.report_rows.specs.Words.{when};
 ghost use Rattle.report_rows.specs.Members as spec;
 
+use crate::json_netlists::add_netlist;
 use crate::members::{count_in, lacks, list_in, text_in};
 use crate::reports::{Report, Told};
 use sdcv_base::Name;
@@ -112,11 +113,14 @@ fn add_holds_in(found: &mut Report, value: &Value) -> Result<bool, AllocError>
     Ok(true)
 }
 
-/// Adds the rows on what is told beside the exceptions; answers whether the value has the keys of them that its first line asks for.
+/// Adds the rows on the netlist, and on what is told beside the exceptions; answers whether the value has the keys of them that its first line asks for.
 #[tactic(auto, unfolding(crate::specs::Members::with_told_in))]
 pub(crate) fn add_told(alloc: Global, found: &mut Report, value: &Value) -> Result<bool, AllocError>
     ensures { IfOk result (λ fits. when fits found.new ≡ spec.with_told_in found.old (view value.now)) }
 {
+    if !add_netlist(alloc, found, value)? {
+        return Ok(false);
+    }
     if !add_skipped_in(alloc, found, value)? {
         return Ok(false);
     }

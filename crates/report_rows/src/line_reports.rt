@@ -8,6 +8,7 @@ ghost use Rattle.report_rows.specs.LineReports.{is_end, with_total, with_lines, 
 use crate::cuts::{is_word, number_at, pieces, rest_from, words};
 use crate::faults::ReportFault;
 use crate::heads::head_of;
+use crate::netlist_lines::{add_cut, add_top};
 use crate::pair_lines::add_pair_line;
 use crate::reports::Report;
 use crate::script_lines::{add_command, add_warning};
@@ -40,6 +41,24 @@ fn add_any_warning(
     }
 }
 
+// Adds what a line on the netlist says, and nothing for one of a stimulus; answers whether it is such a line.
+fn add_netlist_line(
+    alloc: Global,
+    found: &mut Report,
+    place: usize,
+    words: &[&[u8]],
+) -> Result<bool, AllocError>
+    ensures { IfOk result (λ fits. when fits found.new ≡ spec.with_netlist_line (place + 2) found.old (texts words.now)) }
+{
+    if is_word(words, 0, b"top") {
+        add_top(alloc, found, place, words)
+    } else if is_word(words, 0, b"cut") {
+        add_cut(alloc, found, place, words)
+    } else {
+        Ok(is_stimulus(words))
+    }
+}
+
 // Adds what the words of a line say, which is at a place after the first line; answers whether it is a line of a report.
 #[tactic(auto, unfolding(crate::specs::Lines::with_line))]
 fn add_line(
@@ -61,7 +80,7 @@ fn add_line(
     } else if is_word(words, 0, b"note") {
         add_note(found, place, words)
     } else {
-        Ok(is_stimulus(words))
+        add_netlist_line(alloc, found, place, words)
     }
 }
 

@@ -20,6 +20,13 @@ pub(crate) fn count_in(value: &Value, key: &str) -> Option<u64>
     value.get(key).and_then(Value::as_u64)
 }
 
+/// The truth of a key.
+pub(crate) fn flag_in(value: &Value, key: &str) -> Option<bool>
+    ensures { result ≡ spec.flag_in key.now (view value.now) }
+{
+    value.get(key).and_then(Value::as_bool)
+}
+
 // The array of a key.
 fn array_in<'v>(value: &'v Value, key: &str) -> Option<&'v Vec<Value>>
     ensures { option_map (λ list. items_view list.now.items) result ≡ spec.array_in key.now (view value.entry.now) }

@@ -10,9 +10,13 @@ pub enum Word {
     Undecided,
 }
 
-/// A row on what is told of a script beside its exceptions.
+/// A row on what is told of a netlist, and of a script beside its exceptions.
 #[derive(Drop)]
 pub enum Told {
+    /// The top module goes by this name.
+    Top(Name),
+    /// Cells of this reference are cut out, so many; a path may lead through them where the last says so.
+    Cut(Name, u64, bool),
     /// Commands of this name are passed over, so many.
     Skipped(Name, u64),
     /// The command that begins at this line of the script, by its name, is not judged.

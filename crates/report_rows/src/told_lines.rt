@@ -1,4 +1,4 @@
-//! The lines of what is told of a script beside its exceptions.
+//! The lines of what is told of a netlist, and of a script beside its exceptions.
 ghost use Rattle.std.specs.Prelude.{◌≡◌, ◌==◌, ◌+◌, ◌<◌, length, slice_index, IfOk, IfSome};
 ghost use Rattle.report_rows.specs.Words.{texts, when, word_at};
 ghost use Rattle.report_rows.specs.Tellings as spec;
@@ -8,8 +8,8 @@ use crate::heads::Head;
 use crate::reports::{Report, Told};
 use std::alloc::{AllocError, Global};
 
-// The number at a place that begins with no 0.
-fn count_at(words: &[&[u8]], place: usize) -> Option<u64>
+/// The number at a place that begins with no 0.
+pub(crate) fn count_at(words: &[&[u8]], place: usize) -> Option<u64>
     ensures { result ≡ spec.count_of (word_at (texts words.now) place) }
 {
     if begins_with_0(word_at(words, place)) {
@@ -28,16 +28,34 @@ fn begins_with_0(word: &[u8]) -> bool
     }
 }
 
+// The place of a row's kind among the kinds of rows.
+fn rank(row: &Told) -> u8
+    ensures { result ≡ spec.rank row.now }
+{
+    match row {
+        Told::Top(_) => 0,
+        Told::Cut(..) => 1,
+        Told::Skipped(..) => 2,
+        Told::Unjudged(..) => 3,
+        Told::HoldSides(_) => 4,
+    }
+}
+
+// Whether there may be several rows of the kind.
+fn may_repeat(row: &Told) -> bool
+    ensures { result ≡ spec.may_repeat row.now }
+{
+    match row {
+        Told::Cut(..) | Told::Skipped(..) | Told::Unjudged(..) => true,
+        Told::Top(_) | Told::HoldSides(_) => false,
+    }
+}
+
 // Whether a row may come after another.
 fn may_follow(last: &Told, next: &Told) -> bool
     ensures { result ≡ spec.may_follow last.now next.now }
 {
-    match (last, next) {
-        (Told::Skipped(..), _) => true,
-        (Told::Unjudged(..), Told::Skipped(..)) => false,
-        (Told::Unjudged(..), _) => true,
-        (Told::HoldSides(_), _) => false,
-    }
+    rank(last) < rank(next) || (rank(last) == rank(next) && may_repeat(next))
 }
 
 // Whether a row may come after those that are found.
@@ -55,6 +73,7 @@ fn may_tell(head: &Head, row: &Told) -> bool
     ensures { result ≡ spec.may_tell head.now row.now }
 {
     match row {
+        Told::Top(_) | Told::Cut(..) => head.tells_cuts(),
         Told::Skipped(..) => true,
         Told::Unjudged(..) => head.asked.strict,
         Told::HoldSides(_) => head.tells_holds(),
@@ -68,8 +87,8 @@ fn stands_at(found: &Report, place: usize, row: &Told) -> bool
     place == found.told.len() && may_follow_last(found, row) && may_tell(&found.head, row)
 }
 
-// Adds the row of the line at a place after the first one; answers whether it stands in its place.
-fn add_told_at(found: &mut Report, place: usize, row: Told) -> Result<bool, AllocError>
+/// Adds the row of the line at a place after the first one; answers whether it stands in its place.
+pub(crate) fn add_told_at(found: &mut Report, place: usize, row: Told) -> Result<bool, AllocError>
     ensures { IfOk result (λ fits. when fits found.new ≡ spec.with_told_at (place + 2) found.old row) }
 {
     if !stands_at(found, place, &row) {

@@ -1,7 +1,8 @@
 //! The lines of answers.
 use crate::builders::joined;
 use answer_lines::{
-    accepted_lines, no_pair_line, rejected_line, replay_line, replayed_line, stimulus_line,
+    GraphCounts, accepted_lines, aiger_line, no_pair_line, rejected_line, replay_line,
+    replayed_line, stimulus_line,
 };
 use cert_values::CertFault::{
     self, Form, Invariant, NotTrivial, Pair, TwicePair, UnknownPair, UnknownRegister, Version,
@@ -103,6 +104,33 @@ fn line_of(alloc: Global, row: &Replayed) -> Result<Vec<u8>, AllocError> {
 fn each_answer_to_a_replay_has_its_line(rt: HostRuntime) -> Result<(), AllocError> {
     for (row, want) in REPLAYED {
         let line = line_of(rt.alloc(), row)?;
+        assert!(rt; line.as_slice() == want.as_bytes(), "{want}");
+    }
+    Ok(())
+}
+
+// How many nets are free, and the line.
+const GRAPHS: &[(Option<u64>, &str)] = &[
+    (None, "aiger pair 2 inputs 4 latches 12 gates 105\n"),
+    (
+        Some(0),
+        "aiger pair 2 inputs 4 latches 12 gates 105 free 0\n",
+    ),
+    (
+        Some(17),
+        "aiger pair 2 inputs 4 latches 12 gates 105 free 17\n",
+    ),
+];
+
+#[test]
+fn the_line_of_a_graph_has_its_counts(rt: HostRuntime) -> Result<(), AllocError> {
+    let counts = GraphCounts {
+        inputs: 4,
+        latches: 12,
+        gates: 105,
+    };
+    for (free, want) in GRAPHS {
+        let line = aiger_line(rt.alloc(), 2, counts, *free)?;
         assert!(rt; line.as_slice() == want.as_bytes(), "{want}");
     }
     Ok(())

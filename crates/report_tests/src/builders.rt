@@ -6,7 +6,7 @@ use proof_log::Derivation;
 use run_options::RunOptions;
 use sdcv_base::{Kind, Name, Seq};
 use selected_types::{
-    CommandLine, Listing, Notices, PairLine, Selected, Skipped, Unjudged, Warning,
+    CommandLine, CutCells, Listing, Notices, PairLine, Selected, Skipped, Unjudged, Warning,
 };
 use std::alloc::{AllocError, Global};
 use std::process::Abort;
@@ -41,6 +41,8 @@ pub enum Found {
     Refuted(usize, Bits),
     Stays,
     Spent(Phase, usize),
+    Free(usize, Bits),
+    Cut,
 }
 
 /// A pair: its exception's number, the kind and the edge of the claim, the names of its start and its end, and what is found.
@@ -53,13 +55,22 @@ pub struct Pair(
     pub Found,
 );
 
+/// What is told of the netlist: the name of its top module, where it is asked for by it, and which cells are cut out, with how many
+/// and whether a path may lead through them.
+#[derive(Clone, Copy)]
+pub struct Cells(
+    pub Option<&'static str>,
+    pub &'static [(&'static str, u64, bool)],
+);
+
 /// What is told beside the exceptions: which commands are passed over, with how many, where any may be; the lines and names of those
-/// that are not judged; and how many false paths have a hold side that is not judged.
+/// that are not judged; how many false paths have a hold side that is not judged; and what is told of the netlist.
 #[derive(Clone, Copy)]
 pub struct Tells(
     pub Option<&'static [(&'static str, u64)]>,
     pub &'static [(u64, &'static str)],
     pub u64,
+    pub Cells,
 );
 
 /// A run's options, what it tells beside the exceptions, its exceptions and pairs, and its report as lines and as JSON.
@@ -161,12 +172,34 @@ fn unjudged_of(alloc: Global, rows: &[(u64, &str)]) -> Result<Seq<Unjudged>, All
     Ok(all)
 }
 
+fn cuts_of(alloc: Global, rows: &[(&str, u64, bool)]) -> Result<Seq<CutCells>, AllocError> {
+    let mut all = Seq::new(alloc);
+    for (cell, count, open) in rows {
+        let cell = Name::new(alloc, cell.as_bytes())?;
+        all.push(CutCells {
+            cell,
+            count: *count,
+            open: *open,
+        })?;
+    }
+    Ok(all)
+}
+
+fn top_of(alloc: Global, top: Option<&str>) -> Result<Option<Name>, AllocError> {
+    match top {
+        Some(name) => Ok(Some(Name::new(alloc, name.as_bytes())?)),
+        None => Ok(None),
+    }
+}
+
 pub fn notices_of(alloc: Global, tells: &Tells) -> Result<Notices, AllocError> {
     let skipped = match tells.0 {
         Some(rows) => Some(skipped_of(alloc, rows)?),
         None => None,
     };
     Ok(Notices {
+        top: top_of(alloc, tells.3.0)?,
+        cuts: cuts_of(alloc, tells.3.1)?,
         skipped,
         unjudged: unjudged_of(alloc, tells.1)?,
         hold_commands: tells.2,
@@ -216,6 +249,11 @@ fn verdict_of(alloc: Global, found: Found) -> Result<Verdict, AllocError> {
             depth,
             log: empty_log(alloc),
         }),
+        Found::Free(offset, bits) => Verdict::Undecided(Cause::Free {
+            offset,
+            stimulus: stimulus_of(alloc, bits)?,
+        }),
+        Found::Cut => Verdict::Undecided(Cause::Cut),
     })
 }
 

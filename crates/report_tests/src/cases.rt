@@ -1,8 +1,8 @@
 //! The reports, written by hand.
 use crate::builders::Does::{Aside, Claims, Holds};
-use crate::builders::Found::{Depth, Fixed, Refuted, Single, Spent, Stays};
+use crate::builders::Found::{Cut, Depth, Fixed, Free, Refuted, Single, Spent, Stays};
 use crate::builders::Warns::{Dropped, Nothing};
-use crate::builders::{Bits, Case, Exception, Pair, Tells};
+use crate::builders::{Bits, Case, Cells, Exception, Pair, Tells};
 use net_model::Phase::{Base, Step};
 use run_options::RunOptions;
 use sdcv_base::Edge::{Any, Fall, Rise};
@@ -36,7 +36,9 @@ const NO_RESET: RunOptions = RunOptions {
     ..DEFAULTS
 };
 
-const UNTOLD: Tells = Tells(None, &[], 0);
+const WHOLE: Cells = Cells(None, &[]);
+
+const UNTOLD: Tells = Tells(None, &[], 0, WHOLE);
 
 const NOTHING: Case = Case {
     options: NO_RESET,
@@ -237,7 +239,7 @@ const ASKED: Case = Case {
     text: "sdcv 1 mode plain reset 1 depth 8 budget 20000 inv 1 lag 2 hold assist 14 free 0 assumed 3 strict
 total 0 justified 0 refuted 0 undecided 0
 ",
-    json: "{\"assist\":14,\"assumed\":3,\"budget\":20000,\"commands\":[],\"depth\":8,\"free\":0,\"hold\":true,\
+    json: "{\"assist\":14,\"assumed\":3,\"budget\":20000,\"commands\":[],\"cuts\":[],\"depth\":8,\"free\":0,\"hold\":true,\
 \"inv\":1,\"lag\":2,\"mode\":\"plain\",\"pairs\":[],\"reset\":1,\"strict\":true,\
 \"total\":{\"justified\":0,\"pairs\":0,\"refuted\":0,\"undecided\":0},\"unjudged\":[]}\n",
 };
@@ -252,6 +254,7 @@ const SIGNOFF: Case = Case {
         Some(&[("set_sense", 2), ("set_dont_use", 1)]),
         &[(3, "set_clock_groups"), (4, "set_sense")],
         2,
+        WHOLE,
     ),
     exceptions: &[
         Exception(2, Claims(False, Any, 1), &[]),
@@ -283,7 +286,7 @@ total 1 justified 1 refuted 0 undecided 0
 // Nothing is passed over, though it may be.
 const NONE_SKIPPED: Case = Case {
     options: NO_RESET,
-    tells: Tells(Some(&[]), &[], 0),
+    tells: Tells(Some(&[]), &[], 0, WHOLE),
     exceptions: &[],
     pairs: &[],
     text: "sdcv 1 mode plain reset 0 depth 8 budget 20000 inv 1
@@ -291,6 +294,72 @@ total 0 justified 0 refuted 0 undecided 0
 ",
     json: "{\"budget\":20000,\"commands\":[],\"depth\":8,\"inv\":1,\"mode\":\"plain\",\"pairs\":[],\"reset\":0,\"skipped\":[],\
 \"total\":{\"justified\":0,\"pairs\":0,\"refuted\":0,\"undecided\":0}}\n",
+};
+
+// Cells are cut out of a top module that is asked for by its name. What is free, and what is cut, leaves pairs undecided.
+pub const CUTS: Case = Case {
+    options: RunOptions {
+        free: Some(1),
+        ..DEFAULTS
+    },
+    tells: Tells(
+        Some(&[("set_sense", 2)]),
+        &[],
+        0,
+        Cells(Some("chip"), &[("RAM", 1, false), ("T\u{7f}BUF", 2, true)]),
+    ),
+    exceptions: &[Exception(2, Claims(False, Any, 4), &[Dropped("m/A", 1)])],
+    pairs: &[
+        Pair(1, (False, Any), b"a", b"b", Free(0, TOGGLES)),
+        Pair(1, (False, Any), b"a", b"m/A[1]", Free(1, LATE)),
+        Pair(1, (False, Any), b"m/Q", b"b", Cut),
+        Pair(1, (False, Any), b"c", b"b", Refuted(0, TOGGLES)),
+    ],
+    text: "sdcv 1 mode plain reset 1 depth 8 budget 20000 inv 1 free 1
+top chip
+cut RAM 1
+cut T?BUF 2 open
+skipped set_sense 2
+command 1 line 2 false pairs 4
+warning command 1 dropped m/A 1
+pair 1 command 1 false a -> b undecided free 0
+stimulus 1 cycles 3
+state 00
+input 10
+input 01
+input 00
+end
+pair 2 command 1 false a -> m/A[1] undecided free 1
+stimulus 2 cycles 4
+state 00
+input 10
+input 01
+input 01
+input 00
+end
+pair 3 command 1 false m/Q -> b undecided cut
+pair 4 command 1 false c -> b refuted offset 0
+stimulus 4 cycles 3
+state 00
+input 10
+input 01
+input 00
+end
+total 4 justified 0 refuted 1 undecided 3
+",
+    json: "{\"budget\":20000,\"commands\":[{\"line\":2,\"number\":1,\"pairs\":4,\"warnings\":[\"dropped m/A 1\"],\"what\":\"false\"}],\
+\"cuts\":[{\"cells\":1,\"name\":\"RAM\",\"open\":false},{\"cells\":2,\"name\":\"T?BUF\",\"open\":true}],\
+\"depth\":8,\"free\":1,\"inv\":1,\"mode\":\"plain\",\"pairs\":[\
+{\"command\":1,\"end\":\"b\",\"kind\":\"false\",\"number\":1,\"start\":\"a\",\
+\"stimulus\":{\"inputs\":[\"10\",\"01\",\"00\"],\"state\":\"00\"},\"verdict\":\"undecided\",\"why\":\"free 0\"},\
+{\"command\":1,\"end\":\"m/A[1]\",\"kind\":\"false\",\"number\":2,\"start\":\"a\",\
+\"stimulus\":{\"inputs\":[\"10\",\"01\",\"01\",\"00\"],\"state\":\"00\"},\"verdict\":\"undecided\",\"why\":\"free 1\"},\
+{\"command\":1,\"end\":\"b\",\"kind\":\"false\",\"number\":3,\"start\":\"m/Q\",\"stimulus\":null,\
+\"verdict\":\"undecided\",\"why\":\"cut\"},\
+{\"command\":1,\"end\":\"b\",\"kind\":\"false\",\"number\":4,\"start\":\"c\",\
+\"stimulus\":{\"inputs\":[\"10\",\"01\",\"00\"],\"state\":\"00\"},\"verdict\":\"refuted\",\"why\":\"offset 0\"}],\
+\"reset\":1,\"skipped\":[{\"count\":2,\"name\":\"set_sense\"}],\"top\":\"chip\",\
+\"total\":{\"justified\":0,\"pairs\":4,\"refuted\":1,\"undecided\":3}}\n",
 };
 
 pub const CASES: &[Case] = &[
@@ -302,4 +371,5 @@ pub const CASES: &[Case] = &[
     ASKED,
     SIGNOFF,
     NONE_SKIPPED,
+    CUTS,
 ];

@@ -1,6 +1,7 @@
 //! Groups, the gate, and comma-separated values.
 use crate::read_cases::{
-    CLEAN, EMPTY, NOTED, NOTES, NOTES_JSON, REFUTED_JSON, SAMPLER, SIGNOFF, SIGNOFF_JSON,
+    CLEAN, CUTS, CUTS_JSON, EMPTY, NOTED, NOTES, NOTES_JSON, REFUTED_JSON, SAMPLER, SIGNOFF,
+    SIGNOFF_JSON,
 };
 use report_groups::{Gate, csv_text, gate, groups_text};
 use report_rows::{ReportFault, read_report};
@@ -44,6 +45,10 @@ line 4 unjudged set_sense
 command 2 line 7 false selects nothing
 ";
 
+const CUTS_GROUPS: &str = "a[*] -> m/A[*] 2 undecided free 0 command 1 false first 1
+a[*] -> b 1 undecided cut command 1 false first 3
+";
+
 // A report, its groups, and what of it stops a build.
 const TOLD: &[(&str, &str, &str)] = &[
     (SAMPLER, SAMPLER_GROUPS, SAMPLER_GATE),
@@ -51,6 +56,8 @@ const TOLD: &[(&str, &str, &str)] = &[
     (NOTES_JSON, NOTES_GROUPS, NOTES_GATE),
     (SIGNOFF, SIGNOFF_GROUPS, SIGNOFF_GATE),
     (SIGNOFF_JSON, SIGNOFF_GROUPS, SIGNOFF_GATE),
+    (CUTS, CUTS_GROUPS, CUTS_GROUPS),
+    (CUTS_JSON, CUTS_GROUPS, CUTS_GROUPS),
     (
         NOTED,
         "a -> b 1 justified fixed command 1 false first 1\n",

@@ -91,3 +91,31 @@ command 1 line 1 false pairs 1
 pair 1 command 1 false a -> b justified fixed
 total 1 justified 1 refuted 0 undecided 0
 ";
+
+/// A report of a netlist of which cells are cut out, with pairs that are left undecided by what is free and by what is cut.
+pub const CUTS: &str = "sdcv 1 mode plain reset 0 depth 8 budget 20000 inv 1 free 2
+top chip
+cut RAM 1
+cut pad cell 2 open
+skipped set_sense 2
+command 1 line 1 false pairs 3
+pair 1 command 1 false a[0] -> m/A[1] undecided free 0
+stimulus 1 cycles 2
+state -
+input 10
+input 01
+end
+pair 2 command 1 false a[1] -> m/A[0] undecided free 0
+stimulus 2 cycles 2
+state -
+input 10
+input 01
+end
+pair 3 command 1 false a[0] -> b undecided cut
+total 3 justified 0 refuted 0 undecided 3
+";
+
+/// The same as JSON.
+pub const CUTS_JSON: &str =
+    r#"{"budget":20000,"commands":[{"line":1,"number":1,"pairs":3,"warnings":[],"what":"false"}],"cuts":[{"cells":1,"name":"RAM","open":false},{"cells":2,"name":"pad cell","open":true}],"depth":8,"free":2,"inv":1,"mode":"plain","pairs":[{"command":1,"end":"m/A[1]","kind":"false","number":1,"start":"a[0]","stimulus":{"inputs":["10","01"],"state":"-"},"verdict":"undecided","why":"free 0"},{"command":1,"end":"m/A[0]","kind":"false","number":2,"start":"a[1]","stimulus":{"inputs":["10","01"],"state":"-"},"verdict":"undecided","why":"free 0"},{"command":1,"end":"b","kind":"false","number":3,"start":"a[0]","stimulus":null,"verdict":"undecided","why":"cut"}],"reset":0,"skipped":[{"count":2,"name":"set_sense"}],"top":"chip","total":{"justified":0,"pairs":3,"refuted":0,"undecided":3}}
+"#;

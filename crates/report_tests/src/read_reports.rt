@@ -1,12 +1,14 @@
 //! Reports read back, and texts that are none.
-use crate::read_cases::{NOTES, SAMPLER, SIGNOFF};
+use crate::read_cases::{CUTS, CUTS_JSON, NOTES, SAMPLER, SIGNOFF};
 use report_rows::ReportFault::{self, Ends, Json, Line, Pairs, Total};
-use report_rows::{Said, Told, Word, read_report};
+use report_rows::{Said, Told, Word, read_report, stimulus_of};
 use std::alloc::{AllocError, Global};
 use std::process::Abort;
 use std::test;
 
 const HEAD: &str = "sdcv 1 mode plain reset 1 depth 8 budget 20000 inv 1\n";
+
+const FREE_HEAD: &str = "sdcv 1 mode plain reset 1 depth 8 budget 20000 inv 1 free 0\n";
 
 const STRICT_HEAD: &str = "sdcv 1 mode plain reset 1 depth 8 budget 20000 inv 1 strict\n";
 
@@ -40,6 +42,8 @@ const NONE: &[(&str, ReportFault)] = &[
     ("skipped set_sense 01\n", Line(2)),
     ("skipped a 1\nskipped b x\n", Line(3)),
     ("command 1 line 1 hold\nskipped set_sense 1\n", Line(3)),
+    ("top chip\n", Line(2)),
+    ("cut RAM 1\n", Line(2)),
     ("warning line 3 unjudged set_sense\n", Line(2)),
     ("note hold side not judged commands 1\n", Line(2)),
     ("found a -> b multi 4\n", Line(2)),
@@ -97,6 +101,21 @@ const NOT_STRICT: &[(&str, ReportFault)] = &[
     ("end\nnote hold side not judged commands 1\n", Line(3)),
 ];
 
+// What follows the first line of a report of a run in which cells may be cut out, and why that is no report.
+const NOT_CUT: &[(&str, ReportFault)] = &[
+    ("top\n", Line(2)),
+    ("top chip\ntop chip\n", Line(3)),
+    ("cut RAM\n", Line(2)),
+    ("cut RAM 0\n", Line(2)),
+    ("cut RAM open\n", Line(2)),
+    ("cut RAM 01 open\n", Line(2)),
+    ("cut RAM 1 closed\n", Line(2)),
+    ("cut RAM 1\ntop chip\n", Line(3)),
+    ("skipped a 1\ncut RAM 1\n", Line(3)),
+    ("command 1 line 1 hold\ncut RAM 1\n", Line(3)),
+    ("warning line 3 unjudged a\n", Line(2)),
+];
+
 fn fault_after_head(alloc: Global, rest: &str) -> Result<Option<ReportFault>, AllocError> {
     let text = format!(in alloc; "{HEAD}{rest}")?;
     Ok(read_report(alloc, text.as_bytes()).err())
@@ -117,6 +136,16 @@ fn what_is_told_beside_the_exceptions_stands_in_its_place(
 ) -> Result<(), AllocError> {
     for (rest, want) in NOT_STRICT {
         let text = format!(in rt.alloc(); "{STRICT_HEAD}{rest}")?;
+        let fault = read_report(rt.alloc(), text.as_bytes()).err();
+        assert_eq!(rt; fault, Some(*want), "{rest}");
+    }
+    Ok(())
+}
+
+#[test]
+fn what_is_told_of_a_netlist_stands_in_its_place(rt: HostRuntime) -> Result<(), AllocError> {
+    for (rest, want) in NOT_CUT {
+        let text = format!(in rt.alloc(); "{FREE_HEAD}{rest}")?;
         let fault = read_report(rt.alloc(), text.as_bytes()).err();
         assert_eq!(rt; fault, Some(*want), "{rest}");
     }
@@ -200,6 +229,23 @@ const NO_REPORTS: &[(&str, ReportFault)] = &[
         r#"{"mode":"plain","reset":0,"commands":[],"pairs":[],"total":{"justified":0,"pairs":0,"refuted":0}}"#,
         Json,
     ),
+    // Cells are cut out, and no list says which; or no cells may be.
+    (
+        r#"{"mode":"plain","reset":0,"free":0,"commands":[],"pairs":[],"total":{"justified":0,"pairs":0,"refuted":0,"undecided":0}}"#,
+        Json,
+    ),
+    (
+        r#"{"mode":"plain","reset":0,"cuts":[],"commands":[],"pairs":[],"total":{"justified":0,"pairs":0,"refuted":0,"undecided":0}}"#,
+        Json,
+    ),
+    (
+        r#"{"mode":"plain","reset":0,"top":"a","commands":[],"pairs":[],"total":{"justified":0,"pairs":0,"refuted":0,"undecided":0}}"#,
+        Json,
+    ),
+    (
+        r#"{"mode":"plain","reset":0,"free":0,"cuts":[{"cells":1,"name":"a"}],"commands":[],"pairs":[],"total":{"justified":0,"pairs":0,"refuted":0,"undecided":0}}"#,
+        Json,
+    ),
     (
         r#"{"mode":"plain","reset":0,"commands":[],"pairs":[],"total":{"justified":0,"pairs":0,"refuted":0,"undecided":1}}"#,
         Total,
@@ -230,6 +276,7 @@ fn each_cut_of_a_report_is_refused(rt: HostRuntime) {
     check_cuts(&rt, rt.alloc(), SAMPLER.as_bytes());
     check_cuts(&rt, rt.alloc(), NOTES.as_bytes());
     check_cuts(&rt, rt.alloc(), SIGNOFF.as_bytes());
+    check_cuts(&rt, rt.alloc(), CUTS.as_bytes());
 }
 
 #[test]
@@ -268,5 +315,26 @@ fn rows_have_what_is_told_beside_the_exceptions(rt: HostRuntime) -> Result<(), t
         matches!(told.get(2), Some(Told::Unjudged(3, name)) if name.as_bytes() == b"set_clock_groups".as_slice())
     );
     assert!(rt; matches!(told.get(4), Some(Told::HoldSides(2))));
+    Ok(())
+}
+
+// The rows of a report of cells that are cut out, by lines or as JSON.
+fn has_cuts(told: &[Told]) -> bool {
+    told.len() == 4
+        && matches!(told.first(), Some(Told::Top(name)) if name.as_bytes() == b"chip".as_slice())
+        && matches!(told.get(1), Some(Told::Cut(cell, 1, false)) if cell.as_bytes() == b"RAM".as_slice())
+        && matches!(told.get(2), Some(Told::Cut(cell, 2, true)) if cell.as_bytes() == b"pad cell".as_slice())
+        && matches!(told.get(3), Some(Told::Skipped(_, 2)))
+}
+
+#[test]
+fn rows_have_what_is_told_of_a_netlist(rt: HostRuntime) -> Result<(), test::Fail> {
+    for text in [CUTS, CUTS_JSON] {
+        let report = read_report(rt.alloc(), text.as_bytes())?;
+        assert_eq!(rt; report.head.asked.free, Some(2));
+        assert!(rt; has_cuts(report.told.as_slice()), "{text}");
+        let stimulus = stimulus_of(rt.alloc(), text.as_bytes(), 2)?;
+        assert_eq!(rt; (stimulus.state.len(), stimulus.inputs.len()), (0, 2));
+    }
     Ok(())
 }

@@ -2,7 +2,7 @@
 use crate::builders::{
     Bits, Case, Found, Pair, check_rows, is_stimulus, joined, notices_of, selected_of, verdicts_of,
 };
-use crate::cases::{CASES, EACH};
+use crate::cases::{CASES, CUTS, EACH};
 use report_json::write_json;
 use report_text::write_report;
 use std::alloc::{AllocError, Global};
@@ -41,20 +41,17 @@ fn each_report_has_its_lines_and_its_json(rt: HostRuntime) -> Result<(), AllocEr
     Ok(())
 }
 
-// The bits by which a pair is refuted.
+// The bits by which a pair is refuted, or may be.
 fn bits_of(found: Found) -> Option<Bits> {
     match found {
-        Found::Refuted(_offset, bits) => Some(bits),
+        Found::Refuted(_offset, bits) | Found::Free(_offset, bits) => Some(bits),
         _ => None,
     }
 }
 
-// Whether the stimulus of a pair is the one by which it is refuted, or there is none as it is not.
-fn is_read_back(alloc: Global, pair: &Pair, number: u64) -> bool {
-    match (
-        bits_of(pair.4),
-        read_stim(alloc, EACH.text.as_bytes(), number),
-    ) {
+// Whether the stimulus of a pair in a report is the one by which it is refuted, or may be, or there is none as it is not.
+fn is_read_back(alloc: Global, report: &str, pair: &Pair, number: u64) -> bool {
+    match (bits_of(pair.4), read_stim(alloc, report.as_bytes(), number)) {
         (Some(bits), Ok(stimulus)) => is_stimulus(&stimulus, bits),
         (None, Err(fault)) => fault == StimFault::NoBlock,
         _ => false,
@@ -63,7 +60,12 @@ fn is_read_back(alloc: Global, pair: &Pair, number: u64) -> bool {
 
 #[test]
 fn the_stimulus_of_each_refuted_pair_is_read_back(rt: HostRuntime) {
-    for (pair, number) in EACH.pairs.iter().zip(1..) {
-        assert!(rt; is_read_back(rt.alloc(), pair, number), "pair {number}");
+    for case in &[EACH, CUTS] {
+        for (pair, number) in case.pairs.iter().zip(1..) {
+            assert!(rt;
+                is_read_back(rt.alloc(), case.text, pair, number),
+                "pair {number}"
+            );
+        }
     }
 }

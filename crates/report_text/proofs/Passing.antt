@@ -19,6 +19,7 @@ use Rattle.selected_types.specs.declared.warnings.Warning.{Warning}
 use Rattle.selected_types.specs.declared.warnings.Warning.TheVariants.{Nothing, Dropped, Several, Crossed, Beyond}
 use Rattle.selected_types.specs.declared.selections.Listing.{Listing}
 use Rattle.selected_types.specs.declared.selections.Listing.TheVariants.{Claiming, Hold, Aside, HoldSide}
+use Rattle.selected_types.specs.declared.notices.CutCells.{CutCells}
 use Rattle.selected_types.specs.declared.notices.Skipped.{Skipped}
 use Rattle.selected_types.specs.declared.notices.Unjudged.{Unjudged}
 use Rattle.selected_types.specs.declared.notices.Notices.{Notices}
@@ -38,7 +39,8 @@ use Rattle.run_options.specs.declared.options.RunOptions.{RunOptions}
 use Rattle.report_text.specs.Words.{mode_text, lag_text, number_text, flag_text, header_text}
 use Rattle.report_text.specs.Words.{kind_text, edge_text, words_of, what_text, count_text, command_text, warning_text, warning_line}
 use Rattle.report_text.specs.Words.{verdict_word, proof_text, phase_text, cause_text, why_text, pair_text}
-use Rattle.report_text.specs.Notices.{skipped_text, skipped_texts, unjudged_text, hold_text, hold_texts, notice_texts}
+use Rattle.report_text.specs.Notices.{top_text, top_texts, cut_text, skipped_text, skipped_texts, unjudged_text, hold_text, hold_texts}
+use Rattle.report_text.specs.Notices.{netlist_texts, script_texts, notice_texts}
 use Rattle.report_text.specs.Reports.{command_texts, pair_texts, stimulus_texts}
 
 -- whether no byte of a text is a newline; the texts of a line are joined of such
@@ -136,6 +138,12 @@ passes_header number o =
     let strict = inline_flag (codes " strict") o.strict refl in
     simp (inline-append, inline_mode, inline_decimal, inline_lag, hold, assist, free, assumed, strict)
 
+passes_top : (number : ℕ) (name : List ℕ) → passes (title_of number) (top_text name) ≡ true
+passes_top number name = simp (inline_shown)
+
+passes_cut : (number : ℕ) (c : CutCells) → passes (title_of number) (cut_text c) ≡ true
+passes_cut number c = let word = inline_flag (codes " open") c.open refl in simp (inline-append, inline_shown, inline_decimal, word)
+
 passes_skipped : (number : ℕ) (s : Skipped) → passes (title_of number) (skipped_text s) ≡ true
 passes_skipped number s = simp (inline-append, inline_shown, inline_decimal)
 
@@ -161,9 +169,9 @@ passes_holds number count =
     cond_both (count == 0) [] (hold_text count ∷ []) (λ (texts : List (List ℕ)). list_all (passes (title_of number)) texts ≡ true) (λ none. refl)
     (λ some. and_from (passes (title_of number) (hold_text count)) true (passes_hold number count) refl)
 
--- the lines of what is told beside the exceptions
-pub passes_notices : (number : ℕ) (n : Notices) → list_all (passes (title_of number)) (notice_texts n) ≡ true
-passes_notices number n =
+-- the lines of what is told of a script beside its exceptions
+passes_script : (number : ℕ) (n : Notices) → list_all (passes (title_of number)) (script_texts n) ≡ true
+passes_script number n =
     let passing = passes (title_of number) in
     let unjudged : List (List ℕ) = map unjudged_text n.unjudged in
     let holds : List (List ℕ) = hold_texts n.hold_commands in
@@ -173,6 +181,25 @@ passes_notices number n =
     (passes_holds number n.hold_commands) in
     list_all-append passing (skipped_texts n.skipped) (unjudged ++ holds)
     ∙ and_from (list_all passing (skipped_texts n.skipped)) (list_all passing (unjudged ++ holds)) (passes_all_skipped number n.skipped) last
+
+-- and those of what is told of a netlist
+passes_all_tops : (number : ℕ) (top : Option (List ℕ)) → list_all (passes (title_of number)) (top_texts top) ≡ true
+passes_all_tops number None = refl
+passes_all_tops number (Some name) = and_from (passes (title_of number) (top_text name)) true (passes_top number name) refl
+
+passes_netlist : (number : ℕ) (n : Notices) → list_all (passes (title_of number)) (netlist_texts n) ≡ true
+passes_netlist number n =
+    let passing = passes (title_of number) in
+    list_all-append passing (top_texts n.top) (map cut_text n.cuts)
+    ∙ and_from (list_all passing (top_texts n.top)) (list_all passing (map cut_text n.cuts)) (passes_all_tops number n.top)
+    (passes_all number cut_text (passes_cut number) n.cuts)
+
+-- the lines of all that is told
+pub passes_notices : (number : ℕ) (n : Notices) → list_all (passes (title_of number)) (notice_texts n) ≡ true
+passes_notices number n =
+    let passing = passes (title_of number) in
+    list_all-append passing (netlist_texts n) (script_texts n)
+    ∙ and_from (list_all passing (netlist_texts n)) (list_all passing (script_texts n)) (passes_netlist number n) (passes_script number n)
 
 passes_command : (number place : ℕ) (c : CommandLine) → passes (title_of number) (command_text place c) ≡ true
 passes_command number place c = simp (inline-append, inline_what, inline_count, inline_decimal)

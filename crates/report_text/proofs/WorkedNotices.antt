@@ -6,6 +6,7 @@ use Rattle.sdcv_base.specs.declared.kinds.Edge.TheVariants.{Any, Rise}
 use Rattle.sdcv_base.specs.declared.kinds.Kind.TheVariants.{False, Multi}
 use Rattle.run_options.specs.declared.options.RunOptions.{RunOptions}
 use Rattle.selected_types.specs.declared.notices.Notices.{Notices}
+use Rattle.selected_types.specs.declared.notices.CutCells.{CutCells}
 use Rattle.selected_types.specs.declared.notices.Skipped.{Skipped}
 use Rattle.selected_types.specs.declared.notices.Unjudged.{Unjudged}
 use Rattle.selected_types.specs.declared.warnings.Warning.{Warning}
@@ -18,7 +19,7 @@ use Rattle.report_text.specs.Reports.{report_lines}
 use Rattle.report_text.specs.Signoff.{leaves_open}
 
 abbrev nothing : Notices
-nothing = record { skipped = None; unjudged = []; hold_commands = 0 }
+nothing = record { top = None; cuts = []; skipped = None; unjudged = []; hold_commands = 0 }
 
 abbrev dont_use : Skipped
 dont_use = record { name = codes "set_dont_use"; count = 12 }
@@ -29,7 +30,22 @@ sense = record { name = codes "set_sense"; count = 1 }
 abbrev groups : Unjudged
 groups = record { line = 3; name = codes "set_clock_groups" }
 
-told_in_this_order : notice_texts (record { skipped = Some (dont_use ∷ sense ∷ []); unjudged = groups ∷ []; hold_commands = 2 })
+abbrev rams : CutCells
+rams = record { cell = codes "RAM"; count = 3; «open» = false }
+
+abbrev pads : CutCells
+pads = record { cell = codes "TBUF"; count = 2; «open» = true }
+
+told_of_a_netlist : notice_texts (record nothing { top = Some (codes "chip"); cuts = rams ∷ pads ∷ [] })
+    ≡ codes "top chip" ∷ codes "cut RAM 3" ∷ codes "cut TBUF 2 open" ∷ []
+unfolding digits
+told_of_a_netlist = refl
+
+netlist_before_script : notice_texts (record nothing { cuts = rams ∷ []; skipped = Some (sense ∷ []) }) ≡ codes "cut RAM 3" ∷ codes "skipped set_sense 1" ∷ []
+unfolding digits
+netlist_before_script = refl
+
+told_in_this_order : notice_texts (record nothing { skipped = Some (dont_use ∷ sense ∷ []); unjudged = groups ∷ []; hold_commands = 2 })
     ≡ codes "skipped set_dont_use 12" ∷ codes "skipped set_sense 1" ∷ codes "warning line 3 unjudged set_clock_groups"
     ∷ codes "note hold side not judged commands 2" ∷ []
 unfolding digits
@@ -72,11 +88,23 @@ their_place_in_a_report : report_lines strict (record nothing { unjudged = group
 unfolding digits
 their_place_in_a_report = refl
 
+-- what is told of a netlist stands before the exceptions too, and leaves nothing open
+cuts_in_a_report :
+    report_lines (record plain { free = Some 2 }) (record nothing { top = Some (codes "chip"); cuts = rams ∷ [] }) (one (Aside (codes "17")) []) []
+    ≡ codes "sdcv 1 mode plain reset 1 depth 8 budget 20000 inv 1 free 2\n" ∷ codes "top chip\n" ∷ codes "cut RAM 3\n"
+    ∷ codes "command 1 line 2 aside 17\n" ∷ codes "total 0 justified 0 refuted 0 undecided 0\n" ∷ []
+unfolding digits
+cuts_in_a_report = refl
+
+cuts_leave_nothing_open :
+    leaves_open strict (record nothing { top = Some (codes "chip"); cuts = rams ∷ pads ∷ [] }) (one (Claiming (Multi 2) Any 4) []) ≡ false
+cuts_leave_nothing_open = refl
+
 pairs_leave_nothing_open : leaves_open strict nothing (one (Claiming (Multi 2) Any 4) []) ≡ false
 pairs_leave_nothing_open = refl
 
 -- what is passed over is told as not judged too, and a hold side that is not judged changes no status
-notes_leave_nothing_open : leaves_open strict (record { skipped = Some (sense ∷ []); unjudged = []; hold_commands = 2 }) (one Hold []) ≡ false
+notes_leave_nothing_open : leaves_open strict (record nothing { skipped = Some (sense ∷ []); hold_commands = 2 }) (one Hold []) ≡ false
 notes_leave_nothing_open = refl
 
 unjudged_leaves_open : leaves_open strict (record nothing { unjudged = groups ∷ [] }) (one (Claiming False Any 4) []) ≡ true

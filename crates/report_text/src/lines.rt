@@ -43,7 +43,7 @@ impl ReportLines {
         Ok(())
     }
 
-    /// Adds the lines of what is told of a script beside its exceptions.
+    /// Adds the lines of what is told of a netlist, and of a script beside its exceptions.
     pub fn add_notices(&mut self, alloc: Global, notices: &Notices) -> Result<(), AllocError>
         ensures { OnOk result (self.new ≡ self.old ++ notice_lines notices.now) }
     {

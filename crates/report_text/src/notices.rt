@@ -1,22 +1,14 @@
-//! The lines of what is told of a script beside its exceptions.
-ghost use Rattle.std.specs.Prelude.{◌≡◌, ◌∷◌, [], ◌++◌, map, IfOk, OnOk, string_bytes};
+//! The lines of what is told of a netlist, and of a script beside its exceptions.
+ghost use Rattle.std.specs.Prelude.{◌≡◌, ◌++◌, map, IfOk, OnOk, string_bytes};
 ghost use Rattle.witness_replay.specs.StimulusTexts.{line_of};
 ghost use Rattle.report_text.specs.Notices as spec;
 ghost use Rattle.report_text.specs.Reports.{bytes_of_lines};
 
+use crate::adding::add_line;
+use crate::cuts::add_netlist;
 use sdcv_base::Seq;
 use selected_types::{Notices, Skipped, Unjudged};
 use std::alloc::{AllocError, Global};
-
-// Adds the line of a text.
-fn add_line(text: String, lines: &mut Vec<Vec<u8>>) -> Result<(), AllocError>
-    ensures { OnOk result (bytes_of_lines lines.new.items ≡ bytes_of_lines lines.old.items ++ line_of (string_bytes text) ∷ []) }
-{
-    let mut line = text.into_bytes();
-    line.push(b'\n')?;
-    lines.push(line)?;
-    Ok(())
-}
 
 fn skipped_text(alloc: Global, skipped: &Skipped) -> Result<String, AllocError>
     ensures { IfOk result (λ text. string_bytes text ≡ spec.skipped_text skipped.now) }
@@ -90,7 +82,16 @@ fn add_holds(alloc: Global, count: u64, lines: &mut Vec<Vec<u8>>) -> Result<(), 
     add_line(hold_text(alloc, count)?, lines)
 }
 
-/// Adds the lines of what is told of a script beside its exceptions, each with the newline that ends it.
+// Adds the lines of what is told of a script.
+fn add_script(alloc: Global, notices: &Notices, lines: &mut Vec<Vec<u8>>) -> Result<(), AllocError>
+    ensures { OnOk result (bytes_of_lines lines.new.items ≡ bytes_of_lines lines.old.items ++ map line_of (spec.script_texts notices.now)) }
+{
+    add_all_skipped(alloc, &notices.skipped, lines)?;
+    add_unjudged(alloc, &notices.unjudged, lines)?;
+    add_holds(alloc, notices.hold_commands, lines)
+}
+
+/// Adds the lines of what is told of a netlist, and of a script beside its exceptions, each with the newline that ends it.
 pub fn add_notices(
     alloc: Global,
     notices: &Notices,
@@ -98,7 +99,6 @@ pub fn add_notices(
 ) -> Result<(), AllocError>
     ensures { OnOk result (bytes_of_lines lines.new.items ≡ bytes_of_lines lines.old.items ++ spec.notice_lines notices.now) }
 {
-    add_all_skipped(alloc, &notices.skipped, lines)?;
-    add_unjudged(alloc, &notices.unjudged, lines)?;
-    add_holds(alloc, notices.hold_commands, lines)
+    add_netlist(alloc, notices, lines)?;
+    add_script(alloc, notices, lines)
 }

@@ -27,8 +27,8 @@ fn lag_text(alloc: Global, lag: u8) -> Result<String, AllocError>
     }
 }
 
-// A word with its number, where it has one.
-fn number_text(alloc: Global, word: &str, number: Option<u64>) -> Result<String, AllocError>
+/// A word with its number and a space before each, where it has a number; else nothing.
+pub fn number_text(alloc: Global, word: &str, number: Option<u64>) -> Result<String, AllocError>
     ensures { IfOk result (λ text. string_bytes text ≡ number_text word.now number) }
 {
     match number {
@@ -37,8 +37,8 @@ fn number_text(alloc: Global, word: &str, number: Option<u64>) -> Result<String,
     }
 }
 
-// A word, where it stands.
-fn flag_text(word: &'static str, stands: bool) -> &'static str
+/// A word, where it stands.
+pub(crate) fn flag_text(word: &'static str, stands: bool) -> &'static str
     ensures { result.now ≡ flag_text word.now stands }
 {
     if stands { word } else { "" }

@@ -140,9 +140,11 @@ takers commands = count_by (λ (c : Command). takes_hold c.what) commands
 abbrev pub hold_count : Judging → Script → ℕ
 hold_count judging script = if judging.strict && not judging.hold then takers script.commands else 0
 
--- all that is told of a script with what it selects, where the top module has this name
+-- all that is told of a script with what it selects, where the top module has this name; of the netlist nothing is told here
 abbrev pub notices_of : ScriptForm → Judging → List ℕ → Script → Selected → Notices
 notices_of form judging top script s = record {
+  top = None;
+  cuts = [];
   skipped = skipped_of form script;
   unjudged = unjudged_of top judging script s;
   hold_commands = hold_count judging script;

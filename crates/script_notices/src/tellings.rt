@@ -7,7 +7,7 @@ use crate::skipped::skipped_of;
 use crate::unjudged::unjudged;
 use run_options::{Judging, ScriptForm};
 use script_types::Script;
-use sdcv_base::Name;
+use sdcv_base::{Name, Seq};
 use selected_types::{Notices, Selected};
 use std::alloc::{AllocError, Global};
 
@@ -19,7 +19,7 @@ pub struct Terms<'a> {
     pub top: &'a Name,
 }
 
-/// What is told of a script that selects these pairs.
+/// What is told of a script that selects these pairs, and nothing of the netlist.
 pub fn notices(
     alloc: Global,
     terms: &Terms<'_>,
@@ -29,6 +29,8 @@ pub fn notices(
     ensures { IfOk result (λ notices. notices ≡ notices_of terms.now.form.now terms.now.judging terms.now.top.now script.now selected.now) }
 {
     Ok(Notices {
+        top: None,
+        cuts: Seq::new(alloc),
         skipped: skipped_of(alloc, terms.form, script)?,
         unjudged: unjudged(alloc, terms, script, selected)?,
         hold_commands: hold_count(terms.judging, script),
