@@ -70,8 +70,6 @@ options_of s reset = record {
   resets = reset.ports;
   reset_len = reset.len;
   wide = false;
-  top = None;
-  free = [];
   cut_clocks = false;
 }
 
@@ -100,7 +98,7 @@ top_name s = first_name (tops s)
 
 -- what is told of constraints of which nothing is judged: the commands that are passed over by their names
 abbrev pub skipped_alone : ReadTexts → Notices
-skipped_alone t = record { skipped = skipped_of t.form t.script; unjudged = []; hold_commands = 0 }
+skipped_alone t = record { top = None; cuts = []; skipped = skipped_of t.form t.script; unjudged = []; hold_commands = 0 }
 
 -- a design with the pairs that a script selects in it, and what is told of the script beside them
 abbrev pub designed_by : ReadTexts → Judging → Linked → Selected → Designed

@@ -1,5 +1,5 @@
 -- What texts stand for, and how they are refused.
-use Rattle.std.specs.Prelude.{◌≡◌, ℕ, List}
+use Rattle.std.specs.Prelude.{◌≡◌, ℕ, false, List}
 use Rattle.netlist_types.specs.declared.sources.Source.{Source}
 use Rattle.verilog_net.specs.Sources.{source_of}
 use Rattle.cell_types.specs.declared.libraries.Library.{Library}
@@ -12,7 +12,7 @@ use Rattle.design_stages.specs.Stages.{Found, Staged}
 
 -- a netlist is read, or is refused with the fault that it has
 abbrev pub Netlist : List ℕ → Found Source → Type 0
-Netlist text = Staged (λ read. source_of text ≡ read) verilog_line
+Netlist text = Staged (λ read. source_of false text ≡ read) verilog_line
 
 -- so are its cells
 abbrev pub Cells : List ℕ → Found Library → Type 0

@@ -4,7 +4,7 @@ ghost use Rattle.netlist_types.specs.Lawful.{IsLawful};
 ghost use Rattle.cell_types.specs.Libraries.{IsLawful as IsLawfulLibrary};
 ghost use Rattle.exception_expand.specs.Selections.{HasMultipliers};
 ghost use Rattle.run_options.specs.Judging.{CanJudge};
-ghost use Rattle.linked_types.specs.Narrow.{IsNarrow};
+ghost use Rattle.linked_types.specs.Narrow.{IsOnOneClock};
 ghost use Rattle.linked_types.specs.Usable.{IsUsable};
 ghost use Rattle.fault_lines.specs.Designs.{link_line, expand_line};
 ghost use Rattle.design_stages.specs.Stages.{Finds, Staged};
@@ -61,7 +61,7 @@ pub fn linked(alloc: Global, texts: &ReadTexts, reset: Reset) -> Result<Linked, 
 {
     let inputs = inputs(alloc, &texts.source)?;
     let settings = settings_of(alloc, &texts.script, &inputs, &reset.ports)?;
-    let options = options_of(alloc, settings, reset);
+    let options = options_of(settings, reset);
     linked_under(alloc, &texts.source, &texts.library, &options)
 }
 
@@ -80,6 +80,8 @@ pub fn skipped_alone(alloc: Global, texts: &ReadTexts) -> Result<Notices, AllocE
     ensures { IfOk result (λ n. n ≡ skipped_alone texts.now) }
 {
     Ok(Notices {
+        top: None,
+        cuts: Seq::new(alloc),
         skipped: skipped_of(alloc, &texts.form, &texts.script)?,
         unjudged: Seq::new(alloc),
         hold_commands: 0,
@@ -87,7 +89,7 @@ pub fn skipped_alone(alloc: Global, texts: &ReadTexts) -> Result<Notices, AllocE
 }
 
 /// What is set from outside.
-fn options_of(alloc: Global, settings: Settings, reset: Reset) -> LinkOptions
+fn options_of(settings: Settings, reset: Reset) -> LinkOptions
     ensures { result ≡ options_of settings reset }
 {
     let Settings { clock, fixed } = settings;
@@ -98,8 +100,6 @@ fn options_of(alloc: Global, settings: Settings, reset: Reset) -> LinkOptions
         resets: ports,
         reset_len: len,
         wide: false,
-        top: None,
-        free: Seq::new(alloc),
         cut_clocks: false,
     }
 }
@@ -140,7 +140,7 @@ fn linked_under(
     requires source { IsLawful source.now }
     requires library { IsLawfulLibrary library.now.cells }
     requires resets { options.now.reset_len ≤ 64 }
-    requires narrow { IsNarrow options.now }
+    requires one_clock { IsOnOneClock options.now }
     ensures found { Finds (Staged (Links source.now library.now options.now) link_line) result }
     ensures usable { IfOk result IsUsable }
 {

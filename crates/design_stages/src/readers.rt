@@ -22,7 +22,7 @@ pub fn netlist(alloc: Global, text: &[u8]) -> Result<Source, Refusal>
     ensures found { Finds (Netlist text.now) result }
     ensures lawful { IfOk result IsLawful }
 {
-    match read_verilog(alloc, text) {
+    match read_verilog(alloc, text, false) {
         Ok(source) => Ok(source),
         Err(fault) => Err(Refusal::Line(verilog_line(alloc, &fault)?)),
     }

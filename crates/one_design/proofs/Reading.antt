@@ -1,5 +1,5 @@
 -- What is found of texts is one: of each text, and of a netlist, its cells and its constraints.
-use Rattle.std.proofs.Common.{◌≡◌, ◌∙◌, ℕ, List, Option, Some, Result, Ok, Err, refl, sym, ap}
+use Rattle.std.proofs.Common.{◌≡◌, ◌∙◌, ℕ, false, List, Option, Some, Result, Ok, Err, refl, sym, ap}
 use Rattle.std.proofs.lemmas.Option.{none-some, same_Some}
 use Rattle.verilog_net.specs.Sources.{source_of}
 use Rattle.cell_types.specs.declared.libraries.Library.{Library}
@@ -45,7 +45,7 @@ library_once text = record { same = library_same text; only = library_only text 
 
 -- the netlist of a text is one
 pub netlist_one : (text : List ℕ) → FindsOne (Netlist text)
-netlist_one text = answer_one (source_of text) verilog_line
+netlist_one text = answer_one (source_of false text) verilog_line
 
 -- so are its cells
 pub cells_one : (text : List ℕ) → FindsOne (Cells text)

@@ -103,7 +103,7 @@ fn shown(alloc: Global, source: &Source) -> Result<String, AllocError> {
 
 /// `netlist FILE`: the netlist, or how its fault is told.
 pub fn netlist_text(alloc: Global, text: &[u8]) -> Result<String, AllocError> {
-    match read_verilog(alloc, text) {
+    match read_verilog(alloc, text, false) {
         Ok(source) => shown(alloc, &source),
         Err(fault) => format!(in alloc; "{fault}\n"),
     }

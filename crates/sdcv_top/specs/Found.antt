@@ -26,6 +26,6 @@ pub record IsFoundOut (out : List ℕ) (hold : Bool) (o : DetectOptions) (reset_
   pub selects : SelectsFound l o found hold
   pub saved : due.saved ≡ (out, found_bytes hold found) ∷ []
   pub ending : due.ending ≡ ending.Done
-  pub printed : due.printed ≡ concat (detected_lines o reset_len n found)
+  pub printed : due.printed ≡ concat (detected_lines o reset_len None n found)
   pub judged : due.judged ≡ None
   pub told : due.detected ≡ Some found

@@ -1,21 +1,14 @@
 -- What is saved and told of the graph that watches a claim.
-use Rattle.std.specs.Prelude.{◌≡◌, ℕ, Bool, true, false, List, [], ◌∷◌, ◌++◌, length, codes, None}
-use Rattle.std.specs.Fmt.{decimal}
+use Rattle.std.specs.Prelude.{◌≡◌, ℕ, Bool, true, false, List, [], ◌∷◌, ◌++◌, length, None}
 use Rattle.net_model.specs.declared.claims.Claim.{Claim}
 use Rattle.and_graphs.specs.Texts.{aiger_text}
 use Rattle.and_graphs.specs.declared.aigs.Aig.{Aig}
 use Rattle.linked_types.specs.declared.names.Linked.{Linked}
 use Rattle.claim_monitor.specs.Watches.{Watches}
 use Rattle.monitor_symbols.specs.Symbols.{symbols_text}
-use Rattle.answer_lines.specs.Texts.{◌⁀◌, newline}
+use Rattle.answer_lines.specs.Graphs.{aiger_line}
 use Rattle.run_ends.specs.declared.statuses.Ending.TheVariants as ending
 use Rattle.sdcv_top.specs.Outcomes.{Outcome}
-
--- the number of the pair, and how many inputs, latches and conjunctions its graph has
-abbrev pub aiger_line : ℕ → ℕ → ℕ → ℕ → List ℕ
-aiger_line number inputs latches gates =
-    codes "aiger pair " ⁀ decimal number ⁀ codes " inputs " ⁀ decimal inputs ⁀ codes " latches " ⁀ decimal latches ⁀ codes " gates " ⁀ decimal gates
-    ⁀ newline
 
 -- the symbols of the latches, where they are asked for
 abbrev pub symbols_if : Bool → Linked → Claim → List ℕ
@@ -28,6 +21,6 @@ pub record IsWatchedOut (out : List ℕ) (number : ℕ) (symbols : Bool) (l : Li
   pub watches : Watches l.design claim graph
   pub saved : due.saved ≡ (out, aiger_text graph ++ symbols_if symbols l claim) ∷ []
   pub ending : due.ending ≡ ending.Done
-  pub printed : due.printed ≡ aiger_line number graph.inputs (length graph.latches) (length graph.lines)
+  pub printed : due.printed ≡ aiger_line number graph.inputs (length graph.latches) (length graph.lines) None
   pub judged : due.judged ≡ None
   pub detected : due.detected ≡ None

@@ -112,7 +112,7 @@ fn told<'a>(
     } = manner;
     found_is_selected(linked, options, &detected, finding.hold);
     let bytes = found_text(alloc, &detected, finding.hold)?;
-    let lines = detected_lines(alloc, options, *reset_len, notices, &detected)?;
+    let lines = detected_lines(alloc, options, *reset_len, None, notices, &detected)?;
     Ok(Plan {
         ending: Ending::Done,
         saved: Some(SavedFile {

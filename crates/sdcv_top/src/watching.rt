@@ -5,12 +5,12 @@ ghost use Rattle.linked_types.specs.declared.names.Linked.{Linked as TheLinked};
 ghost use Rattle.claim_monitor.specs.AigerTexts.{IsAigerOf};
 ghost use Rattle.design_stages.specs.Designs.{CanBeJudged};
 ghost use Rattle.sdcv_top.specs.Jobs.{Watched};
-ghost use Rattle.sdcv_top.specs.Monitors.{IsWatchedOut, aiger_line, symbols_if};
+ghost use Rattle.sdcv_top.specs.Monitors.{IsWatchedOut, symbols_if};
 ghost use Rattle.sdcv_top.specs.Plans.{IsPlanned, outcome_of};
 
 use crate::plans::{Plan, SavedFile};
 use crate::replaying::numbered;
-use answer_lines::no_pair_line;
+use answer_lines::{GraphCounts, aiger_line, no_pair_line};
 use claim_monitor::{AigerText, write_aiger};
 use design_stages::{Designed, Refusal};
 use linked_types::Linked;
@@ -69,7 +69,12 @@ fn plan<'a>(
     ensures { IfOk result (λ plan. (asked : Bool) (l : TheLinked) (claim : TheClaim) → IsAigerOf l.design claim text
         → symbols.items ≡ symbols_if asked l claim → IsWatchedOut out.entry.now number asked l claim (outcome_of plan)) }
 {
-    let line = aiger_line(alloc, number, &text)?;
+    let counts = GraphCounts {
+        inputs: text.inputs,
+        latches: text.latches,
+        gates: text.gates,
+    };
+    let line = aiger_line(alloc, number, counts, None)?;
     let told = Plan::printing_one(alloc, Ending::Done, line)?;
     let mut bytes = text.bytes;
     bytes.extend_from_slice(&symbols)?;
@@ -77,17 +82,4 @@ fn plan<'a>(
         saved: Some(SavedFile { name: out, bytes }),
         ..told
     })
-}
-
-// The line of the counts of a text.
-fn aiger_line(alloc: Global, number: u64, text: &AigerText) -> Result<Vec<u8>, AllocError>
-    ensures { IfOk result (λ line. line.items ≡ aiger_line number text.now.inputs text.now.latches text.now.gates) }
-{
-    let inputs = text.inputs;
-    let latches = text.latches;
-    let gates = text.gates;
-    let line = format!(in alloc;
-        "aiger pair {number} inputs {inputs} latches {latches} gates {gates}\n"
-    )?;
-    Ok(line.into_bytes())
 }

@@ -1,6 +1,6 @@
-use Rattle.std.proofs.Common.{ℕ, List, [], ◌∷◌, ◌++◌, length, ap, ap₂, ◌∙◌}
+use Rattle.std.proofs.Common.{ℕ, List, [], ◌∷◌, ◌++◌, length, None, ap, ap₂, ◌∙◌}
 use Rattle.sdcv_top.specs.Outcomes.{Outcome}
-use Rattle.sdcv_top.specs.Monitors.{aiger_line}
+use Rattle.answer_lines.specs.Graphs.{aiger_line}
 use Rattle.sdcv_top.proofs.watching.plan.Goals as goal
 
 pub returns : goal.returns
@@ -16,9 +16,9 @@ returns c = λ asked l claim is symbols_are.
           (c.in_ok-extend_from_slice.ensures.items ∙ ap₂ (λ (a b : List ℕ). a ++ b) is.bytes (c.deref.ensures.value ∙ symbols_are));
       ending = ap (λ (o : Outcome). o.ending) told;
       printed = ap (λ (o : Outcome). o.printed) told ∙ c.in_ok-line.ensures
-          ∙ ap (λ (n : ℕ). aiger_line number n text.latches text.gates) is.inputs
-          ∙ ap (λ (n : ℕ). aiger_line number graph.inputs n text.gates) is.latches
-          ∙ ap (λ (n : ℕ). aiger_line number graph.inputs (length graph.latches) n) is.gates;
+          ∙ ap (λ (n : ℕ). aiger_line number n text.latches text.gates None) is.inputs
+          ∙ ap (λ (n : ℕ). aiger_line number graph.inputs n text.gates None) is.latches
+          ∙ ap (λ (n : ℕ). aiger_line number graph.inputs (length graph.latches) n None) is.gates;
       judged = ap (λ (o : Outcome). o.judged) told;
       detected = ap (λ (o : Outcome). o.detected) told;
     }
