@@ -1,5 +1,5 @@
 -- The name of a net among instances, and the leaf of a register or a clock gate.
-use Rattle.std.proofs.Common.{◌≡◌, ℕ, suc, ◌<◌, Bool, true, false, List, [], ◌∷◌, ◌++◌, length, map, Some, None, refl, ap, subst, sym}
+use Rattle.std.proofs.Common.{◌≡◌, ℕ, suc, ◌<◌, ◌≤◌, Bool, true, false, List, [], ◌∷◌, ◌++◌, length, map, Some, None, refl, ap, subst, sym}
 use Rattle.std.proofs.Common.{◌∙◌, arith, inl, inr}
 use Rattle.std.specs.Prelude.{Option, Contains, slice_get, flat_map, ◌==◌, IsSome}
 use Rattle.std.specs.List.{position}
@@ -22,7 +22,7 @@ use Rattle.link_defs.specs.declared.circuits.Part.{Part}
 use Rattle.link_defs.specs.declared.circuits.Part.TheVariants as part
 use Rattle.link_defs.specs.CellNames.{Leaf, leaves}
 use Rattle.link_defs.specs.Circuits.{OnTree, clock_of}
-use Rattle.link_defs.specs.Faults.{IsAboveLimit, HasManyDrivers}
+use Rattle.link_defs.specs.Faults.{IsAboveLimit, HasManyDrivers, most_inputs}
 use Rattle.link_defs.specs.Faults as link
 use Rattle.link_defs.specs.Flatten.{Scope, Flat, flat_of, scope_names, full_names}
 use Rattle.link_items.specs.declared.made.Instance.{Instance}
@@ -34,8 +34,8 @@ use Rattle.link_items.proofs.Pinned.{lawful_at}
 use Rattle.link_circuit.specs.Flats.{AreFine}
 use Rattle.link_circuit.specs.declared.circuits.FlatCircuit.{FlatCircuit}
 use Rattle.link_circuit.proofs.Scoped.{named_at}
-use Rattle.link_circuit.proofs.Naming.{all_named}
-use Rattle.link_circuit.specs.Names.{HasNet, HasName, IsCircuitBelow, is_there, has_net, is_clocked, is_leaf_on, HasLeafOn, IsNameOn}
+use Rattle.link_circuit.proofs.Extending.{all_named}
+use Rattle.link_circuit.specs.Names.{HasNet, HasName, IsLeftBelow, is_there, has_net, is_clocked, is_leaf_on, HasLeafOn, IsNameOn}
 
 -- an item that passes is found
 passes_at : {X : Type 0} (p : X → Bool) (xs : List X) (x : X) → In x xs → p x ≡ true → (k : ℕ) × (slice_get xs k ≡ Some x)
@@ -192,7 +192,7 @@ module_is s place m at = sym (get_or_from_slice_get s.modules place m (record { 
 
 -- what a refusal of the circuit below a module speaks of has a name
 pub named_below : (s : Source) (lib : Library) (place : ℕ) (clock : Option (List ℕ)) (c : FlatCircuit) (f g : CircuitFault) → IsLawful s
-    → IsLawfulLibrary lib.cells → place < length s.modules → IsCircuitBelow s lib (module_at s place) clock c
+    → IsLawfulLibrary lib.cells → place < length s.modules → IsLeftBelow s lib (module_at s place) clock c
     → AreFine s lib (flat_of s lib (module_at s place)) → IsCause c.circuit f → f ≡ g → HasName s lib (flat_of s lib (module_at s place)) c.circuit g
 named_below s lib place clock c f g lawful cells lt below fine cause same =
     let top = module_at s place in
@@ -200,31 +200,35 @@ named_below s lib place clock c f g lawful cells lt below fine cause same =
     let is = module_is s place m at in
     let top_lawful : IsLawfulModule s top = subst (λ (t : Module). IsLawfulModule s t) is (lawful_at s lawful place m at) in
     let there : Contains s.modules top = subst (λ (t : Module). Contains s.modules t) is (contains_at s.modules place m at) in
-    let as_g : IsCause c.circuit g = subst (λ (h : CircuitFault). IsCause c.circuit h) same cause in
-    subst (λ (k : Circuit). HasName s lib (flat_of s lib top) k g) (sym below.circuit)
-    (all_named s lib top lawful cells top_lawful there fine clock g (subst (λ (k : Circuit). IsCause k g) below.circuit as_g))
+    all_named s lib top lawful cells top_lawful there fine clock c.circuit g below.extended (subst (λ (h : CircuitFault). IsCause c.circuit h) same cause)
 
 -- the net is one of the instances'
-pub net_below : (s : Source) (lib : Library) (top : Module) (clock : Option (List ℕ)) (c : FlatCircuit) (n : ℕ) → IsCircuitBelow s lib top clock c
+pub net_below : (s : Source) (lib : Library) (top : Module) (clock : Option (List ℕ)) (c : FlatCircuit) (n : ℕ) → IsLeftBelow s lib top clock c
     → HasNet (flat_of s lib top).scopes n → HasNet (map (scope_of s) c.scopes) n
 net_below s lib top clock c n below has = subst (λ (xs : List Scope). HasNet xs n) (sym below.scopes) has
 
 -- a full name of the flat netlist
-pub name_below : (s : Source) (lib : Library) (top : Module) (clock : Option (List ℕ)) (c : FlatCircuit) (name : List ℕ) (n : ℕ) → IsCircuitBelow s lib top clock c
+pub name_below : (s : Source) (lib : Library) (top : Module) (clock : Option (List ℕ)) (c : FlatCircuit) (name : List ℕ) (n : ℕ) → IsLeftBelow s lib top clock c
     → Contains (flat_map scope_names (map (scope_of s) c.scopes)) (name, n) → Contains (full_names (flat_of s lib top)) (name, n)
 name_below s lib top clock c name n below has =
     let pair : List ℕ × ℕ = (name, n) in subst (λ (xs : List Scope). Contains (flat_map scope_names xs) pair) below.scopes has
 
--- a limit of the circuit is one of the netlist
-limit_of : (s : Source) (lib : Library) (flat : Flat) (c : Circuit) (k : LimitName) (n : ℕ) → IsAboveCircuit c k n → IsAboveLimit s lib flat c k n
-limit_of s lib flat c k n (above.Nets tree is more) = link.Nets tree is (omega (arith, more))
-limit_of s lib flat c k n (above.Regs more) = link.Regs more
-limit_of s lib flat c k n (above.Inputs more) = link.Inputs more
-limit_of s lib flat c k n (above.Outputs more) = link.Outputs more
+-- there are never more data inputs than a sound design may have
+pub most_of : (wide : Bool) → most_inputs wide ≤ 20000
+most_of true = omega arith
+most_of false = omega arith
 
-pub limit_is : (s : Source) (lib : Library) (flat : Flat) (c : Circuit) (f : CircuitFault) (k : LimitName) (n : ℕ) → IsCause c f → f ≡ circuit.Limit k n
-    → IsAboveLimit s lib flat c k n
-limit_is s lib flat c f k n cause same = limit_of s lib flat c k n (subst (λ (h : CircuitFault). IsCause c h) same cause)
+-- a limit of the circuit is one of the netlist
+limit_of : (wide : Bool) (s : Source) (lib : Library) (flat : Flat) (c : Circuit) (k : LimitName) (n : ℕ) → length c.inputs ≤ most_inputs wide
+    → IsAboveCircuit c k n → IsAboveLimit wide s lib flat c k n
+limit_of wide s lib flat c k n few (above.Nets tree is more) = link.Nets tree is (omega (arith, more))
+limit_of wide s lib flat c k n few (above.Regs more) = link.Regs more
+limit_of wide s lib flat c k n few (above.Inputs more) = let most = most_of wide in absurd (omega (arith, more, few, most))
+limit_of wide s lib flat c k n few (above.Outputs more) = link.Outputs more
+
+pub limit_is : (wide : Bool) (s : Source) (lib : Library) (flat : Flat) (c : Circuit) (f : CircuitFault) (k : LimitName) (n : ℕ)
+    → length c.inputs ≤ most_inputs wide → IsCause c f → f ≡ circuit.Limit k n → IsAboveLimit wide s lib flat c k n
+limit_is wide s lib flat c f k n few cause same = limit_of wide s lib flat c k n few (subst (λ (h : CircuitFault). IsCause c h) same cause)
 
 pub twice_is : (s : Source) (lib : Library) (flat : Flat) (c : Circuit) (f : CircuitFault) (name : List ℕ) (n : ℕ) → IsCause c f → f ≡ circuit.ManyDrivers n
     → Contains (full_names flat) (name, n) → HasManyDrivers s lib flat c name

@@ -21,4 +21,5 @@ pub mod Driving
 pub mod Reading
 pub mod Seating
 pub mod Naming
+pub mod Extending
 pub mod Finding

@@ -18,21 +18,17 @@ use Rattle.netlist_types.specs.declared.sources.Wire.{Wire}
 use Rattle.netlist_types.specs.declared.sources.Wire.TheVariants as wire
 use Rattle.netlist_types.specs.declared.sources.Item.{Item}
 use Rattle.netlist_types.specs.declared.sources.Item.TheVariants as item
-use Rattle.netlist_types.specs.Lawful.{module_of, IsLawful, IsLawfulModule}
+use Rattle.netlist_types.specs.Lawful.{module_of, IsLawfulModule}
 use Rattle.cell_types.specs.declared.libraries.Library.{Library}
 use Rattle.cell_types.specs.declared.libraries.Cell.{Cell}
 use Rattle.cell_types.specs.declared.libraries.CellKind.{CellKind}
 use Rattle.cell_types.specs.declared.libraries.CellKind.TheVariants as kind
-use Rattle.cell_types.specs.Libraries.{IsLawful as IsLawfulLibrary}
-use Rattle.link_design.specs.Faults.{IsCause}
 use Rattle.link_design.specs.Lawful.{IsLawfulPart, IsLawfulGate, IsLawfulCircuit}
-use Rattle.link_design.specs.declared.faults.CircuitFault.{CircuitFault}
-use Rattle.link_design.specs.declared.faults.CircuitFault.TheVariants as fault
 use Rattle.link_defs.specs.declared.circuits.Part.{Part}
 use Rattle.link_defs.specs.declared.circuits.Part.TheVariants as part
 use Rattle.link_defs.specs.CellNames.{Leaf, leaves, leaves_of, last_part, leaf_if_any}
 use Rattle.link_defs.specs.Circuits.{PortBit, circuit_of, bits_of, port_bit, input_bits, output_bits, is_input, is_clock, data_bits, clock_bits, bit_nets}
-use Rattle.link_defs.specs.Circuits.{part_gates, part_regs, part_gated, part_reads, part_outs, part_data, clock_of, regs_of, all_gates, all_drivers}
+use Rattle.link_defs.specs.Circuits.{part_gates, part_regs, part_gated, part_reads, part_outs, part_data, clock_of, all_gates, all_drivers}
 use Rattle.link_defs.specs.Circuits.{all_reads, all_data, OnTree, LeadsTo, IsOnCycle}
 use Rattle.link_defs.specs.Circuits as net
 use Rattle.link_defs.specs.Hierarchy.{cell_of, wires_of}
@@ -47,12 +43,11 @@ use Rattle.link_items.specs.Faults.{IsFaultless}
 use Rattle.link_items.proofs.Listing.{contains_at}
 use Rattle.link_items.proofs.Pinned.{port_bits}
 use Rattle.link_circuit.proofs.Lawfully.{all_flat}
-use Rattle.link_circuit.proofs.Circuited.{circuit_lawful}
-use Rattle.link_circuit.specs.Names.{HasNet, HasName}
+use Rattle.link_circuit.specs.Names.{HasNet}
 use Rattle.link_circuit.proofs.Spread.{zero_of}
 use Rattle.link_circuit.proofs.Driving.{outs_of}
 use Rattle.link_circuit.proofs.Reading.{IsConst, gates_of, reads_of, item_known}
-use Rattle.link_circuit.proofs.Seating.{IsSeen, IsWhole, item_outs, flat_whole}
+use Rattle.link_circuit.proofs.Seating.{IsSeen, IsWhole, item_outs}
 
 below_in : (limit : ℕ) (ns : List ℕ) (n : ℕ) → AllBelow limit ns → In n ns → n < limit
 below_in limit [] n below has = absurd has
@@ -83,12 +78,12 @@ bits_below m total ports below =
 nets_below : (total : ℕ) (bits : List PortBit) → All (IsBit total) bits → AllBelow total (bit_nets bits)
 nets_below total bits below = All-map (λ (n : ℕ). n < total) (λ (b : PortBit). b.net) bits below
 
-record ArePortsBelow (top : Module) (clock : Option (List ℕ)) : Type 0 where
+pub record ArePortsBelow (top : Module) (clock : Option (List ℕ)) : Type 0 where
   pub clocks : AllBelow (length top.nets) (bit_nets (clock_bits clock top))
   pub inputs : AllBelow (length top.nets) (bit_nets (data_bits clock top))
   pub outputs : AllBelow (length top.nets) (bit_nets (output_bits top))
 
-ports_below : (s : Source) (top : Module) (clock : Option (List ℕ)) → IsLawfulModule s top → ArePortsBelow top clock
+pub ports_below : (s : Source) (top : Module) (clock : Option (List ℕ)) → IsLawfulModule s top → ArePortsBelow top clock
 ports_below s top clock is =
     let total = length top.nets in
     let below : All (λ (p : Port). AllBelow total p.bits) top.ports = port_bits s top is in
@@ -105,11 +100,11 @@ ports_below s top clock is =
     }
 
 -- what is known of the flat netlist below a module
-record IsSettled (s : Source) (lib : Library) (top : Module) (flat : Flat) : Type 0 where
+pub record IsSettled (s : Source) (lib : Library) (top : Module) (flat : Flat) : Type 0 where
   pub whole : IsWhole s lib top flat
   pub fine : AreFine s lib flat
 
-abbrev parts_in : Source → Library → Flat → List Part
+abbrev pub parts_in : Source → Library → Flat → List Part
 parts_in s lib flat = flat_map (parts_of s lib) flat.items
 
 top_seen : (s : Source) (lib : Library) (top : Module) (flat : Flat) (n : ℕ) → IsWhole s lib top flat → n < length top.nets → IsSeen flat.scopes n
@@ -124,7 +119,7 @@ seen_none x xs n not_here none (scope, inl same, has) = not_here (subst (λ (y :
 seen_none x xs n not_here none (scope, inr later, has) = none (scope, later, has)
 
 -- a net has an instance or it has none
-seen_or : (scopes : List Scope) (n : ℕ) → IsSeen scopes n ⊎ (IsSeen scopes n → ⊥)
+pub seen_or : (scopes : List Scope) (n : ℕ) → IsSeen scopes n ⊎ (IsSeen scopes n → ⊥)
 seen_or [] n = inr (λ seen. seen.1)
 seen_or (x ∷ xs) n = elim (in_or n x.nets) [
   | inl here ↦ inl (x, inl refl, here)
@@ -160,7 +155,7 @@ flat_flat s lib (at ∷ items) =
     ∙ ap (λ (ns : List ℕ). item_outs s lib at ++ ns) (flat_flat s lib items)
 
 -- the nets that clock gates drive
-abbrev gated_of : List Part → List ℕ
+abbrev pub gated_of : List Part → List ℕ
 gated_of ps = flat_map part_gated ps
 
 -- registers, gates and clock gates are counted with their parts
@@ -179,8 +174,9 @@ split_count n (part.Gate clock enables out ∷ ps) =
     let p : ℕ → Bool = λ m. m == n in omega (arith, count_cons p out (gated_of ps), count_cons p out (outs_of ps), split_count n ps)
 
 -- a net that no instance has is driven once
-drivers_once : (s : Source) (lib : Library) (top : Module) (clock : Option (List ℕ)) (n : ℕ) → IsWhole s lib top (flat_of s lib top) → ArePortsBelow top clock
-    → (IsSeen (flat_of s lib top).scopes n → ⊥) → count_by (λ m. m == n) (all_drivers (circuit_of s lib top clock)) ≤ 1
+pub drivers_once : (s : Source) (lib : Library) (top : Module) (clock : Option (List ℕ)) (n : ℕ)
+    → IsWhole s lib top (flat_of s lib top) → ArePortsBelow top clock → (IsSeen (flat_of s lib top).scopes n → ⊥)
+    → count_by (λ m. m == n) (all_drivers (circuit_of s lib top clock)) ≤ 1
 unfolding circuit_of
 drivers_once s lib top clock n whole ports unseen =
     let flat = flat_of s lib top in
@@ -228,7 +224,7 @@ two_counted (x ∷ xs) g h n m (inr there) (inr here) one other none reads =
     omega (arith, count_cons (λ m. m == n) x.out (gate_nets xs), two_counted xs g h n m there here one other none reads)
 
 -- a gate that reads and drives the net
-abbrev IsReader : List Gate → ℕ → Type 0
+abbrev pub IsReader : List Gate → ℕ → Type 0
 IsReader gates n = (h : Gate) × (m : ℕ) × In h gates × (h.out ≡ n) × In m h.ins
 
 -- two gates or clock gates are two drivers
@@ -311,7 +307,7 @@ data_reads (part.Gate clock enables out ∷ ps) n has = elim (In-cases n enables
   | inr later ↦ In-right n (clock ∷ enables) (reads_of ps) (data_reads ps n later)
 ]
 
-net_of : (scopes : List Scope) (n : ℕ) → IsSeen scopes n → HasNet scopes n
+pub net_of : (scopes : List Scope) (n : ℕ) → IsSeen scopes n → HasNet scopes n
 net_of scopes n (scope, there, has) = (scope, Contains-from_In scopes scope there, Contains-from_In scope.nets n has)
 
 -- a part whose clock pin is on the net is no constant and no gates
@@ -493,15 +489,15 @@ part_named s lib flat place q pin on at =
     )
 
 -- what is known where a circuit is refused
-record IsRefusedBelow (s : Source) (lib : Library) (top : Module) (clock : Option (List ℕ)) : Type 0 where
+pub record IsRefusedBelow (s : Source) (lib : Library) (top : Module) (clock : Option (List ℕ)) : Type 0 where
   pub known : IsSettled s lib top (flat_of s lib top)
   pub ports : ArePortsBelow top clock
   pub lawful : IsLawfulCircuit (circuit_of s lib top clock)
 
-abbrev all_parts : Source → Library → Module → List Part
+abbrev pub all_parts : Source → Library → Module → List Part
 all_parts s lib top = parts_in s lib (flat_of s lib top)
 
-read_seen : (s : Source) (lib : Library) (top : Module) (clock : Option (List ℕ)) (n : ℕ) → IsRefusedBelow s lib top clock
+pub read_seen : (s : Source) (lib : Library) (top : Module) (clock : Option (List ℕ)) (n : ℕ) → IsRefusedBelow s lib top clock
     → In n (all_reads (circuit_of s lib top clock)) → IsSeen (flat_of s lib top).scopes n ⊎ IsConst (gates_of (all_parts s lib top)) n
 unfolding circuit_of
 read_seen s lib top clock n r has =
@@ -510,7 +506,7 @@ read_seen s lib top clock n r has =
       | inr pin ↦ reads_known s lib top (flat_of s lib top) n r.known pin
     ]
 
-data_seen : (s : Source) (lib : Library) (top : Module) (clock : Option (List ℕ)) (n : ℕ) → IsRefusedBelow s lib top clock
+pub data_seen : (s : Source) (lib : Library) (top : Module) (clock : Option (List ℕ)) (n : ℕ) → IsRefusedBelow s lib top clock
     → In n (all_data (circuit_of s lib top clock)) → IsSeen (flat_of s lib top).scopes n ⊎ IsConst (gates_of (all_parts s lib top)) n
 unfolding circuit_of
 data_seen s lib top clock n r has =
@@ -530,10 +526,10 @@ const_driven s lib top clock n (g, there, out, none) =
     Contains-from_In (before ++ gate_nets gates ++ gated) n (In-left n (before ++ gate_nets gates) gated (In-right n before (gate_nets gates) drives))
 
 -- a gate that reads drives the net, or a clock gate does
-abbrev IsHandedOn : List Part → ℕ → Type 0
+abbrev pub IsHandedOn : List Part → ℕ → Type 0
 IsHandedOn ps n = IsReader (gates_of ps) n ⊎ In n (gated_of ps)
 
-tree_seen : (s : Source) (lib : Library) (top : Module) (clock : Option (List ℕ)) (n : ℕ) (odd : Bool) → IsRefusedBelow s lib top clock
+pub tree_seen : (s : Source) (lib : Library) (top : Module) (clock : Option (List ℕ)) (n : ℕ) (odd : Bool) → IsRefusedBelow s lib top clock
     → OnTree (circuit_of s lib top clock) n odd → IsSeen (flat_of s lib top).scopes n ⊎ IsHandedOn (all_parts s lib top) n
 unfolding circuit_of
 tree_seen s lib top clock n odd r (net.Root m there) =
@@ -552,14 +548,14 @@ tree_seen s lib top clock n odd r (net.Gated from enables out even has tree) =
     let p : Part = part.Gate from enables out in
     inr (inr (In-flat part_gated out p ps (In-from_Contains ps p has) (inl refl)))
 
-either_seen : (s : Source) (lib : Library) (top : Module) (clock : Option (List ℕ)) (n : ℕ) → IsRefusedBelow s lib top clock
+pub either_seen : (s : Source) (lib : Library) (top : Module) (clock : Option (List ℕ)) (n : ℕ) → IsRefusedBelow s lib top clock
     → IsSeen (flat_of s lib top).scopes n ⊎ IsConst (gates_of (all_parts s lib top)) n
     → IsSeen (flat_of s lib top).scopes n ⊎ IsHandedOn (all_parts s lib top) n → IsSeen (flat_of s lib top).scopes n
 either_seen s lib top clock n r read (inl seen) = seen
 either_seen s lib top clock n r read (inr (inl reader)) = seen_of s lib top clock n r.known r.ports read reader
 either_seen s lib top clock n r read (inr (inr gated)) = gated_seen s lib top clock n r.known r.ports read gated
 
-loop_seen : (s : Source) (lib : Library) (top : Module) (clock : Option (List ℕ)) (n : ℕ) → IsRefusedBelow s lib top clock
+pub loop_seen : (s : Source) (lib : Library) (top : Module) (clock : Option (List ℕ)) (n : ℕ) → IsRefusedBelow s lib top clock
     → IsOnCycle (all_gates (circuit_of s lib top clock)) n → IsSeen (flat_of s lib top).scopes n
 unfolding circuit_of
 loop_seen s lib top clock n r cycle =
@@ -570,50 +566,14 @@ loop_seen s lib top clock n r cycle =
     let known = reads_known s lib top (flat_of s lib top) n r.known (gate_reads (flat_of s lib top).count ps g n r.lawful.parts there reads) in
     seen_of s lib top clock n r.known r.ports known (way_end (gates_of ps) g.out n g n there refl reads cycle.back)
 
-twice_seen : (s : Source) (lib : Library) (top : Module) (clock : Option (List ℕ)) (n : ℕ) → IsRefusedBelow s lib top clock
-    → 1 < count_by (λ m. m == n) (all_drivers (circuit_of s lib top clock)) → IsSeen (flat_of s lib top).scopes n
-twice_seen s lib top clock n r twice = elim (seen_or (flat_of s lib top).scopes n) [
-  | inl seen ↦ seen
-  | inr unseen ↦ let most = drivers_once s lib top clock n r.known.whole r.ports unseen in absurd (omega (arith, most, twice))
-]
-
-undriven_seen : (s : Source) (lib : Library) (top : Module) (clock : Option (List ℕ)) (n : ℕ)
+pub undriven_seen : (s : Source) (lib : Library) (top : Module) (clock : Option (List ℕ)) (n : ℕ)
     → IsSeen (flat_of s lib top).scopes n ⊎ IsConst (gates_of (all_parts s lib top)) n
     → (Contains (all_drivers (circuit_of s lib top clock)) n → ⊥) → IsSeen (flat_of s lib top).scopes n
 undriven_seen s lib top clock n (inl seen) undriven = seen
 undriven_seen s lib top clock n (inr const) undriven = absurd (undriven (const_driven s lib top clock n const))
 
-clocked_named : (s : Source) (lib : Library) (top : Module) (clock : Option (List ℕ)) (place : ℕ) (q : Part) (pin : ℕ) → clock_of q ≡ Some pin
+pub clocked_named : (s : Source) (lib : Library) (top : Module) (clock : Option (List ℕ)) (place : ℕ) (q : Part) (pin : ℕ) → clock_of q ≡ Some pin
     → slice_get (circuit_of s lib top clock).parts place ≡ Some q
     → (l : Leaf) × Contains (leaves s lib (flat_of s lib top)) l × (slice_get (circuit_of s lib top clock).parts place ≡ Some l.part)
 unfolding circuit_of
 clocked_named s lib top clock place q pin on at = part_named s lib (flat_of s lib top) place q pin on at
-
-named_by : (s : Source) (lib : Library) (top : Module) (clock : Option (List ℕ)) (f : CircuitFault) → IsRefusedBelow s lib top clock
-    → IsCause (circuit_of s lib top clock) f → HasName s lib (flat_of s lib top) (circuit_of s lib top clock) f
-named_by s lib top clock (fault.Undriven n) r cause =
-    let c = circuit_of s lib top clock in
-    net_of (flat_of s lib top).scopes n
-    (undriven_seen s lib top clock n (read_seen s lib top clock n r (In-from_Contains (all_reads c) n cause.0)) cause.1)
-named_by s lib top clock (fault.ManyDrivers n) r cause = net_of (flat_of s lib top).scopes n (twice_seen s lib top clock n r cause)
-named_by s lib top clock (fault.Loop n) r cause = net_of (flat_of s lib top).scopes n (loop_seen s lib top clock n r cause)
-named_by s lib top clock (fault.NotTheClock place) r cause = let (q, pin, at, on, off) = cause in clocked_named s lib top clock place q pin on at
-named_by s lib top clock (fault.ClockAsData n) r cause =
-    let (odd, reads, tree) = cause in
-    let c = circuit_of s lib top clock in
-    net_of (flat_of s lib top).scopes n
-    (either_seen s lib top clock n r (data_seen s lib top clock n r (In-from_Contains (all_data c) n reads)) (tree_seen s lib top clock n odd r tree))
-named_by s lib top clock (fault.Limit kind number) r cause = tt
-named_by s lib top clock fault.Memory r cause = tt
-
--- the law
-pub all_named : (s : Source) (lib : Library) (top : Module) → IsLawful s → IsLawfulLibrary lib.cells → IsLawfulModule s top → Contains s.modules top
-    → AreFine s lib (flat_of s lib top) → (clock : Option (List ℕ)) (f : CircuitFault) → IsCause (circuit_of s lib top clock) f
-    → HasName s lib (flat_of s lib top) (circuit_of s lib top clock) f
-all_named s lib top lawful cells is there fine clock f cause =
-    let some : 1 ≤ length s.modules = omega (arith, there.1) in
-    named_by s lib top clock f (record {
-      known = record { whole = flat_whole s lib top some lawful is; fine = fine };
-      ports = ports_below s top clock is;
-      lawful = circuit_lawful s lib top lawful cells is fine clock;
-    }) cause

@@ -39,10 +39,19 @@ pub record IsGround (s : Source) (total : ℕ) (scope : Scope) : Type 0 where
 abbrev pub ArePlaced : Source → Library → Flat → Type 0
 ArePlaced s lib flat = All (IsPlaced s lib flat.count) flat.items
 
--- a flat netlist that grew, with all its items
+-- an instance with its nets among so many
+abbrev pub IsWithin : ℕ → Scope → Type 0
+IsWithin total scope = AllBelow total scope.nets
+
+-- all items and instances of a flat netlist
+pub record AreStanding (s : Source) (lib : Library) (flat : Flat) : Type 0 where
+  pub items : ArePlaced s lib flat
+  pub scopes : All (IsWithin flat.count) flat.scopes
+
+-- a flat netlist that grew, with all its items and instances
 pub record IsGrown (s : Source) (lib : Library) (flat grown : Flat) : Type 0 where
   pub count : flat.count ≤ grown.count
-  pub items : ArePlaced s lib grown
+  pub stand : AreStanding s lib grown
 
 below_more : (a b : ℕ) (nets : List ℕ) → a ≤ b → AllBelow a nets → AllBelow b nets
 below_more a b nets le below = λ k d lt. omega (arith, le, below k d lt)
@@ -52,23 +61,29 @@ placed_more s lib a b items le placed = λ k d lt.
     let at = placed k d lt in
     record { nets = below_more a b (get_or items k d).scope.nets le at.nets; item = at.item; room = omega (arith, le, at.room) }
 
+within_more : (a b : ℕ) (scopes : List Scope) → a ≤ b → All (IsWithin a) scopes → All (IsWithin b) scopes
+within_more a b scopes le within = λ k d lt. below_more a b (get_or scopes k d).nets le (within k d lt)
+
 ground_more : (s : Source) (a b : ℕ) (scope : Scope) → a ≤ b → IsGround s a scope → IsGround s b scope
 ground_more s a b scope le ground = record { body = ground.body; len = ground.len; nets = below_more a b scope.nets le ground.nets }
 
 -- with one item more
 item_grown : (s : Source) (lib : Library) (scope : Scope) (x : Item) (flat : Flat) → IsGround s flat.count scope → IsLawfulItem s (length scope.body.nets) x
-    → ArePlaced s lib flat → IsGrown s lib flat (with_item s lib scope x flat)
-item_grown s lib scope x flat ground is placed =
+    → AreStanding s lib flat → IsGrown s lib flat (with_item s lib scope x flat)
+item_grown s lib scope x flat ground is stand =
     let total = flat.count + own_nets s lib x in
     record {
       count = omega arith;
-      items = All-push (IsPlaced s lib total) flat.items (record { scope = scope; item = x; first = flat.count })
-          (placed_more s lib flat.count total flat.items (omega arith) placed)
-          (record {
-            nets = below_more flat.count total scope.nets (omega arith) ground.nets;
-            item = subst (λ (n : ℕ). IsLawfulItem s n x) (sym ground.len) is;
-            room = omega arith;
-          });
+      stand = record {
+        items = All-push (IsPlaced s lib total) flat.items (record { scope = scope; item = x; first = flat.count })
+            (placed_more s lib flat.count total flat.items (omega arith) stand.items)
+            (record {
+              nets = below_more flat.count total scope.nets (omega arith) ground.nets;
+              item = subst (λ (n : ℕ). IsLawfulItem s n x) (sym ground.len) is;
+              room = omega arith;
+            });
+        scopes = within_more flat.count total flat.scopes (omega arith) stand.scopes;
+      };
     }
 
 numbers_below : (count first total : ℕ) → first + count ≤ total → AllBelow total (numbers first count)
@@ -142,53 +157,63 @@ instance_ground s lib scope inner (item.Copy to from) first total lawful below i
 
 -- what is inside grows with all its items
 abbrev Grows : Source → Library → (Flat → Scope → Flat) → Type 0
-Grows s lib inside = (flat : Flat) (scope : Scope) → IsGround s flat.count scope → ArePlaced s lib flat → IsGrown s lib flat (inside flat scope)
+Grows s lib inside = (flat : Flat) (scope : Scope) → IsGround s flat.count scope → AreStanding s lib flat → IsGrown s lib flat (inside flat scope)
 
 inside_grown : (s : Source) (lib : Library) (inside : Flat → Scope → Flat) → Grows s lib inside → (flat : Flat) (found : Option Scope)
-    → ((inner : Scope) → found ≡ Some inner → IsGround s flat.count inner) → ArePlaced s lib flat → IsGrown s lib flat (inside_of inside flat found)
-inside_grown s lib inside each flat None ground placed = record { count = omega arith; items = placed }
-inside_grown s lib inside each flat (Some inner) ground placed = each flat inner (ground inner refl) placed
+    → ((inner : Scope) → found ≡ Some inner → IsGround s flat.count inner) → AreStanding s lib flat → IsGrown s lib flat (inside_of inside flat found)
+inside_grown s lib inside each flat None ground stand = record { count = omega arith; stand = stand }
+inside_grown s lib inside each flat (Some inner) ground stand = each flat inner (ground inner refl) stand
 
 then_grown : (s : Source) (lib : Library) (a b c : Flat) → IsGrown s lib a b → IsGrown s lib b c → IsGrown s lib a c
-then_grown s lib a b c ab bc = record { count = omega (arith, ab.count, bc.count); items = bc.items }
+then_grown s lib a b c ab bc = record { count = omega (arith, ab.count, bc.count); stand = bc.stand }
 
 added_grown : (s : Source) (lib : Library) (inside : Flat → Scope → Flat) → IsLawful s → Grows s lib inside → (scope : Scope) (x : Item) (flat : Flat)
-    → IsGround s flat.count scope → IsLawfulItem s (length scope.body.nets) x → ArePlaced s lib flat → IsGrown s lib flat (add_item inside s lib scope flat x)
+    → IsGround s flat.count scope → IsLawfulItem s (length scope.body.nets) x → AreStanding s lib flat → IsGrown s lib flat (add_item inside s lib scope flat x)
 unfolding add_item
-added_grown s lib inside lawful each scope x flat ground is placed =
+added_grown s lib inside lawful each scope x flat ground is stand =
     let with_it = with_item s lib scope x flat in
-    let first = item_grown s lib scope x flat ground is placed in
+    let first = item_grown s lib scope x flat ground is stand in
     let wide = below_more flat.count with_it.count scope.nets first.count ground.nets in
     let here : IsLawfulItem s (length scope.nets) x = subst (λ (n : ℕ). IsLawfulItem s n x) (sym ground.len) is in
     then_grown s lib flat with_it (inside_of inside with_it (instance_of s scope x flat.count)) first
     (inside_grown s lib inside each with_it (instance_of s scope x flat.count)
-    (λ inner found. instance_ground s lib scope inner x flat.count with_it.count lawful wide here (omega arith) found) first.items)
+    (λ inner found. instance_ground s lib scope inner x flat.count with_it.count lawful wide here (omega arith) found) first.stand)
 
 items_grown : (s : Source) (lib : Library) (inside : Flat → Scope → Flat) → IsLawful s → Grows s lib inside → (scope : Scope) (xs : List Item) (flat : Flat)
-    → IsGround s flat.count scope → All (IsLawfulItem s (length scope.body.nets)) xs → ArePlaced s lib flat
+    → IsGround s flat.count scope → All (IsLawfulItem s (length scope.body.nets)) xs → AreStanding s lib flat
     → IsGrown s lib flat (fold (add_item inside s lib scope) flat xs)
-items_grown s lib inside lawful each scope [] flat ground are placed = record { count = omega arith; items = placed }
-items_grown s lib inside lawful each scope (x ∷ xs) flat ground are placed =
+items_grown s lib inside lawful each scope [] flat ground are stand = record { count = omega arith; stand = stand }
+items_grown s lib inside lawful each scope (x ∷ xs) flat ground are stand =
     let after = add_item inside s lib scope flat x in
-    let one = added_grown s lib inside lawful each scope x flat ground (All-head (IsLawfulItem s (length scope.body.nets)) x xs are) placed in
+    let one = added_grown s lib inside lawful each scope x flat ground (All-head (IsLawfulItem s (length scope.body.nets)) x xs are) stand in
     then_grown s lib flat after (fold (add_item inside s lib scope) after xs) one
     (items_grown s lib inside lawful each scope xs after (ground_more s flat.count after.count scope one.count ground)
-    (All-tail (IsLawfulItem s (length scope.body.nets)) x xs are) one.items)
+    (All-tail (IsLawfulItem s (length scope.body.nets)) x xs are) one.stand)
 
 -- an instance and all that stands in it
 scope_grown : (depth : ℕ) (s : Source) (lib : Library) → IsLawful s → Grows s lib (add_scope depth s lib)
 unfolding add_scope
-scope_grown zero s lib lawful flat scope ground placed = record { count = omega arith; items = placed }
-scope_grown (suc depth) s lib lawful flat scope ground placed =
+scope_grown zero s lib lawful flat scope ground stand = record { count = omega arith; stand = stand }
+scope_grown (suc depth) s lib lawful flat scope ground stand =
     let grown = items_grown s lib (add_scope depth s lib) lawful (λ f x g p. scope_grown depth s lib lawful f x g p) scope scope.body.items
-    (with_scope flat scope) ground ground.body.items placed in
-    record { count = grown.count; items = grown.items }
+    (with_scope flat scope) ground ground.body.items
+    (record { items = stand.items; scopes = All-push (IsWithin flat.count) flat.scopes scope stand.scopes ground.nets }) in
+    record { count = grown.count; stand = grown.stand }
+
+-- all that stands below a module
+flat_grown : (s : Source) (lib : Library) (top : Module) → IsLawful s → IsLawfulModule s top
+    → IsGrown s lib (record { count = length top.nets; scopes = []; items = [] }) (flat_of s lib top)
+flat_grown s lib top lawful is =
+    scope_grown (length s.modules) s lib lawful (record { count = length top.nets; scopes = []; items = [] }) (top_scope top)
+    (record { body = is; len = length_numbers 0 (length top.nets); nets = numbers_below (length top.nets) 0 (length top.nets) (omega arith) })
+    (record { items = all_none (IsPlaced s lib (length top.nets)); scopes = all_none (IsWithin (length top.nets)) })
 
 -- every item of the flat netlist below a module
 pub flat_placed : (s : Source) (lib : Library) (top : Module) → IsLawful s → IsLawfulModule s top
     → length top.nets ≤ (flat_of s lib top).count × ArePlaced s lib (flat_of s lib top)
-flat_placed s lib top lawful is =
-    let grown = scope_grown (length s.modules) s lib lawful (record { count = length top.nets; scopes = []; items = [] }) (top_scope top)
-    (record { body = is; len = length_numbers 0 (length top.nets); nets = numbers_below (length top.nets) 0 (length top.nets) (omega arith) })
-    (all_none (IsPlaced s lib (length top.nets))) in
-    (grown.count, grown.items)
+flat_placed s lib top lawful is = let grown = flat_grown s lib top lawful is in (grown.count, grown.stand.items)
+
+-- every instance has its nets among those of the flat netlist
+pub flat_within : (s : Source) (lib : Library) (top : Module) → IsLawful s → IsLawfulModule s top
+    → All (IsWithin (flat_of s lib top).count) (flat_of s lib top).scopes
+flat_within s lib top lawful is = (flat_grown s lib top lawful is).stand.scopes

@@ -1,5 +1,5 @@
 -- What a refusal of a circuit speaks of, by its full name.
-use Rattle.std.specs.Prelude.{◌≡◌, ℕ, ◌==◌, Bool, true, false, List, map, Contains, Option, Some, None, slice_get, is_some}
+use Rattle.std.specs.Prelude.{◌≡◌, ℕ, ◌==◌, Bool, true, false, List, ◌++◌, map, Contains, Option, Some, None, slice_get, is_some}
 use Rattle.std.specs.List.{position}
 use Rattle.netlist_types.specs.declared.sources.Source.{Source}
 use Rattle.netlist_types.specs.declared.sources.Module.{Module}
@@ -32,9 +32,28 @@ HasName s lib flat c (fault.ClockAsData net) = HasNet flat.scopes net
 HasName s lib flat c (fault.Limit kind number) = Unit {0}
 HasName s lib flat c fault.Memory = Unit {0}
 
+-- a circuit with further data inputs and outputs after its own
+abbrev pub with_more : Circuit → List ℕ → List ℕ → Circuit
+with_more c ins outs = record { nets = c.nets; clocks = c.clocks; inputs = c.inputs ++ ins; outputs = c.outputs ++ outs; parts = c.parts }
+
+-- each of which is a net of an instance
+pub record IsExtended (scopes : List Scope) (c k : Circuit) : Type 0 where
+  pub ins : List ℕ
+  pub outs : List ℕ
+  pub ins_there : (net : ℕ) → Contains ins net → HasNet scopes net
+  pub outs_there : (net : ℕ) → Contains outs net → HasNet scopes net
+  pub is : k ≡ with_more c ins outs
+
 -- the circuit below a module, with its instances and its leaves
 pub record IsCircuitBelow (s : Source) (lib : Library) (top : Module) (clock : Option (List ℕ)) (c : FlatCircuit) : Type 0 where
   pub circuit : c.circuit ≡ circuit_of s lib top clock
+  pub scopes : map (scope_of s) c.scopes ≡ (flat_of s lib top).scopes
+  pub are_scopes : AreScopes s c.scopes
+  pub leaves : AreLeavesAt lib c.circuit.parts c.leaves (leaves s lib (flat_of s lib top))
+
+-- that circuit, or one with further data inputs and outputs
+pub record IsLeftBelow (s : Source) (lib : Library) (top : Module) (clock : Option (List ℕ)) (c : FlatCircuit) : Type 0 where
+  pub extended : IsExtended (flat_of s lib top).scopes (circuit_of s lib top clock) c.circuit
   pub scopes : map (scope_of s) c.scopes ≡ (flat_of s lib top).scopes
   pub are_scopes : AreScopes s c.scopes
   pub leaves : AreLeavesAt lib c.circuit.parts c.leaves (leaves s lib (flat_of s lib top))

@@ -9,9 +9,9 @@
 //! - `circuits.rt`: the nets and parts of the circuit, and the nets of the top module's ports, the clock's apart. `laws.rt` says
 //!   that a design can be made of it where no item is refused: its parts are over nets of the flat netlist, with at most six
 //!   pins each, as `link_design` asks.
-//! - `named_faults.rt`: a refusal of a circuit with names. `fault_laws.rt` says that what it speaks of is one of an instance and
-//!   has a full name: a net of a pin that is open or tied to a constant is driven once, and read only where the constant drives
-//!   it, so no refusal names it.
+//! - `named_faults.rt`: a refusal of a circuit with names, also of one with further inputs and outputs. `fault_laws.rt` says that what
+//!   it speaks of is one of an instance and has a full name: a net of a pin that is open or tied to a constant is driven once, and
+//!   read only where the constant drives it, so no refusal names it.
 #![tactic(auto)]
 
 mod circuits;
@@ -33,7 +33,7 @@ pub use fault_laws::faults_are_named;
 pub use faults::NameFault;
 pub use flats::{Flattened, flatten};
 pub use laws::circuit_is_lawful;
-pub use named_faults::named_fault;
+pub use named_faults::{named_fault, net_name};
 pub use orders::module_order;
 pub use ports::{PortNets, port_nets};
 pub use tables::NetTable;

@@ -11,6 +11,7 @@ use Rattle.net_model.specs.Form.{PinForm}
 use Rattle.net_model.specs.declared.netlist.Gate.{Gate}
 use Rattle.cell_types.specs.Builtin.{builtin_cells}
 use Rattle.link_defs.specs.declared.circuits.Part.TheVariants as part
+use Rattle.link_defs.specs.declared.cuts.CutSource.{CutSource}
 use Rattle.linked_types.specs.declared.faults.LinkFault.TheVariants as fault
 use Rattle.linked_types.specs.declared.options.LinkOptions.{LinkOptions}
 use Rattle.linked_types.specs.declared.names.PortName.{PortName}
@@ -106,10 +107,14 @@ no_options = record {
   cut_clocks = false;
 }
 
+-- a source of which nothing is cut out
+abbrev whole : Source → CutSource
+whole s = record { source = s; items = [] }
+
 -- module top (); endmodule beside it
-contains_itself : IsCause (record { modules = inner ∷ empty (codes "top") ∷ [] }) builtin no_options (fault.Recursive (codes "m"))
+contains_itself : IsCause (whole (record { modules = inner ∷ empty (codes "top") ∷ [] })) builtin no_options (fault.Recursive (codes "m"))
 contains_itself = (0, inner, refl, refl, record { by = 0; needed = (0, omega arith, refl); back = Stay 0 })
 
 -- module a (); endmodule module b (); endmodule
-two_tops : IsCause (record { modules = empty (codes "a") ∷ empty (codes "b") ∷ [] }) builtin no_options (fault.NoTop 2)
+two_tops : IsCause (whole (record { modules = empty (codes "a") ∷ empty (codes "b") ∷ [] })) builtin no_options (fault.NoTop 2)
 two_tops = (refl, λ e. cc)

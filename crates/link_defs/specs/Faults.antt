@@ -1,5 +1,5 @@
 -- Why a source gives no design: what each refusal says.
-use Rattle.std.specs.Prelude.{◌≡◌, ◌≢◌, ℕ, ◌+◌, ◌<◌, ◌==◌, Bool, true, false, List, [], ◌∷◌, ◌++◌, length, map}
+use Rattle.std.specs.Prelude.{◌≡◌, ◌≢◌, ℕ, ◌+◌, ◌<◌, ◌==◌, ◌⊎◌, Bool, true, false, if◌then◌else◌, List, [], ◌∷◌, ◌++◌, length, map}
 use Rattle.std.specs.Prelude.{Contains, Some, None, slice_get, count_by}
 use Rattle.sdcv_base.specs.declared.limits.LimitName.{LimitName}
 use Rattle.sdcv_base.specs.declared.limits.LimitName.TheVariants as what
@@ -16,6 +16,11 @@ use Rattle.cell_types.specs.declared.libraries.Cell.{Cell}
 use Rattle.cell_types.specs.declared.libraries.CellKind.{CellKind}
 use Rattle.cell_types.specs.declared.libraries.CellKind.TheVariants as kind
 use Rattle.link_defs.specs.declared.circuits.Circuit.{Circuit}
+use Rattle.link_defs.specs.declared.cuts.CutCell.{CutCell}
+use Rattle.link_defs.specs.declared.cuts.CutFault.TheVariants as cut
+use Rattle.link_defs.specs.declared.cuts.CutPin.{CutPin}
+use Rattle.link_defs.specs.declared.cuts.CutSource.{CutSource}
+use Rattle.link_defs.specs.declared.cuts.Way.TheVariants as way
 use Rattle.linked_types.specs.declared.options.LinkOptions.{LinkOptions}
 use Rattle.sdcv_base.specs.declared.settings.Setting.{Setting}
 use Rattle.linked_types.specs.declared.faults.LinkFault.{LinkFault}
@@ -30,6 +35,7 @@ use Rattle.link_defs.specs.Above.{Under}
 use Rattle.link_defs.specs.GateOrders.{clock_parts}
 use Rattle.link_defs.specs.GatedDesigns.{Flop, flops_of}
 use Rattle.link_defs.specs.CellNames.{Leaf, leaves, out_pins, clock_pins}
+use Rattle.link_defs.specs.Cuts.{IsCut, cut_cells}
 
 -- an instance of the flat netlist: its reference, its full name and its connections
 pub record IsInstance (flat : Flat) (cell full : List ℕ) (conns : List Conn) : Type 0 where
@@ -95,6 +101,10 @@ StandsTwice names name = (i j : ℕ) × (i < j) × (slice_get names i ≡ Some n
 abbrev pub bit_names : List PortBit → List (List ℕ)
 bit_names bits = map (λ (b : PortBit). b.port.name) bits
 
+-- the full names of cells, those that are cut out last
+abbrev pub cell_names_in : Source → Library → Flat → List CutCell → List (List ℕ)
+cell_names_in s lib flat cells = map (λ (l : Leaf). l.name) (leaves s lib flat) ++ map (λ (x : CutCell). x.name) cells
+
 -- two cells, two port bits, or two nets that something drives or reads, with one full name
 pub data Clashes (s : Source) (lib : Library) (flat : Flat) (top : Module) (c : Circuit) (name : List ℕ) : Type 0 where
   Cells : StandsTwice (map (λ (l : Leaf). l.name) (leaves s lib flat)) name → Clashes s lib flat top c name
@@ -133,16 +143,20 @@ pub data HasManyPins (s : Source) (lib : Library) (flat : Flat) (c : Circuit) : 
   Of_prim : (at : Located) → Contains flat.items at → IsWidePrim at.item → HasManyPins s lib flat c 7
   Of_gated : (x : Flop) (gate : ℕ) → Contains (flops_of c) x → Under c x.clock (Some gate) → 5 < length x.reg.ins → HasManyPins s lib flat c 6
 
+-- the most data inputs of a design: in a netlist that is read wide there may be more
+abbrev pub most_inputs : Bool → ℕ
+most_inputs wide = if wide then 20000 else 2000
+
 -- a count above its limit; the number is the limit and 1
-pub data IsAboveLimit (s : Source) (lib : Library) (flat : Flat) (c : Circuit) : LimitName → ℕ → Type 0 where
+pub data IsAboveLimit (wide : Bool) (s : Source) (lib : Library) (flat : Flat) (c : Circuit) : LimitName → ℕ → Type 0 where
   Nets : (tree : List Bool) → IsTree c tree → 200000 < length (drivers_by c (equations tree c)) + length (clock_parts c)
-      → IsAboveLimit s lib flat c what.Nets 200001
-  Regs : 20000 < length (regs_of c) → IsAboveLimit s lib flat c what.Registers 20001
-  Inputs : 2000 < length c.inputs → IsAboveLimit s lib flat c what.Inputs 2001
-  Outputs : 20000 < length c.outputs → IsAboveLimit s lib flat c what.Outputs 20001
-  Instances : 1000000 < count_by is_counted flat.items → IsAboveLimit s lib flat c what.Instances 1000001
-  Pins : (number : ℕ) → HasManyPins s lib flat c number → IsAboveLimit s lib flat c what.Pins number
-  Hierarchy : (at : Located) → Contains flat.items at → is_counted at ≡ true → 256 < at.scope.depth → IsAboveLimit s lib flat c what.Hierarchy 257
+      → IsAboveLimit wide s lib flat c what.Nets 200001
+  Regs : 20000 < length (regs_of c) → IsAboveLimit wide s lib flat c what.Registers 20001
+  Inputs : most_inputs wide < length c.inputs → IsAboveLimit wide s lib flat c what.Inputs (most_inputs wide + 1)
+  Outputs : 20000 < length c.outputs → IsAboveLimit wide s lib flat c what.Outputs 20001
+  Instances : 1000000 < count_by is_counted flat.items → IsAboveLimit wide s lib flat c what.Instances 1000001
+  Pins : (number : ℕ) → HasManyPins s lib flat c number → IsAboveLimit wide s lib flat c what.Pins number
+  Hierarchy : (at : Located) → Contains flat.items at → is_counted at ≡ true → 256 < at.scope.depth → IsAboveLimit wide s lib flat c what.Hierarchy 257
 
 -- the names of the inputs that are given a value
 abbrev pub set_names : LinkOptions → List (List ℕ)
@@ -171,19 +185,42 @@ IsFlatCause s lib o top flat c (fault.NotTheClock name) =
 IsFlatCause s lib o top flat c (fault.ClockAsData name) = (net : ℕ) × (odd : Bool) × Contains (full_names flat) (name, net)
     × Contains (all_data c) net × OnTree c net odd
 IsFlatCause s lib o top flat c (fault.NameClash name) = Clashes s lib flat top c name
-IsFlatCause s lib o top flat c (fault.Limit kind number) = IsAboveLimit s lib flat c kind number
+IsFlatCause s lib o top flat c (fault.Limit kind number) = IsAboveLimit o.wide s lib flat c kind number
 IsFlatCause s lib o top flat c (fault.BadSetting name) = IsBadSetting top o name
 IsFlatCause s lib o top flat c (fault.Recursive name) = IsRecursive s name
 IsFlatCause s lib o top flat c (fault.NoTop number) = ⊥
 IsFlatCause s lib o top flat c fault.Memory = Unit {0}
 
+-- a constant is connected to an output of a cell that is cut out; or an output of one stands on a net that the circuit drives
+pub data IsCutDriver (flat : Flat) (c : Circuit) (cells : List CutCell) : List ℕ → Type 0 where
+  Cut_tied : (x : CutCell) (pin : List ℕ) → Contains cells x → x.fault ≡ Some (cut.Tied pin) → IsCutDriver flat c cells (pin_of x.name pin)
+  Cut_driven : (x : CutCell) (p : CutPin) (name : List ℕ) → Contains cells x → Contains x.pins p → p.way ≡ way.Out → Contains (all_drivers c) p.net
+      → Contains (full_names flat) (name, p.net) → IsCutDriver flat c cells name
+
+-- what a refusal says of the cells that are cut out of a flat netlist: a connection to a port that isn't there, a second driver of a net, or
+-- the name of another cell
+abbrev pub IsCutCause : Source → Library → Flat → Circuit → List CutCell → LinkFault → Type 0
+IsCutCause s lib flat c cells (fault.UnknownPin name) =
+    (x : CutCell) × (pin : List ℕ) × Contains cells x × (x.fault ≡ Some (cut.Stray pin)) × (name ≡ pin_of x.name pin)
+IsCutCause s lib flat c cells (fault.ManyDrivers name) = IsCutDriver flat c cells name
+IsCutCause s lib flat c cells (fault.NameClash name) = StandsTwice (cell_names_in s lib flat cells) name
+IsCutCause s lib flat c cells e = ⊥
+
+-- what a refusal says of the netlist below the top module: of what is left where these cells are cut out, or of these cells
+abbrev pub IsCauseBelow : CutSource → Library → LinkOptions → Module → LinkFault → Type 0
+IsCauseBelow s lib o top f =
+    let flat = flat_of s.source lib top in
+    let c = circuit_of s.source lib top o.clock in
+    let cells = cut_cells s.items flat.scopes in
+    ((k : Circuit) → IsCut c cells k → IsFlatCause s.source lib o top flat k f) ⊎ IsCutCause s.source lib flat c cells f
+
 -- what a refusal says; want of memory alone is free
-abbrev pub IsCause : Source → Library → LinkOptions → LinkFault → Type 0
-IsCause s lib o (fault.NoTop number) = (length (tops s) ≡ number) × (number ≢ 1)
-IsCause s lib o (fault.Recursive name) = IsRecursive s name
+abbrev pub IsCause : CutSource → Library → LinkOptions → LinkFault → Type 0
+IsCause s lib o (fault.NoTop number) = (length (tops s.source) ≡ number) × (number ≢ 1)
+IsCause s lib o (fault.Recursive name) = IsRecursive s.source name
 IsCause s lib o fault.Memory = Unit {0}
-IsCause s lib o f = (top : Module) × (tops s ≡ top ∷ []) × IsFlatCause s lib o top (flat_of s lib top) (circuit_of s lib top o.clock) f
+IsCause s lib o f = (top : Module) × (tops s.source ≡ top ∷ []) × IsCauseBelow s lib o top f
 
 -- no refusal but that of memory has its cause
-abbrev pub IsFaultless : Source → Library → LinkOptions → Type 0
+abbrev pub IsFaultless : CutSource → Library → LinkOptions → Type 0
 IsFaultless s lib o = (f : LinkFault) → f ≢ fault.Memory → IsCause s lib o f → ⊥

@@ -13,7 +13,6 @@ use Rattle.cell_types.specs.declared.libraries.Cell.{Cell}
 use Rattle.cell_types.specs.declared.libraries.CellKind.{CellKind}
 use Rattle.cell_types.specs.declared.libraries.CellKind.TheVariants as kind
 use Rattle.graph_order.specs.Needs.{IsOnCycle}
-use Rattle.netlist_types.specs.Lawful.{module_of}
 
 -- the cell of that name
 unfoldable pub cell_of : Library → List ℕ → Option Cell

@@ -8,6 +8,7 @@ pub mod Ordering
 pub mod Parted
 pub mod Readings
 pub mod Readying
+pub mod Rowed
 pub mod Sounding
 pub mod Treed
 pub mod Walking

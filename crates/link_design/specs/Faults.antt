@@ -17,7 +17,7 @@ IsOffTheClock c place = (p : Part) × (clock : ℕ) × (slice_get c.parts place 
 pub data IsAboveLimit (c : Circuit) : LimitName → ℕ → Type 0 where
   Nets : (tree : List Bool) → IsTree c tree → 200000 < length (drivers_by c (equations tree c)) → IsAboveLimit c what.Nets 200001
   Regs : 20000 < length (regs_of c) → IsAboveLimit c what.Registers 20001
-  Inputs : 2000 < length c.inputs → IsAboveLimit c what.Inputs 2001
+  Inputs : 20000 < length c.inputs → IsAboveLimit c what.Inputs 20001
   Outputs : 20000 < length c.outputs → IsAboveLimit c what.Outputs 20001
 
 -- what a refusal says; want of memory alone is free

@@ -41,14 +41,14 @@ pub record IsNetlist (c : Circuit) (drivers : List ℕ) (order : List Gate) (h :
 pub record IsSized (d : Design) : Type 0 where
   pub nets : d.nets ≤ 200000
   pub regs : length d.regs ≤ 20000
-  pub inputs : length d.inputs ≤ 2000
+  pub inputs : length d.inputs ≤ 20000
   pub outputs : length d.outputs ≤ 20000
 
 -- one of them is above its limit
 abbrev pub IsSizeAbove : Design → LimitName → ℕ → Type 0
 IsSizeAbove d what.Nets number = (200000 < d.nets) × (number ≡ 200001)
 IsSizeAbove d what.Registers number = (20000 < length d.regs) × (number ≡ 20001)
-IsSizeAbove d what.Inputs number = (2000 < length d.inputs) × (number ≡ 2001)
+IsSizeAbove d what.Inputs number = (20000 < length d.inputs) × (number ≡ 20001)
 IsSizeAbove d what.Outputs number = (20000 < length d.outputs) × (number ≡ 20001)
 IsSizeAbove d kind number = ⊥
 

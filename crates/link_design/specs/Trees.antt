@@ -7,6 +7,8 @@ use Rattle.link_defs.specs.declared.circuits.Circuit.{Circuit}
 use Rattle.link_defs.specs.declared.circuits.Part.{Part}
 use Rattle.link_defs.specs.declared.circuits.Part.TheVariants as part
 use Rattle.link_defs.specs.Circuits.{OnTree}
+use Rattle.link_defs.specs.Cuts.{Tree}
+use Rattle.link_design.specs.declared.tree_rows.ClockRows.{ClockRows}
 
 -- the nets of the clock tree, and those of them after an odd number of inversions
 pub record IsTreeRow (c : Circuit) (tree odd : List Bool) : Type 0 where
@@ -18,6 +20,14 @@ pub record IsTreeRow (c : Circuit) (tree odd : List Bool) : Type 0 where
 -- a gate, of a buffer or inverter or not, that reads a net of the clock tree
 abbrev pub is_tree_gate : List Bool → Bool → Gate → Bool
 is_tree_gate tree buffer g = buffer && list_any (is_marked tree) g.ins
+
+-- a net of the tree after an even number of inversions
+abbrev pub is_even : List Bool → List Bool → ℕ → Bool
+is_even tree odd net = is_marked tree net && not (is_marked odd net)
+
+-- rows of marks as the tree that they mark
+abbrev pub tree_of : ClockRows → Tree
+tree_of rows = record { all = rows.all; even = rows.even }
 
 -- a net that is not on the tree after an even number of inversions
 abbrev pub is_off : List Bool → List Bool → ℕ → Bool

@@ -17,12 +17,9 @@ use crate::ordered::{OrderedGates, ordered_gates};
 use crate::rows::driver_row;
 use crate::trees::{check_clock, clock_tree};
 use link_defs::Circuit;
-use net_model::{Design, Fixed, Gate, MOST_NETS, MOST_OUTPUTS, MOST_REGISTERS};
+use net_model::{Design, Fixed, Gate, MOST_INPUTS, MOST_NETS, MOST_OUTPUTS, MOST_REGISTERS};
 use sdcv_base::{LimitName, Seq};
 use std::alloc::{AllocError, Global};
-
-/// The most data inputs of a circuit that is linked. A sound design may have more.
-const MOST_LINKED_INPUTS: usize = 2_000;
 
 /// The inputs of a design that keep a value, its resets with their active values, and for how many cycles these are
 /// active. Inputs are counted in the order of the circuit.
@@ -137,8 +134,8 @@ fn check_sizes(design: &Design) -> Result<(), CircuitFault>
     if regs > MOST_REGISTERS {
         return Err(CircuitFault::Limit(LimitName::Registers, 20_001));
     }
-    if inputs > MOST_LINKED_INPUTS {
-        return Err(CircuitFault::Limit(LimitName::Inputs, 2_001));
+    if inputs > MOST_INPUTS {
+        return Err(CircuitFault::Limit(LimitName::Inputs, 20_001));
     }
     if outputs > MOST_OUTPUTS {
         return Err(CircuitFault::Limit(LimitName::Outputs, 20_001));

@@ -2,7 +2,7 @@
 ghost use Rattle.std.specs.Prelude.{◌≡◌, ◌++◌, IfOk, OnOk, map, flat_map};
 ghost use Rattle.net_model.specs.Netlist.{reg_nets, gate_nets};
 ghost use Rattle.net_model.specs.declared.netlist.Gate.{Gate as GateRecord};
-ghost use Rattle.link_defs.specs.Circuits.{part_gates, part_gated, part_reads, part_data, all_gates, all_reads, all_data};
+ghost use Rattle.link_defs.specs.Circuits.{part_gates, part_gated, part_reads, part_data, all_drivers, all_gates, all_reads, all_data};
 ghost use Rattle.link_design.specs.Lists.{part_reg_nets, part_marks, data_sources, all_sources, all_marks};
 
 use link_defs::{Circuit, Part};
@@ -102,6 +102,49 @@ pub(crate) fn with_gate_nets(
     Ok(nets)
 }
 
+/// Appends the nets that gates drive.
+fn push_gate_nets(nets: &mut Seq<usize>, gates: &[Gate]) -> Result<(), AllocError>
+    ensures { OnOk result (nets.new ≡ nets.old ++ gate_nets gates.now) }
+{
+    for gate in gates {
+        nets.push(gate.out)?;
+    }
+    Ok(())
+}
+
+/// Appends the nets that a part drives by gates.
+fn push_part_gates(nets: &mut Seq<usize>, part: &Part) -> Result<(), AllocError>
+    ensures { OnOk result (nets.new ≡ nets.old ++ gate_nets (part_gates part.now)) }
+{
+    match part {
+        Part::Comb { gates, .. } => push_gate_nets(nets, gates.as_slice()),
+        Part::Flop { .. } => Ok(()),
+        Part::Gate { .. } => Ok(()),
+    }
+}
+
+/// Appends the nets that parts drive by gates.
+fn push_all_gates(nets: &mut Seq<usize>, parts: &[Part]) -> Result<(), AllocError>
+    ensures { OnOk result (nets.new ≡ nets.old ++ gate_nets (flat_map part_gates parts.now)) }
+{
+    for part in parts {
+        push_part_gates(nets, part)?;
+    }
+    Ok(())
+}
+
+/// The nets that something drives, one entry for each driver.
+pub fn all_drivers(alloc: Global, circuit: &Circuit) -> Result<Seq<usize>, AllocError>
+    ensures { IfOk result (λ nets. nets ≡ all_drivers circuit.now) }
+{
+    let mut nets = circuit.clocks.copy(alloc)?;
+    let more = data_sources(alloc, circuit)?;
+    push_all(&mut nets, more.as_slice())?;
+    push_all_gates(&mut nets, circuit.parts.as_slice())?;
+    push_gated(&mut nets, circuit.parts.as_slice())?;
+    Ok(nets)
+}
+
 /// Appends the nets that the pins of a part read.
 fn push_reads(nets: &mut Seq<usize>, part: &Part) -> Result<(), AllocError>
     ensures { OnOk result (nets.new ≡ nets.old ++ part_reads part.now) }
@@ -120,7 +163,7 @@ fn push_reads(nets: &mut Seq<usize>, part: &Part) -> Result<(), AllocError>
 }
 
 /// The nets that output ports and pins read, one entry for each reader.
-pub(crate) fn all_reads(alloc: Global, circuit: &Circuit) -> Result<Seq<usize>, AllocError>
+pub fn all_reads(alloc: Global, circuit: &Circuit) -> Result<Seq<usize>, AllocError>
     ensures { IfOk result (λ nets. nets ≡ all_reads circuit.now) }
 {
     let mut nets = circuit.outputs.copy(alloc)?;

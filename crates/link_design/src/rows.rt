@@ -1,9 +1,13 @@
 //! The driver of each net, as a row over the nets.
 ghost use Rattle.std.specs.Prelude.{◌≡◌, ◌≤◌, ℕ, ◌==◌, ◌<◌, length, count_by, slice_get, Some, IfOk, IfErr, OnOk};
 ghost use Rattle.net_model.specs.Netlist.{AllBelow};
+ghost use Rattle.link_defs.specs.Circuits.{all_drivers as spec_drivers};
+ghost use Rattle.link_design.specs.Lawful.{IsLawfulCircuit};
 ghost use Rattle.link_design.specs.Rows.{IsDriverRow, IsTwice};
 
 use crate::faults::CircuitFault;
+use crate::lists::all_drivers;
+use link_defs::Circuit;
 use sdcv_base::Seq;
 use std::alloc::Global;
 
@@ -28,4 +32,15 @@ pub fn driver_row(
         row.put(net, place);
     }
     Ok(row)
+}
+
+/// Refuses a net of two drivers, and nothing else.
+pub fn check_once(alloc: Global, circuit: &Circuit) -> Result<(), CircuitFault>
+    requires { IsLawfulCircuit circuit.now }
+    ensures ok { OnOk result ((net : ℕ) → count_by (λ m. m == net) (spec_drivers circuit.now) ≤ 1) }
+    ensures err { IfErr result (IsTwice (spec_drivers circuit.now)) }
+{
+    let drivers = all_drivers(alloc, circuit)?;
+    driver_row(alloc, &drivers, circuit.nets)?;
+    Ok(())
 }

@@ -215,21 +215,21 @@ module _ (s : Source) (lib : Library) (o : LinkOptions) (top : Module) (flat : F
   module_cause m full conns of fault.Memory bad = tt
 
   wide_cause : (most : ℕ) → HasManyPins s lib flat circuit (most + 1) → (inputs : ℕ) (kind : LimitName) (number : ℕ) → IsWide most inputs kind number
-      → IsAboveLimit s lib flat circuit kind number
+      → IsAboveLimit o.wide s lib flat circuit kind number
   wide_cause most has inputs what.Nets number wide = absurd wide
   wide_cause most has inputs what.Registers number wide = absurd wide
   wide_cause most has inputs what.Inputs number wide = absurd wide
   wide_cause most has inputs what.Outputs number wide = absurd wide
   wide_cause most has inputs what.Instances number wide = absurd wide
   wide_cause most has inputs what.Pins number wide =
-      subst (λ (n : ℕ). IsAboveLimit s lib flat circuit what.Pins n) (sym wide.1) (IsAboveLimit.Pins (most + 1) has)
+      subst (λ (n : ℕ). IsAboveLimit o.wide s lib flat circuit what.Pins n) (sym wide.1) (IsAboveLimit.Pins (most + 1) has)
   wide_cause most has inputs what.Through number wide = absurd wide
   wide_cause most has inputs what.Pairs number wide = absurd wide
   wide_cause most has inputs what.Judged number wide = absurd wide
   wide_cause most has inputs what.Hierarchy number wide = absurd wide
 
   many_pins : (cell : Cell) (full : List ℕ) (conns : List Conn) → IsOfModelled s lib flat cell full conns → (kind : LimitName) (number : ℕ)
-      → IsWide (most_pins cell.kind) (length cell.inputs) kind number → IsAboveLimit s lib flat circuit kind number
+      → IsWide (most_pins cell.kind) (length cell.inputs) kind number → IsAboveLimit o.wide s lib flat circuit kind number
   many_pins cell full conns of what.Nets number wide = absurd wide
   many_pins cell full conns of what.Registers number wide = absurd wide
   many_pins cell full conns of what.Inputs number wide = absurd wide
@@ -311,7 +311,7 @@ module _ (s : Source) (lib : Library) (o : LinkOptions) (top : Module) (flat : F
 
   prim_limit : (scope : Scope) (k : PrimKind) (own : Option (List ℕ)) (outs : List ℕ) (ins : List Wire) (first : ℕ)
       → Contains flat.items (record { scope = scope; item = item.Prim k own outs ins; first = first }) → (kind : LimitName) (number : ℕ)
-      → IsWide 6 (length ins) kind number → IsAboveLimit s lib flat circuit kind number
+      → IsWide 6 (length ins) kind number → IsAboveLimit o.wide s lib flat circuit kind number
   prim_limit scope k own outs ins first has what.Nets number wide = absurd wide
   prim_limit scope k own outs ins first has what.Registers number wide = absurd wide
   prim_limit scope k own outs ins first has what.Inputs number wide = absurd wide

@@ -2,8 +2,6 @@
 use Rattle.std.proofs.Common.{◌≡◌, ℕ, zero, suc, ◌+◌, ◌<◌, ◌≤◌, Bool, true, false, not, List, [], ◌∷◌, ◌++◌, length, map, Some, refl, ap, subst, sym, ◌∙◌, arith}
 use Rattle.std.proofs.Common.{append_assoc, take}
 use Rattle.std.specs.Prelude.{slice_get}
-use Rattle.std.specs.List.{IsDistinct, AllZip}
-use Rattle.std.specs.Str.{bytes_eq}
 use Rattle.std.proofs.lemmas.Bool.{and_parts}
 use Rattle.std.proofs.lemmas.List.{take_all}
 use Rattle.std.proofs.lemmas.Option.{slice_get_within}
@@ -16,8 +14,8 @@ use Rattle.link_defs.specs.Faults.{StandsTwice}
 use Rattle.link_defs.specs.declared.circuits.Part.{Part}
 use Rattle.cell_types.specs.declared.libraries.Library.{Library}
 use Rattle.link_items.specs.declared.made.LeafPlace.{LeafPlace}
-use Rattle.link_items.specs.Items.{AreLeavesAt, IsLeafAt}
-use Rattle.link_items.proofs.Listing.{kept_at, last_at, contains_at, take_next, map_next, with_none}
+use Rattle.link_items.specs.Items.{AreLeavesAt}
+use Rattle.link_items.proofs.Listing.{kept_at, last_at, contains_at, map_next}
 use Rattle.link_items.proofs.Searching.{among_in, in_among, place_of_item, not_both, not_true, not_false}
 use Rattle.link_tops.specs.Clashes.{IsClash, IsApart, leaf_names}
 
@@ -43,6 +41,10 @@ clash_more xs ys (fault.NoTop n) clash = clash
 clash_more xs ys (fault.Limit kind n) clash = clash
 clash_more xs ys (fault.BadSetting n) clash = clash
 clash_more xs ys fault.Memory clash = clash
+
+-- a clash of names that were added to none
+pub clash_of_added : (none xs : List (List ℕ)) (e : LinkFault) → none ≡ [] → IsClash (none ++ xs) e → IsClash xs e
+clash_of_added none xs e empty clash = subst (λ (ns : List (List ℕ)). IsClash (ns ++ xs) e) empty clash
 
 -- a name that is there and is added stands twice
 pub added_twice : (names : List (List ℕ)) (name : List ℕ) → is_among name names ≡ true → StandsTwice (names ++ name ∷ []) name
@@ -118,6 +120,15 @@ unfolding are_distinct
 all_distinct none names xs empty made kept =
     let whole : names ≡ xs = made ∙ ap (λ (ns : List (List ℕ)). ns ++ xs) empty in
     subst (λ (ns : List (List ℕ)). are_distinct ns ≡ true) whole (kept (ap are_distinct empty))
+
+-- names that were added to none, and further names
+pub joined_all : (none names all xs ys : List (List ℕ)) → none ≡ [] → names ≡ none ++ xs → (are_distinct none ≡ true → are_distinct names ≡ true)
+    → all ≡ names ++ ys → (are_distinct names ≡ true → are_distinct all ≡ true) → are_distinct (xs ++ ys) ≡ true
+unfolding are_distinct
+joined_all none names all xs ys empty made kept more further =
+    let whole : names ≡ xs = made ∙ ap (λ (ns : List (List ℕ)). ns ++ xs) empty in
+    subst (λ (ns : List (List ℕ)). are_distinct ns ≡ true) (more ∙ ap (λ (ns : List (List ℕ)). ns ++ ys) whole)
+    (further (kept (ap are_distinct empty)))
 
 -- the leaves of a flat netlist have the names of their places
 pub leaf_names_are : (lib : Library) (parts : List Part) (places : List LeafPlace) (found : List Leaf) → AreLeavesAt lib parts places found

@@ -3,6 +3,7 @@ use Rattle.std.specs.Prelude.{ℕ, List, map}
 use Rattle.linked_types.specs.declared.names.PortName.{PortName}
 use Rattle.linked_types.specs.declared.faults.LinkFault.{LinkFault}
 use Rattle.linked_types.specs.declared.faults.LinkFault.TheVariants as fault
+use Rattle.link_defs.specs.declared.cuts.CutCell.{CutCell}
 use Rattle.link_defs.specs.Faults.{StandsTwice}
 use Rattle.link_items.specs.declared.made.LeafPlace.{LeafPlace}
 
@@ -13,6 +14,10 @@ port_names ports = map (λ (p : PortName). p.name) ports
 -- the names of leaves
 abbrev pub leaf_names : List LeafPlace → List (List ℕ)
 leaf_names leaves = map (λ (l : LeafPlace). l.name) leaves
+
+-- the names of cells that are cut out
+abbrev pub cut_names : List CutCell → List (List ℕ)
+cut_names cells = map (λ (x : CutCell). x.name) cells
 
 -- no name stands twice
 abbrev pub IsApart : List (List ℕ) → Type 0

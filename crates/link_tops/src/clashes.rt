@@ -3,8 +3,9 @@ ghost use Rattle.std.specs.Prelude.{◌≡◌, ◌++◌, ◌∷◌, [], true, fa
 ghost use Rattle.std.specs.List.{IsDistinct};
 ghost use Rattle.std.specs.Str.{bytes_eq};
 ghost use Rattle.texts.specs.Names.{is_among, are_distinct};
-ghost use Rattle.link_tops.specs.Clashes.{port_names, leaf_names, IsApart, IsClash};
+ghost use Rattle.link_tops.specs.Clashes.{port_names, leaf_names, cut_names, IsApart, IsClash};
 
+use link_defs::CutCell;
 use link_items::LeafPlace;
 use linked_types::{LinkFault, PortName};
 use sdcv_base::{Name, Seq};
@@ -63,5 +64,37 @@ pub fn check_cells(alloc: Global, leaves: &Seq<LeafPlace>) -> Result<(), LinkFau
 {
     let mut names = NameTable::new(alloc);
     add_leaves(alloc, &mut names, leaves)?;
+    Ok(())
+}
+
+/// Adds the names of cells that are cut out, or refuses one that is there.
+fn add_cut_cells(
+    alloc: Global,
+    names: &mut NameTable,
+    cells: &Seq<CutCell>,
+) -> Result<(), LinkFault>
+    ensures ok { OnOk result (names.new ≡ names.old ++ cut_names cells.now) }
+    ensures distinct { OnOk result (are_distinct names.old ≡ true → are_distinct names.new ≡ true) }
+    ensures err { IfErr result (IsClash (names.old ++ cut_names cells.now)) }
+{
+    for k in 0..cells.len() {
+        add_new(alloc, names, &cells.item(k).name)?;
+    }
+    Ok(())
+}
+
+/// Refuses a name that two cells have, leaves or cells that are cut out.
+pub fn check_names(
+    alloc: Global,
+    leaves: &Seq<LeafPlace>,
+    cells: &Seq<CutCell>,
+) -> Result<(), LinkFault>
+    ensures differ { OnOk result (IsDistinct bytes_eq (leaf_names leaves.now ++ cut_names cells.now)) }
+    ensures none { OnOk result (IsApart (leaf_names leaves.now ++ cut_names cells.now)) }
+    ensures err { IfErr result (IsClash (leaf_names leaves.now ++ cut_names cells.now)) }
+{
+    let mut names = NameTable::new(alloc);
+    add_leaves(alloc, &mut names, leaves)?;
+    add_cut_cells(alloc, &mut names, cells)?;
     Ok(())
 }

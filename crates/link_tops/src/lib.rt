@@ -9,6 +9,6 @@ mod clashes;
 mod ports;
 mod tops;
 
-pub use clashes::{add_ports, check_cells};
+pub use clashes::{add_ports, check_cells, check_names};
 pub use ports::{input_names, output_names};
 pub use tops::{one_top, top_inputs};

@@ -1,8 +1,7 @@
 -- The causes of refusals, and none of them where there is a design.
-use Rattle.std.proofs.Common.{◌≡◌, ◌≢◌, ℕ, ◌+◌, ◌<◌, ◌≤◌, true, List, [], ◌∷◌, ◌++◌, length, map, Some, None, refl, ap}
+use Rattle.std.proofs.Common.{◌≡◌, ◌≢◌, ℕ, ◌+◌, ◌<◌, ◌≤◌, Bool, true, List, [], ◌∷◌, ◌++◌, length, map, Some, None, refl, ap}
 use Rattle.std.proofs.Common.{subst, sym, ◌∙◌, arith, inl, inr}
 use Rattle.std.specs.Prelude.{Option, Contains, slice_get}
-use Rattle.std.proofs.lemmas.List.{length-map}
 use Rattle.sdcv_base.specs.declared.limits.LimitName.{LimitName}
 use Rattle.sdcv_base.specs.declared.limits.LimitName.TheVariants as what
 use Rattle.net_model.proofs.Members.{In-left, In-cases, in_or, In-from_Contains, Contains-from_In}
@@ -21,14 +20,17 @@ use Rattle.link_design.specs.Faults.{IsFaultless as IsFaultlessCircuit, IsAboveL
 use Rattle.link_design.specs.Faults as above
 use Rattle.link_tops.specs.Clashes.{leaf_names, IsApart, IsClash}
 use Rattle.link_defs.specs.declared.circuits.Circuit.{Circuit}
+use Rattle.link_defs.specs.declared.cuts.CutSource.{CutSource}
+use Rattle.link_defs.specs.Cuts.{IsCut, cut_cells}
 use Rattle.link_defs.specs.declared.circuits.Part.{Part}
 use Rattle.linked_types.specs.declared.faults.LinkFault.{LinkFault}
 use Rattle.linked_types.specs.declared.faults.LinkFault.TheVariants as fault
 use Rattle.linked_types.specs.declared.options.LinkOptions.{LinkOptions}
 use Rattle.link_defs.specs.CellNames.{Leaf, leaves}
-use Rattle.link_defs.specs.Circuits.{PortBit, circuit_of, data_bits, input_bits, output_bits, all_drivers, all_reads}
+use Rattle.link_defs.specs.Circuits.{circuit_of, data_bits, input_bits, output_bits, all_drivers, all_reads}
 use Rattle.link_defs.specs.Faults.{IsInstance, IsOfModule, IsOfCell, IsOfModelled, IsUnknownPin, IsOpenInput, HasManyDrivers, StandsTwice, bit_names, Clashes}
-use Rattle.link_defs.specs.Faults.{most_pins, HasManyPins, IsWidePrim, is_counted, IsAboveLimit, IsBadSetting, IsFlatCause, IsCause, IsFaultless}
+use Rattle.link_defs.specs.Faults.{most_pins, HasManyPins, IsWidePrim, is_counted, IsAboveLimit, IsBadSetting, IsFlatCause, IsCutCause, IsCauseBelow, IsCause}
+use Rattle.link_defs.specs.Faults.{IsFaultless, most_inputs}
 use Rattle.link_defs.specs.Faults as link
 use Rattle.link_defs.specs.Flatten.{Located, Flat, flat_of, full_names}
 use Rattle.link_defs.specs.Hierarchy.{cell_of, tops}
@@ -43,28 +45,54 @@ use Rattle.link_design.proofs.Parted.{all_in}
 use Rattle.net_link.specs.Nets.{IsOfTwoNets, IsNetCause}
 use Rattle.net_link.specs.Stages.{IsEnableCause}
 use Rattle.net_link.proofs.Rooms.{IsRoomy}
+use Rattle.net_link.proofs.Remaining.{inputs_left, outputs_left, inputs_of, outputs_of}
 
--- a cause below the only top module is one of the source
-pub cause_of : (s : Source) (lib : Library) (o : LinkOptions) (top : Module) (e : LinkFault) → tops s ≡ top ∷ []
-    → IsFlatCause s lib o top (flat_of s lib top) (circuit_of s lib top o.clock) e → IsCause s lib o e
-cause_of s lib o top (fault.UnknownCell n) one cause = (top, one, cause)
-cause_of s lib o top (fault.UnsupportedCell n) one cause = (top, one, cause)
-cause_of s lib o top (fault.UnknownPin n) one cause = (top, one, cause)
-cause_of s lib o top (fault.OpenInput n) one cause = (top, one, cause)
-cause_of s lib o top (fault.Undriven n) one cause = (top, one, cause)
-cause_of s lib o top (fault.ManyDrivers n) one cause = (top, one, cause)
-cause_of s lib o top (fault.Loop n) one cause = (top, one, cause)
-cause_of s lib o top (fault.NotTheClock n) one cause = (top, one, cause)
-cause_of s lib o top (fault.ClockAsData n) one cause = (top, one, cause)
-cause_of s lib o top (fault.Recursive n) one cause = cause
-cause_of s lib o top (fault.NameClash n) one cause = (top, one, cause)
-cause_of s lib o top (fault.NoTop n) one cause = absurd cause
-cause_of s lib o top (fault.Limit k n) one cause = (top, one, cause)
-cause_of s lib o top (fault.BadSetting n) one cause = (top, one, cause)
-cause_of s lib o top fault.Memory one cause = tt
+-- what is left of the circuit below a module where the cells are cut out
+abbrev pub IsCutBelow : CutSource → Library → LinkOptions → Module → Circuit → Type 0
+IsCutBelow s lib o top k = IsCut (circuit_of s.source lib top o.clock) (cut_cells s.items (flat_of s.source lib top).scopes) k
+
+-- a cause below the only top module is one of the source, where it is one in each circuit that may be left
+pub cause_of : (s : CutSource) (lib : Library) (o : LinkOptions) (top : Module) (k : Circuit) (e : LinkFault) → tops s.source ≡ top ∷ []
+    → IsFlatCause s.source lib o top (flat_of s.source lib top) k e
+    → ((j : Circuit) → IsCutBelow s lib o top j → IsFlatCause s.source lib o top (flat_of s.source lib top) j e) → IsCause s lib o e
+cause_of s lib o top k (fault.UnknownCell n) one here each = (top, one, inl each)
+cause_of s lib o top k (fault.UnsupportedCell n) one here each = (top, one, inl each)
+cause_of s lib o top k (fault.UnknownPin n) one here each = (top, one, inl each)
+cause_of s lib o top k (fault.OpenInput n) one here each = (top, one, inl each)
+cause_of s lib o top k (fault.Undriven n) one here each = (top, one, inl each)
+cause_of s lib o top k (fault.ManyDrivers n) one here each = (top, one, inl each)
+cause_of s lib o top k (fault.Loop n) one here each = (top, one, inl each)
+cause_of s lib o top k (fault.NotTheClock n) one here each = (top, one, inl each)
+cause_of s lib o top k (fault.ClockAsData n) one here each = (top, one, inl each)
+cause_of s lib o top k (fault.Recursive n) one here each = here
+cause_of s lib o top k (fault.NameClash n) one here each = (top, one, inl each)
+cause_of s lib o top k (fault.NoTop n) one here each = absurd here
+cause_of s lib o top k (fault.Limit x n) one here each = (top, one, inl each)
+cause_of s lib o top k (fault.BadSetting n) one here each = (top, one, inl each)
+cause_of s lib o top k fault.Memory one here each = tt
+
+-- so is one of the cells that are cut out
+pub cut_cause : (s : CutSource) (lib : Library) (o : LinkOptions) (top : Module) (e : LinkFault) → tops s.source ≡ top ∷ []
+    → IsCutCause s.source lib (flat_of s.source lib top) (circuit_of s.source lib top o.clock) (cut_cells s.items (flat_of s.source lib top).scopes) e
+    → IsCause s lib o e
+cut_cause s lib o top (fault.UnknownCell n) one cause = absurd cause
+cut_cause s lib o top (fault.UnsupportedCell n) one cause = absurd cause
+cut_cause s lib o top (fault.UnknownPin n) one cause = (top, one, inr cause)
+cut_cause s lib o top (fault.OpenInput n) one cause = absurd cause
+cut_cause s lib o top (fault.Undriven n) one cause = absurd cause
+cut_cause s lib o top (fault.ManyDrivers n) one cause = (top, one, inr cause)
+cut_cause s lib o top (fault.Loop n) one cause = absurd cause
+cut_cause s lib o top (fault.NotTheClock n) one cause = absurd cause
+cut_cause s lib o top (fault.ClockAsData n) one cause = absurd cause
+cut_cause s lib o top (fault.Recursive n) one cause = absurd cause
+cut_cause s lib o top (fault.NameClash n) one cause = (top, one, inr cause)
+cut_cause s lib o top (fault.NoTop n) one cause = absurd cause
+cut_cause s lib o top (fault.Limit k n) one cause = absurd cause
+cut_cause s lib o top (fault.BadSetting n) one cause = absurd cause
+cut_cause s lib o top fault.Memory one cause = absurd cause
 
 -- why there is no top module
-pub top_cause : (s : Source) (lib : Library) (o : LinkOptions) (e : LinkFault) → IsTopCause s e → IsCause s lib o e
+pub top_cause : (s : CutSource) (lib : Library) (o : LinkOptions) (e : LinkFault) → IsTopCause s.source e → IsCause s lib o e
 top_cause s lib o (fault.UnknownCell n) cause = absurd cause
 top_cause s lib o (fault.UnsupportedCell n) cause = absurd cause
 top_cause s lib o (fault.UnknownPin n) cause = absurd cause
@@ -82,67 +110,80 @@ top_cause s lib o (fault.BadSetting n) cause = absurd cause
 top_cause s lib o fault.Memory cause = tt
 
 -- why ports and settings are refused
-pub port_cause : (s : Source) (lib : Library) (o : LinkOptions) (top : Module) (flat : Flat) (c : Circuit) (e : LinkFault) → IsPortCause top o e
-    → IsFlatCause s lib o top flat c e
-port_cause s lib o top flat c (fault.UnknownCell n) cause = absurd cause
-port_cause s lib o top flat c (fault.UnsupportedCell n) cause = absurd cause
-port_cause s lib o top flat c (fault.UnknownPin n) cause = absurd cause
-port_cause s lib o top flat c (fault.OpenInput n) cause = absurd cause
-port_cause s lib o top flat c (fault.Undriven n) cause = absurd cause
-port_cause s lib o top flat c (fault.ManyDrivers n) cause = absurd cause
-port_cause s lib o top flat c (fault.Loop n) cause = absurd cause
-port_cause s lib o top flat c (fault.NotTheClock n) cause = absurd cause
-port_cause s lib o top flat c (fault.ClockAsData n) cause = absurd cause
-port_cause s lib o top flat c (fault.Recursive n) cause = absurd cause
-port_cause s lib o top flat c (fault.NameClash n) cause = link.Ports cause
-port_cause s lib o top flat c (fault.NoTop n) cause = absurd cause
-port_cause s lib o top flat c (fault.Limit k n) cause = absurd cause
-port_cause s lib o top flat c (fault.BadSetting n) cause = cause
-port_cause s lib o top flat c fault.Memory cause = tt
+pub port_cause : (s : CutSource) (lib : Library) (o : LinkOptions) (top : Module) (e : LinkFault) → tops s.source ≡ top ∷ [] → IsPortCause top o e
+    → IsCause s lib o e
+port_cause s lib o top (fault.UnknownCell n) one cause = absurd cause
+port_cause s lib o top (fault.UnsupportedCell n) one cause = absurd cause
+port_cause s lib o top (fault.UnknownPin n) one cause = absurd cause
+port_cause s lib o top (fault.OpenInput n) one cause = absurd cause
+port_cause s lib o top (fault.Undriven n) one cause = absurd cause
+port_cause s lib o top (fault.ManyDrivers n) one cause = absurd cause
+port_cause s lib o top (fault.Loop n) one cause = absurd cause
+port_cause s lib o top (fault.NotTheClock n) one cause = absurd cause
+port_cause s lib o top (fault.ClockAsData n) one cause = absurd cause
+port_cause s lib o top (fault.Recursive n) one cause = absurd cause
+port_cause s lib o top (fault.NameClash n) one cause = (top, one, inl (λ j cut. link.Ports cause))
+port_cause s lib o top (fault.NoTop n) one cause = absurd cause
+port_cause s lib o top (fault.Limit k n) one cause = absurd cause
+port_cause s lib o top (fault.BadSetting n) one cause = (top, one, inl (λ j cut. cause))
+port_cause s lib o top fault.Memory one cause = tt
 
-number_is : (s : Source) (lib : Library) (flat : Flat) (c : Circuit) (k : LimitName) (most n : ℕ) → n ≡ most → IsAboveLimit s lib flat c k most
-    → IsAboveLimit s lib flat c k n
-number_is s lib flat c k most n is above = subst (IsAboveLimit s lib flat c k) (sym is) above
+number_is : (wide : Bool) (s : Source) (lib : Library) (flat : Flat) (c : Circuit) (k : LimitName) (most n : ℕ) → n ≡ most
+    → IsAboveLimit wide s lib flat c k most → IsAboveLimit wide s lib flat c k n
+number_is wide s lib flat c k most n is above = subst (IsAboveLimit wide s lib flat c k) (sym is) above
 
-many_inputs : (s : Source) (lib : Library) (o : LinkOptions) (top : Module) → 2000 < length (data_bits o.clock top)
-    → 2000 < length (circuit_of s lib top o.clock).inputs
-unfolding circuit_of
-many_inputs s lib o top more = omega (arith, more, length-map (data_bits o.clock top) (λ (b : PortBit). b.net))
+-- the ports alone are too many, whatever is cut out
+many_inputs : (s : CutSource) (lib : Library) (o : LinkOptions) (top : Module) (j : Circuit) → IsCutBelow s lib o top j
+    → most_inputs o.wide < length (data_bits o.clock top) → most_inputs o.wide < length j.inputs
+many_inputs s lib o top j cut more =
+    let c = circuit_of s.source lib top o.clock in
+    let cells = cut_cells s.items (flat_of s.source lib top).scopes in
+    omega (arith, more, inputs_of s.source lib o top, inputs_left c cut.tree cells, ap (λ (x : Circuit). length x.inputs) cut.is)
 
-many_outputs : (s : Source) (lib : Library) (o : LinkOptions) (top : Module) → 20000 < length (output_bits top)
-    → 20000 < length (circuit_of s lib top o.clock).outputs
-unfolding circuit_of
-many_outputs s lib o top more = omega (arith, more, length-map (output_bits top) (λ (b : PortBit). b.net))
+many_outputs : (s : CutSource) (lib : Library) (o : LinkOptions) (top : Module) (j : Circuit) → IsCutBelow s lib o top j
+    → 20000 < length (output_bits top) → 20000 < length j.outputs
+many_outputs s lib o top j cut more =
+    let c = circuit_of s.source lib top o.clock in
+    let cells = cut_cells s.items (flat_of s.source lib top).scopes in
+    omega (arith, more, outputs_of s.source lib o top, outputs_left c cut.tree cells, ap (λ (x : Circuit). length x.outputs) cut.is)
 
 -- why bits of ports are too many
-pub bit_cause : (s : Source) (lib : Library) (o : LinkOptions) (top : Module) (e : LinkFault) → IsBitCause top o.clock e
-    → IsFlatCause s lib o top (flat_of s lib top) (circuit_of s lib top o.clock) e
-bit_cause s lib o top (fault.UnknownCell n) cause = absurd cause
-bit_cause s lib o top (fault.UnsupportedCell n) cause = absurd cause
-bit_cause s lib o top (fault.UnknownPin n) cause = absurd cause
-bit_cause s lib o top (fault.OpenInput n) cause = absurd cause
-bit_cause s lib o top (fault.Undriven n) cause = absurd cause
-bit_cause s lib o top (fault.ManyDrivers n) cause = absurd cause
-bit_cause s lib o top (fault.Loop n) cause = absurd cause
-bit_cause s lib o top (fault.NotTheClock n) cause = absurd cause
-bit_cause s lib o top (fault.ClockAsData n) cause = absurd cause
-bit_cause s lib o top (fault.Recursive n) cause = absurd cause
-bit_cause s lib o top (fault.NameClash n) cause = absurd cause
-bit_cause s lib o top (fault.NoTop n) cause = absurd cause
-bit_cause s lib o top (fault.Limit what.Inputs n) (is, more) =
-    number_is s lib (flat_of s lib top) (circuit_of s lib top o.clock) what.Inputs 2001 n is (link.Inputs (many_inputs s lib o top more))
-bit_cause s lib o top (fault.Limit what.Outputs n) (is, more) =
-    number_is s lib (flat_of s lib top) (circuit_of s lib top o.clock) what.Outputs 20001 n is (link.Outputs (many_outputs s lib o top more))
-bit_cause s lib o top (fault.Limit what.Nets n) cause = absurd cause
-bit_cause s lib o top (fault.Limit what.Registers n) cause = absurd cause
-bit_cause s lib o top (fault.Limit what.Instances n) cause = absurd cause
-bit_cause s lib o top (fault.Limit what.Pins n) cause = absurd cause
-bit_cause s lib o top (fault.Limit what.Through n) cause = absurd cause
-bit_cause s lib o top (fault.Limit what.Pairs n) cause = absurd cause
-bit_cause s lib o top (fault.Limit what.Judged n) cause = absurd cause
-bit_cause s lib o top (fault.Limit what.Hierarchy n) cause = absurd cause
-bit_cause s lib o top (fault.BadSetting n) cause = absurd cause
-bit_cause s lib o top fault.Memory cause = tt
+pub bit_cause : (s : CutSource) (lib : Library) (o : LinkOptions) (top : Module) (e : LinkFault) → tops s.source ≡ top ∷ []
+    → IsBitCause o.wide top o.clock e → IsCause s lib o e
+bit_cause s lib o top (fault.UnknownCell n) one cause = absurd cause
+bit_cause s lib o top (fault.UnsupportedCell n) one cause = absurd cause
+bit_cause s lib o top (fault.UnknownPin n) one cause = absurd cause
+bit_cause s lib o top (fault.OpenInput n) one cause = absurd cause
+bit_cause s lib o top (fault.Undriven n) one cause = absurd cause
+bit_cause s lib o top (fault.ManyDrivers n) one cause = absurd cause
+bit_cause s lib o top (fault.Loop n) one cause = absurd cause
+bit_cause s lib o top (fault.NotTheClock n) one cause = absurd cause
+bit_cause s lib o top (fault.ClockAsData n) one cause = absurd cause
+bit_cause s lib o top (fault.Recursive n) one cause = absurd cause
+bit_cause s lib o top (fault.NameClash n) one cause = absurd cause
+bit_cause s lib o top (fault.NoTop n) one cause = absurd cause
+bit_cause s lib o top (fault.Limit what.Inputs n) one (is, more) = (
+  top,
+  one,
+  inl (λ j cut.
+      number_is o.wide s.source lib (flat_of s.source lib top) j what.Inputs (most_inputs o.wide + 1) n is
+      (link.Inputs (many_inputs s lib o top j cut more))),
+)
+bit_cause s lib o top (fault.Limit what.Outputs n) one (is, more) = (
+  top,
+  one,
+  inl (λ j cut. number_is o.wide s.source lib (flat_of s.source lib top) j what.Outputs 20001 n is (link.Outputs (many_outputs s lib o top j cut more))),
+)
+bit_cause s lib o top (fault.Limit what.Nets n) one cause = absurd cause
+bit_cause s lib o top (fault.Limit what.Registers n) one cause = absurd cause
+bit_cause s lib o top (fault.Limit what.Instances n) one cause = absurd cause
+bit_cause s lib o top (fault.Limit what.Pins n) one cause = absurd cause
+bit_cause s lib o top (fault.Limit what.Through n) one cause = absurd cause
+bit_cause s lib o top (fault.Limit what.Pairs n) one cause = absurd cause
+bit_cause s lib o top (fault.Limit what.Judged n) one cause = absurd cause
+bit_cause s lib o top (fault.Limit what.Hierarchy n) one cause = absurd cause
+bit_cause s lib o top (fault.BadSetting n) one cause = absurd cause
+bit_cause s lib o top fault.Memory one cause = tt
 
 -- why names of nets are refused
 pub net_cause : (s : Source) (lib : Library) (o : LinkOptions) (top : Module) (flat : Flat) (c : Circuit) (pairs : List (List ℕ × ℕ)) (e : LinkFault)
@@ -169,25 +210,25 @@ net_cause s lib o top flat c pairs (fault.BadSetting n) is cause = absurd cause
 net_cause s lib o top flat c pairs fault.Memory is cause = tt
 
 -- a limit that the enables break
-limit_cause : (s : Source) (lib : Library) (flat : Flat) (c : Circuit) (g : Gated) (k : LimitName) (n : ℕ)
-    → ((r : ℕ) → IsFull g r → IsAboveLimit s lib flat c what.Pins 6)
-    → (200000 < g.design.nets + length g.gates → IsAboveLimit s lib flat c what.Nets 200001) → IsEnableCause g (fault.Limit k n)
-    → IsAboveLimit s lib flat c k n
-limit_cause s lib flat c g what.Nets n pins nets cause = rw cause.0 (nets cause.1)
-limit_cause s lib flat c g what.Registers n pins nets cause = absurd cause
-limit_cause s lib flat c g what.Inputs n pins nets cause = absurd cause
-limit_cause s lib flat c g what.Outputs n pins nets cause = absurd cause
-limit_cause s lib flat c g what.Instances n pins nets cause = absurd cause
-limit_cause s lib flat c g what.Pins n pins nets cause = rw cause.0 (pins cause.1.0 cause.1.1)
-limit_cause s lib flat c g what.Through n pins nets cause = absurd cause
-limit_cause s lib flat c g what.Pairs n pins nets cause = absurd cause
-limit_cause s lib flat c g what.Judged n pins nets cause = absurd cause
-limit_cause s lib flat c g what.Hierarchy n pins nets cause = absurd cause
+limit_cause : (wide : Bool) (s : Source) (lib : Library) (flat : Flat) (c : Circuit) (g : Gated) (k : LimitName) (n : ℕ)
+    → ((r : ℕ) → IsFull g r → IsAboveLimit wide s lib flat c what.Pins 6)
+    → (200000 < g.design.nets + length g.gates → IsAboveLimit wide s lib flat c what.Nets 200001) → IsEnableCause g (fault.Limit k n)
+    → IsAboveLimit wide s lib flat c k n
+limit_cause wide s lib flat c g what.Nets n pins nets cause = rw cause.0 (nets cause.1)
+limit_cause wide s lib flat c g what.Registers n pins nets cause = absurd cause
+limit_cause wide s lib flat c g what.Inputs n pins nets cause = absurd cause
+limit_cause wide s lib flat c g what.Outputs n pins nets cause = absurd cause
+limit_cause wide s lib flat c g what.Instances n pins nets cause = absurd cause
+limit_cause wide s lib flat c g what.Pins n pins nets cause = rw cause.0 (pins cause.1.0 cause.1.1)
+limit_cause wide s lib flat c g what.Through n pins nets cause = absurd cause
+limit_cause wide s lib flat c g what.Pairs n pins nets cause = absurd cause
+limit_cause wide s lib flat c g what.Judged n pins nets cause = absurd cause
+limit_cause wide s lib flat c g what.Hierarchy n pins nets cause = absurd cause
 
 -- why there is no room for enables
 pub enable_cause : (s : Source) (lib : Library) (o : LinkOptions) (top : Module) (flat : Flat) (c : Circuit) (g : Gated) (e : LinkFault)
-    → ((r : ℕ) → IsFull g r → IsAboveLimit s lib flat c what.Pins 6)
-    → (200000 < g.design.nets + length g.gates → IsAboveLimit s lib flat c what.Nets 200001) → IsEnableCause g e → IsFlatCause s lib o top flat c e
+    → ((r : ℕ) → IsFull g r → IsAboveLimit o.wide s lib flat c what.Pins 6)
+    → (200000 < g.design.nets + length g.gates → IsAboveLimit o.wide s lib flat c what.Nets 200001) → IsEnableCause g e → IsFlatCause s lib o top flat c e
 enable_cause s lib o top flat c g (fault.UnknownCell n) pins nets cause = absurd cause
 enable_cause s lib o top flat c g (fault.UnsupportedCell n) pins nets cause = absurd cause
 enable_cause s lib o top flat c g (fault.UnknownPin n) pins nets cause = absurd cause
@@ -200,7 +241,7 @@ enable_cause s lib o top flat c g (fault.ClockAsData n) pins nets cause = absurd
 enable_cause s lib o top flat c g (fault.Recursive n) pins nets cause = absurd cause
 enable_cause s lib o top flat c g (fault.NameClash n) pins nets cause = absurd cause
 enable_cause s lib o top flat c g (fault.NoTop n) pins nets cause = absurd cause
-enable_cause s lib o top flat c g (fault.Limit k n) pins nets cause = limit_cause s lib flat c g k n pins nets cause
+enable_cause s lib o top flat c g (fault.Limit k n) pins nets cause = limit_cause o.wide s lib flat c g k n pins nets cause
 enable_cause s lib o top flat c g (fault.BadSetting n) pins nets cause = absurd cause
 enable_cause s lib o top flat c g fault.Memory pins nets cause = tt
 
@@ -243,6 +284,7 @@ pub record IsFree (s : Source) (lib : Library) (o : LinkOptions) (top : Module) 
   pub ports : IsApart (bit_names (input_bits top ++ output_bits top))
   pub nets : (name : List ℕ) → IsOfTwoNets (full_names flat) c name → ⊥
   pub settings : (name : List ℕ) → IsBadSetting top o name → ⊥
+  pub few : length c.inputs ≤ most_inputs o.wide
 
 -- an item of an instance has none of its faults
 item_free : (s : Source) (lib : Library) (flat : Flat) (cell full : List ℕ) (conns : List Conn) (e : LinkFault) → AreFine s lib flat → e ≢ fault.Memory
@@ -300,10 +342,10 @@ many_pins s lib flat c n fine room (link.Of_prim at has wide) = wide_item s lib 
 many_pins s lib flat c n fine room (link.Of_gated x gate has under wide) = room.pins x gate has under wide
 
 above_limit : (s : Source) (lib : Library) (o : LinkOptions) (top : Module) (flat : Flat) (c : Circuit) (k : LimitName) (n : ℕ) → IsFree s lib o top flat c
-    → IsAboveLimit s lib flat c k n → ⊥
+    → IsAboveLimit o.wide s lib flat c k n → ⊥
 above_limit s lib o top flat c k n free (link.Nets tree is more) = omega (arith, more, free.room.nets tree is)
 above_limit s lib o top flat c k n free (link.Regs more) = free.circuit (circuit.Limit what.Registers 20001) (λ e. cc) (above.Regs more)
-above_limit s lib o top flat c k n free (link.Inputs more) = free.circuit (circuit.Limit what.Inputs 2001) (λ e. cc) (above.Inputs more)
+above_limit s lib o top flat c k n free (link.Inputs more) = omega (arith, more, free.few)
 above_limit s lib o top flat c k n free (link.Outputs more) = free.circuit (circuit.Limit what.Outputs 20001) (λ e. cc) (above.Outputs more)
 above_limit s lib o top flat c k n free (link.Instances more) = let few = free.fine.few in omega (arith, more, few)
 above_limit s lib o top flat c k n free (link.Pins number many) = many_pins s lib flat c number free.fine free.room many
@@ -354,37 +396,56 @@ flat_free s lib o top flat c (fault.Limit k n) free some cause = above_limit s l
 flat_free s lib o top flat c (fault.BadSetting n) free some cause = free.settings n cause
 flat_free s lib o top flat c fault.Memory free some cause = some refl
 
-abbrev IsFreeBelow : Source → Library → LinkOptions → Module → Type 0
-IsFreeBelow s lib o top = IsFree s lib o top (flat_of s lib top) (circuit_of s lib top o.clock)
+-- nor of the circuit that is left below a module, or of the cells that are cut out
+pub record IsFreeBelow (s : CutSource) (lib : Library) (o : LinkOptions) (top : Module) (k : Circuit) : Type 0 where
+  pub flat : IsFree s.source lib o top (flat_of s.source lib top) k
+  pub cut : IsCutBelow s lib o top k
+  pub none : (f : LinkFault)
+      → IsCutCause s.source lib (flat_of s.source lib top) (circuit_of s.source lib top o.clock) (cut_cells s.items (flat_of s.source lib top).scopes) f → ⊥
 
 -- two lists of one top module have the same
 same_top : (ts : List Module) (top other : Module) → ts ≡ top ∷ [] → ts ≡ other ∷ [] → other ≡ top
 same_top ts top other one two = cc
 
-below_free : (s : Source) (lib : Library) (o : LinkOptions) (top other : Module) (f : LinkFault) → tops s ≡ top ∷ [] → IsFreeBelow s lib o top
-    → f ≢ fault.Memory → tops s ≡ other ∷ [] → IsFlatCause s lib o other (flat_of s lib other) (circuit_of s lib other o.clock) f → ⊥
-below_free s lib o top other f one free some two cause =
-    flat_free s lib o top (flat_of s lib top) (circuit_of s lib top o.clock) f free some
-    (subst (λ (t : Module). IsFlatCause s lib o t (flat_of s lib t) (circuit_of s lib t o.clock) f) (same_top (tops s) top other one two) cause)
+below_free : (s : CutSource) (lib : Library) (o : LinkOptions) (top other : Module) (k : Circuit) (f : LinkFault) → tops s.source ≡ top ∷ []
+    → IsFreeBelow s lib o top k → f ≢ fault.Memory → tops s.source ≡ other ∷ [] → IsCauseBelow s lib o other f → ⊥
+below_free s lib o top other k f one free some two cause =
+    elim (subst (λ (t : Module). IsCauseBelow s lib o t f) (same_top (tops s.source) top other one two) cause) [
+      | inl each ↦ flat_free s.source lib o top (flat_of s.source lib top) k f free.flat some (each k free.cut)
+      | inr cut ↦ free.none f cut
+    ]
 
 -- no refusal of the source has its cause
-source_free : (s : Source) (lib : Library) (o : LinkOptions) (top : Module) (f : LinkFault) → tops s ≡ top ∷ [] → IsFreeBelow s lib o top
-    → f ≢ fault.Memory → IsCause s lib o f → ⊥
-source_free s lib o top (fault.UnknownCell n) one free some (other, two, cause) = below_free s lib o top other (fault.UnknownCell n) one free some two cause
-source_free s lib o top (fault.UnsupportedCell n) one free some (other, two, cause) = below_free s lib o top other (fault.UnsupportedCell n) one free some two cause
-source_free s lib o top (fault.UnknownPin n) one free some (other, two, cause) = below_free s lib o top other (fault.UnknownPin n) one free some two cause
-source_free s lib o top (fault.OpenInput n) one free some (other, two, cause) = below_free s lib o top other (fault.OpenInput n) one free some two cause
-source_free s lib o top (fault.Undriven n) one free some (other, two, cause) = below_free s lib o top other (fault.Undriven n) one free some two cause
-source_free s lib o top (fault.ManyDrivers n) one free some (other, two, cause) = below_free s lib o top other (fault.ManyDrivers n) one free some two cause
-source_free s lib o top (fault.Loop n) one free some (other, two, cause) = below_free s lib o top other (fault.Loop n) one free some two cause
-source_free s lib o top (fault.NotTheClock n) one free some (other, two, cause) = below_free s lib o top other (fault.NotTheClock n) one free some two cause
-source_free s lib o top (fault.ClockAsData n) one free some (other, two, cause) = below_free s lib o top other (fault.ClockAsData n) one free some two cause
-source_free s lib o top (fault.Recursive n) one free some cause = free.unrecursive n cause
-source_free s lib o top (fault.NameClash n) one free some (other, two, cause) = below_free s lib o top other (fault.NameClash n) one free some two cause
-source_free s lib o top (fault.NoTop n) one free some (count, differs) = differs (sym count ∙ ap (λ (ts : List Module). length ts) one)
-source_free s lib o top (fault.Limit k n) one free some (other, two, cause) = below_free s lib o top other (fault.Limit k n) one free some two cause
-source_free s lib o top (fault.BadSetting n) one free some (other, two, cause) = below_free s lib o top other (fault.BadSetting n) one free some two cause
-source_free s lib o top fault.Memory one free some cause = some refl
+source_free : (s : CutSource) (lib : Library) (o : LinkOptions) (top : Module) (k : Circuit) (f : LinkFault) → tops s.source ≡ top ∷ []
+    → IsFreeBelow s lib o top k → f ≢ fault.Memory → IsCause s lib o f → ⊥
+source_free s lib o top k (fault.UnknownCell n) one free some (other, two, cause) =
+    below_free s lib o top other k (fault.UnknownCell n) one free some two cause
+source_free s lib o top k (fault.UnsupportedCell n) one free some (other, two, cause) =
+    below_free s lib o top other k (fault.UnsupportedCell n) one free some two cause
+source_free s lib o top k (fault.UnknownPin n) one free some (other, two, cause) =
+    below_free s lib o top other k (fault.UnknownPin n) one free some two cause
+source_free s lib o top k (fault.OpenInput n) one free some (other, two, cause) =
+    below_free s lib o top other k (fault.OpenInput n) one free some two cause
+source_free s lib o top k (fault.Undriven n) one free some (other, two, cause) =
+    below_free s lib o top other k (fault.Undriven n) one free some two cause
+source_free s lib o top k (fault.ManyDrivers n) one free some (other, two, cause) =
+    below_free s lib o top other k (fault.ManyDrivers n) one free some two cause
+source_free s lib o top k (fault.Loop n) one free some (other, two, cause) =
+    below_free s lib o top other k (fault.Loop n) one free some two cause
+source_free s lib o top k (fault.NotTheClock n) one free some (other, two, cause) =
+    below_free s lib o top other k (fault.NotTheClock n) one free some two cause
+source_free s lib o top k (fault.ClockAsData n) one free some (other, two, cause) =
+    below_free s lib o top other k (fault.ClockAsData n) one free some two cause
+source_free s lib o top k (fault.Recursive n) one free some cause = free.flat.unrecursive n cause
+source_free s lib o top k (fault.NameClash n) one free some (other, two, cause) =
+    below_free s lib o top other k (fault.NameClash n) one free some two cause
+source_free s lib o top k (fault.NoTop n) one free some (count, differs) = differs (sym count ∙ ap (λ (ts : List Module). length ts) one)
+source_free s lib o top k (fault.Limit x n) one free some (other, two, cause) =
+    below_free s lib o top other k (fault.Limit x n) one free some two cause
+source_free s lib o top k (fault.BadSetting n) one free some (other, two, cause) =
+    below_free s lib o top other k (fault.BadSetting n) one free some two cause
+source_free s lib o top k fault.Memory one free some cause = some refl
 
-pub faultless_is : (s : Source) (lib : Library) (o : LinkOptions) (top : Module) → tops s ≡ top ∷ [] → IsFreeBelow s lib o top → IsFaultless s lib o
-faultless_is s lib o top one free = λ f some cause. source_free s lib o top f one free some cause
+pub faultless_is : (s : CutSource) (lib : Library) (o : LinkOptions) (top : Module) (k : Circuit) → tops s.source ≡ top ∷ []
+    → IsFreeBelow s lib o top k → IsFaultless s lib o
+faultless_is s lib o top k one free = λ f some cause. source_free s lib o top k f one free some cause

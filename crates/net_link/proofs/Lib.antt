@@ -16,8 +16,14 @@ pub mod Gated
 pub mod Alone
 pub mod Marking
 pub mod Tabling
+pub mod Remaining
+pub mod Cutting
 pub mod Causing
 pub mod Rooms
 pub mod Linking
 pub mod Staging
+pub mod Leaving
+pub mod Owning
+pub mod Further
 pub mod Joining
+mod WorkedCut

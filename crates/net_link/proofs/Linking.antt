@@ -1,5 +1,5 @@
 -- What the stages made is the design of the source with all its names.
-use Rattle.std.proofs.Common.{◌≡◌, ℕ, ◌+◌, ◌<◌, Bool, List, [], ◌∷◌, ◌++◌, length, map, refl, ap, subst, sym, ◌∙◌, arith}
+use Rattle.std.proofs.Common.{◌≡◌, ℕ, ◌+◌, ◌<◌, Bool, List, [], ◌∷◌, ◌++◌, length, map, refl, ap, subst, sym, ◌∙◌, arith, length-append}
 use Rattle.std.specs.Prelude.{Option, Contains, flat_map}
 use Rattle.std.specs.List.{AllZip, IsDistinct}
 use Rattle.std.specs.Str.{bytes_eq}
@@ -15,8 +15,10 @@ use Rattle.icg_rewrite.specs.Rewritten.{rewritten}
 use Rattle.icg_rewrite.specs.declared.clock_gates.Gated.{Gated}
 use Rattle.link_defs.proofs.Solving.{number_within}
 use Rattle.link_defs.specs.declared.circuits.Circuit.{Circuit}
-use Rattle.linked_types.specs.Narrow.{IsWhole}
-use Rattle.linked_types.proofs.Ports.{input_count, output_count}
+use Rattle.link_defs.specs.declared.cuts.CutCell.{CutCell}
+use Rattle.link_defs.specs.declared.cuts.CutSource.{CutSource}
+use Rattle.link_defs.specs.Cuts.{Tree, IsTreeOf, cut_cells, cut_circuit, cut_cell_names, cut_names, free_pins, sink_pins, pin_name, net_of}
+use Rattle.linked_types.specs.Inputs.{input_names, output_names}
 use Rattle.linked_types.specs.declared.names.CellName.{CellName}
 use Rattle.linked_types.specs.declared.names.Linked.{Linked}
 use Rattle.linked_types.specs.declared.names.NetName.{NetName}
@@ -24,7 +26,7 @@ use Rattle.linked_types.specs.declared.names.PortName.{PortName}
 use Rattle.linked_types.specs.declared.options.LinkOptions.{LinkOptions}
 use Rattle.link_defs.specs.CellNames.{leaves, cell_names, AreNetNames}
 use Rattle.link_defs.specs.Circuits.{PortBit, circuit_of, data_bits, output_bits, bit_nets}
-use Rattle.link_defs.specs.Designs.{IsDesignOf, drivers_by, number_by}
+use Rattle.link_defs.specs.Designs.{drivers_by, number_by}
 use Rattle.link_defs.specs.Flatten.{flat_of}
 use Rattle.link_defs.specs.GateOrders.{ClockPart}
 use Rattle.link_defs.specs.GatedDesigns.{IsGatedOf, AreGatedSolutions, enabled_drivers}
@@ -34,10 +36,12 @@ use Rattle.link_defs.specs.Parts.{parts_of}
 use Rattle.linked_types.specs.Usable.{IsUsable}
 use Rattle.link_gates.proofs.OneGated.{AreClocked}
 use Rattle.link_items.proofs.Listing.{all_by, contains_at}
+use Rattle.net_link.proofs.Remaining.{inputs_left, outputs_left, inputs_of, outputs_of}
 use Rattle.net_link.proofs.Tabling.{once_distinct}
 
--- the names and the design of a circuit
-pub record ArePieces (s : Source) (lib : Library) (top : Module) (k : Circuit) (l : Linked) : Type 0 where
+-- the names and the design of what is left of a circuit where these cells are cut out
+pub record ArePieces (s : Source) (lib : Library) (o : LinkOptions) (top : Module) (k : Circuit) (t : Tree) (cut : List CutCell) (l : Linked)
+    : Type 0 where
   pub tree : List Bool
   pub order : List Gate
   pub gates : List ClockPart
@@ -47,8 +51,15 @@ pub record ArePieces (s : Source) (lib : Library) (top : Module) (k : Circuit) (
   pub sound : IsSound l.design
   pub design : l.design ≡ rewritten gated
   pub solutions : AreGatedSolutions k tree order l.design
+  pub tree_is : (x : CutCell) → Contains cut x → IsTreeOf (circuit_of s lib top o.clock) t
+  pub left : k ≡ cut_circuit (circuit_of s lib top o.clock) t cut
   pub cells : l.names.cells ≡ cell_names (number_by (enabled_drivers k order gates)) (source_count k) tree 0 (leaves s lib (flat_of s lib top))
+      ++ cut_cell_names
+      (record { circuit = circuit_of s lib top o.clock; tree = t; cells = cut; number = number_by (enabled_drivers k order gates) }) 0 cut
   pub nets : AreNetNames (flat_of s lib top) (drivers_by k order) (number_by (drivers_by k order)) l.names.nets
+  pub free : l.names.free ≡ map pin_name (free_pins (circuit_of s lib top o.clock) cut)
+  pub sinks : l.names.sinks ≡ map pin_name (sink_pins (circuit_of s lib top o.clock) t cut)
+  pub cuts : l.names.cuts ≡ cut_names cut
 
 -- what was set
 pub record AreSettings (o : LinkOptions) (top : Module) (l : Linked) : Type 0 where
@@ -58,17 +69,20 @@ pub record AreSettings (o : LinkOptions) (top : Module) (l : Linked) : Type 0 wh
   pub ins : l.names.ins ≡ ports_of (data_bits o.clock top)
   pub outs : l.names.outs ≡ ports_of (output_bits top)
   pub clock : l.names.clock ≡ o.clock
-  pub whole : IsWhole l.names
+  pub assumed : l.names.assumed ≡ []
 
-pieces_linked : (s : Source) (lib : Library) (o : LinkOptions) (top : Module) (l : Linked) → tops s ≡ top ∷ []
-    → ArePieces s lib top (circuit_of s lib top o.clock) l → AreSettings o top l → IsLinked s lib o l
-pieces_linked s lib o top l one p set = record {
+-- the design and names of a source
+pub linked_is : (s : CutSource) (lib : Library) (o : LinkOptions) (top : Module) (k : Circuit) (t : Tree) (l : Linked) → tops s.source ≡ top ∷ []
+    → ArePieces s.source lib o top k t (cut_cells s.items (flat_of s.source lib top).scopes) l → AreSettings o top l → IsLinked s lib o l
+linked_is s lib o top k t l one p set = record {
   top = top;
+  top_is = one;
+  circuit = k;
+  cut = record { tree = t; tree_is = p.tree_is; is = p.left };
   tree = p.tree;
   order = p.order;
   gates = p.gates;
   gated = p.gated;
-  top_is = one;
   sound = p.sound;
   clocked = p.clocked;
   gated_is = p.gated_is;
@@ -77,13 +91,18 @@ pieces_linked s lib o top l one p set = record {
   fixed = set.fixed;
   resets = set.resets;
   reset_len = set.reset_len;
-  names = record { cells = p.cells; ins = set.ins; outs = set.outs; clock = set.clock; whole = set.whole; nets = p.nets };
+  names = record {
+    cells = p.cells;
+    ins = set.ins;
+    outs = set.outs;
+    clock = set.clock;
+    nets = p.nets;
+    free = p.free;
+    sinks = p.sinks;
+    cuts = p.cuts;
+    assumed = set.assumed;
+  };
 }
-
--- the design and names of a source
-pub linked_is : (s : Source) (lib : Library) (o : LinkOptions) (top : Module) (k : Circuit) (l : Linked) → tops s ≡ top ∷ []
-    → k ≡ circuit_of s lib top o.clock → ArePieces s lib top k l → AreSettings o top l → IsLinked s lib o l
-linked_is s lib o top k l one is p set = pieces_linked s lib o top l one (subst (λ (c : Circuit). ArePieces s lib top c l) is p) set
 
 -- the rewritten design has the ports of the one before it, what is held of them, and no fewer nets
 pub record IsOver (d : Design) (g : Gated) : Type 0 where
@@ -94,34 +113,63 @@ pub record IsOver (d : Design) (g : Gated) : Type 0 where
   pub resets : d.resets ≡ g.design.resets
   pub reset_len : d.reset_len ≡ g.design.reset_len
 
-rewritten_over : (g : Gated) → IsOver (rewritten g) g
+pub rewritten_over : (g : Gated) → IsOver (rewritten g) g
 unfolding rewritten
 rewritten_over g = record { nets = refl; inputs = refl; outputs = refl; fixed = refl; resets = refl; reset_len = refl }
 
 pub over_is : (d : Design) (g : Gated) → d ≡ rewritten g → IsOver d g
 over_is d g is = subst (λ (x : Design). IsOver x g) (sym is) (rewritten_over g)
 
--- as many names of ports as ports
-names_len : (bits : List PortBit) → length (ports_of bits) ≡ length (bit_nets bits)
-names_len bits = length-map bits (λ (b : PortBit). b.port) ∙ sym (length-map bits (λ (b : PortBit). b.net))
-
-inputs_len : (s : Source) (lib : Library) (o : LinkOptions) (top : Module) (tree : List Bool) (order : List Gate) (g : Gated) (l : Linked)
-    → IsDesignOf (circuit_of s lib top o.clock) tree order g.design → l.design.inputs ≡ g.design.inputs → l.names.ins ≡ ports_of (data_bits o.clock top)
-    → length l.names.ins ≡ length l.design.inputs
-unfolding circuit_of
-inputs_len s lib o top tree order g l d same ins =
+-- as many names of data inputs as data inputs
+inputs_len : (s : Source) (lib : Library) (o : LinkOptions) (top : Module) (k : Circuit) (t : Tree) (cut : List CutCell) (l : Linked)
+    → (p : ArePieces s lib o top k t cut l) → AreSettings o top l → l.design.inputs ≡ p.gated.design.inputs
+    → length (input_names l.names) ≡ length l.design.inputs
+inputs_len s lib o top k t cut l p set same =
     let c = circuit_of s lib top o.clock in
-    ap (λ (ps : List PortName). length ps) ins ∙ names_len (data_bits o.clock top)
-    ∙ sym (ap (λ (ns : List ℕ). length ns) (same ∙ d.inputs) ∙ length-map c.inputs (number_by (drivers_by c order)))
+    let own : List PortName → List (List ℕ) = λ ps. map (λ (x : PortName). x.name) ps in
+    let more = l.names.free ++ l.names.assumed in
+    omega (
+      arith,
+      length-append (own l.names.ins) more,
+      length-append l.names.free l.names.assumed,
+      length-map l.names.ins (λ (x : PortName). x.name),
+      ap (λ (ps : List PortName). length ps) set.ins,
+      length-map (data_bits o.clock top) (λ (b : PortBit). b.port),
+      ap (λ (ns : List (List ℕ)). length ns) p.free,
+      length-map (free_pins c cut) pin_name,
+      length-map (free_pins c cut) net_of,
+      ap (λ (ns : List (List ℕ)). length ns) set.assumed,
+      ap (λ (ns : List ℕ). length ns) same,
+      ap (λ (ns : List ℕ). length ns) p.gated_is.design.inputs,
+      length-map k.inputs (number_by (drivers_by k p.order)),
+      ap (λ (x : Circuit). length x.inputs) p.left,
+      inputs_left c t cut,
+      inputs_of s lib o top,
+    )
 
-outputs_len : (s : Source) (lib : Library) (o : LinkOptions) (top : Module) (tree : List Bool) (order : List Gate) (g : Gated) (l : Linked)
-    → IsDesignOf (circuit_of s lib top o.clock) tree order g.design → l.design.outputs ≡ g.design.outputs → l.names.outs ≡ ports_of (output_bits top)
-    → length l.names.outs ≡ length l.design.outputs
-unfolding circuit_of
-outputs_len s lib o top tree order g l d same outs =
+-- as many names of outputs as outputs
+outputs_len : (s : Source) (lib : Library) (o : LinkOptions) (top : Module) (k : Circuit) (t : Tree) (cut : List CutCell) (l : Linked)
+    → (p : ArePieces s lib o top k t cut l) → AreSettings o top l → l.design.outputs ≡ p.gated.design.outputs
+    → length (output_names l.names) ≡ length l.design.outputs
+outputs_len s lib o top k t cut l p set same =
     let c = circuit_of s lib top o.clock in
-    ap (λ (ps : List PortName). length ps) outs ∙ names_len (output_bits top)
-    ∙ sym (ap (λ (ns : List ℕ). length ns) (same ∙ d.outputs) ∙ length-map c.outputs (number_by (drivers_by c order)))
+    let own : List PortName → List (List ℕ) = λ ps. map (λ (x : PortName). x.name) ps in
+    omega (
+      arith,
+      length-append (own l.names.outs) l.names.sinks,
+      length-map l.names.outs (λ (x : PortName). x.name),
+      ap (λ (ps : List PortName). length ps) set.outs,
+      length-map (output_bits top) (λ (b : PortBit). b.port),
+      ap (λ (ns : List (List ℕ)). length ns) p.sinks,
+      length-map (sink_pins c t cut) pin_name,
+      length-map (sink_pins c t cut) net_of,
+      ap (λ (ns : List ℕ). length ns) same,
+      ap (λ (ns : List ℕ). length ns) p.gated_is.design.outputs,
+      length-map k.outputs (number_by (drivers_by k p.order)),
+      ap (λ (x : Circuit). length x.outputs) p.left,
+      outputs_left c t cut,
+      outputs_of s lib o top,
+    )
 
 -- every net that is named is one of the design
 net_below : (drivers : List ℕ) (total more : ℕ) (x : NetName) (net : ℕ) → total ≡ length drivers + more → Contains drivers net
@@ -129,14 +177,12 @@ net_below : (drivers : List ℕ) (total more : ℕ) (x : NetName) (net : ℕ) �
 net_below drivers total more x net count has is = let lt = number_within net drivers has in omega (arith, lt, is, count)
 
 -- the names of a design can be relied on
-pub usable_is : (s : Source) (lib : Library) (o : LinkOptions) (top : Module) (k : Circuit) (l : Linked) → k ≡ circuit_of s lib top o.clock
-    → ArePieces s lib top k l → AreSettings o top l → ArePlacesOf l.design l.names.cells
+pub usable_is : (s : Source) (lib : Library) (o : LinkOptions) (top : Module) (k : Circuit) (t : Tree) (cut : List CutCell) (l : Linked)
+    → ArePieces s lib o top k t cut l → AreSettings o top l → ArePlacesOf l.design l.names.cells
     → IsDistinct bytes_eq (map (λ (c : CellName). c.name) l.names.cells)
     → IsDistinct bytes_eq (map (λ (p : PortName). p.name) (l.names.ins ++ l.names.outs)) → IsUsable l
-usable_is s lib o top k l is pieces set places cells_differ ports_differ =
-    let p = subst (λ (c : Circuit). ArePieces s lib top c l) is pieces in
-    let c = circuit_of s lib top o.clock in
-    let drivers = drivers_by c p.order in
+usable_is s lib o top k t cut l p set places cells_differ ports_differ =
+    let drivers = drivers_by k p.order in
     let over = over_is l.design p.gated p.design in
     let base = p.gated_is.design in
     record {
@@ -146,8 +192,8 @@ usable_is s lib o top k l is pieces set places cells_differ ports_differ =
           let (net, named, has, number) = p.nets.only x (contains_at l.names.nets j x at) in
           net_below drivers l.design.nets (length p.gated.gates) x net (over.nets ∙ ap (λ (n : ℕ). n + length p.gated.gates) base.nets) has number);
       each_reg = places.each_reg;
-      ins = input_count l.names set.whole ∙ inputs_len s lib o top p.tree p.order p.gated l base over.inputs set.ins;
-      outs = output_count l.names set.whole ∙ outputs_len s lib o top p.tree p.order p.gated l base over.outputs set.outs;
+      ins = inputs_len s lib o top k t cut l p set over.inputs;
+      outs = outputs_len s lib o top k t cut l p set over.outputs;
       cells_differ = cells_differ;
       ports_differ = ports_differ;
       nets_differ = once_distinct l.names.nets p.nets.once;

@@ -140,9 +140,9 @@ same_up : (x y : Option ℕ) (row : List (Option ℕ)) (r : ℕ) → slice_get r
 same_up x y row r one two = cc
 
 -- a register without room for its enable is a flop of six pins behind a clock gate
-pub pins_cause : (s : Source) (lib : Library) (flat : Flat) (c : Circuit) (tree : List Bool) (order : List Gate) (gates : List ClockPart) (g : Gated)
-    → IsClocked c → IsGatedOf c tree order gates g → (r : ℕ) → IsFull g r → IsAboveLimit s lib flat c what.Pins 6
-pins_cause s lib flat c tree order gates g clocked is r full =
+pub pins_cause : (wide : Bool) (s : Source) (lib : Library) (flat : Flat) (c : Circuit) (tree : List Bool) (order : List Gate)
+    (gates : List ClockPart) (g : Gated) → IsClocked c → IsGatedOf c tree order gates g → (r : ℕ) → IsFull g r → IsAboveLimit wide s lib flat c what.Pins 6
+pins_cause wide s lib flat c tree order gates g clocked is r full =
     let (x, at, six) = flop_there c tree order gates g is r full.reg full.at in
     let (up, on) = flop_under c (are_clocked c clocked) r x at in
     let (out, above) = up_is gates up full.gate (same_up (place_in gates up) (Some full.gate) g.of r (is.behind r x up at on) full.behind) in
@@ -150,9 +150,9 @@ pins_cause s lib flat c tree order gates g clocked is r full =
     (omega (arith, six, full.pins)))
 
 -- too many nets are told of the circuit
-pub nets_full : (s : Source) (lib : Library) (flat : Flat) (c : Circuit) (tree : List Bool) (order : List Gate) (gates : List ClockPart) (g : Gated)
-    → IsGatedOf c tree order gates g → 200000 < g.design.nets + length g.gates → IsAboveLimit s lib flat c what.Nets 200001
-nets_full s lib flat c tree order gates g is more =
+pub nets_full : (wide : Bool) (s : Source) (lib : Library) (flat : Flat) (c : Circuit) (tree : List Bool) (order : List Gate)
+    (gates : List ClockPart) (g : Gated) → IsGatedOf c tree order gates g → 200000 < g.design.nets + length g.gates → IsAboveLimit wide s lib flat c what.Nets 200001
+nets_full wide s lib flat c tree order gates g is more =
     link.Nets tree is.design.tree_is (omega (arith, more, nets_are c tree order gates g is))
 
 -- where there is room in the design, there is in the circuit

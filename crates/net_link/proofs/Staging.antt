@@ -13,7 +13,12 @@ use Rattle.link_design.specs.Faults.{IsFaultless as IsFaultlessCircuit}
 use Rattle.link_design.specs.Lawful.{IsLawfulCircuit}
 use Rattle.link_circuit.proofs.Circuited.{circuit_lawful}
 use Rattle.link_circuit.specs.declared.circuits.FlatCircuit.{FlatCircuit}
-use Rattle.link_tops.specs.Clashes.{leaf_names, IsApart}
+use Rattle.link_tops.specs.Clashes.{leaf_names, cut_names, IsApart}
+use Rattle.link_tops.proofs.Clashing.{clash_more}
+use Rattle.linked_types.specs.declared.faults.LinkFault.TheVariants as fault
+use Rattle.link_defs.specs.declared.cuts.CutCell.{CutCell}
+use Rattle.link_defs.specs.declared.cuts.CutSource.{CutSource}
+use Rattle.link_defs.specs.Cuts.{IsCut, cut_cells}
 use Rattle.link_defs.specs.declared.circuits.Circuit.{Circuit}
 use Rattle.link_defs.specs.declared.circuits.Part.{Part}
 use Rattle.linked_types.specs.declared.options.LinkOptions.{LinkOptions}
@@ -30,10 +35,13 @@ use Rattle.link_items.specs.Items.{module_at, scope_of, AreLeavesAt}
 use Rattle.link_items.proofs.Naming.{some_at}
 use Rattle.link_items.proofs.Pinned.{lawful_at}
 use Rattle.link_circuit.proofs.Finding.{module_is}
-use Rattle.link_circuit.specs.Names.{IsCircuitBelow}
+use Rattle.link_circuit.specs.Names.{IsLeftBelow}
 use Rattle.link_tops.specs.Tops.{IsTop}
 use Rattle.net_link.specs.Nets.{IsOfTwoNets, names_in}
+use Rattle.net_link.specs.declared.left.LeftCircuit.{LeftCircuit}
+use Rattle.net_link.specs.Left.{IsLeft}
 use Rattle.net_link.specs.Stages.{IsFlatCircuit}
+use Rattle.net_link.proofs.Remaining.{as_cut}
 use Rattle.net_link.proofs.Causing.{names_of_leaves, faultless_is}
 use Rattle.net_link.proofs.Linking.{parts_below}
 use Rattle.net_link.proofs.Rooms.{IsRoomy}
@@ -76,7 +84,7 @@ pub top_is : (s : Source) (place : ℕ) → IsTop s place → tops s ≡ module_
 top_is s place (top, at, one) = one ∙ ap (λ (m : Module). m ∷ []) (module_is s place top at)
 
 -- the full names below a module are those of the circuit's instances
-pub names_below : (s : Source) (lib : Library) (top : Module) (clock : Option (List ℕ)) (c : FlatCircuit) → IsCircuitBelow s lib top clock c
+pub names_below : (s : Source) (lib : Library) (top : Module) (clock : Option (List ℕ)) (c : FlatCircuit) → IsLeftBelow s lib top clock c
     → full_names (flat_of s lib top) ≡ names_in s c.scopes
 names_below s lib top clock c below = ap (λ (xs : List Scope). flat_map scope_names xs) (sym below.scopes) ∙ names_same s c.scopes
 
@@ -89,25 +97,34 @@ leaf_part lib parts (x ∷ xs) [] l all has = absurd all
 leaf_part lib parts (x ∷ xs) (y ∷ ys) l all (inl same) = (x.part, subst (λ (z : Leaf). slice_get parts x.part ≡ Some z.part) same all.0.part)
 leaf_part lib parts (x ∷ xs) (y ∷ ys) l all (inr later) = leaf_part lib parts xs ys l all.1 later
 
+-- names that stand apart with others do so alone
+apart_front : (xs ys : List (List ℕ)) → IsApart (xs ++ ys) → IsApart xs
+apart_front xs ys apart = λ name twice. apart name (clash_more xs ys (fault.NameClash name) twice)
+
 -- no refusal of the source has its cause, where no stage refused it
-pub free_below : (s : Source) (lib : Library) (o : LinkOptions) (top : Module) (c : FlatCircuit) → tops s ≡ top ∷ [] → IsFlatCircuit s lib top o.clock c
-    → IsUnrecursive s → IsFaultlessCircuit c.circuit → IsRoomy c.circuit → IsApart (bit_names (input_bits top ++ output_bits top))
-    → ((name : List ℕ) → IsOfTwoNets (names_in s c.scopes) c.circuit name → ⊥) → ((name : List ℕ) → IsBadSetting top o name → ⊥) → IsFaultless s lib o
-free_below s lib o top c one is ordered circuit room ports nets settings =
-    let flat = flat_of s lib top in
-    let same = is.below.circuit in
-    let nets_apart = subst (λ (ps : List (List ℕ × ℕ)). (name : List ℕ) → IsOfTwoNets ps c.circuit name → ⊥)
-    (sym (names_below s lib top o.clock c is.below)) nets in
-    faultless_is s lib o top one (record {
-      fine = is.fine;
-      unrecursive = ordered;
-      circuit = subst (λ (k : Circuit). IsFaultlessCircuit k) same circuit;
-      room = subst (λ (k : Circuit). IsRoomy k) same room;
-      places = λ l has.
-          let (place, at) = leaf_part lib c.circuit.parts c.leaves (leaves s lib flat) l is.below.leaves (In-from_Contains (leaves s lib flat) l has) in
-          (place, subst (λ (k : Circuit). slice_get k.parts place ≡ Some l.part) same at);
-      cells = is.apart;
-      ports = ports;
-      nets = subst (λ (k : Circuit). (name : List ℕ) → IsOfTwoNets (full_names flat) k name → ⊥) same nets_apart;
-      settings = settings;
+pub free_below : (s : CutSource) (lib : Library) (o : LinkOptions) (top : Module) (l : LeftCircuit) → tops s.source ≡ top ∷ []
+    → IsLeft s.source lib top o s.items l → IsUnrecursive s.source → IsFaultlessCircuit l.flat.circuit → IsRoomy l.flat.circuit
+    → IsApart (bit_names (input_bits top ++ output_bits top))
+    → ((name : List ℕ) → IsOfTwoNets (names_in s.source l.flat.scopes) l.flat.circuit name → ⊥) → ((name : List ℕ) → IsBadSetting top o name → ⊥)
+    → IsFaultless s lib o
+free_below s lib o top l one is ordered circuit room ports nets settings =
+    let flat = flat_of s.source lib top in
+    let k = l.flat.circuit in
+    let c = circuit_of s.source lib top o.clock in
+    faultless_is s lib o top k one (record {
+      flat = record {
+        fine = is.fine;
+        unrecursive = ordered;
+        circuit = circuit;
+        room = room;
+        places = λ x has. leaf_part lib k.parts l.flat.leaves (leaves s.source lib flat) x is.below.leaves (In-from_Contains (leaves s.source lib flat) x has);
+        cells = apart_front (map (λ (x : Leaf). x.name) (leaves s.source lib flat)) (cut_names (cut_cells s.items flat.scopes)) is.apart;
+        ports = ports;
+        nets = subst (λ (ps : List (List ℕ × ℕ)). (name : List ℕ) → IsOfTwoNets ps k name → ⊥)
+            (sym (names_below s.source lib top o.clock l.flat is.below)) nets;
+        settings = settings;
+        few = is.few;
+      };
+      cut = subst (λ (cells : List CutCell). IsCut c cells k) is.cells (as_cut c l.cut k is.cut);
+      none = is.none;
     })

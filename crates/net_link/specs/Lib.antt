@@ -9,3 +9,4 @@ pub mod Made
 pub mod Nets
 pub mod Stages
 pub mod Limits
+pub mod Left

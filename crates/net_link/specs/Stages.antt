@@ -29,11 +29,15 @@ use Rattle.link_defs.specs.Links.{source_count}
 use Rattle.link_defs.specs.Parts.{parts_of}
 use Rattle.link_items.specs.Items.{AreLeavesAt}
 use Rattle.net_link.specs.Places.{ArePlacesOf}
-use Rattle.link_tops.specs.Clashes.{leaf_names, IsApart}
+use Rattle.link_tops.specs.Clashes.{leaf_names, cut_names, IsApart}
 use Rattle.link_circuit.specs.Flats.{AreFine}
 use Rattle.link_circuit.specs.declared.circuits.FlatCircuit.{FlatCircuit}
 use Rattle.link_circuit.specs.Names.{IsCircuitBelow}
+use Rattle.net_link.specs.declared.left.LeftCircuit.{LeftCircuit}
+use Rattle.net_link.specs.Left.{IsCutAs, cells_of, frame_of}
 use Rattle.net_link.specs.Nets.{names_in}
+use Rattle.link_defs.specs.Cuts.{cut_cell_names}
+use Rattle.link_defs.specs.declared.circuits.Circuit.{Circuit}
 
 -- the circuit below a module, none of whose items is refused and no two of whose leaves have one name
 pub record IsFlatCircuit (s : Source) (lib : Library) (top : Module) (clock : Option (List ℕ)) (c : FlatCircuit) : Type 0 where
@@ -47,22 +51,30 @@ pub record IsFitting (top : Module) (o : LinkOptions) : Type 0 where
   pub ports : IsApart (bit_names (input_bits top ++ output_bits top))
   pub settings : (name : List ℕ) → IsBadSetting top o name → ⊥
 
+-- the leaves by name, and then the cells that are cut out of a circuit
+abbrev pub AreAllNames : Circuit → LeftCircuit → List Bool → (ℕ → ℕ) → List Leaf → List CellName → Type 0
+AreAllNames c l tree number found list =
+    list ≡ cell_names number (source_count l.flat.circuit) tree 0 found ++ cut_cell_names (frame_of c l.cut number) 0 (cells_of l.cut)
+
 -- the design of a circuit with its clock gates, and its cells and nets by name, whatever the circuit was made of
-pub record AreInner (s : Source) (lib : Library) (c : FlatCircuit) (order : List Gate) (g : Gated) (cells : List CellName) (nets : List NetName)
+pub record AreInner (s : Source) (lib : Library) (l : LeftCircuit) (order : List Gate) (g : Gated) (cells : List CellName) (nets : List NetName)
     : Type 0 where
-  pub once : (net : ℕ) → count_by (λ m. m == net) (all_drivers c.circuit) ≤ 1
-  pub clocked : IsClocked c.circuit
+  pub once : (net : ℕ) → count_by (λ m. m == net) (all_drivers l.flat.circuit) ≤ 1
+  pub clocked : IsClocked l.flat.circuit
   pub lawful : AreGated g
   pub tree : List Bool
   pub gates : List ClockPart
-  pub gated_is : IsGatedOf c.circuit tree order gates g
-  pub own : map (λ (x : CellName). x.name) cells ≡ leaf_names c.leaves
-  pub cells_are : (found : List Leaf) → IsLawfulCircuit c.circuit → AreLeavesAt lib c.circuit.parts c.leaves found
-      → cells ≡ cell_names (number_by (enabled_drivers c.circuit order gates)) (source_count c.circuit) tree 0 found
-  pub places : (src : Source) (f : Flat) → IsLawfulCircuit c.circuit → c.circuit.parts ≡ flat_map (parts_of src lib) f.items
-      → AreLeavesAt lib c.circuit.parts c.leaves (leaves src lib f) → ArePlacesOf (rewritten g) cells
-  pub nets_are : (flat : Flat) → full_names flat ≡ names_in s c.scopes
-      → AreNetNames flat (drivers_by c.circuit order) (number_by (drivers_by c.circuit order)) nets
+  pub gated_is : IsGatedOf l.flat.circuit tree order gates g
+  pub own : (c : Circuit) → IsCutAs c l.cut l.flat.circuit
+      → map (λ (x : CellName). x.name) cells ≡ leaf_names l.flat.leaves ++ cut_names (cells_of l.cut)
+  pub cells_are : (c : Circuit) (found : List Leaf) → IsCutAs c l.cut l.flat.circuit → IsLawfulCircuit l.flat.circuit
+      → AreLeavesAt lib l.flat.circuit.parts l.flat.leaves found
+      → AreAllNames c l tree (number_by (enabled_drivers l.flat.circuit order gates)) found cells
+  pub places : (c : Circuit) (src : Source) (f : Flat) → IsCutAs c l.cut l.flat.circuit → IsLawfulCircuit l.flat.circuit
+      → l.flat.circuit.parts ≡ flat_map (parts_of src lib) f.items
+      → AreLeavesAt lib l.flat.circuit.parts l.flat.leaves (leaves src lib f) → ArePlacesOf (rewritten g) cells
+  pub nets_are : (flat : Flat) → full_names flat ≡ names_in s l.flat.scopes
+      → AreNetNames flat (drivers_by l.flat.circuit order) (number_by (drivers_by l.flat.circuit order)) nets
 
 -- why there is no room for enables; want of memory alone is free
 abbrev pub IsEnableCause : Gated → LinkFault → Type 0

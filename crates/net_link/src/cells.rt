@@ -62,7 +62,7 @@ pub fn cell_names(
 }
 
 /// How many nets the rewritten design has.
-fn net_count(gated: &Gated) -> Result<usize, AllocError>
+pub(crate) fn net_count(gated: &Gated) -> Result<usize, AllocError>
     ensures { IfOk result (λ nets. nets ≡ gated.now.design.nets + length gated.now.gates) }
 {
     match gated.design.nets.checked_add(gated.gates.len()) {

@@ -1,18 +1,21 @@
 //! From a source to the design of its circuit.
-ghost use Rattle.std.specs.Prelude.{◌≡◌, ◌<◌, length, IfOk, IfErr, OnOk};
+ghost use Rattle.std.specs.Prelude.{◌≡◌, ◌<◌, List, length, IfOk, IfErr, OnOk};
 ghost use Rattle.net_model.specs.Netlist.{IsSound};
 ghost use Rattle.icg_rewrite.specs.Faults.{HasRoom};
 ghost use Rattle.icg_rewrite.specs.Gated.{AreGated};
 ghost use Rattle.icg_rewrite.specs.Rewritten.{rewritten};
 ghost use Rattle.link_design.specs.Faults.{IsFaultless};
 ghost use Rattle.link_design.specs.Made.{IsHeldBy, IsMade};
+ghost use Rattle.link_defs.specs.declared.cuts.CutItem.{CutItem};
 ghost use Rattle.link_defs.specs.Faults.{IsFlatCause};
 ghost use Rattle.link_defs.specs.Flatten.{flat_of};
 ghost use Rattle.link_circuit.specs.Flats.{IsCauseBelow, IsUnrecursive};
 ghost use Rattle.link_items.specs.Items.{module_at};
+ghost use Rattle.net_link.specs.Left.{IsLeft};
 ghost use Rattle.net_link.specs.Stages.{IsEnableCause, IsFlatCircuit};
 
 use crate::designs::with_enables;
+use crate::left::LeftCircuit;
 use icg_rewrite::{Gated, RewriteFault};
 use link_circuit::{FlatCircuit, circuit_of, flatten, named_fault};
 use link_design::{CircuitDesign, Held, design_of};
@@ -41,26 +44,27 @@ pub(crate) fn flat_circuit(
     Ok(circuit)
 }
 
-/// The design of the circuit below the module at a place.
+/// The design of what is left of the circuit below the module at a place.
 pub(crate) fn made_design(
     alloc: Global,
     netlist: &Netlist,
     top: usize,
     options: &LinkOptions,
-    c: &FlatCircuit,
+    left: &LeftCircuit,
     held: Held,
 ) -> Result<CircuitDesign, LinkFault>
     requires top { top < length netlist.now.source.now.modules }
-    requires circuit { IsFlatCircuit netlist.now.source.now netlist.now.library.now (module_at netlist.now.source.now top) options.now.clock c.now }
-    requires held { IsHeldBy (length c.now.circuit.inputs) held }
-    ensures ok { IfOk result (IsMade c.now.circuit held) }
+    requires left { (items : List CutItem) × IsLeft netlist.now.source.now netlist.now.library.now (module_at netlist.now.source.now top)
+        options.now items left.now }
+    requires held { IsHeldBy (length left.now.flat.circuit.inputs) held }
+    ensures ok { IfOk result (IsMade left.now.flat.circuit held) }
     ensures err { IfErr result (IsFlatCause netlist.now.source.now netlist.now.library.now options.now (module_at netlist.now.source.now top)
-        (flat_of netlist.now.source.now netlist.now.library.now (module_at netlist.now.source.now top)) c.now.circuit) }
-    ensures none { OnOk result (IsFaultless c.now.circuit) }
+        (flat_of netlist.now.source.now netlist.now.library.now (module_at netlist.now.source.now top)) left.now.flat.circuit) }
+    ensures none { OnOk result (IsFaultless left.now.flat.circuit) }
 {
-    match design_of(alloc, &c.circuit, held) {
+    match design_of(alloc, &left.flat.circuit, held) {
         Ok(made) => Ok(made),
-        Err(fault) => Err(named_fault(alloc, netlist, top, options, c, fault)?),
+        Err(fault) => Err(named_fault(alloc, netlist, top, options, &left.flat, fault)?),
     }
 }
 

@@ -7,6 +7,8 @@
 //! - `ports.rt`: the ports of the top module and what is set at them: its data inputs and outputs by name, and the inputs that
 //!   are given a value, by their places (`specs/Ports.antt`, in the words of `link_defs`, also why they are refused).
 //! - `limits.rt`: a module of more inputs or outputs than a design may have is refused before they are named.
+//! - `left.rt`: what is left of the circuit where cells are cut out of it, with what was found of these (`specs/Left.antt`), and
+//!   why they can't be cut out; where there are none, the circuit goes through as it is.
 //! - `designs.rt`: from a circuit and its design to the design with its clock gates: in which order these are named, which nets
 //!   are their enables, behind which of them each register stands, and which number each net has in the rewritten design, where
 //!   the output of a clock gate has that of its enable (`specs/Made.antt`, by `IsGatedOf` of `link_defs`). A design without
@@ -22,6 +24,7 @@ mod enables;
 mod gate_nets;
 mod given;
 mod inputs;
+mod left;
 mod limits;
 mod links;
 mod nets;
@@ -32,6 +35,7 @@ mod pins;
 mod ports;
 mod rows;
 
+pub use left::{CutOut, LeftCircuit};
 pub use link_tops::top_inputs;
 pub use linked_types::{
     CellName, LinkFault, LinkOptions, Linked, Names, NetName, PinName, PinRole, PortName,

@@ -1,4 +1,4 @@
-use Rattle.link_circuit.proofs.Naming.{all_named}
+use Rattle.link_circuit.proofs.Extending.{all_named}
 use Rattle.link_circuit.proofs.fault_laws.faults_are_named.Goals as goal
 
 pub returns : goal.returns

@@ -12,30 +12,32 @@ net_name-requires-clause-net c =
     net_below c.args.netlist.now.source.now c.args.netlist.now.library.now (module_at c.args.netlist.now.source.now c.args.top) c.args.options.now.clock
     c.args.c.now c.in-Undriven.net c.requires.circuit
     (named_below c.args.netlist.now.source.now c.args.netlist.now.library.now c.args.top c.args.options.now.clock c.args.c.now c.args.fault
-    (circuit.Undriven c.in-Undriven.net) c.args.netlist.now.lawful_source c.args.netlist.now.lawful_library c.requires.top c.requires.circuit c.requires.fine c.requires.cause c.in-Undriven.is)
+    (circuit.Undriven c.in-Undriven.net) c.args.netlist.now.lawful_source c.args.netlist.now.lawful_library
+    c.requires.top c.requires.circuit c.requires.fine c.requires.cause c.in-Undriven.is)
 
 pub net_name-requires-in-ManyDrivers-clause-net : goal.net_name-requires-in-ManyDrivers-clause-net
 net_name-requires-in-ManyDrivers-clause-net c =
     net_below c.args.netlist.now.source.now c.args.netlist.now.library.now (module_at c.args.netlist.now.source.now c.args.top) c.args.options.now.clock
     c.args.c.now c.in-ManyDrivers.net c.requires.circuit
     (named_below c.args.netlist.now.source.now c.args.netlist.now.library.now c.args.top c.args.options.now.clock c.args.c.now c.args.fault
-    (circuit.ManyDrivers c.in-ManyDrivers.net) c.args.netlist.now.lawful_source c.args.netlist.now.lawful_library c.requires.top c.requires.circuit c.requires.fine c.requires.cause
-    c.in-ManyDrivers.is)
+    (circuit.ManyDrivers c.in-ManyDrivers.net) c.args.netlist.now.lawful_source c.args.netlist.now.lawful_library
+    c.requires.top c.requires.circuit c.requires.fine c.requires.cause c.in-ManyDrivers.is)
 
 pub net_name-requires-in-Loop-clause-net : goal.net_name-requires-in-Loop-clause-net
 net_name-requires-in-Loop-clause-net c =
     net_below c.args.netlist.now.source.now c.args.netlist.now.library.now (module_at c.args.netlist.now.source.now c.args.top) c.args.options.now.clock
     c.args.c.now c.in-Loop.net c.requires.circuit
     (named_below c.args.netlist.now.source.now c.args.netlist.now.library.now c.args.top c.args.options.now.clock c.args.c.now c.args.fault
-    (circuit.Loop c.in-Loop.net) c.args.netlist.now.lawful_source c.args.netlist.now.lawful_library c.requires.top c.requires.circuit c.requires.fine c.requires.cause c.in-Loop.is)
+    (circuit.Loop c.in-Loop.net) c.args.netlist.now.lawful_source c.args.netlist.now.lawful_library
+    c.requires.top c.requires.circuit c.requires.fine c.requires.cause c.in-Loop.is)
 
 pub net_name-requires-in-ClockAsData-clause-net : goal.net_name-requires-in-ClockAsData-clause-net
 net_name-requires-in-ClockAsData-clause-net c =
     net_below c.args.netlist.now.source.now c.args.netlist.now.library.now (module_at c.args.netlist.now.source.now c.args.top) c.args.options.now.clock
     c.args.c.now c.in-ClockAsData.net c.requires.circuit
     (named_below c.args.netlist.now.source.now c.args.netlist.now.library.now c.args.top c.args.options.now.clock c.args.c.now c.args.fault
-    (circuit.ClockAsData c.in-ClockAsData.net) c.args.netlist.now.lawful_source c.args.netlist.now.lawful_library c.requires.top c.requires.circuit c.requires.fine c.requires.cause
-    c.in-ClockAsData.is)
+    (circuit.ClockAsData c.in-ClockAsData.net) c.args.netlist.now.lawful_source c.args.netlist.now.lawful_library
+    c.requires.top c.requires.circuit c.requires.fine c.requires.cause c.in-ClockAsData.is)
 
 pub reg_name-requires : goal.reg_name-requires
 reg_name-requires c =
@@ -45,8 +47,8 @@ reg_name-requires c =
     let cause = subst (λ (f : CircuitFault). IsCause c.args.c.now.circuit f) c.in-NotTheClock.is c.requires.cause in
     let (p, clock, at, on, off) = cause in
     leaf_there s lib flat c.args.c.now.circuit c.args.c.now.leaves c.in-NotTheClock.place clock p c.requires.circuit.leaves at on
-    (named_below s lib c.args.top c.args.options.now.clock c.args.c.now c.args.fault (circuit.NotTheClock c.in-NotTheClock.place) c.args.netlist.now.lawful_source
-    c.args.netlist.now.lawful_library c.requires.top c.requires.circuit c.requires.fine c.requires.cause c.in-NotTheClock.is)
+    (named_below s lib c.args.top c.args.options.now.clock c.args.c.now c.args.fault (circuit.NotTheClock c.in-NotTheClock.place)
+    c.args.netlist.now.lawful_source c.args.netlist.now.lawful_library c.requires.top c.requires.circuit c.requires.fine c.requires.cause c.in-NotTheClock.is)
 
 pub returns-in_ok-net_name-in-ManyDrivers : goal.returns-in_ok-net_name-in-ManyDrivers
 returns-in_ok-net_name-in-ManyDrivers c =
@@ -70,4 +72,5 @@ pub returns-in-Limit : goal.returns-in-Limit
 returns-in-Limit c =
     let s = c.args.netlist.now.source.now in
     let lib = c.args.netlist.now.library.now in
-    limit_is s lib (flat_of s lib (module_at s c.args.top)) c.args.c.now.circuit c.args.fault c.in-Limit.kind c.in-Limit.number c.requires.cause c.in-Limit.is
+    limit_is c.args.options.now.wide s lib (flat_of s lib (module_at s c.args.top)) c.args.c.now.circuit c.args.fault c.in-Limit.kind c.in-Limit.number
+    c.requires.few c.requires.cause c.in-Limit.is

@@ -11,7 +11,7 @@ returns-clause-ok c = λ held m.
       gates = g.gates;
       gated_is = g.gated_is;
       own = c.in_ok-cells.ensures.own;
-      cells_are = λ found. c.in_ok-cells.ensures.names m.order g found;
-      places = λ src f lawful parts at. c.in_ok-cells.ensures.usable m.order src f lawful g parts at;
+      cells_are = λ own found cut lawful at. c.in_ok-cells.ensures.names m.order g own found cut lawful at;
+      places = λ own src f cut lawful parts at. c.in_ok-cells.ensures.usable m.order own src f cut lawful g parts at;
       nets_are = c.in_ok-nets.ensures.ok held m;
     }

@@ -1,12 +1,14 @@
-use Rattle.std.proofs.Common.{subst}
+use Rattle.std.proofs.Common.{subst, List}
+use Rattle.netlist_types.specs.declared.sources.Source.{Source}
+use Rattle.link_defs.specs.declared.cuts.CutItem.{CutItem}
+use Rattle.link_defs.specs.declared.cuts.CutSource.{CutSource}
 use Rattle.std.proofs.lemmas.Result.{err_from_is_err_and}
 use Rattle.netlist_types.specs.declared.sources.Module.{Module}
 use Rattle.link_defs.specs.Circuits.{circuit_of}
-use Rattle.link_defs.specs.Flatten.{flat_of}
 use Rattle.link_items.specs.Items.{module_at}
 use Rattle.link_items.proofs.Pinned.{port_bits, lawful_at}
 use Rattle.link_circuit.proofs.Finding.{module_is}
-use Rattle.net_link.specs.Limits.{IsBitCause}
+use Rattle.net_link.specs.Limits.{HasFewBits, IsBitCause}
 use Rattle.net_link.specs.Ports.{AreTopPorts, IsPortCause}
 use Rattle.net_link.specs.Stages.{IsFitting}
 use Rattle.net_link.proofs.Causing.{cause_of, bit_cause, port_cause}
@@ -27,29 +29,26 @@ check_bits-requires c =
     let s = c.args.netlist.now.source.now in
     port_bits s c.item-body.result.now (lawful_at s c.args.netlist.now.lawful_source c.args.top c.item-body.result.now c.item-body.ensures)
 
+abbrev source_of : Source → List CutItem → CutSource
+source_of s items = record { source = s; items = items }
+
 pub returns-in_err-check_bits-clause-err : goal.returns-in_err-check_bits-clause-err
 returns-in_err-check_bits-clause-err c =
     let p = err_from_is_err_and c.from_residual.result c.from_residual.ensures.1 in
     let s = c.args.netlist.now.source.now in
-    let lib = c.args.netlist.now.library.now in
     let o = c.args.options.now in
-    let top = module_at s c.args.top in
     let e = c.in_err-check_bits.field-0.0 in
-    rw (p.1, p.2) (cause_of s lib o top e (top_is s c.args.top c.requires.top)
-    (bit_cause s lib o top e
-    (subst (λ (m : Module). IsBitCause m o.clock e) (module_is s c.args.top c.item-body.result.now c.item-body.ensures) c.in_err-check_bits.ensures.err)))
+    rw (p.1, p.2) (bit_cause (source_of s c.args.items.now) c.args.netlist.now.library.now o (module_at s c.args.top) e (top_is s c.args.top c.requires.top)
+    (subst (λ (m : Module). IsBitCause o.wide m o.clock e) (module_is s c.args.top c.item-body.result.now c.item-body.ensures) c.in_err-check_bits.ensures.err))
 
 pub returns-in_err-ports-clause-err : goal.returns-in_err-ports-clause-err
 returns-in_err-ports-clause-err c =
     let p = err_from_is_err_and c.from_residual-in_err-ports.result c.from_residual-in_err-ports.ensures.1 in
     let s = c.args.netlist.now.source.now in
-    let lib = c.args.netlist.now.library.now in
     let o = c.args.options.now in
-    let top = module_at s c.args.top in
     let e = c.in_err-ports.field-0.0 in
-    rw (p.1, p.2) (cause_of s lib o top e (top_is s c.args.top c.requires.top)
-    (port_cause s lib o top (flat_of s lib top) (circuit_of s lib top o.clock) e
-    (subst (λ (m : Module). IsPortCause m o e) (module_is s c.args.top c.item-body.result.now c.item-body.ensures) c.in_err-ports.ensures.err)))
+    rw (p.1, p.2) (port_cause (source_of s c.args.items.now) c.args.netlist.now.library.now o (module_at s c.args.top) e (top_is s c.args.top c.requires.top)
+    (subst (λ (m : Module). IsPortCause m o e) (module_is s c.args.top c.item-body.result.now c.item-body.ensures) c.in_err-ports.ensures.err))
 
 pub flat_circuit-requires : goal.flat_circuit-requires
 flat_circuit-requires c = record { top = top_within c.args.netlist.now.source.now c.args.top c.requires.top }
@@ -61,8 +60,17 @@ returns-in_err-c-clause-err c =
     let lib = c.args.netlist.now.library.now in
     let o = c.args.options.now in
     let top = module_at s c.args.top in
-    rw (p.1, p.2) (cause_of s lib o top c.in_err-c.field-0.0 (top_is s c.args.top c.requires.top)
-    (c.in_err-c.ensures.err o top (circuit_of s lib top o.clock)))
+    rw (p.1, p.2) (cause_of (source_of s c.args.items.now) lib o top (circuit_of s lib top o.clock) c.in_err-c.field-0.0 (top_is s c.args.top c.requires.top)
+    (c.in_err-c.ensures.err o top (circuit_of s lib top o.clock)) (λ j cut. c.in_err-c.ensures.err o top j))
+
+pub cut_out-requires-clause-few : goal.cut_out-requires-clause-few
+cut_out-requires-clause-few c =
+    let o = c.args.options.now in
+    subst (λ (m : Module). HasFewBits o.wide m o.clock)
+    (module_is c.args.netlist.now.source.now c.args.top c.item-body.result.now c.item-body.ensures) c.in_ok-check_bits.ensures.ok
+
+pub named_design-requires-clause-left : goal.named_design-requires-clause-left
+named_design-requires-clause-left c = (c.args.items.now, c.in_ok-left.ensures.ok)
 
 pub named_design-requires-clause-ports : goal.named_design-requires-clause-ports
 named_design-requires-clause-ports c =
@@ -71,5 +79,7 @@ named_design-requires-clause-ports c =
 
 pub named_design-requires-clause-fitting : goal.named_design-requires-clause-fitting
 named_design-requires-clause-fitting c =
-    let fitting : IsFitting c.item-body.result.now c.args.options.now = record { ports = c.in_ok-ports.ensures.names; settings = c.in_ok-ports.ensures.settings } in
-    subst (λ (m : Module). IsFitting m c.args.options.now) (module_is c.args.netlist.now.source.now c.args.top c.item-body.result.now c.item-body.ensures) fitting
+    let body = c.item-body.result.now in
+    let o = c.args.options.now in
+    let fitting : IsFitting body o = record { ports = c.in_ok-ports.ensures.names; settings = c.in_ok-ports.ensures.settings } in
+    subst (λ (m : Module). IsFitting m o) (module_is c.args.netlist.now.source.now c.args.top body c.item-body.ensures) fitting

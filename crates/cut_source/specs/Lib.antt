@@ -1,0 +1,5 @@
+pub mod Cuttable
+pub mod Pins
+pub mod Items
+pub mod Sources
+pub mod Below

@@ -1,0 +1,13 @@
+pub mod Checked
+pub mod Counted
+pub mod Cutted
+pub mod Firsting
+pub mod Freed
+pub mod Grouped
+pub mod Marked
+pub mod OneCut
+pub mod Named
+pub mod Owned
+pub mod Placed
+pub mod Sunk
+pub mod Worked
