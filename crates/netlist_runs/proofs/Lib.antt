@@ -1,0 +1,6 @@
+mod Firsts
+mod Driven
+mod Behaving
+mod Linked
+mod WorkedDesign
+mod Worked
