@@ -24,7 +24,11 @@ pub enum Aim {
 fn parser_of<'a>(rule: ValueRule) -> ValueParser<'a> {
     match rule {
         ValueRule::Number { least, most } => ValueParser::unsigned(least, most),
-        ValueRule::Text | ValueRule::Ports | ValueRule::Commands => ValueParser::string(),
+        ValueRule::Text
+        | ValueRule::Ports
+        | ValueRule::Commands
+        | ValueRule::Patterns
+        | ValueRule::Name => ValueParser::string(),
     }
 }
 

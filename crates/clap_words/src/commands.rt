@@ -223,6 +223,22 @@ const HOLD: OptionRow = OptionRow {
     sentence: "Judge the hold side of false paths too",
 };
 
+const FREE: OptionRow = OptionRow {
+    id: "free",
+    form: Valued,
+    value: "LIST",
+    rule: ValueRule::Patterns,
+    sentence: "Cut out the cells of these references, by patterns parted by commas, where they can't be modelled",
+};
+
+const TOP: OptionRow = OptionRow {
+    id: "top",
+    form: Valued,
+    value: "NAME",
+    rule: ValueRule::Name,
+    sentence: "Take the module of this name for the top module",
+};
+
 const SKIP: OptionRow = OptionRow {
     id: "skip",
     form: Valued,
@@ -281,6 +297,8 @@ const ROWS: [CommandRow; 7] = [
             HAZARD,
             LAG,
             HOLD,
+            FREE,
+            TOP,
             SKIP,
             STRICT,
             JSON,
@@ -296,13 +314,33 @@ const ROWS: [CommandRow; 7] = [
         name: "check",
         sentence: "Check a certificate, without the search that made it",
         positions: &[V, L, S, CERT],
-        options: &[HAZARD, LAG, HOLD, SKIP, STRICT, RESET, RESET_CYCLES],
+        options: &[
+            HAZARD,
+            LAG,
+            HOLD,
+            FREE,
+            TOP,
+            SKIP,
+            STRICT,
+            RESET,
+            RESET_CYCLES,
+        ],
     },
     CommandRow {
         name: "replay",
         sentence: "Run the stimulus of a refuted pair again",
         positions: &[V, L, S, REPORT, PAIR],
-        options: &[HAZARD, LAG, HOLD, SKIP, STRICT, RESET, RESET_CYCLES],
+        options: &[
+            HAZARD,
+            LAG,
+            HOLD,
+            FREE,
+            TOP,
+            SKIP,
+            STRICT,
+            RESET,
+            RESET_CYCLES,
+        ],
     },
     CommandRow {
         name: "demo",
@@ -317,6 +355,8 @@ const ROWS: [CommandRow; 7] = [
         options: &[
             OUT_SDC,
             HAZARD,
+            FREE,
+            TOP,
             SKIP,
             RESET,
             RESET_CYCLES,
@@ -336,6 +376,8 @@ const ROWS: [CommandRow; 7] = [
             SYMBOLS,
             LAG,
             HOLD,
+            FREE,
+            TOP,
             SKIP,
             STRICT,
             RESET,
@@ -351,6 +393,8 @@ const ROWS: [CommandRow; 7] = [
             HAZARD,
             LAG,
             HOLD,
+            FREE,
+            TOP,
             SKIP,
             STRICT,
             RESET,

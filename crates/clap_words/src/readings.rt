@@ -25,7 +25,7 @@ pub struct Reading<'a> {
 }
 
 // The ids of the arguments of all commands, each once, in the order of the table.
-const IDS: [&str; 23] = [
+const IDS: [&str; 25] = [
     "V",
     "L",
     "S",
@@ -33,6 +33,8 @@ const IDS: [&str; 23] = [
     "hazard",
     "lag",
     "hold",
+    "free",
+    "top",
     "skip",
     "strict",
     "json",

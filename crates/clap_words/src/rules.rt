@@ -13,6 +13,10 @@ pub enum ValueRule {
     Ports,
     /// A list of names of commands.
     Commands,
+    /// A list of patterns of references.
+    Patterns,
+    /// The name of a module.
+    Name,
 }
 
 impl Display for ValueRule {
@@ -31,6 +35,12 @@ impl Display for ValueRule {
             ValueRule::Commands => {
                 f.write_str("names of commands, parted by commas, and none that a run reads itself")
             }
+            ValueRule::Patterns => {
+                f.write_str(
+                    "patterns of references, parted by commas, none of them empty and no - at the start",
+                )
+            }
+            ValueRule::Name => f.write_str("a name, which is not empty and has no - at its start"),
         }
     }
 }

@@ -1,4 +1,4 @@
-use run_options::ScriptForm;
+use run_options::{Cutting, NetlistForm, ScriptForm};
 use sdcv_base::{Name, Seq, Setting};
 use sdcv_words::{Command, Finding, Job, Mending, Options, Texts, command_of};
 use std::alloc::{AllocError, Global};
@@ -40,6 +40,26 @@ fn wide_text(alloc: Global, names: &Seq<Name>) -> Result<String, AllocError> {
     Ok(text)
 }
 
+// How a netlist is read: nothing where it is by the rules of each run, else the top module and the patterns.
+fn netlist_text(alloc: Global, form: &NetlistForm) -> Result<String, AllocError> {
+    match form {
+        NetlistForm::Narrow => Ok(String::new(alloc)),
+        NetlistForm::Wide(cutting) => cutting_text(alloc, cutting),
+    }
+}
+
+fn cutting_text(alloc: Global, cutting: &Cutting) -> Result<String, AllocError> {
+    let mut text = match &cutting.top {
+        Some(name) => format!(in alloc; " top <{name}> free")?,
+        None => " free".to_string(alloc)?,
+    };
+    for pattern in cutting.free.as_slice() {
+        let one = format!(in alloc; " <{pattern}>")?;
+        text.push_str(&one)?;
+    }
+    Ok(text)
+}
+
 fn options_text(alloc: Global, options: &Options) -> Result<String, AllocError> {
     let mode = if options.judging.hazard {
         "hazard"
@@ -54,9 +74,10 @@ fn options_text(alloc: Global, options: &Options) -> Result<String, AllocError> 
     } else {
         ""
     };
-    let form = form_text(alloc, &options.form)?;
+    let netlist = netlist_text(alloc, &options.forms.netlist)?;
+    let form = form_text(alloc, &options.forms.script)?;
     let cycles = options.reset.len;
-    format!(in alloc; "{mode} lag {lag}{hold}{strict}{form}{resets} cycles {cycles}")
+    format!(in alloc; "{mode} lag {lag}{hold}{strict}{netlist}{form}{resets} cycles {cycles}")
 }
 
 fn job_text(alloc: Global, job: &Job<'_>) -> Result<String, AllocError> {
@@ -233,6 +254,30 @@ const BY_PLACE: &[(&str, &str)] = &[
         "<v> <l> <s> plain lag 0 strict wide cycles 0 mend <m> depth 8 budget 20000 inv 1 assist <->",
     ),
     (
+        "verify|v|l|s|--free|RAM,SEQ*|--out|c|--top|core",
+        "<v> <l> <s> plain lag 0 top <core> free <RAM> <SEQ*> cycles 0 verify <c> json false depth 8 budget 20000 inv 1 assist <->",
+    ),
+    (
+        "check|v|l|s|c|--top|core",
+        "<v> <l> <s> plain lag 0 top <core> free cycles 0 check <c>",
+    ),
+    (
+        "replay|v|l|s|r|1|--free|*|--strict",
+        "<v> <l> <s> plain lag 0 strict free <*> wide cycles 0 replay <r> pair 1",
+    ),
+    (
+        "detect|v|l|s|--free|R?M|--top|t|--out|f",
+        "<v> <l> <s> plain lag 0 top <t> free <R?M> cycles 0 detect <f> depth 8 budget 20000 inv 1 bound 4",
+    ),
+    (
+        "mend|v|l|s|--out|m|--free|RAM,RAM|--skip|a",
+        "<v> <l> <s> plain lag 0 free <RAM> <RAM> wide <a> cycles 0 mend <m> depth 8 budget 20000 inv 1 assist <->",
+    ),
+    (
+        "aiger|v|l|s|2|--out|a|--free|RAM|--top|core",
+        "<v> <l> <s> plain lag 0 top <core> free <RAM> cycles 0 aiger <a> pair 2",
+    ),
+    (
         "aiger|v|l|s|2|--strict|--out|a|--skip|a",
         "<v> <l> <s> plain lag 0 strict wide <a> cycles 0 aiger <a> pair 2",
     ),
@@ -338,6 +383,14 @@ const BY_CLAP: &[(&str, &str)] = &[
         "<v> <l> <s> plain lag 0 strict wide <a> <b> cycles 0 check <c>",
     ),
     (
+        "check|--free=RAM,SEQ|v|l|s|c|--top=core",
+        "<v> <l> <s> plain lag 0 top <core> free <RAM> <SEQ> cycles 0 check <c>",
+    ),
+    (
+        "detect|--top=core|v|l|s|--out=f",
+        "<v> <l> <s> plain lag 0 top <core> free cycles 0 detect <f> depth 8 budget 20000 inv 1 bound 4",
+    ),
+    (
         "aiger|--out=a|v|l|s|2|--lag=1",
         "<v> <l> <s> plain lag 1 cycles 0 aiger <a> pair 2",
     ),
@@ -408,6 +461,26 @@ const NONE: &[(&str, &str)] = &[
         "demo|7|20|--skip|a",
         "commands of a generated design to pass over",
     ),
+    ("check|v|l|s|c|--free", "no list of patterns"),
+    ("check|v|l|s|c|--free|", "an empty list of patterns"),
+    ("check|v|l|s|c|--free|RAM,", "an empty pattern at the end"),
+    ("check|v|l|s|c|--free|,RAM", "an empty pattern at the start"),
+    ("check|--free=RAM,,SEQ|v|l|s|c", "an empty pattern between"),
+    (
+        "check|--free=-RAM|v|l|s|c",
+        "a list that begins as an option",
+    ),
+    (
+        "check|v|l|s|c|--free|RAM|--free|SEQ",
+        "two lists of patterns",
+    ),
+    ("demo|7|20|--free|RAM", "cells of a generated design to cut"),
+    ("check|v|l|s|c|--top", "no name of a top module"),
+    ("check|v|l|s|c|--top|", "an empty name of a top module"),
+    ("check|--top=|v|l|s|c", "an empty name, in one word"),
+    ("check|--top=-t|v|l|s|c", "a name that begins as an option"),
+    ("check|v|l|s|c|--top|t|--top|t", "two top modules"),
+    ("demo|7|20|--top|t", "the top module of a generated design"),
     ("verify|v|l|s|--out|c|--depth|+1", "a sign"),
     ("verify|v|l|s|--out|c|--depth|", "a number without digits"),
     (

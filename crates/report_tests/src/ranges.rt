@@ -9,6 +9,8 @@ fn sound(alloc: Global, rule: ValueRule) -> Result<String, AllocError> {
         ValueRule::Number { least, most: _ } => format!(in alloc; "{least}"),
         ValueRule::Ports => "p=0".to_string(alloc),
         ValueRule::Commands => "set_sense".to_string(alloc),
+        ValueRule::Patterns => "RAM*".to_string(alloc),
+        ValueRule::Name => "core".to_string(alloc),
     }
 }
 

@@ -53,6 +53,14 @@ const BEGINNINGS: &[(&str, &str)] = &[
         "sdcv: --skip takes names of commands, parted by commas, and none that a run reads itself\n",
     ),
     (
+        "check|v|l|s|c|--free|RAM,,SEQ",
+        "sdcv: --free takes patterns of references, parted by commas, none of them empty and no - at the start\n",
+    ),
+    (
+        "mend|v|l|s|--out|m|--top=",
+        "sdcv: --top takes a name, which is not empty and has no - at its start\n",
+    ),
+    (
         "detect|v|l|s|--out|m|--strict",
         "error: unexpected argument '--strict' found\n",
     ),

@@ -1,4 +1,5 @@
-//! How a script is read.
+//! How the texts of a run are read.
+use crate::netlists::NetlistForm;
 use sdcv_base::{Name, Seq};
 
 /// How the text of a script is read: by the rules of each run, or wide, with some more forms, and with commands of these names
@@ -7,4 +8,11 @@ use sdcv_base::{Name, Seq};
 pub enum ScriptForm {
     Narrow,
     Wide(Seq<Name>),
+}
+
+/// How a netlist and a script are read.
+#[derive(Drop)]
+pub struct Forms {
+    pub netlist: NetlistForm,
+    pub script: ScriptForm,
 }

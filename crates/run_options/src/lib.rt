@@ -9,7 +9,7 @@ mod options;
 mod proving;
 mod resets;
 
-pub use forms::ScriptForm;
+pub use forms::{Forms, ScriptForm};
 pub use judging::Judging;
 pub use netlists::{Cutting, NetlistForm};
 pub use options::RunOptions;

@@ -14,7 +14,7 @@ use Rattle.run_options.specs.Judging.{CanJudge}
 use Rattle.sdcv_words.specs.Commands.{Aiger, Command, Demo, Detect, Finding, Job, Check, Mend, Mending, Over, Replay, Text, Verify}
 use Rattle.sdcv_words.specs.Givens.{stands}
 use Rattle.sdcv_words.specs.Numbers.{are_digits, number_in, number_or}
-use Rattle.sdcv_words.specs.Options.{default_cycles, form_of, judging_of, lag_of, options_of, proving_of, resets_of}
+use Rattle.sdcv_words.specs.Options.{default_cycles, form_of, judging_of, lag_of, netlist_of, options_of, proving_of, resets_of}
 use Rattle.sdcv_words.specs.Jobs.{aiger_of, check_of, demo_of, detect_of, finding_of, job_of, judged_if, late_only, mend_of, mending_of, over_of, replay_of, texts_of, verify_of, watching_of, without_hazards}
 use Rattle.sdcv_words.specs.Places.{by_place}
 use Rattle.sdcv_words.specs.Words.{command, or_else}
@@ -71,9 +71,10 @@ options_range given options is =
     let (cycles, held, rest) = bind_gave cycles_of _ options is in
     let (lag, late, with_lag) = bind_gave (lag_of given) _ options rest in
     let (resets, of, with_resets) = bind_gave (resets_of list) _ options with_lag in
-    let (form, read, made) = bind_gave (form_of given) _ options with_resets in
+    let (netlist, cut, with_netlist) = bind_gave (netlist_of given) _ options with_resets in
+    let (form, read, made) = bind_gave (form_of given) _ options with_netlist in
     let range = number_or_range (default_cycles list) 0 64 cycles (in_table given (codes "reset-cycles")) (omega arith) (few_cycles list) held in
-    let opened : Options = record { judging = judging_of given lag; form = form; reset = record { ports = resets; len = cycles } } in
+    let opened : Options = record { judging = judging_of given lag; forms = record { netlist = netlist; script = form }; reset = record { ports = resets; len = cycles } } in
     let same : opened ≡ options = cc in
     subst AreOptionsInRange same (record { judging = can_judge given lag (lag_range given lag late); reset_len = range.1 })
 

@@ -1,7 +1,9 @@
--- Values worked out by hand: lists of names that are passed over.
-use Rattle.std.proofs.Common.{◌≡◌, refl, [], ◌∷◌, Option, None, Some, false, true}
+-- Values worked out by hand: lists of names that are passed over, lists of patterns, and names of top modules.
+use Rattle.std.proofs.Common.{◌≡◌, refl, [], ◌∷◌, None, Some, false, true}
 use Rattle.std.specs.Prelude.{codes}
 use Rattle.run_options.specs.declared.forms.ScriptForm.TheVariants.{Narrow, Wide}
+use Rattle.run_options.specs.declared.netlists.NetlistForm.TheVariants as netlist
+use Rattle.sdcv_words.specs.Cuttings.{netlist_by, patterns_of, top_of}
 use Rattle.sdcv_words.specs.Options.{form_by}
 use Rattle.sdcv_words.specs.Skips.{skips_of}
 
@@ -38,3 +40,49 @@ strict_alone = refl
 skip_alone : form_by (Some (codes "echo")) false ≡ Some (Wide (codes "echo" ∷ []))
 unfolding skips_of
 skip_alone = refl
+
+-- patterns are kept in the order of the list, one that stands twice too
+patterns_in_order : patterns_of (codes "RAM,SEQ*,RAM") ≡ Some (codes "RAM" ∷ codes "SEQ*" ∷ codes "RAM" ∷ [])
+unfolding patterns_of
+patterns_in_order = refl
+
+-- no pattern is empty, at either end or between
+empty_pattern : patterns_of (codes "RAM,,SEQ") ≡ None
+unfolding patterns_of
+empty_pattern = refl
+
+empty_end : patterns_of (codes "RAM,") ≡ None
+unfolding patterns_of
+empty_end = refl
+
+-- a list is no word of an option
+option_as_list : patterns_of (codes "--top") ≡ None
+unfolding patterns_of
+option_as_list = refl
+
+-- a top module has a name
+empty_name : top_of (Some []) ≡ None
+empty_name = refl
+
+option_as_name : top_of (Some (codes "--free")) ≡ None
+option_as_name = refl
+
+-- a netlist is wide where either word stands, and without patterns where the top module alone is named
+netlist_narrow : netlist_by None None ≡ Some netlist.Narrow
+netlist_narrow = refl
+
+top_alone : netlist_by None (Some (codes "core")) ≡ Some (netlist.Wide (record { top = Some (codes "core"); free = [] }))
+top_alone = refl
+
+free_alone : netlist_by (Some (codes "RAM")) None ≡ Some (netlist.Wide (record { top = None; free = codes "RAM" ∷ [] }))
+unfolding patterns_of
+free_alone = refl
+
+-- either may break its rule
+wrong_list : netlist_by (Some (codes ",RAM")) (Some (codes "core")) ≡ None
+unfolding patterns_of
+wrong_list = refl
+
+wrong_name : netlist_by (Some (codes "RAM")) (Some []) ≡ None
+unfolding patterns_of
+wrong_name = refl

@@ -1,4 +1,5 @@
 pub mod Commands
+pub mod Cuttings
 pub mod Givens
 pub mod Jobs
 pub mod Numbers

@@ -7,8 +7,10 @@ use Rattle.clap_words.specs.Readings.{Given}
 use Rattle.sdcv_words.specs.declared.commands.Options.{Options}
 use Rattle.run_options.specs.declared.proving.Proving.{Proving}
 use Rattle.run_options.specs.declared.judging.Judging.{Judging}
+use Rattle.run_options.specs.declared.netlists.NetlistForm.{NetlistForm}
 use Rattle.run_options.specs.declared.forms.ScriptForm.{ScriptForm}
 use Rattle.run_options.specs.declared.forms.ScriptForm.TheVariants.{Narrow, Wide}
+use Rattle.sdcv_words.specs.Cuttings.{netlist_by}
 use Rattle.sdcv_words.specs.Givens.{stands}
 use Rattle.sdcv_words.specs.Numbers.{number_or}
 use Rattle.sdcv_words.specs.Settings.{settings_of}
@@ -36,6 +38,10 @@ judging_of given lag = record {
   strict = stands given (codes "strict");
 }
 
+-- how the netlist is read, by the list of patterns of what may be cut out, and the name of the top module
+abbrev pub netlist_of : List Given → Option NetlistForm
+netlist_of given = netlist_by (in_table given (codes "free")) (in_table given (codes "top"))
+
 -- how the constraints are read, by the list of names that are passed over, and whether they are judged as for a sign-off
 abbrev pub form_by : Option (List ℕ) → Bool → Option ScriptForm
 form_by None false = Some Narrow
@@ -51,8 +57,9 @@ options_of given =
     number_or (default_cycles list) 0 64 (in_table given (codes "reset-cycles")) >>= λ cycles.
     lag_of given >>= λ lag.
     resets_of list >>= λ resets.
+    netlist_of given >>= λ netlist.
     form_of given >>= λ form.
-    Some (record { judging = judging_of given lag; form = form; reset = record { ports = resets; len = cycles } })
+    Some (record { judging = judging_of given lag; forms = record { netlist = netlist; script = form }; reset = record { ports = resets; len = cycles } })
 
 abbrev pub proving_of : List Given → Option Proving
 proving_of given =

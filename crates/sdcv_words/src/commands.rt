@@ -1,6 +1,6 @@
 //! The commands, as the program carries them out.
 
-use run_options::{Judging, Proving, Reset, ScriptForm};
+use run_options::{Forms, Judging, Proving, Reset};
 
 /// The names of the files that a command reads.
 #[derive(Clone, Copy)]
@@ -11,11 +11,12 @@ pub struct Texts<'a> {
     pub constraints: &'a str,
 }
 
-/// How claims are judged, how the constraints are read, and how runs begin. The names of no two reset ports are equal, and none is empty.
+/// How claims are judged, how the netlist and the constraints are read, and how runs begin. The names of no two reset ports are
+/// equal, and none is empty; nor is a pattern of what may be cut out, or the name of the top module.
 #[derive(Drop)]
 pub struct Options {
     pub judging: Judging,
-    pub form: ScriptForm,
+    pub forms: Forms,
     pub reset: Reset,
 }
 

@@ -105,7 +105,7 @@ fn late_only(options: Options) -> Options
 {
     let Options {
         judging,
-        form,
+        forms,
         reset,
     } = options;
     let judging = Judging {
@@ -114,7 +114,7 @@ fn late_only(options: Options) -> Options
     };
     Options {
         judging,
-        form,
+        forms,
         reset,
     }
 }
@@ -184,7 +184,7 @@ fn without_hazards(options: Options) -> Options
 {
     let Options {
         judging,
-        form,
+        forms,
         reset,
     } = options;
     let judging = Judging {
@@ -193,7 +193,7 @@ fn without_hazards(options: Options) -> Options
     };
     Options {
         judging,
-        form,
+        forms,
         reset,
     }
 }

@@ -2,15 +2,16 @@
 ghost use Rattle.std.specs.Prelude.{◌≡◌, IfOk, Some, map};
 ghost use Rattle.std.specs.Option.{option_map};
 ghost use Rattle.clap_words.specs.Readings.{seen_given};
-ghost use Rattle.sdcv_words.specs.Options.{form_of, judging_of, lag_of, options_of, proving_of, resets_of};
+ghost use Rattle.sdcv_words.specs.Options.{form_of, judging_of, lag_of, netlist_of, options_of, proving_of, resets_of};
 
 use crate::commands::Options;
+use crate::cuttings::netlist_by;
 use crate::givens::{stands, text_of};
 use crate::numbers::number_or;
 use crate::settings::settings_of;
 use crate::skips::skips_of;
 use clap_words::Given;
-use run_options::{Judging, Proving, Reset, ScriptForm};
+use run_options::{Forms, Judging, NetlistForm, Proving, Reset, ScriptForm};
 use sdcv_base::{Seq, Setting};
 use std::alloc::{AllocError, Global};
 
@@ -43,6 +44,13 @@ fn judging_of(given: &[Given<'_>], lag: u8) -> Judging
     }
 }
 
+// How the netlist is read: wide where a list of patterns or the name of a top module stands.
+fn netlist_of(alloc: Global, given: &[Given<'_>]) -> Result<Option<NetlistForm>, AllocError>
+    ensures { IfOk result (λ found. found ≡ netlist_of (map seen_given given.now)) }
+{
+    netlist_by(alloc, text_of(given, "free"), text_of(given, "top"))
+}
+
 // How the constraints are read: wide where a list of names or the word for a sign-off stands.
 fn form_of(alloc: Global, given: &[Given<'_>]) -> Result<Option<ScriptForm>, AllocError>
     ensures { IfOk result (λ found. found ≡ form_of (map seen_given given.now)) }
@@ -69,6 +77,9 @@ pub fn options_of(alloc: Global, given: &[Given<'_>]) -> Result<Option<Options>,
     let Some(resets) = resets_of(alloc, list)? else {
         return Ok(None);
     };
+    let Some(netlist) = netlist_of(alloc, given)? else {
+        return Ok(None);
+    };
     let Some(form) = form_of(alloc, given)? else {
         return Ok(None);
     };
@@ -79,7 +90,10 @@ pub fn options_of(alloc: Global, given: &[Given<'_>]) -> Result<Option<Options>,
     };
     Ok(Some(Options {
         judging,
-        form,
+        forms: Forms {
+            netlist,
+            script: form,
+        },
         reset,
     }))
 }

@@ -18,8 +18,8 @@ enum Due {
     Value(&'static str),
 }
 
-// Whether a word can stand for a value: it is not empty and does not begin with `-`.
-fn is_value(word: &str) -> bool
+/// Whether a word can stand for a value: it is not empty and does not begin with `-`.
+pub fn is_value(word: &str) -> bool
     ensures { result ≡ is_value word.now }
 {
     match word.as_bytes() {

@@ -141,7 +141,8 @@ fn may_each_be_skipped(names: &[&str]) -> bool
     may_all(names)
 }
 
-fn names_of(alloc: Global, parts: &[&str]) -> Result<Seq<Name>, AllocError>
+/// The parts of a list as names.
+pub fn names_of(alloc: Global, parts: &[&str]) -> Result<Seq<Name>, AllocError>
     ensures { IfOk result (λ names. names ≡ map (λ part. part.now) parts.now) }
 {
     let mut names = Seq::new(alloc);

@@ -1,4 +1,5 @@
 //! What is told of words that name no command.
+use crate::cuttings::{patterns_of, top_of};
 use crate::givens::text_of;
 use crate::numbers::number_in;
 use crate::places::row_of;
@@ -14,6 +15,8 @@ fn breaks(alloc: Global, rule: ValueRule, text: &str) -> Result<bool, AllocError
         ValueRule::Number { least, most } => Ok(number_in(text, least, most).is_none()),
         ValueRule::Ports => Ok(settings_of(alloc, text)?.is_none()),
         ValueRule::Commands => Ok(skips_of(alloc, text)?.is_none()),
+        ValueRule::Patterns => Ok(patterns_of(alloc, text)?.is_none()),
+        ValueRule::Name => Ok(top_of(alloc, Some(text))?.is_none()),
     }
 }
 
