@@ -1,5 +1,5 @@
 -- What those rely on who judge the pairs of a selection.
-use Rattle.std.proofs.Common.{◌≡◌, length, ap, sym, ◌∙◌}
+use Rattle.std.proofs.Common.{◌≡◌, ℕ, length, Option, ap, sym, ◌∙◌}
 use Rattle.std.proofs.lemmas.List.{length-map}
 use Rattle.linked_types.specs.declared.names.Linked.{Linked}
 use Rattle.linked_types.specs.Usable.{IsUsable}
@@ -16,7 +16,7 @@ as_many l script judging s selects =
     sym (length-map s.claims _) ∙ ap length selects.claims ∙ length-map selects.chosen _ ∙ sym (length-map selects.chosen _)
     ∙ sym (ap length selects.pairs)
 
-pub can_be_judged : (l : Linked) (script : Script) (judging : Judging) (s : Selected) (n : Notices) → IsUsable l → IsSelectionOf l script judging s
-    → CanBeJudged (record { linked = l; selected = s; notices = n })
-can_be_judged l script judging s n usable selects =
+pub can_be_judged : (l : Linked) (script : Script) (judging : Judging) (s : Selected) (n : Notices) (free : Option ℕ) → IsUsable l
+    → IsSelectionOf l script judging s → CanBeJudged (record { linked = l; selected = s; notices = n; free = free })
+can_be_judged l script judging s n free usable selects =
     record { sound = usable.sound; usable = usable; each = as_many l script judging s selects; fit = selects.fit }

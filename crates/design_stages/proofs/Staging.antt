@@ -1,7 +1,7 @@
 -- How a stage leads on to the next one.
 use Rattle.std.proofs.Common.{◌≡◌, Result, Ok, Err, sym, subst, inl, inr}
-use Rattle.netlist_types.specs.declared.sources.Source.{Source}
 use Rattle.cell_types.specs.declared.libraries.Library.{Library}
+use Rattle.link_defs.specs.declared.cuts.CutSource.{CutSource}
 use Rattle.linked_types.specs.declared.names.Linked.{Linked}
 use Rattle.linked_types.specs.declared.options.LinkOptions.{LinkOptions}
 use Rattle.fault_lines.specs.Designs.{link_line}
@@ -41,6 +41,6 @@ pub stops : {A : Type 0} (R : Found A → Type 0) (result : Result A Refusal) (w
 stops {A} R result why is found = subst (λ (r : Result A Refusal). Finds R r) (sym is) found
 
 -- linking is the same over equal options
-pub linked_by : (s : Source) (lib : Library) (o other : LinkOptions) (result : Result Linked Refusal) → o ≡ other
+pub linked_by : (s : CutSource) (lib : Library) (o other : LinkOptions) (result : Result Linked Refusal) → o ≡ other
     → Finds (Staged (Links s lib o) link_line) result → Finds (Staged (Links s lib other) link_line) result
 linked_by s lib o other result same found = subst (λ (x : LinkOptions). Finds (Staged (Links s lib x) link_line) result) same found

@@ -1,3 +1,4 @@
+pub mod Below
 pub mod Designs
 pub mod Stages
 pub mod Texts

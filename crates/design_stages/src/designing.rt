@@ -4,32 +4,44 @@ ghost use Rattle.netlist_types.specs.Lawful.{IsLawful};
 ghost use Rattle.cell_types.specs.Libraries.{IsLawful as IsLawfulLibrary};
 ghost use Rattle.exception_expand.specs.Selections.{HasMultipliers};
 ghost use Rattle.run_options.specs.Judging.{CanJudge};
+ghost use Rattle.run_options.specs.declared.netlists.NetlistForm.TheVariants.{Wide};
+ghost use Rattle.link_defs.specs.Cuts.{IsLawfulCut};
 ghost use Rattle.linked_types.specs.Narrow.{IsOnOneClock};
 ghost use Rattle.linked_types.specs.Usable.{IsUsable};
 ghost use Rattle.fault_lines.specs.Designs.{link_line, expand_line};
 ghost use Rattle.design_stages.specs.Stages.{Finds, Staged};
-ghost use Rattle.design_stages.specs.Designs.{HasInputs, HasSettings, Links, Selects, Settles, LinksTo, Designs, AreLawful, CanBeJudged, options_of, skipped_alone, top_name};
-ghost use Rattle.link_tops.specs.Tops.{IsTop};
-ghost use Rattle.script_notices.specs.Notices.{notices_of};
+ghost use Rattle.design_stages.specs.Below.{cut_below};
+ghost use Rattle.design_stages.specs.Designs.{HasCuts, HasInputs, HasSettings, Links, Selects, Settles, SettlesIn, LinksTo, LinksIn, Designs, DesignsIn};
+ghost use Rattle.design_stages.specs.Designs.{AreLawful, CanBeJudged, options_of};
 
 use crate::designs::{Designed, ReadTexts, Settled};
+use crate::readers::is_wide;
 use crate::refusals::Refusal;
+use crate::tellings::{free_count, noticed, with_netlist};
 use cell_types::Library;
+use cut_source::cut;
 use exception_expand::expand;
 use fault_lines::{expand_line, link_line};
-use link_tops::one_top;
+use link_defs::{CutItem, CutSource};
 use net_link::{LinkOptions, Linked, PortName, link, top_inputs};
 use netlist_types::Source;
-use run_options::{Judging, Reset};
-use script_notices::{Terms, notices, skipped_of};
+use run_options::{Cutting, Judging, NetlistForm, Reset};
 use script_types::Script;
 use sdc_settings::{Settings, settings};
-use sdcv_base::{Name, Seq, Setting};
-use selected_types::{Notices, Selected};
-use std::alloc::{AllocError, Global};
+use sdcv_base::{Seq, Setting};
+use selected_types::Selected;
+use std::alloc::Global;
+
+/// A source without the instances that are cut out of it, and these.
+#[derive(Clone, Copy)]
+struct Below<'a> {
+    source: &'a Source,
+    items: &'a Seq<CutItem>,
+}
 
 /// Links the netlist with its cells, as the constraints and the reset set its inputs, and selects the pairs that the constraints
-/// make exceptions of, each with a claim that is judged in this manner. What is told of the constraints beside them goes with them.
+/// make exceptions of, each with a claim that is judged in this manner. What is told of the netlist and the constraints beside them
+/// goes with them.
 pub fn designed(
     alloc: Global,
     texts: &ReadTexts,
@@ -42,13 +54,51 @@ pub fn designed(
     ensures found { Finds (Designs texts.now reset judging) result }
     ensures judged { IfOk result CanBeJudged }
 {
-    let linked = linked(alloc, texts, reset)?;
+    match &texts.forms.netlist {
+        NetlistForm::Narrow => {
+            let items = Seq::new(alloc);
+            let below = Below {
+                source: &texts.source,
+                items: &items,
+            };
+            designed_in(alloc, texts, &below, reset, judging)
+        }
+        NetlistForm::Wide(cutting) => {
+            let cut = cut_of(alloc, texts, cutting)?;
+            let below = Below {
+                source: &cut.source,
+                items: &cut.items,
+            };
+            designed_in(alloc, texts, &below, reset, judging)
+        }
+    }
+}
+
+/// The same of what is left of the netlist.
+fn designed_in(
+    alloc: Global,
+    texts: &ReadTexts,
+    below: &Below,
+    reset: Reset,
+    judging: Judging,
+) -> Result<Designed, Refusal>
+    requires lawful { AreLawful texts.now }
+    requires below { IsLawfulCut (cut_below below.now) }
+    requires reset { reset.len ≤ 64 }
+    requires judging { CanJudge judging }
+    ensures found { Finds (DesignsIn texts.now (cut_below below.now) reset judging) result }
+    ensures judged { IfOk result CanBeJudged }
+{
+    let linked = linked_in(alloc, texts, below, reset)?;
     let selected = selected(alloc, &linked, &texts.script, judging)?;
-    let notices = noticed(alloc, texts, judging, &selected)?;
+    let notices = noticed(alloc, texts, below.source, judging, &selected)?;
+    let notices = with_netlist(alloc, &texts.forms.netlist, &linked.names, notices)?;
+    let free = free_count(&texts.forms.netlist, &linked.names);
     Ok(Designed {
         linked,
         selected,
         notices,
+        free,
     })
 }
 
@@ -59,10 +109,43 @@ pub fn linked(alloc: Global, texts: &ReadTexts, reset: Reset) -> Result<Linked, 
     ensures found { Finds (LinksTo texts.now reset) result }
     ensures usable { IfOk result IsUsable }
 {
-    let inputs = inputs(alloc, &texts.source)?;
+    match &texts.forms.netlist {
+        NetlistForm::Narrow => {
+            let items = Seq::new(alloc);
+            let below = Below {
+                source: &texts.source,
+                items: &items,
+            };
+            linked_in(alloc, texts, &below, reset)
+        }
+        NetlistForm::Wide(cutting) => {
+            let cut = cut_of(alloc, texts, cutting)?;
+            let below = Below {
+                source: &cut.source,
+                items: &cut.items,
+            };
+            linked_in(alloc, texts, &below, reset)
+        }
+    }
+}
+
+/// Links what is left of the netlist.
+fn linked_in(
+    alloc: Global,
+    texts: &ReadTexts,
+    below: &Below,
+    reset: Reset,
+) -> Result<Linked, Refusal>
+    requires lawful { AreLawful texts.now }
+    requires below { IsLawfulCut (cut_below below.now) }
+    requires reset { reset.len ≤ 64 }
+    ensures found { Finds (LinksIn texts.now (cut_below below.now) reset) result }
+    ensures usable { IfOk result IsUsable }
+{
+    let inputs = inputs(alloc, below.source)?;
     let settings = settings_of(alloc, &texts.script, &inputs, &reset.ports)?;
-    let options = options_of(settings, reset);
-    linked_under(alloc, &texts.source, &texts.library, &options)
+    let options = options_of(&texts.forms.netlist, settings, reset);
+    linked_under(alloc, below, &texts.library, &options)
 }
 
 /// The input bits of the top module, and what the constraints set of them, where reset holds these ports.
@@ -70,27 +153,45 @@ pub fn settled(alloc: Global, texts: &ReadTexts, resets: &Seq<Setting>) -> Resul
     requires { AreLawful texts.now }
     ensures { Finds (Settles texts.now resets.now) result }
 {
-    let inputs = inputs(alloc, &texts.source)?;
+    match &texts.forms.netlist {
+        NetlistForm::Narrow => settled_in(alloc, texts, &texts.source, resets),
+        NetlistForm::Wide(cutting) => {
+            let cut = cut_of(alloc, texts, cutting)?;
+            settled_in(alloc, texts, &cut.source, resets)
+        }
+    }
+}
+
+/// The same of what is left of the netlist.
+fn settled_in(
+    alloc: Global,
+    texts: &ReadTexts,
+    source: &Source,
+    resets: &Seq<Setting>,
+) -> Result<Settled, Refusal>
+    requires { IsLawful source.now }
+    ensures { Finds (SettlesIn texts.now source.now resets.now) result }
+{
+    let inputs = inputs(alloc, source)?;
     let settings = settings_of(alloc, &texts.script, &inputs, resets)?;
     Ok(Settled { inputs, settings })
 }
 
-/// What is told of constraints of which nothing is judged: the commands that are passed over by their names.
-pub fn skipped_alone(alloc: Global, texts: &ReadTexts) -> Result<Notices, AllocError>
-    ensures { IfOk result (λ n. n ≡ skipped_alone texts.now) }
+/// The netlist below its top module without what is cut out of it.
+fn cut_of(alloc: Global, texts: &ReadTexts, cutting: &Cutting) -> Result<CutSource, Refusal>
+    requires { AreLawful texts.now }
+    ensures found { Finds (Staged (HasCuts (Wide cutting.now) texts.now.source texts.now.library) link_line) result }
+    ensures lawful { IfOk result IsLawfulCut }
 {
-    Ok(Notices {
-        top: None,
-        cuts: Seq::new(alloc),
-        skipped: skipped_of(alloc, &texts.form, &texts.script)?,
-        unjudged: Seq::new(alloc),
-        hold_commands: 0,
-    })
+    match cut(alloc, &texts.source, &texts.library, cutting) {
+        Ok(cut) => Ok(cut),
+        Err(fault) => Err(Refusal::Line(link_line(alloc, &fault)?)),
+    }
 }
 
 /// What is set from outside.
-fn options_of(settings: Settings, reset: Reset) -> LinkOptions
-    ensures { result ≡ options_of settings reset }
+fn options_of(form: &NetlistForm, settings: Settings, reset: Reset) -> LinkOptions
+    ensures { result ≡ options_of form.now settings reset }
 {
     let Settings { clock, fixed } = settings;
     let Reset { ports, len } = reset;
@@ -99,7 +200,7 @@ fn options_of(settings: Settings, reset: Reset) -> LinkOptions
         fixed,
         resets: ports,
         reset_len: len,
-        wide: false,
+        wide: is_wide(form),
         cut_clocks: false,
     }
 }
@@ -133,58 +234,21 @@ fn settings_of(
 /// The design with its names, with these inputs set.
 fn linked_under(
     alloc: Global,
-    source: &Source,
+    below: &Below,
     library: &Library,
     options: &LinkOptions,
 ) -> Result<Linked, Refusal>
-    requires source { IsLawful source.now }
+    requires source { IsLawfulCut (cut_below below.now) }
     requires library { IsLawfulLibrary library.now.cells }
     requires resets { options.now.reset_len ≤ 64 }
     requires one_clock { IsOnOneClock options.now }
-    ensures found { Finds (Staged (Links source.now library.now options.now) link_line) result }
+    ensures found { Finds (Staged (Links (cut_below below.now) library.now options.now) link_line) result }
     ensures usable { IfOk result IsUsable }
 {
-    match link(alloc, source, library, options) {
+    match link(alloc, below.source, below.items, library, options) {
         Ok(linked) => Ok(linked),
         Err(fault) => Err(Refusal::Line(link_line(alloc, &fault)?)),
     }
-}
-
-/// The place of the top module. A source that is linked has one.
-fn top_place(alloc: Global, source: &Source) -> Result<usize, AllocError>
-    ensures { IfOk result (IsTop source.now) }
-{
-    match one_top(alloc, source) {
-        Ok(place) => Ok(place),
-        Err(_) => Err(AllocError),
-    }
-}
-
-/// The name of the top module.
-fn top_name(alloc: Global, source: &Source) -> Result<Name, AllocError>
-    ensures { IfOk result (λ name. name ≡ top_name source.now) }
-{
-    let place = top_place(alloc, source)?;
-    let name = source.modules.item(place).name.copy(alloc)?;
-    Ok(name)
-}
-
-/// What is told of the constraints beside the selected pairs.
-fn noticed(
-    alloc: Global,
-    texts: &ReadTexts,
-    judging: Judging,
-    selected: &Selected,
-) -> Result<Notices, AllocError>
-    ensures { IfOk result (λ n. n ≡ notices_of texts.now.form judging (top_name texts.now.source) texts.now.script selected.now) }
-{
-    let top = top_name(alloc, &texts.source)?;
-    let terms = Terms {
-        form: &texts.form,
-        judging,
-        top: &top,
-    };
-    notices(alloc, &terms, &texts.script, selected)
 }
 
 /// The selected pairs.

@@ -2,7 +2,7 @@
 use cell_types::Library;
 use net_link::{Linked, PortName};
 use netlist_types::Source;
-use run_options::ScriptForm;
+use run_options::Forms;
 use script_types::Script;
 use sdc_settings::Settings;
 use sdcv_base::Seq;
@@ -14,7 +14,7 @@ pub struct ReadTexts {
     pub source: Source,
     pub library: Library,
     pub script: Script,
-    pub form: ScriptForm,
+    pub forms: Forms,
 }
 
 /// The input bits of the top module, and what the constraints set.
@@ -24,10 +24,12 @@ pub struct Settled {
     pub settings: Settings,
 }
 
-/// A design with its names, the pairs that are selected in it, and what is told of the constraints beside them.
+/// A design with its names, the pairs that are selected in it, and what is told of the netlist and the constraints beside them.
+/// `free` counts the nets that are free behind what is cut out, where cells may be cut out.
 #[derive(Drop)]
 pub struct Designed {
     pub linked: Linked,
     pub selected: Selected,
     pub notices: Notices,
+    pub free: Option<u64>,
 }

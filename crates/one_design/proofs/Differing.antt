@@ -3,12 +3,12 @@ use Rattle.std.proofs.Common.{◌≡◌, ◌∙◌, ℕ, zero, suc, ◌<◌, Boo
 use Rattle.std.specs.Prelude.{Some, option_map, slice_get, filter}
 use Rattle.std.proofs.lemmas.Bool.{cases_lt}
 use Rattle.std.proofs.lemmas.Option.{slice_get-map}
-use Rattle.netlist_types.specs.declared.sources.Source.{Source}
 use Rattle.netlist_types.specs.declared.sources.Module.{Module}
 use Rattle.cell_types.specs.declared.libraries.Library.{Library}
 use Rattle.linked_types.specs.declared.faults.LinkFault.{LinkFault}
 use Rattle.linked_types.specs.declared.faults.LinkFault.TheVariants as fault
 use Rattle.linked_types.specs.declared.options.LinkOptions.{LinkOptions}
+use Rattle.link_defs.specs.declared.cuts.CutSource.{CutSource}
 use Rattle.link_defs.specs.Circuits.{PortBit, data_bits, input_bits, output_bits}
 use Rattle.link_defs.specs.Faults.{Ports, StandsTwice, bit_names, IsCause, IsFaultless}
 use Rattle.link_defs.specs.Hierarchy.{tops}
@@ -85,13 +85,13 @@ stands_twice o top i j x y low at_x at_y same =
     (are.first, are.second, are.rising, first, second ∙ ap (λ (n : List ℕ). Some n) (sym same))
 
 -- so a netlist without a fault has none
-not_twice : (s : Source) (lib : Library) (o : LinkOptions) (top : Module) → tops s ≡ top ∷ [] → IsFaultless s lib o → (i j : ℕ) (x y : PortBit) → i < j
+not_twice : (s : CutSource) (lib : Library) (o : LinkOptions) (top : Module) → tops s.source ≡ top ∷ [] → IsFaultless s lib o → (i j : ℕ) (x y : PortBit) → i < j
     → slice_get (data_bits o.clock top) i ≡ Some x → slice_get (data_bits o.clock top) j ≡ Some y → x.port.name ≡ y.port.name → ⊥
 not_twice s lib o top is faultless i j x y low at_x at_y same =
-    faultless (fault.NameClash x.port.name) (λ wrong. cc) (top, is, Ports (stands_twice o top i j x y low at_x at_y same))
+    faultless (fault.NameClash x.port.name) (λ wrong. cc) (top, is, inl (λ k left. Ports (stands_twice o top i j x y low at_x at_y same)))
 
 -- and the names of its data inputs differ
-pub inputs_differ : (s : Source) (lib : Library) (o : LinkOptions) → IsFaultless s lib o → (top : Module) → tops s ≡ top ∷ []
+pub inputs_differ : (s : CutSource) (lib : Library) (o : LinkOptions) → IsFaultless s lib o → (top : Module) → tops s.source ≡ top ∷ []
     → IsKeyed (λ (b : PortBit). b.port.name) (data_bits o.clock top)
 inputs_differ s lib o faultless top is i j x y at_x at_y same =
     elim (cases_lt i j) [
@@ -103,7 +103,7 @@ inputs_differ s lib o faultless top is i j x y at_x at_y same =
     ]
 
 -- a netlist without a fault is refused for want of memory alone
-pub faultless_only : (s : Source) (lib : Library) (o : LinkOptions) (e : LinkFault) → IsFaultless s lib o → IsCause s lib o e → e ≡ fault.Memory
+pub faultless_only : (s : CutSource) (lib : Library) (o : LinkOptions) (e : LinkFault) → IsFaultless s lib o → IsCause s lib o e → e ≡ fault.Memory
 faultless_only s lib o fault.Memory faultless cause = refl
 faultless_only s lib o (fault.UnknownCell name) faultless cause = absurd (faultless (fault.UnknownCell name) (λ wrong. cc) cause)
 faultless_only s lib o (fault.UnsupportedCell name) faultless cause = absurd (faultless (fault.UnsupportedCell name) (λ wrong. cc) cause)

@@ -1,5 +1,5 @@
 -- What stages find is one, stage by stage.
-use Rattle.std.proofs.Common.{◌≡◌, ◌∙◌, ℕ, List, [], ◌∷◌, length, Option, Some, None, Result, Ok, Err, refl, sym, ap, subst, inl, inr}
+use Rattle.std.proofs.Common.{◌≡◌, ◌∙◌, ℕ, List, [], ◌∷◌, Option, Some, None, Result, Ok, Err, refl, sym, ap, subst, inl, inr}
 use Rattle.netlist_types.specs.declared.sources.Source.{Source}
 use Rattle.netlist_types.specs.declared.sources.Module.{Module}
 use Rattle.cell_types.specs.declared.libraries.Library.{Library}
@@ -7,6 +7,7 @@ use Rattle.linked_types.specs.declared.faults.LinkFault.{LinkFault}
 use Rattle.linked_types.specs.declared.faults.LinkFault.TheVariants as link
 use Rattle.linked_types.specs.declared.names.PortName.{PortName}
 use Rattle.linked_types.specs.declared.options.LinkOptions.{LinkOptions}
+use Rattle.link_defs.specs.declared.cuts.CutSource.{CutSource}
 use Rattle.link_defs.specs.Circuits.{input_bits}
 use Rattle.link_defs.specs.Links.{ports_of}
 use Rattle.link_tops.specs.Tops.{IsTopCause}
@@ -16,11 +17,13 @@ use Rattle.fault_lines.specs.Designs.{link_line, expand_line}
 use Rattle.design_stages.specs.declared.designs.Designed.{Designed}
 use Rattle.design_stages.specs.declared.designs.ReadTexts.{ReadTexts}
 use Rattle.run_options.specs.declared.resets.Reset.{Reset}
-use Rattle.design_stages.specs.Designs.{HasInputs, HasSettings, Links, Selects, LinksTo, Designs, designed_by, options_of}
+use Rattle.design_stages.specs.Designs.{HasCuts, HasInputs, HasSettings, Links, Selects, Cuts, LinksIn, LinksTo, DesignsIn, Designs, designed_by}
+use Rattle.design_stages.specs.Designs.{options_of}
 use Rattle.design_stages.specs.Stages.{Found, Staged, Then}
 use Rattle.one_design.specs.Answers.{IsOneAnswer}
 use Rattle.one_design.specs.Designs.{FindsOne}
 use Rattle.one_design.proofs.Fixing.{one_settings}
+use Rattle.one_design.proofs.Leaving.{one_cut, top_only}
 use Rattle.one_design.proofs.Linking.{one_linked}
 use Rattle.one_design.proofs.Selecting.{one_selection}
 
@@ -71,50 +74,50 @@ inputs_same s x y (top, one, is) (other, too, also) =
 
 -- a netlist with one top module is refused for want of memory alone
 inputs_only : (s : Source) (x : List PortName) (e : LinkFault) → HasInputs s (Ok x) → IsTopCause s e → e ≡ link.Memory
-inputs_only s x (link.NoTop number) (top, one, is) (count, wrong) = absurd (wrong (sym count ∙ ap length one))
-inputs_only s x link.Memory has cause = refl
-inputs_only s x (link.UnknownCell name) has cause = absurd cause
-inputs_only s x (link.UnsupportedCell name) has cause = absurd cause
-inputs_only s x (link.UnknownPin name) has cause = absurd cause
-inputs_only s x (link.OpenInput name) has cause = absurd cause
-inputs_only s x (link.Undriven name) has cause = absurd cause
-inputs_only s x (link.ManyDrivers name) has cause = absurd cause
-inputs_only s x (link.Loop name) has cause = absurd cause
-inputs_only s x (link.NotTheClock name) has cause = absurd cause
-inputs_only s x (link.ClockAsData name) has cause = absurd cause
-inputs_only s x (link.Recursive name) has cause = absurd cause
-inputs_only s x (link.NameClash name) has cause = absurd cause
-inputs_only s x (link.Limit what number) has cause = absurd cause
-inputs_only s x (link.BadSetting name) has cause = absurd cause
+inputs_only s x e (top, one, is) cause = top_only s top e one cause
 
 pub one_inputs : (s : Source) → HasOne (HasInputs s) link.Memory
 one_inputs s = record { same = inputs_same s; only = inputs_only s }
 
 -- a netlist with its cells has one answer
-links_once : (s : Source) (lib : Library) (o : LinkOptions) → HasOne (Links s lib o) link.Memory
+links_once : (s : CutSource) (lib : Library) (o : LinkOptions) → HasOne (Links s lib o) link.Memory
 links_once s lib o =
     let one = one_linked s lib o in
     record { same = λ a b first second. one.same a b (first.0, first.2) (second.0, second.2); only = λ l e is cause. one.only l e (is.0, is.2) cause }
 
+-- what is left of a netlist is one
+pub cuts_one : (t : ReadTexts) → FindsOne (Cuts t)
+cuts_one t = staged_one (HasCuts t.forms.netlist t.source t.library) link_line link.Memory refl (one_cut t.forms.netlist t.source t.library)
+
+-- and so is its design
+left_one : (t : ReadTexts) (cut : CutSource) (reset : Reset) → FindsOne (LinksIn t cut reset)
+unfolding LinksIn
+left_one t cut reset =
+    then_one (Staged (HasInputs cut.source) link_line) _ (staged_one (HasInputs cut.source) link_line link.Memory refl (one_inputs cut.source))
+    (λ inputs. then_one (Staged (HasSettings t.script inputs reset.ports) expand_line) _
+    (staged_one (HasSettings t.script inputs reset.ports) expand_line expand.Memory refl (one_settings t.script inputs reset.ports))
+    (λ settings. staged_one (Links cut t.library (options_of t.forms.netlist settings reset)) link_line link.Memory refl
+    (links_once cut t.library (options_of t.forms.netlist settings reset))))
+
 -- texts have one design
 pub links_one : (t : ReadTexts) (reset : Reset) → FindsOne (LinksTo t reset)
 unfolding LinksTo
-links_one t reset =
-    then_one (Staged (HasInputs t.source) link_line) _ (staged_one (HasInputs t.source) link_line link.Memory refl (one_inputs t.source))
-    (λ inputs. then_one (Staged (HasSettings t.script inputs reset.ports) expand_line) _
-    (staged_one (HasSettings t.script inputs reset.ports) expand_line expand.Memory refl (one_settings t.script inputs reset.ports))
-    (λ settings. staged_one (Links t.source t.library (options_of settings reset)) link_line link.Memory refl
-    (links_once t.source t.library (options_of settings reset))))
+links_one t reset = then_one (Cuts t) _ (cuts_one t) (λ cut. left_one t cut reset)
 
 -- a design with these pairs is one
 made_one : (d : Designed) → FindsOne (λ (found : Found Designed). found ≡ Ok d)
 made_one d value found is also = also ∙ sym is
 
--- and one design with its pairs
-pub designs_one : (t : ReadTexts) (reset : Reset) (judging : Judging) → FindsOne (Designs t reset judging)
-unfolding Designs
-designs_one t reset judging =
-    then_one (LinksTo t reset) _ (links_one t reset)
+-- what is left has one design with its pairs
+pairs_one : (t : ReadTexts) (cut : CutSource) (reset : Reset) (judging : Judging) → FindsOne (DesignsIn t cut reset judging)
+unfolding DesignsIn
+pairs_one t cut reset judging =
+    then_one (LinksIn t cut reset) _ (left_one t cut reset)
     (λ linked. then_one (Staged (Selects linked t.script judging) expand_line) _
     (staged_one (Selects linked t.script judging) expand_line expand.Memory refl (one_selection linked t.script judging))
-    (λ selected. made_one (designed_by t judging linked selected)))
+    (λ selected. made_one (designed_by t judging cut linked selected)))
+
+-- and so have texts
+pub designs_one : (t : ReadTexts) (reset : Reset) (judging : Judging) → FindsOne (Designs t reset judging)
+unfolding Designs
+designs_one t reset judging = then_one (Cuts t) _ (cuts_one t) (λ cut. pairs_one t cut reset judging)

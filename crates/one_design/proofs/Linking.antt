@@ -11,28 +11,33 @@ use Rattle.net_model.specs.declared.netlist.Fixed.{Fixed}
 use Rattle.net_model.specs.declared.netlist.Gate.{Gate}
 use Rattle.icg_rewrite.specs.declared.clock_gates.Gated.{Gated}
 use Rattle.icg_rewrite.specs.Rewritten.{rewritten}
-use Rattle.netlist_types.specs.declared.sources.Source.{Source}
 use Rattle.netlist_types.specs.declared.sources.Module.{Module}
 use Rattle.cell_types.specs.declared.libraries.Cell.{Cell}
 use Rattle.cell_types.specs.declared.libraries.Library.{Library}
 use Rattle.link_defs.specs.declared.circuits.Circuit.{Circuit}
 use Rattle.link_defs.specs.declared.circuits.Part.{Part}
 use Rattle.link_defs.specs.declared.circuits.Part.TheVariants as part
+use Rattle.link_defs.specs.declared.cuts.CutCell.{CutCell}
+use Rattle.link_defs.specs.declared.cuts.CutSource.{CutSource}
 use Rattle.linked_types.specs.declared.names.Linked.{Linked}
+use Rattle.linked_types.specs.declared.names.Names.{Names}
 use Rattle.linked_types.specs.declared.names.NetName.{NetName}
 use Rattle.linked_types.specs.declared.faults.LinkFault.TheVariants.{Memory}
 use Rattle.linked_types.specs.declared.options.LinkOptions.{LinkOptions}
-use Rattle.link_defs.specs.CellNames.{Leaf, AreNetNames, cell_name, cell_names, pins_if_any, clock_role, output_role, input_roles, tree_pins, out_pins, reg_of}
+use Rattle.link_defs.specs.CellNames.{Leaf, leaves, AreNetNames, cell_name, cell_names, pins_if_any, clock_role, output_role, input_roles, tree_pins, out_pins}
+use Rattle.link_defs.specs.CellNames.{reg_of}
 use Rattle.link_defs.specs.Circuits.{PortBit, IsTree, all_gates, circuit_of, data_bits, part_outs, part_drives, part_regs}
+use Rattle.link_defs.specs.Cuts.{Tree, OwnedPin, cut_cells, cut_cell_names, cut_circuit, pin_name}
 use Rattle.link_defs.specs.Designs.{IsOrderOf, gate_at, gates_at, is_on_tree, tree_marks}
 use Rattle.link_defs.specs.Faults.{IsCause, IsFaultless}
-use Rattle.link_defs.specs.Flatten.{Flat}
+use Rattle.link_defs.specs.Flatten.{Flat, flat_of}
 use Rattle.link_defs.specs.GateOrders.{ClockPart}
 use Rattle.link_defs.specs.GatedDesigns.{IsGatedOf}
 use Rattle.link_defs.specs.Hierarchy.{tops}
-use Rattle.link_defs.specs.Links.{AreNames, IsLinked, IsSet}
+use Rattle.link_defs.specs.Links.{AreNames, IsLinked, IsSet, Numbered}
 use Rattle.link_gates.proofs.OneGated as gated
 use Rattle.one_design.specs.Answers.{IsOneAnswer}
+use Rattle.one_design.proofs.CutNames.{IsTreeFor, frame_of, one_left, one_names, one_sinks}
 use Rattle.one_design.proofs.Differing.{inputs_differ, faultless_only}
 use Rattle.sdc_settings.proofs.Keying.{IsKeyed, same_items}
 
@@ -83,8 +88,8 @@ module _ (c : Circuit) (x y : List Bool) (first : IsTree c x) (second : IsTree c
       λ i. record { name = leaf.name; reg = reg_of before leaf.part; outs = outs i; pins = pins i }
 
   -- and all names of cells
-  cells_same : (number : ℕ → ℕ) (sources before : ℕ) (leaves : List Leaf)
-      → cell_names number sources y before leaves ≡ cell_names number sources x before leaves
+  cells_same : (number : ℕ → ℕ) (sources before : ℕ) (list : List Leaf)
+      → cell_names number sources y before list ≡ cell_names number sources x before list
   unfolding cell_names
   cells_same number sources before [] = refl
   cells_same number sources before (l ∷ ls) =
@@ -137,26 +142,45 @@ given_reset_len : (g : Gated) → (rewritten g).reset_len ≡ g.design.reset_len
 unfolding rewritten
 given_reset_len g = refl
 
--- what linking gives below this top module, with this clock tree, these orders of gates and of clock gates, and this design with clock gates
-record IsLinkedAt (s : Source) (lib : Library) (o : LinkOptions) (top : Module) (tree : List Bool) (order : List Gate) (gates : List ClockPart) (g : Gated)
+-- the cells that are cut out below this top module
+abbrev cells_of : CutSource → Library → Module → List CutCell
+cells_of s lib top = cut_cells s.items (flat_of s.source lib top).scopes
+
+-- what linking gives below this top module: this circuit is left by these rows of its clock tree, and it has this clock tree, these orders of
+-- gates and of clock gates, and this design with clock gates
+record IsLinkedAt (s : CutSource) (lib : Library) (o : LinkOptions) (top : Module) (k : Circuit) (t : Tree) (n : Numbered) (g : Gated)
     (l : Linked) : Type 0 where
-  gated_is : IsGatedOf (circuit_of s lib top o.clock) tree order gates g
+  marked : IsTreeFor (circuit_of s.source lib top o.clock) (cells_of s lib top) t
+  left : k ≡ cut_circuit (circuit_of s.source lib top o.clock) t (cells_of s lib top)
+  clocked : gated.AreClocked k
+  gated_is : IsGatedOf k n.tree n.order n.gates g
   design : l.design ≡ rewritten g
   fixed : AllZip (IsSet (data_bits o.clock top)) o.fixed l.design.fixed
   resets : AllZip (IsSet (data_bits o.clock top)) o.resets l.design.resets
   reset_len : l.design.reset_len ≡ o.reset_len
-  names : AreNames s lib o top tree order gates l
+  names : AreNames (circuit_of s.source lib top o.clock) k o top (flat_of s.source lib top) (leaves s.source lib (flat_of s.source lib top))
+      (cells_of s lib top) t n l.names
 
-linked_at : (s : Source) (lib : Library) (o : LinkOptions) (l : Linked) (is : IsLinked s lib o l)
-    → IsLinkedAt s lib o is.top is.tree is.order is.gates is.gated l
-linked_at s lib o l is =
-    record { gated_is = is.gated_is; design = is.design; fixed = is.fixed; resets = is.resets; reset_len = is.reset_len; names = is.names }
+linked_at : (s : CutSource) (lib : Library) (o : LinkOptions) (l : Linked) (is : IsLinked s lib o l)
+    → IsLinkedAt s lib o is.top is.circuit is.cut.tree (record { tree = is.tree; order = is.order; gates = is.gates }) is.gated l
+linked_at s lib o l is = record {
+  marked = is.cut.tree_is;
+  left = is.cut.is;
+  clocked = is.clocked;
+  gated_is = is.gated_is;
+  design = is.design;
+  fixed = is.fixed;
+  resets = is.resets;
+  reset_len = is.reset_len;
+  names = is.names;
+}
 
--- of one top module and one order of gates there is one design without the clock gates
-without_same : (s : Source) (lib : Library) (o : LinkOptions) (top : Module) (x y : List Bool) (order : List Gate) (gates others : List ClockPart)
-    (g h : Gated) (a b : Linked) → IsKeyed (λ (bit : PortBit). bit.port.name) (data_bits o.clock top) → IsLinkedAt s lib o top x order gates g a
-    → IsLinkedAt s lib o top y order others h b → h.design ≡ g.design
-without_same s lib o top x y order gates others g h a b once first second =
+-- of one circuit and one order of gates there is one design without the clock gates
+without_same : (s : CutSource) (lib : Library) (o : LinkOptions) (top : Module) (k : Circuit) (t u : Tree) (x y : List Bool) (order : List Gate)
+    (gates others : List ClockPart) (g h : Gated) (a b : Linked) → IsKeyed (λ (bit : PortBit). bit.port.name) (data_bits o.clock top)
+    → IsLinkedAt s lib o top k t (record { tree = x; order = order; gates = gates }) g a
+    → IsLinkedAt s lib o top k u (record { tree = y; order = order; gates = others }) h b → h.design ≡ g.design
+without_same s lib o top k t u x y order gates others g h a b once first second =
     let bits = data_bits o.clock top in
     let one = first.gated_is.design in
     let other = second.gated_is.design in
@@ -186,30 +210,40 @@ without_same s lib o top x y order gates others g h a b once first second =
     }
 
 -- so there is one with them
-with_same : (s : Source) (lib : Library) (o : LinkOptions) (top : Module) (x y : List Bool) (order : List Gate) (gates others : List ClockPart)
-    (g h : Gated) (a b : Linked) → IsKeyed (λ (bit : PortBit). bit.port.name) (data_bits o.clock top)
-    → gated.AreClocked (circuit_of s lib top o.clock) → IsLinkedAt s lib o top x order gates g a → IsLinkedAt s lib o top y order others h b
-    → b.design ≡ a.design
-with_same s lib o top x y order gates others g h a b once clocked first second =
-    let without = without_same s lib o top x y order gates others g h a b once first second in
-    let one : g ≡ h =
-    gated.gated_same (circuit_of s lib top o.clock) x y order gates others clocked g h first.gated_is second.gated_is (sym without) in
+with_same : (s : CutSource) (lib : Library) (o : LinkOptions) (top : Module) (k : Circuit) (t u : Tree) (x y : List Bool) (order : List Gate)
+    (gates others : List ClockPart) (g h : Gated) (a b : Linked) → IsKeyed (λ (bit : PortBit). bit.port.name) (data_bits o.clock top)
+    → IsLinkedAt s lib o top k t (record { tree = x; order = order; gates = gates }) g a
+    → IsLinkedAt s lib o top k u (record { tree = y; order = order; gates = others }) h b → b.design ≡ a.design
+with_same s lib o top k t u x y order gates others g h a b once first second =
+    let without = without_same s lib o top k t u x y order gates others g h a b once first second in
+    let one : g ≡ h = gated.gated_same k x y order gates others first.clocked g h first.gated_is second.gated_is (sym without) in
     second.design ∙ ap rewritten (sym one) ∙ sym first.design
 
+-- the names of cells, with those that are cut out
+all_cells_same : (c k : Circuit) (cells : List CutCell) (t u : Tree) (x y : List Bool) (number : ℕ → ℕ) (sources : ℕ) (found : List Leaf)
+    → IsTreeFor c cells t → IsTreeFor c cells u → IsTree k x → IsTree k y
+    → cell_names number sources y 0 found ++ cut_cell_names (frame_of c cells number u) 0 cells
+    ≡ cell_names number sources x 0 found ++ cut_cell_names (frame_of c cells number t) 0 cells
+all_cells_same c k cells t u x y number sources found marked also first second =
+    let kept = cells_same k x y first second number sources 0 found in
+    let cut = one_names c cells number u t also marked in
+    λ i. kept i ++ cut i
+
 -- and one list of each kind of names
-names_same : (s : Source) (lib : Library) (o : LinkOptions) (top : Module) (x y : List Bool) (order : List Gate) (gates : List ClockPart) (a b : Linked)
-    → IsTree (circuit_of s lib top o.clock) x → IsTree (circuit_of s lib top o.clock) y → AreNames s lib o top x order gates a
-    → AreNames s lib o top y order gates b → b.names ≡ a.names
-names_same s lib o top x y order gates a b first_tree second_tree first second =
-    let named = second.cells ∙ cells_same (circuit_of s lib top o.clock) x y first_tree second_tree _ _ 0 _ ∙ sym first.cells in
+names_same : (c k : Circuit) (o : LinkOptions) (top : Module) (flat : Flat) (found : List Leaf) (cells : List CutCell) (t u : Tree) (x y : List Bool)
+    (order : List Gate) (gates : List ClockPart) (a b : Names) → IsTreeFor c cells t → IsTreeFor c cells u → IsTree k x → IsTree k y
+    → AreNames c k o top flat found cells t (record { tree = x; order = order; gates = gates }) a
+    → AreNames c k o top flat found cells u (record { tree = y; order = order; gates = gates }) b → b ≡ a
+names_same c k o top flat found cells t u x y order gates a b marked also first_tree second_tree first second =
+    let named = second.cells ∙ all_cells_same c k cells t u x y _ _ found marked also first_tree second_tree ∙ sym first.cells in
     let ins = second.ins ∙ sym first.ins in
     let outs = second.outs ∙ sym first.outs in
-    let called = nets_same _ _ _ a.names.nets b.names.nets first.nets second.nets in
+    let called = nets_same _ _ _ a.nets b.nets first.nets second.nets in
     let clock = second.clock ∙ sym first.clock in
-    let free = second.whole.free ∙ sym first.whole.free in
-    let sinks = second.whole.sinks ∙ sym first.whole.sinks in
-    let cuts = second.whole.cuts ∙ sym first.whole.cuts in
-    let assumed = second.whole.assumed ∙ sym first.whole.assumed in
+    let free = second.free ∙ sym first.free in
+    let sinks = second.sinks ∙ ap (λ (ps : List OwnedPin). map pin_name ps) (one_sinks c cells u t also marked) ∙ sym first.sinks in
+    let cuts = second.cuts ∙ sym first.cuts in
+    let assumed = second.assumed ∙ sym first.assumed in
     λ i. record {
       cells = named i;
       ins = ins i;
@@ -222,38 +256,52 @@ names_same s lib o top x y order gates a b first_tree second_tree first second =
       assumed = assumed i;
     }
 
--- of one top module and one order of gates there is one design with its names
-at_same : (s : Source) (lib : Library) (o : LinkOptions) (top : Module) (x y : List Bool) (order : List Gate) (gates others : List ClockPart)
-    (g h : Gated) (a b : Linked) → IsKeyed (λ (bit : PortBit). bit.port.name) (data_bits o.clock top)
-    → gated.AreClocked (circuit_of s lib top o.clock) → IsLinkedAt s lib o top x order gates g a → IsLinkedAt s lib o top y order others h b → b ≡ a
-at_same s lib o top x y order gates others g h a b once clocked first second =
-    let design = with_same s lib o top x y order gates others g h a b once clocked first second in
-    let ordered : gates ≡ others =
-    gated.order_same (circuit_of s lib top o.clock) clocked gates others first.gated_is.ordered second.gated_is.ordered in
-    let moved : AreNames s lib o top y order gates b = subst (λ (xs : List ClockPart). AreNames s lib o top y order xs b) (sym ordered) second.names in
-    let names = names_same s lib o top x y order gates a b first.gated_is.design.tree_is second.gated_is.design.tree_is first.names moved in
+-- of one circuit and one order of gates there is one design with its names
+at_same : (s : CutSource) (lib : Library) (o : LinkOptions) (top : Module) (k : Circuit) (t u : Tree) (x y : List Bool) (order : List Gate)
+    (gates others : List ClockPart) (g h : Gated) (a b : Linked) → IsKeyed (λ (bit : PortBit). bit.port.name) (data_bits o.clock top)
+    → IsLinkedAt s lib o top k t (record { tree = x; order = order; gates = gates }) g a
+    → IsLinkedAt s lib o top k u (record { tree = y; order = order; gates = others }) h b → b ≡ a
+at_same s lib o top k t u x y order gates others g h a b once first second =
+    let design = with_same s lib o top k t u x y order gates others g h a b once first second in
+    let ordered : gates ≡ others = gated.order_same k first.clocked gates others first.gated_is.ordered second.gated_is.ordered in
+    let moved : IsLinkedAt s lib o top k u (record { tree = y; order = order; gates = gates }) h b =
+    subst (λ (xs : List ClockPart). IsLinkedAt s lib o top k u (record { tree = y; order = order; gates = xs }) h b) (sym ordered) second in
+    let names =
+    names_same (circuit_of s.source lib top o.clock) k o top (flat_of s.source lib top) (leaves s.source lib (flat_of s.source lib top))
+    (cells_of s lib top) t u x y order gates a.names b.names first.marked second.marked first.gated_is.design.tree_is
+    second.gated_is.design.tree_is first.names moved.names in
     λ i. record { design = design i; names = names i }
 
+-- below one top module one circuit is left, and its gates have one order
+left_same : (s : CutSource) (lib : Library) (o : LinkOptions) (top : Module) (k j : Circuit) (t u : Tree) (n m : Numbered) (g h : Gated) (a b : Linked)
+    → IsKeyed (λ (bit : PortBit). bit.port.name) (data_bits o.clock top) → IsLinkedAt s lib o top k t n g a → IsLinkedAt s lib o top j u m h b → b ≡ a
+left_same s lib o top k j t u n m g h a b once first second =
+    let c = circuit_of s.source lib top o.clock in
+    let circuit : j ≡ k = second.left ∙ one_left c (cells_of s lib top) u t second.marked first.marked ∙ sym first.left in
+    let moved : IsLinkedAt s lib o top k u m h b = subst (λ (x : Circuit). IsLinkedAt s lib o top x u m h b) circuit second in
+    let one = first.gated_is.design in
+    let other = moved.gated_is.design in
+    let order : m.order ≡ n.order = order_same k n.tree m.tree one.tree_is other.tree_is n.order m.order one.order_is other.order_is in
+    let ready : IsLinkedAt s lib o top k u (record { tree = m.tree; order = n.order; gates = m.gates }) h b =
+    subst (λ (gates : List Gate). IsLinkedAt s lib o top k u (record { tree = m.tree; order = gates; gates = m.gates }) h b) order moved in
+    at_same s lib o top k t u n.tree m.tree n.order n.gates m.gates g h a b once first ready
+
 -- a netlist whose input bits have different names has one design with its names
-pub linked_same : (s : Source) (lib : Library) (o : LinkOptions) (a b : Linked)
-    → ((top : Module) → tops s ≡ top ∷ [] → IsKeyed (λ (bit : PortBit). bit.port.name) (data_bits o.clock top)) → IsLinked s lib o a
+pub linked_same : (s : CutSource) (lib : Library) (o : LinkOptions) (a b : Linked)
+    → ((top : Module) → tops s.source ≡ top ∷ [] → IsKeyed (λ (bit : PortBit). bit.port.name) (data_bits o.clock top)) → IsLinked s lib o a
     → IsLinked s lib o b → b ≡ a
 linked_same s lib o a b once first second =
     let both : second.top ∷ [] ≡ first.top ∷ [] = sym second.top_is ∙ first.top_is in
     let top : second.top ≡ first.top = cc in
-    let moved : IsLinkedAt s lib o first.top second.tree second.order second.gates second.gated b =
-    subst (λ (m : Module). IsLinkedAt s lib o m second.tree second.order second.gates second.gated b) top (linked_at s lib o b second) in
-    let one = first.gated_is.design in
-    let other = moved.gated_is.design in
-    let order : second.order ≡ first.order =
-    order_same (circuit_of s lib first.top o.clock) first.tree second.tree one.tree_is other.tree_is first.order second.order one.order_is other.order_is in
-    let ready : IsLinkedAt s lib o first.top second.tree first.order second.gates second.gated b =
-    subst (λ (gates : List Gate). IsLinkedAt s lib o first.top second.tree gates second.gates second.gated b) order moved in
-    at_same s lib o first.top first.tree second.tree first.order first.gates second.gates first.gated second.gated a b (once first.top first.top_is)
-    first.clocked (linked_at s lib o a first) ready
+    let n : Numbered = record { tree = first.tree; order = first.order; gates = first.gates } in
+    let m : Numbered = record { tree = second.tree; order = second.order; gates = second.gates } in
+    let moved : IsLinkedAt s lib o first.top second.circuit second.cut.tree m second.gated b =
+    subst (λ (x : Module). IsLinkedAt s lib o x second.circuit second.cut.tree m second.gated b) top (linked_at s lib o b second) in
+    left_same s lib o first.top first.circuit second.circuit first.cut.tree second.cut.tree n m first.gated second.gated a b
+    (once first.top first.top_is) (linked_at s lib o a first) moved
 
 -- a netlist without a fault has one answer
-pub one_linked : (s : Source) (lib : Library) (o : LinkOptions)
+pub one_linked : (s : CutSource) (lib : Library) (o : LinkOptions)
     → IsOneAnswer (λ l. IsLinked s lib o l × IsFaultless s lib o) (IsCause s lib o) Memory
 one_linked s lib o = record {
   same = λ a b first second. linked_same s lib o a b (inputs_differ s lib o first.1) first.0 second.0;

@@ -1,5 +1,5 @@
 -- What is found of texts is one: of each text, and of a netlist, its cells and its constraints.
-use Rattle.std.proofs.Common.{◌≡◌, ◌∙◌, ℕ, false, List, Option, Some, Result, Ok, Err, refl, sym, ap}
+use Rattle.std.proofs.Common.{◌≡◌, ◌∙◌, ℕ, List, Option, Some, Result, Ok, Err, refl, sym, ap}
 use Rattle.std.proofs.lemmas.Option.{none-some, same_Some}
 use Rattle.verilog_net.specs.Sources.{source_of}
 use Rattle.cell_types.specs.declared.libraries.Library.{Library}
@@ -8,11 +8,13 @@ use Rattle.cell_types.specs.declared.faults.LibFault.TheVariants as fault
 use Rattle.cell_lib.specs.Texts.{library_of, Refuses, Reads}
 use Rattle.sdc_text.specs.Scripts.{script_of}
 use Rattle.fault_lines.specs.Sources.{verilog_line, liberty_line, sdc_line}
+use Rattle.run_options.specs.declared.forms.Forms.{Forms}
 use Rattle.run_options.specs.declared.forms.ScriptForm.{ScriptForm}
+use Rattle.run_options.specs.declared.netlists.NetlistForm.{NetlistForm}
 use Rattle.run_options.specs.declared.judging.Judging.{Judging}
 use Rattle.run_options.specs.declared.resets.Reset.{Reset}
 use Rattle.design_stages.specs.Stages.{Staged}
-use Rattle.design_stages.specs.Texts.{Netlist, Cells, Constraints}
+use Rattle.design_stages.specs.Texts.{Netlist, Cells, Constraints, is_wide}
 use Rattle.one_design.specs.Designs.{FindsOne, DesignsOf}
 use Rattle.one_design.proofs.Finding.{HasOne, staged_one, then_one, designs_one}
 
@@ -44,8 +46,8 @@ library_once : (text : List ℕ) → HasOne (Reads text) fault.Memory
 library_once text = record { same = library_same text; only = library_only text }
 
 -- the netlist of a text is one
-pub netlist_one : (text : List ℕ) → FindsOne (Netlist text)
-netlist_one text = answer_one (source_of false text) verilog_line
+pub netlist_one : (form : NetlistForm) (text : List ℕ) → FindsOne (Netlist form text)
+netlist_one form text = answer_one (source_of (is_wide form) text) verilog_line
 
 -- so are its cells
 pub cells_one : (text : List ℕ) → FindsOne (Cells text)
@@ -56,11 +58,11 @@ pub constraints_one : (form : ScriptForm) (text : List ℕ) → FindsOne (Constr
 constraints_one form text = answer_one (script_of form text) sdc_line
 
 -- and the design of three texts with its pairs
-pub texts_one : (netlist cells constraints : List ℕ) (form : ScriptForm) (reset : Reset) (judging : Judging)
-    → FindsOne (DesignsOf netlist cells constraints form reset judging)
+pub texts_one : (netlist cells constraints : List ℕ) (forms : Forms) (reset : Reset) (judging : Judging)
+    → FindsOne (DesignsOf netlist cells constraints forms reset judging)
 unfolding DesignsOf
-texts_one netlist cells constraints form reset judging =
-    then_one (Netlist netlist) _ (netlist_one netlist)
+texts_one netlist cells constraints forms reset judging =
+    then_one (Netlist forms.netlist netlist) _ (netlist_one forms.netlist netlist)
     (λ source. then_one (Cells cells) _ (cells_one cells)
-    (λ library. then_one (Constraints form constraints) _ (constraints_one form constraints)
-    (λ script. designs_one (record { source = source; library = library; script = script; form = form }) reset judging)))
+    (λ library. then_one (Constraints forms.script constraints) _ (constraints_one forms.script constraints)
+    (λ script. designs_one (record { source = source; library = library; script = script; forms = forms }) reset judging)))

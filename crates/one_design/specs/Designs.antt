@@ -1,6 +1,6 @@
 -- Texts have one design.
 use Rattle.std.specs.Prelude.{◌≡◌, ℕ, List, Ok}
-use Rattle.run_options.specs.declared.forms.ScriptForm.{ScriptForm}
+use Rattle.run_options.specs.declared.forms.Forms.{Forms}
 use Rattle.run_options.specs.declared.judging.Judging.{Judging}
 use Rattle.design_stages.specs.declared.designs.Designed.{Designed}
 use Rattle.design_stages.specs.declared.designs.ReadTexts.{ReadTexts}
@@ -17,17 +17,17 @@ FindsOne {A} R = (value : A) (found : Found A) → R (Ok value) → R found → 
 abbrev pub OneDesign : ReadTexts → Reset → Judging → Type 0
 OneDesign t reset judging = (d : Designed) (found : Found Designed) → Designs t reset judging (Ok d) → Designs t reset judging found → found ≡ Ok d
 
--- the design with its pairs of a netlist's text, the text of its cells and that of its constraints, which are read in a form, or the
+-- the design with its pairs of a netlist's text, the text of its cells and that of its constraints, which are read in these forms, or the
 -- line of the first refusal
-unfoldable pub DesignsOf : List ℕ → List ℕ → List ℕ → ScriptForm → Reset → Judging → Found Designed → Type 0
-DesignsOf netlist cells constraints form reset judging = do
-  source ← Netlist netlist
+unfoldable pub DesignsOf : List ℕ → List ℕ → List ℕ → Forms → Reset → Judging → Found Designed → Type 0
+DesignsOf netlist cells constraints forms reset judging = do
+  source ← Netlist forms.netlist netlist
   library ← Cells cells
-  script ← Constraints form constraints
-  Designs (record { source = source; library = library; script = script; form = form }) reset judging
+  script ← Constraints forms.script constraints
+  Designs (record { source = source; library = library; script = script; forms = forms }) reset judging
 
 -- texts that have a design with its pairs have no other one, and none of them is refused
-abbrev pub OneDesignOf : List ℕ → List ℕ → List ℕ → ScriptForm → Reset → Judging → Type 0
-OneDesignOf netlist cells constraints form reset judging =
-    (d : Designed) (found : Found Designed) → DesignsOf netlist cells constraints form reset judging (Ok d)
-    → DesignsOf netlist cells constraints form reset judging found → found ≡ Ok d
+abbrev pub OneDesignOf : List ℕ → List ℕ → List ℕ → Forms → Reset → Judging → Type 0
+OneDesignOf netlist cells constraints forms reset judging =
+    (d : Designed) (found : Found Designed) → DesignsOf netlist cells constraints forms reset judging (Ok d)
+    → DesignsOf netlist cells constraints forms reset judging found → found ≡ Ok d

@@ -5,11 +5,12 @@ ghost use Rattle.link_defs.specs.Links.{IsLinked};
 ghost use Rattle.one_design.specs.Answers.{IsOneAnswer};
 
 use cell_types::Library;
+use link_defs::CutSource;
 use linked_types::LinkOptions;
-use netlist_types::Source;
 
-/// A netlist without a fault has at most one design with its names, and nothing but want of memory is a cause beside it.
-pub fn one_linked(source: &Source, library: &Library, options: &LinkOptions)
-    ensures { IsOneAnswer (λ l. IsLinked source.now library.now options.now l × IsFaultless source.now library.now options.now)
-        (IsCause source.now library.now options.now) Memory }
+/// A netlist without a fault, of which cells may be cut out, has at most one design with its names, and nothing but want of memory
+/// is a cause beside it.
+pub fn one_linked(cut: &CutSource, library: &Library, options: &LinkOptions)
+    ensures { IsOneAnswer (λ l. IsLinked cut.now library.now options.now l × IsFaultless cut.now library.now options.now)
+        (IsCause cut.now library.now options.now) Memory }
 {}

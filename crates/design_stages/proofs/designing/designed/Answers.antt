@@ -1,31 +1,23 @@
-use Rattle.std.proofs.Common.{Ok, Err, ap, ◌∙◌}
+use Rattle.std.proofs.Common.{Err, ap, ◌∙◌}
 use Rattle.std.proofs.lemmas.Result.{err_from_is_err_and}
 use Rattle.design_stages.specs.Designs.{Designs}
-use Rattle.design_stages.proofs.Judging.{can_be_judged}
-use Rattle.design_stages.proofs.Staging.{then_finds, then_refuses, then_stops, stops}
+use Rattle.design_stages.proofs.Cutting.{whole_goes, cut_goes, cut_stops}
+use Rattle.design_stages.proofs.Staging.{stops}
 use Rattle.design_stages.proofs.designing.designed.Goals as goal
 
-pub returns-in_err-linked-clause-found : goal.returns-in_err-linked-clause-found
+pub returns-in-Narrow-clause-found : goal.returns-in-Narrow-clause-found
 unfolding Designs
-returns-in_err-linked-clause-found c =
+returns-in-Narrow-clause-found c =
+    whole_goes c.args.texts.now _ _ _ c.in-Narrow.is c.new-items.ensures c.designed_in.ensures.found
+
+pub returns-in_err-cut-in-Wide-clause-found : goal.returns-in_err-cut-in-Wide-clause-found
+unfolding Designs
+returns-in_err-cut-in-Wide-clause-found c =
     let p = err_from_is_err_and c.from_residual.result c.from_residual.ensures.1 in
-    stops (Designs c.args.texts.now c.args.reset c.args.judging) _ _ (p.1 ∙ ap Err p.2) (then_stops _ _ _ c.in_err-linked.ensures.found)
-
-pub returns-in_err-selected-clause-found : goal.returns-in_err-selected-clause-found
-unfolding Designs
-returns-in_err-selected-clause-found c =
-    let p = err_from_is_err_and c.from_residual-in_err-selected.result c.from_residual-in_err-selected.ensures.1 in
     stops (Designs c.args.texts.now c.args.reset c.args.judging) _ _ (p.1 ∙ ap Err p.2)
-    (then_refuses _ _ _ _ c.in_ok-linked.ensures.found
-    (then_stops _ _ _ c.in_err-selected.ensures))
+    (cut_stops c.args.texts.now c.in-Wide.cutting _ _ c.in-Wide.is c.in_err-cut-in-Wide.ensures.found)
 
-pub returns-clause-found : goal.returns-clause-found
+pub returns-in_ok-cut-in-Wide-clause-found : goal.returns-in_ok-cut-in-Wide-clause-found
 unfolding Designs
-returns-clause-found c =
-    then_finds _ _ _ _ c.in_ok-linked.ensures.found
-    (then_finds _ _ _ _ c.in_ok-selected.ensures
-    (ap (λ n. Ok (record { linked = c.in_ok-linked.linked; selected = c.in_ok-selected.selected; notices = n })) c.in_ok-notices.ensures))
-
-pub returns-clause-judged : goal.returns-clause-judged
-returns-clause-judged c =
-    can_be_judged c.in_ok-linked.linked c.args.texts.now.script c.args.judging c.in_ok-selected.selected c.in_ok-notices.notices c.in_ok-linked.ensures.usable c.in_ok-selected.ensures
+returns-in_ok-cut-in-Wide-clause-found c =
+    cut_goes c.args.texts.now c.in-Wide.cutting _ _ _ c.in-Wide.is c.in_ok-cut-in-Wide.ensures.found c.designed_in-in-Wide.ensures.found

@@ -1,25 +1,23 @@
-use Rattle.std.proofs.Common.{Err, refl, ap, ◌∙◌}
+use Rattle.std.proofs.Common.{[], Err, refl, ap, ◌∙◌}
 use Rattle.std.proofs.lemmas.Result.{err_from_is_err_and}
 use Rattle.design_stages.specs.Designs.{Settles}
-use Rattle.design_stages.proofs.Staging.{then_finds, then_refuses, then_stops, stops}
+use Rattle.design_stages.proofs.Cutting.{whole_goes, cut_goes, cut_stops}
+use Rattle.design_stages.proofs.Staging.{stops}
 use Rattle.design_stages.proofs.designing.settled.Goals as goal
 
-pub returns-in_err-inputs : goal.returns-in_err-inputs
+pub returns-in-Narrow : goal.returns-in-Narrow
 unfolding Settles
-returns-in_err-inputs c =
+returns-in-Narrow c =
+    whole_goes c.args.texts.now _ [] _ c.in-Narrow.is refl c.settled_in.ensures
+
+pub returns-in_err-cut-in-Wide : goal.returns-in_err-cut-in-Wide
+unfolding Settles
+returns-in_err-cut-in-Wide c =
     let p = err_from_is_err_and c.from_residual.result c.from_residual.ensures.1 in
-    stops (Settles c.args.texts.now c.args.resets.now) _ _ (p.1 ∙ ap Err p.2) (then_stops _ _ _ c.in_err-inputs.ensures)
-
-pub returns-in_err-settings : goal.returns-in_err-settings
-unfolding Settles
-returns-in_err-settings c =
-    let p = err_from_is_err_and c.from_residual-in_err-settings.result c.from_residual-in_err-settings.ensures.1 in
     stops (Settles c.args.texts.now c.args.resets.now) _ _ (p.1 ∙ ap Err p.2)
-    (then_refuses _ _ _ _ c.in_ok-inputs.ensures
-    (then_stops _ _ _ c.in_err-settings.ensures))
+    (cut_stops c.args.texts.now c.in-Wide.cutting _ _ c.in-Wide.is c.in_err-cut-in-Wide.ensures.found)
 
-pub returns : goal.returns
+pub returns-in_ok-cut-in-Wide : goal.returns-in_ok-cut-in-Wide
 unfolding Settles
-returns c =
-    then_finds _ _ _ _ c.in_ok-inputs.ensures
-    (then_finds _ _ _ _ c.in_ok-settings.ensures refl)
+returns-in_ok-cut-in-Wide c =
+    cut_goes c.args.texts.now c.in-Wide.cutting _ _ _ c.in-Wide.is c.in_ok-cut-in-Wide.ensures.found c.settled_in-in-Wide.ensures
