@@ -18,6 +18,7 @@ use Rattle.exception_expand.specs.declared.sides.Sides.{Sides}
 use Rattle.exception_expand.specs.declared.sides.Sides.TheVariants.{Late, Early, Both}
 use Rattle.exception_expand.specs.Asking.{Asked, asked}
 use Rattle.exception_expand.specs.Selections.{is_exception}
+use Rattle.mend_groups.specs.declared.ports.Ports.{Ports}
 use Rattle.mend_groups.specs.declared.rows.Row.{Row}
 use Rattle.mend_groups.specs.declared.groups.Group.{Group}
 use Rattle.mend_groups.specs.declared.parts.Part.{Part}
@@ -48,7 +49,7 @@ justified_by (Justified proof) is = (proof, refl)
 justified_by (Refuted offset stimulus) is = absurd cc
 justified_by (Undecided cause) is = absurd cc
 
-module _ (s : Selected) (verdicts : List Verdict) where
+module _ (ports : Ports) (s : Selected) (verdicts : List Verdict) where
   -- a kept pair is kept at its place
   pub kept_there : (r : Row) → IsRowOf s verdicts r → r.kept ≡ true → IsKeptAt s verdicts r.place
   kept_there r of kept =
@@ -62,9 +63,9 @@ module _ (s : Selected) (verdicts : List Verdict) where
 
   row_if_is : (spelled : Bool) (place : ℕ) (pair : Option PairLine) (claim : Option Claim) (verdict : Option Verdict)
       → slice_get s.pairs place ≡ pair → slice_get s.claims place ≡ claim → slice_get verdicts place ≡ verdict
-      → All (IsRowOf s verdicts) (row_if spelled place pair claim verdict)
+      → All (IsRowOf s verdicts) (row_if ports spelled place pair claim verdict)
   row_if_is spelled place (Some p) (Some claim) (Some v) paired claimed found =
-      let r : Row = row_by spelled place p claim v in
+      let r : Row = row_by ports spelled place p claim v in
       let of : IsRowOf s verdicts r =
       record {
         pair = p;
@@ -86,11 +87,11 @@ module _ (s : Selected) (verdicts : List Verdict) where
   row_if_is spelled place None claim verdict paired claimed found = All-nil (IsRowOf s verdicts)
 
   -- each pair of an exception is the one at its place
-  rows_from_are : (spelled : Bool) (place n : ℕ) → All (IsRowOf s verdicts) (rows_from spelled s verdicts place n)
+  rows_from_are : (spelled : Bool) (place n : ℕ) → All (IsRowOf s verdicts) (rows_from ports spelled s verdicts place n)
   unfolding rows_from
   rows_from_are spelled place zero = All-nil (IsRowOf s verdicts)
   rows_from_are spelled place (suc n) =
-      All-append (IsRowOf s verdicts) (row_at spelled s verdicts place) (rows_from spelled s verdicts (place + 1) n)
+      All-append (IsRowOf s verdicts) (row_at ports spelled s verdicts place) (rows_from ports spelled s verdicts (place + 1) n)
       (row_if_is spelled place (slice_get s.pairs place) (slice_get s.claims place) (slice_get verdicts place) refl refl refl)
       (rows_from_are spelled (place + 1) n)
 
@@ -124,69 +125,69 @@ module _ (s : Selected) (verdicts : List Verdict) where
   rows_by_are Early rows all = all
   rows_by_are Both rows all = paired_are rows 0 rows all
 
-  rows_are : (place count : ℕ) (by : Option Asked) → All (IsRowOf s verdicts) (rows_of s verdicts place count by)
+  rows_are : (place count : ℕ) (by : Option Asked) → All (IsRowOf s verdicts) (rows_of ports s verdicts place count by)
   rows_are place count None = All-nil (IsRowOf s verdicts)
   rows_are place count (Some by) =
       let spelled : Bool = can_spell by.exception.through in
-      rows_by_are by.sides (rows_from spelled s verdicts place count) (rows_from_are spelled place count)
+      rows_by_are by.sides (rows_from ports spelled s verdicts place count) (rows_from_are spelled place count)
 
   -- what holds of the part of each exception holds of all parts
-  parts_hold : (P : Part → Type 0) → ((place count : ℕ) (by : Option Asked) → P (part_of s verdicts place count by))
+  parts_hold : (P : Part → Type 0) → ((place count : ℕ) (by : Option Asked) → P (part_of ports s verdicts place count by))
       → (hold : Bool) (place : ℕ) (lines : List CommandLine) (commands : List Command)
-      → All P (parts_from hold s verdicts place lines commands)
+      → All P (parts_from ports hold s verdicts place lines commands)
   unfolding parts_from
   parts_hold P each hold place lines [] = All-nil P
   parts_hold P each hold place [] (c ∷ commands) = All-nil P
   parts_hold P each hold place (line ∷ lines) (c ∷ commands) =
-      elim (cases_Bool (is_exception c.what)) as (λ z. All P (parts_from hold s verdicts place (line ∷ lines) (c ∷ commands))) [
+      elim (cases_Bool (is_exception c.what)) as (λ z. All P (parts_from ports hold s verdicts place (line ∷ lines) (c ∷ commands))) [
         | inl is ↦
             rw is
-            (All-cons P (part_of s verdicts place (count_of line.listing) (asked hold c.what))
-            (parts_from hold s verdicts (place + count_of line.listing) lines commands)
+            (All-cons P (part_of ports s verdicts place (count_of line.listing) (asked hold c.what))
+            (parts_from ports hold s verdicts (place + count_of line.listing) lines commands)
             (each place (count_of line.listing) (asked hold c.what)) (parts_hold P each hold (place + count_of line.listing) lines commands))
         | inr not ↦ rw not (parts_hold P each hold place (line ∷ lines) commands)
       ]
 
   -- what holds of the groups of any pairs that stand at their places holds of those of each part
   groups_each : (P : Group → Type 0) → ((rows : List Row) → All (IsRowOf s verdicts) rows → All P (groups_of rows))
-      → (script : Script) (hold : Bool) → All (λ (part : Part). All P part.groups) (parts_of script hold s verdicts)
+      → (script : Script) (hold : Bool) → All (λ (part : Part). All P part.groups) (parts_of ports script hold s verdicts)
   groups_each P each script hold =
       parts_hold (λ (part : Part). All P part.groups) (λ place count by.
-      let rows : List Row = rows_of s verdicts place count by in
+      let rows : List Row = rows_of ports s verdicts place count by in
       cond_both (are_kept rows) [] (groups_of rows) (All P) (λ kept. All-nil P) (λ left. each rows (rows_are place count by)))
       hold 0 s.commands script.commands
 
   -- each pair of a part is the one at its place
-  pub parts_rows : (script : Script) (hold : Bool) → All (λ (part : Part). All (IsRowOf s verdicts) part.rows) (parts_of script hold s verdicts)
+  pub parts_rows : (script : Script) (hold : Bool) → All (λ (part : Part). All (IsRowOf s verdicts) part.rows) (parts_of ports script hold s verdicts)
   parts_rows script hold = parts_hold (λ (part : Part). All (IsRowOf s verdicts) part.rows) rows_are hold 0 s.commands script.commands
 
   -- a pair that is written is kept
   pub written_kept : (script : Script) (hold : Bool)
-      → All (λ (part : Part). All (λ (r : Row). r.written ≡ true → r.kept ≡ true) part.rows) (parts_of script hold s verdicts)
+      → All (λ (part : Part). All (λ (r : Row). r.written ≡ true → r.kept ≡ true) part.rows) (parts_of ports script hold s verdicts)
   written_kept script hold =
       All-weaker (λ (part : Part). All (IsRowOf s verdicts) part.rows) (λ (part : Part). All (λ (r : Row). r.written ≡ true → r.kept ≡ true) part.rows)
       (λ part of. All-weaker (IsRowOf s verdicts) (λ (r : Row). r.written ≡ true → r.kept ≡ true) (λ r is. is.written) part.rows of)
-      (parts_of script hold s verdicts) (parts_rows script hold)
+      (parts_of ports script hold s verdicts) (parts_rows script hold)
 
   -- what a kept pair of a part claims is justified
   pub kept_rows : (script : Script) (hold : Bool)
-      → All (λ (part : Part). All (λ (r : Row). r.kept ≡ true → IsKeptAt s verdicts r.place) part.rows) (parts_of script hold s verdicts)
+      → All (λ (part : Part). All (λ (r : Row). r.kept ≡ true → IsKeptAt s verdicts r.place) part.rows) (parts_of ports script hold s verdicts)
   kept_rows script hold =
       All-weaker (λ (part : Part). All (IsRowOf s verdicts) part.rows)
       (λ (part : Part). All (λ (r : Row). r.kept ≡ true → IsKeptAt s verdicts r.place) part.rows)
       (λ part of. All-weaker (IsRowOf s verdicts) (λ (r : Row). r.kept ≡ true → IsKeptAt s verdicts r.place) kept_there part.rows of)
-      (parts_of script hold s verdicts) (parts_rows script hold)
+      (parts_of ports script hold s verdicts) (parts_rows script hold)
 
   -- each pair of the groups of a part is the one at its place, and is written
   pub grouped_rows : (script : Script) (hold : Bool) → All (λ (part : Part). All (λ (g : Group). All (All (IsRowOf s verdicts)) g.stars) part.groups)
-      (parts_of script hold s verdicts)
+      (parts_of ports script hold s verdicts)
   grouped_rows script hold =
       groups_each (λ (g : Group). All (All (IsRowOf s verdicts)) g.stars) (λ rows of.
       groups_hold (IsRowOf s verdicts) rows (λ sides. All-filter (is_written_as sides) (IsRowOf s verdicts) rows of)) script hold
 
   pub grouped_written : (script : Script) (hold : Bool)
       → All (λ (part : Part). All (λ (g : Group). All (All (λ (r : Row). r.written ≡ true)) g.stars) part.groups)
-      (parts_of script hold s verdicts)
+      (parts_of ports script hold s verdicts)
   grouped_written script hold =
       groups_each (λ (g : Group). All (All (λ (r : Row). r.written ≡ true)) g.stars) (λ rows of.
       groups_hold (λ (r : Row). r.written ≡ true) rows (λ sides k d low.
@@ -202,7 +203,8 @@ module _ (s : Selected) (verdicts : List Verdict) where
 
   -- so what it claims is justified
   pub grouped_kept : (script : Script) (hold : Bool)
-      → All (λ (part : Part). All (λ (g : Group). All (All (λ (r : Row). IsKeptAt s verdicts r.place)) g.stars) part.groups) (parts_of script hold s verdicts)
+      → All (λ (part : Part). All (λ (g : Group). All (All (λ (r : Row). IsKeptAt s verdicts r.place)) g.stars) part.groups)
+      (parts_of ports script hold s verdicts)
   grouped_kept script hold =
       let Kept : Row → Type 0 = λ r. IsKeptAt s verdicts r.place in
       groups_each (λ (g : Group). All (All Kept) g.stars) (λ rows of.
@@ -225,7 +227,7 @@ module _ (s : Selected) (verdicts : List Verdict) where
       }
 
   -- the groups of each exception are exactly its written pairs
-  pub groups_exact : (script : Script) (hold : Bool) → All (AreItsGroups s verdicts) (parts_of script hold s verdicts)
+  pub groups_exact : (script : Script) (hold : Bool) → All (AreItsGroups s verdicts) (parts_of ports script hold s verdicts)
   groups_exact script hold =
-      parts_hold (AreItsGroups s verdicts) (λ place count by. exact_by (rows_of s verdicts place count by) (rows_are place count by)) hold 0 s.commands
+      parts_hold (AreItsGroups s verdicts) (λ place count by. exact_by (rows_of ports s verdicts place count by) (rows_are place count by)) hold 0 s.commands
       script.commands

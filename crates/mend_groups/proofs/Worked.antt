@@ -24,19 +24,36 @@ use Rattle.selected_types.specs.declared.selections.Selected.{Selected}
 use Rattle.verdict_types.specs.declared.outcomes.Proof.TheVariants.{Single}
 use Rattle.verdict_types.specs.declared.outcomes.Cause.TheVariants.{Cut}
 use Rattle.verdict_types.specs.declared.outcomes.Verdict.TheVariants.{Justified, Undecided}
+use Rattle.mend_groups.specs.declared.ports.Ports.{Ports}
+use Rattle.mend_groups.specs.declared.ports.EndClass.TheVariants.{Regs, Ports as PortBits, Sinks}
 use Rattle.mend_groups.specs.declared.rows.Row.{Row}
 use Rattle.mend_groups.specs.declared.groups.Group.{Group}
 use Rattle.mend_groups.specs.declared.parts.Part.{Part}
+use Rattle.mend_groups.specs.Ports.{class_of}
 use Rattle.mend_groups.specs.Rows.{is_spellable, rows_from}
 use Rattle.mend_groups.specs.Groups.{run_of, stars_from, have_ends, with_star, grouped, groups_of}
 use Rattle.mend_groups.specs.Parts.{parts_from, parts_of}
 
+-- a design of two bits of input ports, and two of output ports
+abbrev ports : Ports
+ports = record { inputs = 2; outputs = 2 }
+
 -- a kept pair that can be written, and one that is not kept
 abbrev written : ℕ → Start → End → Row
-written place start end = record { place = place; start = start; edge = Any; end = end; early = false; kept = true; written = true; beside = false }
+written place start end = record {
+  place = place;
+  start = start;
+  edge = Any;
+  end = end;
+  class = class_of ports end;
+  early = false;
+  kept = true;
+  written = true;
+  beside = false;
+}
 
 abbrev left : ℕ → Start → End → Row
-left place start end = record { place = place; start = start; edge = Any; end = end; early = false; kept = false; written = false; beside = false }
+left place start end = record (written place start end) { kept = false; written = false }
 
 abbrev between : ℕ → ℕ → ℕ → Row
 between place start end = written place (RegStart start) (RegEnd end)
@@ -148,25 +165,25 @@ abbrev listed_two : Listing
 listed_two = ListsClaims False Any 2
 
 -- where all pairs are justified, they stay, and no group is written
-whole : parts_of (of_one (false_path [])) false (two_pairs listed_two (codes "c")) (Justified Single ∷ Justified Single ∷ [])
+whole : parts_of ports (of_one (false_path [])) false (two_pairs listed_two (codes "c")) (Justified Single ∷ Justified Single ∷ [])
     ≡ part (between 0 0 1 ∷ between 1 0 2 ∷ []) [] ∷ []
 unfolding parts_from rows_from
 whole = refl
 
 -- an undecided pair is left out, and the other one is written
-undecided : parts_of (of_one (false_path [])) false (two_pairs listed_two (codes "c")) (Undecided Cut ∷ Justified Single ∷ [])
+undecided : parts_of ports (of_one (false_path [])) false (two_pairs listed_two (codes "c")) (Undecided Cut ∷ Justified Single ∷ [])
     ≡ part (left 0 (RegStart 0) (RegEnd 1) ∷ between 1 0 2 ∷ []) (group ((between 1 0 2 ∷ []) ∷ []) ∷ []) ∷ []
 unfolding parts_from rows_from run_of stars_from with_star grouped
 undecided = refl
 
 -- no pair is kept
-none_kept : parts_of (of_one (false_path [])) false (two_pairs listed_two (codes "c")) (Undecided Cut ∷ Undecided Cut ∷ [])
+none_kept : parts_of ports (of_one (false_path [])) false (two_pairs listed_two (codes "c")) (Undecided Cut ∷ Undecided Cut ∷ [])
     ≡ part (left 0 (RegStart 0) (RegEnd 1) ∷ left 1 (RegStart 0) (RegEnd 2) ∷ []) [] ∷ []
 unfolding parts_from rows_from stars_from grouped
 none_kept = refl
 
 -- a kept pair whose end has a backslash in its name is not written
-backslash : parts_of (of_one (false_path [])) false (two_pairs listed_two (codes "bin[0]\\DFFC")) (Undecided Cut ∷ Justified Single ∷ [])
+backslash : parts_of ports (of_one (false_path [])) false (two_pairs listed_two (codes "bin[0]\\DFFC")) (Undecided Cut ∷ Justified Single ∷ [])
     ≡ part (left 0 (RegStart 0) (RegEnd 1) ∷ record (between 1 0 2) { written = false } ∷ []) [] ∷ []
 unfolding parts_from rows_from stars_from grouped
 backslash = refl
@@ -175,13 +192,13 @@ backslash = refl
 abbrev through_a_blank : List (List Object)
 through_a_blank = (AllInputs ∷ []) ∷ (Named (record { class = Pins; hier = false; pattern = codes "u 1/Q" }) ∷ []) ∷ []
 
-unspelled : parts_of (of_one (false_path through_a_blank)) false (two_pairs listed_two (codes "c")) (Undecided Cut ∷ Justified Single ∷ [])
+unspelled : parts_of ports (of_one (false_path through_a_blank)) false (two_pairs listed_two (codes "c")) (Undecided Cut ∷ Justified Single ∷ [])
     ≡ part (left 0 (RegStart 0) (RegEnd 1) ∷ record (between 1 0 2) { written = false } ∷ []) [] ∷ []
 unfolding parts_from rows_from stars_from grouped
 unspelled = refl
 
 -- an exception that selects nothing stays
-nothing_selected : parts_of (of_one (false_path [])) false (two_pairs (ListsClaims False Any 0) (codes "c")) (Undecided Cut ∷ Undecided Cut ∷ [])
+nothing_selected : parts_of ports (of_one (false_path [])) false (two_pairs (ListsClaims False Any 0) (codes "c")) (Undecided Cut ∷ Undecided Cut ∷ [])
     ≡ part [] [] ∷ []
 unfolding parts_from rows_from
 nothing_selected = refl
@@ -195,13 +212,13 @@ three_commands middle = record (two_pairs listed_two (codes "c")) {
 abbrev of_three : Script
 of_three = record { commands = on_line_1 (false_path []) ∷ on_line_1 hold ∷ on_line_1 Passed ∷ on_line_1 (false_path []) ∷ [] }
 
-each_its_own : parts_of of_three false (three_commands ListsHold) (Justified Single ∷ Undecided Cut ∷ [])
+each_its_own : parts_of ports of_three false (three_commands ListsHold) (Justified Single ∷ Undecided Cut ∷ [])
     ≡ part (between 0 0 1 ∷ []) [] ∷ part [] [] ∷ part (left 1 (RegStart 0) (RegEnd 2) ∷ []) [] ∷ []
 unfolding parts_from rows_from stars_from grouped
 each_its_own = refl
 
 -- without hold sides the pairs of a hold command are passed over
-hold_pairs_between : parts_of of_three false (three_commands (HoldSide Any 1)) (Justified Single ∷ Undecided Cut ∷ [])
+hold_pairs_between : parts_of ports of_three false (three_commands (HoldSide Any 1)) (Justified Single ∷ Undecided Cut ∷ [])
     ≡ part (between 0 0 1 ∷ []) [] ∷ part [] [] ∷ part [] [] ∷ []
 unfolding parts_from rows_from
 hold_pairs_between = refl
@@ -228,7 +245,8 @@ abbrev early : Row → Row
 early r = record r { early = true }
 
 -- a pair of which both sides are kept stands before one of which the late side alone is
-both_before_late : parts_of (of_one (false_path [])) true (sided listed_four) (Justified Single ∷ Justified Single ∷ Justified Single ∷ Undecided Cut ∷ [])
+both_before_late : parts_of ports (of_one (false_path [])) true (sided listed_four)
+    (Justified Single ∷ Justified Single ∷ Justified Single ∷ Undecided Cut ∷ [])
     ≡ part
     (with_other (between 0 0 1) ∷ with_other (early (between 1 0 1)) ∷ between 2 0 2 ∷ with_other (early (left 3 (RegStart 0) (RegEnd 2))) ∷ [])
     (group ((with_other (between 0 0 1) ∷ with_other (early (between 1 0 1)) ∷ []) ∷ []) ∷ group ((between 2 0 2 ∷ []) ∷ []) ∷ []) ∷ []
@@ -236,7 +254,7 @@ unfolding parts_from rows_from run_of stars_from with_star grouped
 both_before_late = refl
 
 -- one of which the early side alone is kept stands last
-late_before_early : parts_of (of_one (false_path [])) true (sided listed_four) (Undecided Cut ∷ Justified Single ∷ Justified Single ∷ Undecided Cut ∷ [])
+late_before_early : parts_of ports (of_one (false_path [])) true (sided listed_four) (Undecided Cut ∷ Justified Single ∷ Justified Single ∷ Undecided Cut ∷ [])
     ≡ part
     (with_other (left 0 (RegStart 0) (RegEnd 1)) ∷ early (between 1 0 1) ∷ between 2 0 2 ∷ with_other (early (left 3 (RegStart 0) (RegEnd 2))) ∷ [])
     (group ((between 2 0 2 ∷ []) ∷ []) ∷ group ((early (between 1 0 1) ∷ []) ∷ []) ∷ []) ∷ []
@@ -247,6 +265,40 @@ late_before_early = refl
 abbrev early_one : Selected
 early_one = record { commands = listed (HoldSide Any 1) ∷ []; pairs = pair_of (codes "b") ∷ []; claims = early_to 1 ∷ [] }
 
-hold_has_a_pair : parts_of (of_one hold) true early_one (Undecided Cut ∷ []) ≡ part (early (left 0 (RegStart 0) (RegEnd 1)) ∷ []) [] ∷ []
+hold_has_a_pair : parts_of ports (of_one hold) true early_one (Undecided Cut ∷ []) ≡ part (early (left 0 (RegStart 0) (RegEnd 1)) ∷ []) [] ∷ []
 unfolding parts_from rows_from stars_from grouped
 hold_has_a_pair = refl
+
+-- free nets come after the bits of the input ports, and sinks after those of the output ports
+registers_are_cells : class_of ports (RegEnd 7) ≡ Regs
+registers_are_cells = refl
+
+last_bit_of_a_port : class_of ports (OutputEnd 1) ≡ PortBits
+last_bit_of_a_port = refl
+
+first_sink : class_of ports (OutputEnd 2) ≡ Sinks
+first_sink = refl
+
+-- a start's ends of three classes stand in one group
+abbrev three_classes : List Row
+three_classes = written 0 (RegStart 0) (RegEnd 1) ∷ written 1 (RegStart 0) (OutputEnd 1) ∷ written 2 (RegStart 0) (OutputEnd 2) ∷ []
+
+ends_of_three_classes : groups_of three_classes ≡ group (three_classes ∷ []) ∷ []
+unfolding run_of stars_from with_star grouped
+ends_of_three_classes = refl
+
+-- what begins at a free net is kept, and is not written
+abbrev claim_from : ℕ → ℕ → Claim
+claim_from input end = record (claim_to end) { start = InputStart input }
+
+abbrev of_inputs : Selected
+of_inputs = record (two_pairs (ListsClaims False Any 3) (codes "c")) {
+  pairs = pair_of (codes "b") ∷ pair_of (codes "b") ∷ pair_of (codes "c") ∷ [];
+  claims = claim_from 1 1 ∷ claim_from 2 1 ∷ claim_from 2 2 ∷ [];
+}
+
+free_net_is_not_written : parts_of ports (of_one (false_path [])) false of_inputs (Justified Single ∷ Justified Single ∷ Undecided Cut ∷ [])
+    ≡ part (written 0 (InputStart 1) (RegEnd 1) ∷ record (written 1 (InputStart 2) (RegEnd 1)) { written = false } ∷ left 2 (InputStart 2) (RegEnd 2) ∷ [])
+    (group ((written 0 (InputStart 1) (RegEnd 1) ∷ []) ∷ []) ∷ []) ∷ []
+unfolding parts_from rows_from run_of stars_from with_star grouped
+free_net_is_not_written = refl

@@ -1,3 +1,4 @@
+pub mod Ports
 pub mod Rows
 pub mod Groups
 pub mod Parts

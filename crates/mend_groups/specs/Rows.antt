@@ -13,7 +13,9 @@ use Rattle.exception_expand.specs.declared.sides.Sides.{Sides}
 use Rattle.exception_expand.specs.declared.sides.Sides.TheVariants.{Both}
 use Rattle.multicycle_text.specs.Names.{is_writable, is_name_byte}
 use Rattle.report_text.specs.Words.{is_justified}
+use Rattle.mend_groups.specs.declared.ports.Ports.{Ports}
 use Rattle.mend_groups.specs.declared.rows.Row.{Row}
+use Rattle.mend_groups.specs.Ports.{is_named_start, class_of}
 
 -- a byte that stands in a pattern of a list in braces as it is: one of a name that can be written, `*` or `?`
 abbrev pub is_pattern_byte : ℕ → Bool
@@ -34,32 +36,33 @@ is_object_spellable AllClocks = true
 abbrev pub can_spell : List (List Object) → Bool
 can_spell through = list_all (λ (objects : List Object). list_all is_object_spellable objects) through
 
--- a side of a pair of an exception whose lists can be spelled or not: it is kept where it is justified, and written where it is kept and
--- the pair's names can be written too
-abbrev pub row_by : Bool → ℕ → PairLine → Claim → Verdict → Row
-row_by spelled place p claim verdict = record {
+-- a side of a pair of an exception whose lists can be spelled or not, in a design of so many port bits: it is kept where it is justified,
+-- and written where it is kept, a command can name its start, and the pair's names can be written too
+abbrev pub row_by : Ports → Bool → ℕ → PairLine → Claim → Verdict → Row
+row_by ports spelled place p claim verdict = record {
   place = place;
   start = claim.start;
   edge = claim.edge;
   end = claim.end;
+  class = class_of ports claim.end;
   early = claim.early;
   kept = is_justified verdict;
-  written = is_justified verdict && (spelled && (is_writable p.start && is_writable p.end));
+  written = is_justified verdict && (is_named_start ports claim.start && (spelled && (is_writable p.start && is_writable p.end)));
   beside = false;
 }
 
-abbrev pub row_if : Bool → ℕ → Option PairLine → Option Claim → Option Verdict → List Row
-row_if spelled place (Some p) (Some claim) (Some verdict) = row_by spelled place p claim verdict ∷ []
-row_if spelled place _ _ _ = []
+abbrev pub row_if : Ports → Bool → ℕ → Option PairLine → Option Claim → Option Verdict → List Row
+row_if ports spelled place (Some p) (Some claim) (Some verdict) = row_by ports spelled place p claim verdict ∷ []
+row_if ports spelled place _ _ _ = []
 
 -- the side at a place, if there is one
-abbrev pub row_at : Bool → Selected → List Verdict → ℕ → List Row
-row_at spelled s verdicts place = row_if spelled place (slice_get s.pairs place) (slice_get s.claims place) (slice_get verdicts place)
+abbrev pub row_at : Ports → Bool → Selected → List Verdict → ℕ → List Row
+row_at ports spelled s verdicts place = row_if ports spelled place (slice_get s.pairs place) (slice_get s.claims place) (slice_get verdicts place)
 
 -- so many sides from a place on
-unfoldable pub rows_from : Bool → Selected → List Verdict → ℕ → ℕ → List Row
-rows_from spelled s verdicts place zero = []
-rows_from spelled s verdicts place (suc n) = row_at spelled s verdicts place ++ rows_from spelled s verdicts (place + 1) n
+unfoldable pub rows_from : Ports → Bool → Selected → List Verdict → ℕ → ℕ → List Row
+rows_from ports spelled s verdicts place zero = []
+rows_from ports spelled s verdicts place (suc n) = row_at ports spelled s verdicts place ++ rows_from ports spelled s verdicts (place + 1) n
 
 -- the sides of a pair stand together, the late one first: the place of the other one, where an exception claims both of each pair
 abbrev pub other_place : ℕ → ℕ

@@ -9,7 +9,8 @@ ghost use Rattle.mend_groups.specs.Groups as groups;
 ghost use Rattle.mend_groups.specs.Parts as spec;
 
 use crate::groups::{Group, groups_of};
-use crate::rows::{Row, are_kept, can_spell, place_after, rows_by, rows_from};
+use crate::ports::Ports;
+use crate::rows::{Pairs, Row, are_kept, can_spell, place_after, rows_by, rows_from};
 use exception_expand::Ask;
 use script_types::{Script, What};
 use sdcv_base::Seq;
@@ -33,17 +34,24 @@ impl Drop for Part {
     }
 }
 
-/// What becomes of the pairs of each exception of a script, in their order, where hold sides are judged or not.
+/// What becomes of the pairs of each exception of a script, in their order, in a design of so many port bits, where hold sides are
+/// judged or not.
 pub fn parts_of(
     alloc: Global,
+    ports: Ports,
     script: &Script,
     hold: bool,
     selected: &Selected,
     verdicts: &[Verdict],
 ) -> Result<Seq<Part>, AllocError>
     requires { HasRows selected.now verdicts.now }
-    ensures { IfOk result (λ parts. parts ≡ spec.parts_of script.now hold selected.now verdicts.now) }
+    ensures { IfOk result (λ parts. parts ≡ spec.parts_of ports script.now hold selected.now verdicts.now) }
 {
+    let pairs = Pairs {
+        ports,
+        selected,
+        verdicts,
+    };
     let mut parts = Seq::new(alloc);
     let mut listed = 0;
     let mut place = 0;
@@ -52,7 +60,7 @@ pub fn parts_of(
         if is_exception(what) && listed < selected.commands.len() {
             let count = count_of(&selected.commands.item(listed).listing);
             let ask = Ask::of(what, hold);
-            parts.push(part_of(alloc, selected, verdicts, place, count, &ask)?)?;
+            parts.push(part_of(alloc, &pairs, place, count, &ask)?)?;
             listed += 1;
             place = place_after(place, count, verdicts.len());
         }
@@ -79,36 +87,36 @@ fn count_of(listing: &Listing) -> u64
 // The part of an exception whose pairs are so many from this place on.
 fn part_of(
     alloc: Global,
-    selected: &Selected,
-    verdicts: &[Verdict],
+    pairs: &Pairs<'_>,
     place: usize,
     count: u64,
     ask: &Option<Ask<'_>>,
 ) -> Result<Part, AllocError>
-    requires { HasRows selected.now verdicts.now }
-    ensures { IfOk result (λ part. part ≡ spec.part_of selected.now verdicts.now place count (option_map asked_by ask.now)) }
+    requires { HasRows pairs.now.selected.now pairs.now.verdicts.now }
+    ensures { IfOk result (λ part. part ≡
+        spec.part_of pairs.now.ports pairs.now.selected.now pairs.now.verdicts.now place count (option_map asked_by ask.now)) }
 {
-    let rows = rows_of(alloc, selected, verdicts, place, count, ask)?;
+    let rows = rows_of(alloc, pairs, place, count, ask)?;
     let groups = groups_for(alloc, rows.as_slice())?;
     Ok(Part { rows, groups })
 }
 
 fn rows_of(
     alloc: Global,
-    selected: &Selected,
-    verdicts: &[Verdict],
+    pairs: &Pairs<'_>,
     place: usize,
     count: u64,
     ask: &Option<Ask<'_>>,
 ) -> Result<Seq<Row>, AllocError>
-    requires { HasRows selected.now verdicts.now }
-    ensures { IfOk result (λ made. made ≡ spec.rows_of selected.now verdicts.now place count (option_map asked_by ask.now)) }
+    requires { HasRows pairs.now.selected.now pairs.now.verdicts.now }
+    ensures { IfOk result (λ made. made ≡
+        spec.rows_of pairs.now.ports pairs.now.selected.now pairs.now.verdicts.now place count (option_map asked_by ask.now)) }
 {
     let Some(ask) = ask else {
         return Ok(Seq::new(alloc));
     };
     let spelled = can_spell(ask.through);
-    let rows = rows_from(alloc, spelled, selected, verdicts, place, count)?;
+    let rows = rows_from(alloc, spelled, pairs, place, count)?;
     rows_by(alloc, ask.sides, rows)
 }
 

@@ -5,6 +5,7 @@ ghost use Rattle.report_text.specs.Rows.{HasRows};
 ghost use Rattle.report_text.specs.Words as report;
 ghost use Rattle.mend_groups.specs.Rows as spec;
 
+use crate::ports::{EndClass, Ports, class_of, is_named_start};
 use exception_expand::Sides;
 use multicycle_text::writable;
 use net_model::{End, Start};
@@ -16,14 +17,16 @@ use std::alloc::{AllocError, Global};
 use texts::is_word;
 use verdict_types::Verdict;
 
-/// A selected side of a pair: its place among the claims of the selection, from 0, the pair's start and its end, which changes of
-/// its start count, whether it is the early side, whether it is kept, and whether it is written again where its command is not whole.
+/// A selected side of a pair: its place among the claims of the selection, from 0, the pair's start and its end, of which class the end
+/// is, which changes of its start count, whether it is the early side, whether it is kept, and whether it is written again where its
+/// command is not whole.
 #[derive(Clone, Copy)]
 pub struct Row {
     pub place: usize,
     pub start: Start,
     pub edge: Edge,
     pub end: End,
+    pub class: EndClass,
     pub early: bool,
     pub kept: bool,
     pub written: bool,
@@ -31,21 +34,29 @@ pub struct Row {
     pub beside: bool,
 }
 
+/// The pairs that are selected in a design of so many port bits, and what is found out about each.
+#[derive(Clone, Copy)]
+pub(crate) struct Pairs<'a> {
+    pub ports: Ports,
+    pub selected: &'a Selected,
+    pub verdicts: &'a [Verdict],
+}
+
 /// So many pairs from this place on, of an exception whose through lists can be written or not.
 pub(crate) fn rows_from(
     alloc: Global,
     spelled: bool,
-    selected: &Selected,
-    verdicts: &[Verdict],
+    pairs: &Pairs<'_>,
     place: usize,
     count: u64,
 ) -> Result<Seq<Row>, AllocError>
-    requires { HasRows selected.now verdicts.now }
-    ensures { IfOk result (λ rows. rows ≡ spec.rows_from spelled selected.now verdicts.now place count) }
+    requires { HasRows pairs.now.selected.now pairs.now.verdicts.now }
+    ensures { IfOk result (λ rows. rows ≡ spec.rows_from pairs.now.ports spelled pairs.now.selected.now pairs.now.verdicts.now place count) }
 {
     let mut rows = Seq::new(alloc);
-    for at in place..place_after(place, count, verdicts.len()) {
-        rows.push(row_of(spelled, at, &row_at(selected, verdicts, at)))?;
+    for at in place..place_after(place, count, pairs.verdicts.len()) {
+        let found = row_at(pairs.selected, pairs.verdicts, at);
+        rows.push(row_of(pairs.ports, spelled, at, &found))?;
     }
     Ok(rows)
 }
@@ -61,8 +72,8 @@ pub(crate) fn place_after(place: usize, count: u64, all: usize) -> usize
     }
 }
 
-fn row_of(spelled: bool, place: usize, found: &PairRow) -> Row
-    ensures { result ≡ spec.row_by spelled place found.now.pair.now found.now.claim.now found.now.verdict.now }
+fn row_of(ports: Ports, spelled: bool, place: usize, found: &PairRow) -> Row
+    ensures { result ≡ spec.row_by ports spelled place found.now.pair.now found.now.claim.now found.now.verdict.now }
 {
     let kept = is_justified(found.verdict);
     Row {
@@ -70,9 +81,11 @@ fn row_of(spelled: bool, place: usize, found: &PairRow) -> Row
         start: found.claim.start,
         edge: found.claim.edge,
         end: found.claim.end,
+        class: class_of(ports, found.claim.end),
         early: found.claim.early,
         kept,
         written: kept
+            && is_named_start(ports, found.claim.start)
             && spelled
             && writable(found.pair.start.as_bytes())
             && writable(found.pair.end.as_bytes()),

@@ -1,11 +1,13 @@
 -- How many commands a group of pairs becomes.
-use Rattle.std.proofs.Common.{◌≡◌, ◌∙◌, ℕ, ◌+◌, Bool, true, false, not, ◌&&◌, ◌||◌, ◌==◌, List, [], ◌∷◌, length, refl, ap, sym, arith}
+use Rattle.std.proofs.Common.{◌≡◌, ◌∙◌, ℕ, ◌+◌, Bool, true, false, not, ◌&&◌, ◌||◌, ◌==◌, List, [], ◌∷◌, ◌++◌, length, refl, ap, sym, arith}
 use Rattle.std.specs.Prelude.{filter, if◌then◌else◌}
 use Rattle.std.specs.List.{list_any}
 use Rattle.std.proofs.lemmas.List.{length-append}
+use Rattle.mend_groups.specs.declared.ports.EndClass.{EndClass}
+use Rattle.mend_groups.specs.declared.ports.EndClass.TheVariants.{Regs, Ports as PortBits, Sinks}
 use Rattle.mend_groups.specs.declared.rows.Row.{Row}
 use Rattle.mend_groups.specs.declared.groups.Group.{Group}
-use Rattle.mend_lines.specs.Lines.{heads, is_named, first_star, ends_in, rests_for, rests_of}
+use Rattle.mend_lines.specs.Lines.{heads, is_named, first_star, ends_in, rests_for, rests_in, rests_of}
 
 -- the list has an item
 abbrev pub is_some : {A : Type 0} → List A → Bool
@@ -41,26 +43,16 @@ rests_count (r ∷ starts) [] = ap (λ (b : Bool). one_if (b && false)) (sym (so
 rests_count (r ∷ starts) (e ∷ ends) =
     ap one_if (ap (λ (b : Bool). b && true) (sym (some_more r starts)) ∙ ap (λ (b : Bool). is_some (r ∷ starts) && b) (sym (some_more e ends)))
 
-rests_both : (g : Group) → length (rests_of [] [] g) ≡
-    one_if (list_any (λ star. not (length star == 0)) g.stars && list_any (is_named true) (first_star g))
-    + one_if (list_any (λ star. not (length star == 0)) g.stars && list_any (is_named false) (first_star g))
-rests_both g =
-    let starts = heads g.stars in
-    length-append (rests_for [] [] starts (ends_in true g)) (rests_for [] [] starts (ends_in false g))
-    ∙ rw (
-      rests_count starts (ends_in true g),
-      rests_count starts (ends_in false g),
-      heads_some g.stars,
-      filter_some (is_named true) (first_star g),
-      filter_some (is_named false) (first_star g),
-    ) refl
+-- the commands of a group's ends of a class
+pub class_counted : (g : Group) (class : EndClass) → length (rests_in [] [] g class) ≡
+    one_if (list_any (λ star. not (length star == 0)) g.stars && list_any (is_named class) (first_star g))
+class_counted g class =
+    rests_count (heads g.stars) (ends_in class g) ∙ rw (heads_some g.stars, filter_some (is_named class) (first_star g)) refl
 
--- the commands of a group that has a start, and of one that has none
-pub group_counted : (g : Group) → list_any (λ star. not (length star == 0)) g.stars ≡ true → length (rests_of [] [] g) ≡
-    one_if (list_any (is_named true) (first_star g)) + one_if (list_any (is_named false) (first_star g))
-group_counted g some =
-    rests_both g ∙ ap (λ (b : Bool). one_if (b && list_any (is_named true) (first_star g)) + one_if (b && list_any (is_named false) (first_star g))) some
-
-pub group_empty : (g : Group) → list_any (λ star. not (length star == 0)) g.stars ≡ false → length (rests_of [] [] g) ≡ 0
-group_empty g none =
-    rests_both g ∙ ap (λ (b : Bool). one_if (b && list_any (is_named true) (first_star g)) + one_if (b && list_any (is_named false) (first_star g))) none
+-- and those of all classes
+pub group_counted : (g : Group) → length (rests_of [] [] g) ≡
+    length (rests_in [] [] g Regs) + (length (rests_in [] [] g PortBits) + length (rests_in [] [] g Sinks))
+group_counted g =
+    let sinks = rests_in [] [] g Sinks in
+    length-append (rests_in [] [] g Regs) (rests_in [] [] g PortBits ++ sinks)
+    ∙ ap (λ (n : ℕ). length (rests_in [] [] g Regs) + n) (length-append (rests_in [] [] g PortBits) sinks)

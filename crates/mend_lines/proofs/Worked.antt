@@ -31,9 +31,11 @@ use Rattle.exception_expand.specs.declared.sides.Sides.TheVariants.{Late, Both}
 use Rattle.exception_expand.specs.Asking.{Asked}
 use Rattle.exception_expand.specs.Selections.{is_exception as is_numbered}
 use Rattle.script_notices.specs.Companions.{are_same, companions_from, is_exception}
+use Rattle.mend_groups.specs.declared.ports.Ports.{Ports}
 use Rattle.mend_groups.specs.declared.rows.Row.{Row}
 use Rattle.mend_groups.specs.declared.groups.Group.{Group}
 use Rattle.mend_groups.specs.declared.parts.Part.{Part}
+use Rattle.mend_groups.specs.Ports.{class_of}
 use Rattle.mend_lines.specs.declared.fates.HoldFate.TheVariants.{Stays, Follows, LeftOut}
 use Rattle.mend_lines.specs.Lines.{joined_by, bundled, list_text, through_text, lines_of, line_count}
 use Rattle.mend_lines.specs.Holds.{last_fate, hold_fate}
@@ -48,8 +50,22 @@ pair start end = record { command = 1; start = start; end = end }
 abbrev selects : List PairLine → Selected
 selects pairs = record { commands = []; pairs = pairs; claims = [] }
 
+-- a design of three bits of input ports, and one of an output port
+abbrev ports : Ports
+ports = record { inputs = 3; outputs = 1 }
+
 abbrev row : ℕ → Start → End → Bool → Row
-row place start end kept = record { place = place; start = start; edge = Any; end = end; early = false; kept = kept; written = kept; beside = false }
+row place start end kept = record {
+  place = place;
+  start = start;
+  edge = Any;
+  end = end;
+  class = class_of ports end;
+  early = false;
+  kept = kept;
+  written = kept;
+  beside = false;
+}
 
 abbrev group : List (List Row) → Group
 group stars = record { stars = stars }
@@ -195,9 +211,29 @@ lines_have_their_lists_in_order = refl
 lines_are_three : line_count two_groups ≡ 3
 lines_are_three = refl
 
+-- ends of three classes stand in three commands: registers are cells, bits of ports are ports, and sinks are pins
+abbrev three_classes : List Group
+three_classes =
+    group ((row 0 (RegStart 0) (RegEnd 1) true ∷ row 1 (RegStart 0) (OutputEnd 0) true ∷ row 2 (RegStart 0) (OutputEnd 1) true
+    ∷ row 3 (RegStart 0) (OutputEnd 2) true ∷ []) ∷ []) ∷ []
+
+abbrev names_of_three_classes : List PairLine
+names_of_three_classes =
+    pair (codes "a") (codes "b") ∷ pair (codes "a") (codes "y") ∷ pair (codes "a") (codes "u_ram/A[1]") ∷ pair (codes "a") (codes "u_ram/A[0]") ∷ []
+
+each_class_has_its_line : lines_of names_of_three_classes (setup (exception False Unsaid [])) three_classes ≡
+    codes "set_false_path -from [get_cells {a}] -to [get_cells {b}]"
+    ∷ codes "set_false_path -from [get_cells {a}] -to [get_ports {y}]"
+    ∷ codes "set_false_path -from [get_cells {a}] -to [get_pins {u_ram/A[1] u_ram/A[0]}]" ∷ []
+unfolding joined_by
+each_class_has_its_line = refl
+
+classes_are_three_lines : line_count three_classes ≡ 3
+classes_are_three_lines = refl
+
 -- starts of one group stand in one list; the edge and the check are those of the claims and of the command
 abbrev rising : ℕ → ℕ → Row
-rising place start = record { place = place; start = RegStart start; edge = Rise; end = RegEnd 1; early = false; kept = true; written = true; beside = false }
+rising place start = record (row place (RegStart start) (RegEnd 1) true) { edge = Rise }
 
 edge_and_check_stay : lines_of four_pairs.pairs (setup (exception False Setup [])) (group ((rising 0 0 ∷ []) ∷ (rising 3 2 ∷ []) ∷ []) ∷ []) ≡
     codes "set_false_path -setup -rise_from [get_cells {a d}] -to [get_cells {b}]" ∷ []
@@ -222,6 +258,11 @@ kept_pair_is_not_written : comment_of 8 (selects (pair (codes "bin[0]" ++ 92 ∷
 unfolding digits
 kept_pair_is_not_written = refl
 
+free_net_is_told : comment_of 8 (selects (pair (codes "u_ram/Q") (codes "b") ∷ [])) (justified ∷ [])
+    (record (row 0 (InputStart 3) (RegEnd 1) true) { written = false }) ≡ codes "# pair 1 u_ram/Q -> b justified single, not written" ++ newline
+unfolding digits
+free_net_is_told = refl
+
 open_pair_tells_the_depth : comment_of 8 (selects (pair (codes "a") (codes "b") ∷ [])) (Undecided OpenAtDepth ∷ []) refuted_row ≡
     codes "# pair 1 a -> b undecided depth 8" ++ newline
 unfolding digits
@@ -232,8 +273,7 @@ written_pair_has_no_comment = refl
 
 -- the sides of pairs of a false path that takes both checks off: both kept, the late one alone, the early one alone
 abbrev side : ℕ → ℕ → Bool → Bool → Row
-side place start early beside =
-    record { place = place; start = RegStart start; edge = Any; end = RegEnd 1; early = early; kept = true; written = true; beside = beside }
+side place start early beside = record (row place (RegStart start) (RegEnd 1) true) { early = early; beside = beside }
 
 abbrev three_sides : List Group
 three_sides =
@@ -265,7 +305,7 @@ sides_are_three_lines = refl
 
 -- a false path of one pair that is refuted on the hold side
 abbrev hold_refuted : Row
-hold_refuted = record { place = 1; start = RegStart 0; edge = Any; end = RegEnd 1; early = true; kept = false; written = false; beside = true }
+hold_refuted = record (row 1 (RegStart 0) (RegEnd 1) false) { early = true; beside = true }
 
 abbrev both_of_one : Part
 both_of_one = part (side 0 0 false false ∷ hold_refuted ∷ []) (group ((side 0 0 false false ∷ []) ∷ []) ∷ [])

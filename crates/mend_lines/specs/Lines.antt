@@ -8,8 +8,6 @@ use Rattle.sdcv_base.specs.declared.kinds.Edge.{Edge}
 use Rattle.sdcv_base.specs.declared.kinds.Edge.TheVariants.{Any, Rise, Fall}
 use Rattle.net_model.specs.declared.claims.Start.{Start}
 use Rattle.net_model.specs.declared.claims.Start.TheVariants.{Reg as RegStart, Input as InputStart}
-use Rattle.net_model.specs.declared.claims.End.{End}
-use Rattle.net_model.specs.declared.claims.End.TheVariants.{Reg as RegEnd, Output as OutputEnd}
 use Rattle.script_types.specs.declared.objects.Class.{Class}
 use Rattle.script_types.specs.declared.objects.Class.TheVariants.{Ports, Cells, Pins, Nets, Clocks, Any as AnyClass}
 use Rattle.script_types.specs.declared.objects.Query.{Query}
@@ -22,8 +20,11 @@ use Rattle.exception_expand.specs.declared.sides.Sides.{Sides}
 use Rattle.exception_expand.specs.declared.sides.Sides.TheVariants.{Late}
 use Rattle.exception_expand.specs.Asking.{Asked}
 use Rattle.script_notices.specs.Companions.{is_asked}
+use Rattle.mend_groups.specs.declared.ports.EndClass.{EndClass}
+use Rattle.mend_groups.specs.declared.ports.EndClass.TheVariants.{Regs, Ports as PortBits, Sinks}
 use Rattle.mend_groups.specs.declared.rows.Row.{Row}
 use Rattle.mend_groups.specs.declared.groups.Group.{Group}
+use Rattle.mend_groups.specs.Ports.{is_end_class}
 
 -- texts with one text between each two
 unfoldable pub joined_by : List ℕ → List (List ℕ) → List ℕ
@@ -67,26 +68,24 @@ from_word Any = codes " -from"
 from_word Rise = codes " -rise_from"
 from_word Fall = codes " -fall_from"
 
--- registers are cells, and inputs and outputs are ports
+-- registers are cells, and bits of ports are ports. What begins at another input is not written
 abbrev pub get_start : Start → List ℕ
 get_start (RegStart r) = codes "get_cells"
 get_start (InputStart i) = codes "get_ports"
 
-abbrev pub get_end : End → List ℕ
-get_end (RegEnd r) = codes "get_cells"
-get_end (OutputEnd o) = codes "get_ports"
+-- sinks are pins
+abbrev pub get_end : EndClass → List ℕ
+get_end Regs = codes "get_cells"
+get_end PortBits = codes "get_ports"
+get_end Sinks = codes "get_pins"
 
-abbrev pub is_reg_end : End → Bool
-is_reg_end (RegEnd r) = true
-is_reg_end (OutputEnd o) = false
+-- the pair's end is of the class
+abbrev pub is_of_class : EndClass → Row → Bool
+is_of_class class r = is_end_class class r.class
 
--- the pair's end is a register, or is an output
-abbrev pub is_of_class : Bool → Row → Bool
-is_of_class regs r = if regs then is_reg_end r.end else not (is_reg_end r.end)
-
--- the pairs of a start whose ends are registers, or outputs
-abbrev pub of_class : Bool → List Row → List Row
-of_class regs star = filter (is_of_class regs) star
+-- the pairs of a start whose ends are of the class
+abbrev pub of_class : EndClass → List Row → List Row
+of_class class star = filter (is_of_class class) star
 
 -- names of pairs by their places
 abbrev pub start_text : List PairLine → Row → List ℕ
@@ -185,13 +184,13 @@ from_text pairs first starts = from_word first.edge ++ (codes " " ++ named_list 
 
 -- its ends of one class
 abbrev pub to_text : List PairLine → Row → List Row → List ℕ
-to_text pairs end ends = codes " -to " ++ named_list (get_end end.end) (map (name_text true pairs) ends)
+to_text pairs end ends = codes " -to " ++ named_list (get_end end.class) (map (name_text true pairs) ends)
 
 -- a command from its option of the start on: the starts of a group, the through lists of the exception, and the ends of one class
 abbrev pub rest_by : List PairLine → List (List Object) → List Row → Row → Row → List Row → List ℕ
 rest_by pairs through starts first end ends = from_text pairs first starts ++ (through_text through ++ to_text pairs end ends)
 
--- the commands of a group from there on: one where some ends are registers, or are outputs
+-- the commands of a group from there on: one where some ends are of a class
 abbrev pub rests_for : List PairLine → List (List Object) → List Row → List Row → List (List ℕ)
 rests_for pairs through (first ∷ starts) (end ∷ ends) = rest_by pairs through (first ∷ starts) first end (end ∷ ends) ∷ []
 rests_for pairs through _ _ = []
@@ -201,14 +200,18 @@ abbrev pub first_star : Group → List Row
 first_star g = elim g.stars [ [] ↦ [] | star ∷ more ↦ star ]
 
 -- an end of the class is named once: by its late side where both are written
-abbrev pub is_named : Bool → Row → Bool
-is_named regs r = is_of_class regs r && not (r.early && r.beside)
+abbrev pub is_named : EndClass → Row → Bool
+is_named class r = is_of_class class r && not (r.early && r.beside)
 
-abbrev pub ends_in : Bool → Group → List Row
-ends_in regs g = filter (is_named regs) (first_star g)
+abbrev pub ends_in : EndClass → Group → List Row
+ends_in class g = filter (is_named class) (first_star g)
 
+abbrev pub rests_in : List PairLine → List (List Object) → Group → EndClass → List (List ℕ)
+rests_in pairs through g class = rests_for pairs through (heads g.stars) (ends_in class g)
+
+-- one for its registers, one for its bits of output ports, and one for its sinks
 abbrev pub rests_of : List PairLine → List (List Object) → Group → List (List ℕ)
-rests_of pairs through g = rests_for pairs through (heads g.stars) (ends_in true g) ++ rests_for pairs through (heads g.stars) (ends_in false g)
+rests_of pairs through g = rests_in pairs through g Regs ++ (rests_in pairs through g PortBits ++ rests_in pairs through g Sinks)
 
 -- a command of these first words and the rest
 abbrev pub line_after : List ℕ → List ℕ → List ℕ

@@ -1,12 +1,11 @@
 //! How many pairs of an exception are kept, and how many commands select them.
-ghost use Rattle.std.specs.Prelude.{◌≡◌, ◌==◌, ◌≤◌, [], not, count_by, length};
+ghost use Rattle.std.specs.Prelude.{◌≡◌, ◌==◌, ◌≤◌, [], not, count_by, length, ◌&&◌};
 ghost use Rattle.std.specs.List.{list_any};
 ghost use Rattle.mend_lines.specs.Bodies as bodies;
 ghost use Rattle.mend_lines.specs.Holds as holds;
 ghost use Rattle.mend_lines.specs.Lines as lines;
 
-use mend_groups::{Group, Part, Row};
-use net_model::End;
+use mend_groups::{EndClass, Group, Part, Row, is_end_class};
 
 /// Whether all pairs of an exception are kept, so that it stays as it is written.
 pub fn is_whole(part: &Part) -> bool
@@ -30,7 +29,7 @@ pub fn kept_count(rows: &[Row]) -> usize
 }
 
 /// How many commands the groups of an exception become.
-pub fn line_count(part: &Part) -> u64
+pub fn line_count(part: &Part) -> u128
     ensures { result ≡ lines.line_count part.now.groups }
 {
     let mut count = 0;
@@ -40,16 +39,28 @@ pub fn line_count(part: &Part) -> u64
     count
 }
 
-// One where some of its ends are registers, and one where some are outputs.
-fn group_count(group: &Group) -> u64
+// One where some of its ends are registers, one where some are bits of ports, and one where some are sinks.
+fn group_count(group: &Group) -> u128
     ensures count { result ≡ length (lines.rests_of [] [] group.now) }
-    ensures few { result ≤ 2 }
+    ensures few { result ≤ 3 }
 {
-    if has_start(group) {
-        u64::from(has_end(true, group)) + u64::from(has_end(false, group))
-    } else {
-        0
-    }
+    class_count(EndClass::Regs, group)
+        + class_count(EndClass::Ports, group)
+        + class_count(EndClass::Sinks, group)
+}
+
+fn class_count(class: EndClass, group: &Group) -> u128
+    ensures count { result ≡ length (lines.rests_in [] [] group.now class) }
+    ensures few { result ≤ 1 }
+{
+    if has_line(class, group) { 1 } else { 0 }
+}
+
+// Whether the group has a start, and an end of the class.
+fn has_line(class: EndClass, group: &Group) -> bool
+    ensures { result ≡ (list_any (λ star. not (length star == 0)) group.now.stars && list_any (lines.is_named class) (lines.first_star group.now)) }
+{
+    has_start(group) && has_end(class, group)
 }
 
 fn has_start(group: &Group) -> bool
@@ -58,28 +69,18 @@ fn has_start(group: &Group) -> bool
     group.stars.as_slice().iter().any(|star| star.len() != 0)
 }
 
-// Whether some end of the group is a register, or is an output.
-fn has_end(regs: bool, group: &Group) -> bool
-    ensures { result ≡ list_any (lines.is_named regs) (lines.first_star group.now) }
+fn has_end(class: EndClass, group: &Group) -> bool
+    ensures { result ≡ list_any (lines.is_named class) (lines.first_star group.now) }
 {
     match group.stars.as_slice().first() {
-        Some(star) => star.as_slice().iter().any(|row| is_named(regs, row)),
+        Some(star) => star.as_slice().iter().any(|row| is_named(class, row)),
         None => false,
     }
 }
 
-/// Whether the end of a pair is named among the registers, or among the outputs.
-pub(crate) fn is_named(regs: bool, row: &Row) -> bool
-    ensures { result ≡ lines.is_named regs row.now }
+/// Whether the end of a pair is named among those of a class.
+pub(crate) fn is_named(class: EndClass, row: &Row) -> bool
+    ensures { result ≡ lines.is_named class row.now }
 {
-    is_of_class(regs, row) && !(row.early && row.beside)
-}
-
-fn is_of_class(regs: bool, row: &Row) -> bool
-    ensures { result ≡ lines.is_of_class regs row.now }
-{
-    match row.end {
-        End::Reg(_) => regs,
-        End::Output(_) => !regs,
-    }
+    is_end_class(class, row.class) && !(row.early && row.beside)
 }

@@ -6,7 +6,7 @@ use crate::lists::push_through;
 use crate::names::push_named;
 use crate::stars::{ends_in, heads};
 use crate::words::{from_word, get_end, get_start};
-use mend_groups::{Group, Row};
+use mend_groups::{EndClass, Group, Row};
 use script_types::Object;
 use sdcv_base::{Name, Seq};
 use selected_types::PairLine;
@@ -46,10 +46,12 @@ pub(crate) fn push_group(
     ensures { OnOk result (lines.new ≡ lines.old ++ spec.lines_of_group terms.now.head.now terms.now.pairs.now terms.now.through.now group.now) }
 {
     let starts = heads(alloc, group)?;
-    let registers = ends_in(alloc, true, group)?;
+    let registers = ends_in(alloc, EndClass::Regs, group)?;
     push_line(alloc, terms, &starts, &registers, lines)?;
-    let outputs = ends_in(alloc, false, group)?;
-    push_line(alloc, terms, &starts, &outputs, lines)
+    let outputs = ends_in(alloc, EndClass::Ports, group)?;
+    push_line(alloc, terms, &starts, &outputs, lines)?;
+    let sinks = ends_in(alloc, EndClass::Sinks, group)?;
+    push_line(alloc, terms, &starts, &sinks, lines)
 }
 
 fn push_line(
@@ -109,5 +111,5 @@ fn push_to(
     ensures { OnOk result (line.new.items ≡ line.old.items ++ spec.to_text pairs.now end ends.now) }
 {
     line.extend_from_slice(b" -to ")?;
-    push_named(line, get_end(end.end), pairs, ends, true)
+    push_named(line, get_end(end.class), pairs, ends, true)
 }

@@ -3,7 +3,7 @@ ghost use Rattle.std.specs.Prelude.{◌≡◌, ◌++◌, ◌∷◌, [], if◌the
 ghost use Rattle.mend_lines.specs.Lines as spec;
 
 use crate::counts::is_named;
-use mend_groups::{Group, Row};
+use mend_groups::{EndClass, Group, Row};
 use sdcv_base::Seq;
 use std::alloc::{AllocError, Global};
 
@@ -27,31 +27,31 @@ fn push_first(star: &Seq<Row>, rows: &mut Seq<Row>) -> Result<(), AllocError>
     Ok(())
 }
 
-/// The pairs of the first start of a group whose ends are registers, or outputs, each once.
-pub(crate) fn ends_in(alloc: Global, regs: bool, group: &Group) -> Result<Seq<Row>, AllocError>
-    ensures { IfOk result (λ rows. rows ≡ spec.ends_in regs group.now) }
+/// The pairs of the first start of a group whose ends are of a class, each end once.
+pub(crate) fn ends_in(alloc: Global, class: EndClass, group: &Group) -> Result<Seq<Row>, AllocError>
+    ensures { IfOk result (λ rows. rows ≡ spec.ends_in class group.now) }
 {
     if group.stars.len() == 0 {
         Ok(Seq::new(alloc))
     } else {
-        named_in(alloc, regs, group.stars.item(0))
+        named_in(alloc, class, group.stars.item(0))
     }
 }
 
-fn named_in(alloc: Global, regs: bool, star: &Seq<Row>) -> Result<Seq<Row>, AllocError>
-    ensures { IfOk result (λ rows. rows ≡ filter (spec.is_named regs) star.now) }
+fn named_in(alloc: Global, class: EndClass, star: &Seq<Row>) -> Result<Seq<Row>, AllocError>
+    ensures { IfOk result (λ rows. rows ≡ filter (spec.is_named class) star.now) }
 {
     let mut rows = Seq::new(alloc);
     for place in 0..star.len() {
-        push_if(regs, star.at(place), &mut rows)?;
+        push_if(class, star.at(place), &mut rows)?;
     }
     Ok(rows)
 }
 
-fn push_if(regs: bool, row: Row, rows: &mut Seq<Row>) -> Result<(), AllocError>
-    ensures { OnOk result (rows.new ≡ rows.old ++ (if spec.is_named regs row then row ∷ [] else [])) }
+fn push_if(class: EndClass, row: Row, rows: &mut Seq<Row>) -> Result<(), AllocError>
+    ensures { OnOk result (rows.new ≡ rows.old ++ (if spec.is_named class row then row ∷ [] else [])) }
 {
-    if is_named(regs, &row) {
+    if is_named(class, &row) {
         rows.push(row)?;
     }
     Ok(())

@@ -4,8 +4,8 @@ ghost use Rattle.exception_expand.specs.Asking.{asked_by};
 ghost use Rattle.mend_lines.specs.Lines as spec;
 
 use exception_expand::{Ask, Sides};
-use mend_groups::{Group, Row};
-use net_model::{End, Start};
+use mend_groups::{EndClass, Group, Row};
+use net_model::Start;
 use script_types::{Checks, Class};
 use sdcv_base::{Edge, Kind};
 use std::alloc::{AllocError, Global};
@@ -101,12 +101,13 @@ pub(crate) fn get_start(start: Start) -> &'static str
     }
 }
 
-pub(crate) fn get_end(end: End) -> &'static str
-    ensures { result.now ≡ spec.get_end end }
+pub(crate) fn get_end(class: EndClass) -> &'static str
+    ensures { result.now ≡ spec.get_end class }
 {
-    match end {
-        End::Reg(_) => "get_cells",
-        End::Output(_) => "get_ports",
+    match class {
+        EndClass::Regs => "get_cells",
+        EndClass::Ports => "get_ports",
+        EndClass::Sinks => "get_pins",
     }
 }
 

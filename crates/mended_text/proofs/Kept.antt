@@ -1,5 +1,5 @@
 -- The pairs that a mended script selects are those of claims that are justified.
-use Rattle.std.proofs.Common.{◌≡◌, ℕ, Bool, true, false, List, [], ◌∷◌, refl}
+use Rattle.std.proofs.Common.{◌≡◌, ℕ, Bool, true, List, [], ◌∷◌, ◌++◌, refl}
 use Rattle.std.specs.Prelude.{Option, Some, None, slice_get, slice_index_or, All}
 use Rattle.std.specs.List.{flat_map}
 use Rattle.std.proofs.lemmas.Bool.{cond_both, and_parts}
@@ -13,6 +13,9 @@ use Rattle.selected_types.specs.declared.selections.Selected.{Selected}
 use Rattle.verdict_types.specs.declared.outcomes.Proof.{Proof}
 use Rattle.verdict_types.specs.declared.outcomes.Verdict.{Verdict}
 use Rattle.verdict_types.specs.declared.outcomes.Verdict.TheVariants.{Justified}
+use Rattle.mend_groups.specs.declared.ports.Ports.{Ports}
+use Rattle.mend_groups.specs.declared.ports.EndClass.{EndClass}
+use Rattle.mend_groups.specs.declared.ports.EndClass.TheVariants.{Regs, Ports as PortBits, Sinks}
 use Rattle.mend_groups.specs.declared.rows.Row.{Row}
 use Rattle.mend_groups.specs.declared.groups.Group.{Group}
 use Rattle.mend_groups.specs.declared.parts.Part.{Part}
@@ -52,16 +55,18 @@ module _ (s : Selected) (verdicts : List Verdict) where
       (whole_justified rows (All-tail (λ (x : Row). x.kept ≡ true → Kept x) r rows are) both.1)
 
   -- and so is each of a group
-  class_justified : (regs : Bool) (stars : List (List Row)) → All (All Kept) stars → All (IsJustified verdicts) (flat_map (of_class regs) stars)
-  class_justified regs stars each =
-      All-flat_map (IsJustified verdicts) (of_class regs) stars
-      (All-weaker (All Kept) (λ star. All (IsJustified verdicts) (of_class regs star))
+  class_justified : (class : EndClass) (stars : List (List Row)) → All (All Kept) stars → All (IsJustified verdicts) (flat_map (of_class class) stars)
+  class_justified class stars each =
+      All-flat_map (IsJustified verdicts) (of_class class) stars
+      (All-weaker (All Kept) (λ star. All (IsJustified verdicts) (of_class class star))
       (λ star are. All-filter _ (IsJustified verdicts) star (All-weaker Kept (IsJustified verdicts) justified star are)) stars each)
 
   group_justified : (g : Group) → All (All Kept) g.stars → All (IsJustified verdicts) (group_rows g)
   group_justified g each =
-      All-append (IsJustified verdicts) (flat_map (of_class true) g.stars) (flat_map (of_class false) g.stars)
-      (class_justified true g.stars each) (class_justified false g.stars each)
+      let bits : List Row = flat_map (of_class PortBits) g.stars in
+      let sinks : List Row = flat_map (of_class Sinks) g.stars in
+      All-append (IsJustified verdicts) (flat_map (of_class Regs) g.stars) (bits ++ sinks) (class_justified Regs g.stars each)
+      (All-append (IsJustified verdicts) bits sinks (class_justified PortBits g.stars each) (class_justified Sinks g.stars each))
 
   part_justified : (p : Part) → All (λ (r : Row). r.kept ≡ true → Kept r) p.rows → All (λ (g : Group). All (All Kept) g.stars) p.groups
       → All (IsJustified verdicts) (part_rows p)
@@ -71,12 +76,12 @@ module _ (s : Selected) (verdicts : List Verdict) where
       (All-weaker (λ (g : Group). All (All Kept) g.stars) (λ g. All (IsJustified verdicts) (group_rows g)) group_justified p.groups groups))
 
   -- each side that a mended script selects is justified
-  pub all_justified : (script : Script) (hold : Bool)
-      → All (λ (r : Row). (proof : Proof) × (slice_get verdicts r.place ≡ Some (Justified proof))) (flat_map part_rows (parts_of script hold s verdicts))
-  all_justified script hold =
-      All-flat_map (IsJustified verdicts) part_rows (parts_of script hold s verdicts) (λ k d low.
-      part_justified (slice_index_or (parts_of script hold s verdicts) k d) (kept_rows s verdicts script hold k d low)
-      (grouped_kept s verdicts script hold k d low))
+  pub all_justified : (ports : Ports) (script : Script) (hold : Bool)
+      → All (λ (r : Row). (proof : Proof) × (slice_get verdicts r.place ≡ Some (Justified proof))) (flat_map part_rows (parts_of ports script hold s verdicts))
+  all_justified ports script hold =
+      All-flat_map (IsJustified verdicts) part_rows (parts_of ports script hold s verdicts) (λ k d low.
+      part_justified (slice_index_or (parts_of ports script hold s verdicts) k d) (kept_rows ports s verdicts script hold k d low)
+      (grouped_kept ports s verdicts script hold k d low))
 
 claim_holds : (d : Design) (claims : List Claim) (verdicts : List Verdict) (r : Row)
     → ((claim : Claim) (proof : Proof) → slice_get claims r.place ≡ Some claim → slice_get verdicts r.place ≡ Some (Justified proof) → Holds d claim)

@@ -14,17 +14,32 @@ use Rattle.verdict_types.specs.declared.outcomes.Cause.TheVariants.{Depth as Sta
 use Rattle.verdict_types.specs.declared.outcomes.Verdict.TheVariants.{Justified, Undecided}
 use Rattle.run_options.specs.declared.options.RunOptions.{RunOptions}
 use Rattle.selected_types.specs.declared.notices.Notices.{Notices}
+use Rattle.mend_groups.specs.declared.ports.Ports.{Ports}
 use Rattle.mend_groups.specs.declared.rows.Row.{Row}
 use Rattle.mend_groups.specs.declared.parts.Part.{Part}
+use Rattle.mend_groups.specs.Ports.{class_of}
 use Rattle.mend_lines.specs.declared.fates.HoldFate.TheVariants.{Stays as HoldStays, Follows, LeftOut}
 use Rattle.mended_text.specs.declared.faults.MendFault.TheVariants.{Unread}
 use Rattle.mended_text.specs.Scenes.{Findings}
 use Rattle.mended_text.specs.Claims.{mended_claims}
 use Rattle.mended_text.specs.Tellings.{header_text, part_text, fate_text, left_text, total_text, texts_from, mended_texts, mend_line}
 
+-- a design of a bit of an input port, and one of an output port
+abbrev ports : Ports
+ports = record { inputs = 1; outputs = 1 }
+
 row : ℕ → ℕ → End → Bool → Bool → Row
-row place start end kept written =
-    record { place = place; start = RegStart start; edge = Any; end = end; early = false; kept = kept; written = written; beside = false }
+row place start end kept written = record {
+  place = place;
+  start = RegStart start;
+  edge = Any;
+  end = end;
+  class = class_of ports end;
+  early = false;
+  kept = kept;
+  written = written;
+  beside = false;
+}
 
 -- both pairs of an exception are kept, so it stays
 whole : Part
@@ -40,6 +55,13 @@ parted = record {
 -- the only pair of a third is kept and has a name that can't be written
 unwritten : Part
 unwritten = record { rows = row 5 2 (RegEnd 2) true false ∷ row 6 2 (RegEnd 1) false false ∷ []; groups = [] }
+
+-- the first pair of another is not kept; the other ones end at a sink, at an output port and at a register
+three_classes : Part
+three_classes = record {
+  rows = row 0 0 (RegEnd 2) false false ∷ row 1 0 (OutputEnd 1) true true ∷ row 2 0 (OutputEnd 0) true true ∷ row 3 0 (RegEnd 1) true true ∷ [];
+  groups = record { stars = (row 1 0 (OutputEnd 1) true true ∷ row 2 0 (OutputEnd 0) true true ∷ row 3 0 (RegEnd 1) true true ∷ []) ∷ [] } ∷ [];
+}
 
 options : RunOptions
 options = record {
@@ -87,6 +109,10 @@ exception_of_two_commands : part_text parted ≡ codes " pairs 3 kept 2 written 
 unfolding digits parted row
 exception_of_two_commands = refl
 
+exception_of_three_commands : part_text three_classes ≡ codes " pairs 4 kept 3 written 3 lines 3"
+unfolding digits three_classes row
+exception_of_three_commands = refl
+
 pair_with_a_name_that_stays_unwritten : part_text unwritten ≡ codes " pairs 2 kept 1 written 0 lines 0"
 unfolding digits unwritten row
 pair_with_a_name_that_stays_unwritten = refl
@@ -133,10 +159,15 @@ kept_pair_is_unwritten = refl
 claims : List Claim
 claims = claim_of 2 ∷ claim_of 3 ∷ claim_of 4 ∷ claim_of 5 ∷ claim_of 6 ∷ claim_of 7 ∷ claim_of 8 ∷ []
 
--- all claims of the whole exception, and of another those of its written pairs: to registers first, then to outputs
+-- all claims of the whole exception, and of another those of its written pairs: to registers first, then to output ports
 claims_of_what_is_kept : mended_claims claims (whole ∷ parted ∷ unwritten ∷ []) ≡ claim_of 2 ∷ claim_of 3 ∷ claim_of 6 ∷ claim_of 5 ∷ []
 unfolding claims whole parted unwritten row
 claims_of_what_is_kept = refl
+
+-- and to sinks last
+claims_of_three_classes : mended_claims claims (three_classes ∷ []) ≡ claim_of 5 ∷ claim_of 4 ∷ claim_of 3 ∷ []
+unfolding claims three_classes row
+claims_of_three_classes = refl
 
 line_of_a_text_that_is_not_read_back : mend_line Unread ≡ Some (codes "refused mend 1 Unread" ++ 10 ∷ [])
 line_of_a_text_that_is_not_read_back = refl

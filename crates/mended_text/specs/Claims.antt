@@ -1,18 +1,19 @@
 -- The claims that a mended script has to select.
-use Rattle.std.specs.Prelude.{◌≡◌, ℕ, true, false, if◌then◌else◌, List, ◌++◌, slice_get}
+use Rattle.std.specs.Prelude.{◌≡◌, ℕ, if◌then◌else◌, List, ◌++◌, slice_get}
 use Rattle.std.specs.List.{flat_map}
 use Rattle.sdcv_base.specs.Seqs.{option_list}
 use Rattle.net_model.specs.declared.claims.Claim.{Claim}
+use Rattle.mend_groups.specs.declared.ports.EndClass.TheVariants.{Regs, Ports as PortBits, Sinks}
 use Rattle.mend_groups.specs.declared.rows.Row.{Row}
 use Rattle.mend_groups.specs.declared.groups.Group.{Group}
 use Rattle.mend_groups.specs.declared.parts.Part.{Part}
 use Rattle.mend_lines.specs.Lines.{of_class}
 use Rattle.mend_lines.specs.Holds.{is_whole}
 
--- the pairs of a group in the order of its commands: those whose ends are registers, then those whose ends are outputs, by start and
--- then by end
+-- the pairs of a group in the order of its commands: those whose ends are registers, then those whose ends are bits of output ports, then
+-- those whose ends are sinks, by start and then by end
 abbrev pub group_rows : Group → List Row
-group_rows g = flat_map (of_class true) g.stars ++ flat_map (of_class false) g.stars
+group_rows g = flat_map (of_class Regs) g.stars ++ (flat_map (of_class PortBits) g.stars ++ flat_map (of_class Sinks) g.stars)
 
 -- of an exception that stays all pairs, of another those of its groups
 abbrev pub part_rows : Part → List Row

@@ -1,44 +1,31 @@
 //! The pairs that a mended script selects.
-ghost use Rattle.std.specs.Prelude.{◌≡◌, ◌++◌, not, if◌then◌else◌, IfOk, OnOk};
+ghost use Rattle.std.specs.Prelude.{◌≡◌, ◌++◌, IfOk, OnOk};
 ghost use Rattle.std.specs.List.{flat_map};
-ghost use Rattle.mend_lines.specs.Lines.{is_reg_end, of_class};
+ghost use Rattle.mend_lines.specs.Lines.{of_class};
 ghost use Rattle.mended_text.specs.Claims.{group_rows, part_rows};
 
-use mend_groups::{Group, Part, Row};
+use mend_groups::{EndClass, Group, Part, Row, is_end_class};
 use mend_lines::is_whole;
-use net_model::End;
 use sdcv_base::Seq;
 use std::alloc::{AllocError, Global};
 
-fn is_reg_end(end: End) -> bool
-    ensures { result ≡ is_reg_end end }
-{
-    matches!(end, End::Reg(_))
-}
-
-fn is_in_class(regs: bool, end: End) -> bool
-    ensures { result ≡ (if regs then is_reg_end end else not (is_reg_end end)) }
-{
-    is_reg_end(end) == regs
-}
-
-// Adds the pairs whose ends are registers, or outputs.
-fn add_class(regs: bool, star: &Seq<Row>, rows: &mut Seq<Row>) -> Result<(), AllocError>
-    ensures { OnOk result (rows.new ≡ rows.old ++ of_class regs star.now) }
+// Adds the pairs whose ends are of the class.
+fn add_class(class: EndClass, star: &Seq<Row>, rows: &mut Seq<Row>) -> Result<(), AllocError>
+    ensures { OnOk result (rows.new ≡ rows.old ++ of_class class star.now) }
 {
     for row in star.as_slice() {
-        if is_in_class(regs, row.end) {
+        if is_end_class(class, row.class) {
             rows.push(*row)?;
         }
     }
     Ok(())
 }
 
-fn add_stars(regs: bool, stars: &Seq<Seq<Row>>, rows: &mut Seq<Row>) -> Result<(), AllocError>
-    ensures { OnOk result (rows.new ≡ rows.old ++ flat_map (of_class regs) stars.now) }
+fn add_stars(class: EndClass, stars: &Seq<Seq<Row>>, rows: &mut Seq<Row>) -> Result<(), AllocError>
+    ensures { OnOk result (rows.new ≡ rows.old ++ flat_map (of_class class) stars.now) }
 {
     for star in stars.as_slice() {
-        add_class(regs, star, rows)?;
+        add_class(class, star, rows)?;
     }
     Ok(())
 }
@@ -46,8 +33,9 @@ fn add_stars(regs: bool, stars: &Seq<Seq<Row>>, rows: &mut Seq<Row>) -> Result<(
 fn add_group(group: &Group, rows: &mut Seq<Row>) -> Result<(), AllocError>
     ensures { OnOk result (rows.new ≡ rows.old ++ group_rows group.now) }
 {
-    add_stars(true, &group.stars, rows)?;
-    add_stars(false, &group.stars, rows)
+    add_stars(EndClass::Regs, &group.stars, rows)?;
+    add_stars(EndClass::Ports, &group.stars, rows)?;
+    add_stars(EndClass::Sinks, &group.stars, rows)
 }
 
 fn add_groups(groups: &Seq<Group>, rows: &mut Seq<Row>) -> Result<(), AllocError>

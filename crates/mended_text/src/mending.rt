@@ -10,7 +10,8 @@ use crate::expected::expected_rows;
 use crate::faults::MendFault;
 use crate::reading::selects_exactly;
 use crate::scenes::{Findings, Scene};
-use mend_groups::{Part, parts_of};
+use linked_types::Names;
+use mend_groups::{Part, Ports, parts_of};
 use mend_lines::{Mending, bodies};
 use sdc_pieces::rewritten;
 use sdc_words::cleaned;
@@ -39,13 +40,7 @@ pub fn mend(
     ensures ok { IfOk result (spec.IsMended text.now (seen_scene scene.now) (seen_findings findings.now)) }
     ensures err { IfErr result (spec.IsMendCause text.now (seen_scene scene.now) (seen_findings findings.now)) }
 {
-    let parts = parts_of(
-        alloc,
-        findings.script,
-        findings.hold,
-        findings.selected,
-        findings.verdicts,
-    )?;
+    let parts = parts_by(alloc, scene, findings)?;
     let bytes = text_by(alloc, text, findings, parts.as_slice())?;
     let rows = expected_rows(alloc, parts.as_slice())?;
     if !selects_exactly(
@@ -58,6 +53,34 @@ pub fn mend(
         return Err(MendFault::Unread);
     }
     Ok(Mended { bytes, parts })
+}
+
+// What becomes of the pairs of each exception.
+fn parts_by(
+    alloc: Global,
+    scene: &Scene<'_>,
+    findings: &Findings<'_>,
+) -> Result<Seq<Part>, AllocError>
+    requires { HasRows findings.now.selected.now findings.now.verdicts.now }
+    ensures { IfOk result (λ parts. parts ≡ spec.parts_by (seen_scene scene.now) (seen_findings findings.now)) }
+{
+    parts_of(
+        alloc,
+        ports_of(&scene.linked.names),
+        findings.script,
+        findings.hold,
+        findings.selected,
+        findings.verdicts,
+    )
+}
+
+fn ports_of(names: &Names) -> Ports
+    ensures { result ≡ spec.ports_of names.now }
+{
+    Ports {
+        inputs: names.ins.len(),
+        outputs: names.outs.len(),
+    }
 }
 
 // The text with what stands in the place of each command.

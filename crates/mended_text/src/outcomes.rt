@@ -60,7 +60,7 @@ fn claiming_text(alloc: Global, parts: &[Part], place: usize) -> Result<String, 
 }
 
 // How many commands the exception at a place becomes.
-fn lines_at(parts: &[Part], place: usize) -> u64
+fn lines_at(parts: &[Part], place: usize) -> u128
     ensures { result ≡ lines_at parts.now place }
 {
     match parts.get(place) {

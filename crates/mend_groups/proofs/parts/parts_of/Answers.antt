@@ -17,26 +17,27 @@ loop-k-preserved c =
           let after : min (c.loop-k.place + w.count_of-count.result) (length verdicts) ≡ min (at + w.count_of-count.result) (length verdicts) =
           omega (arith, capped) in
           let made =
-          part_added c.args.hold s verdicts at c.loop-k.place w.count_of-count.result c.loop-k.listed c.loop-k.k c.loop-k.parts w.push.new.self _
+          part_added c.args.ports c.args.hold s verdicts at c.loop-k.place w.count_of-count.result c.loop-k.listed c.loop-k.k c.loop-k.parts w.push.new.self _
           s.commands commands w.item-then-listed-len.result.now c.item.result.now w.in_ok-part_of.field-0 capped w.count_of-count.ensures
           w.item-then-listed-len.ensures c.item.ensures (sym c.is_exception.ensures ∙ w.if-is_exception.true)
-          (w.in_ok-part_of.ensures ∙ ap (part_of s verdicts c.loop-k.place w.count_of-count.result) w.of-ask.ensures) w.in_ok-push.ensures.ok before in
+          (w.in_ok-part_of.ensures ∙ ap (part_of c.args.ports s verdicts c.loop-k.place w.count_of-count.result) w.of-ask.ensures)
+          w.in_ok-push.ensures.ok before in
           (at + w.count_of-count.result, w.place-is ∙ w.place_after-place.ensures ∙ after, rw (w.parts-is, w.listed-is) made)
       | else-is_exception w ↦
           let stays =
           elim w.else-is_exception.branch as (λ z. c.loop-k.parts
-          ++ parts_from c.args.hold s verdicts at (drop c.loop-k.listed s.commands) (drop (c.loop-k.k + 1) commands)
-          ≡ parts_of c.args.script.now c.args.hold s verdicts) [
+          ++ parts_from c.args.ports c.args.hold s verdicts at (drop c.loop-k.listed s.commands) (drop (c.loop-k.k + 1) commands)
+          ≡ parts_of c.args.ports c.args.script.now c.args.hold s verdicts) [
             | else-is_exception-via-then-is_exception+else-listed-len w' ↦
-                part_missed c.args.hold s verdicts at c.loop-k.listed c.loop-k.k c.loop-k.parts _ s.commands commands (omega arith) before
+                part_missed c.args.ports c.args.hold s verdicts at c.loop-k.listed c.loop-k.k c.loop-k.parts _ s.commands commands (omega arith) before
             | else-is_exception-via-else-is_exception w' ↦
-                part_passed c.args.hold s verdicts at c.loop-k.listed c.loop-k.k c.loop-k.parts _ s.commands commands c.item.result.now c.item.ensures
-                (sym c.is_exception.ensures ∙ w'.if-is_exception.false) before
+                part_passed c.args.ports c.args.hold s verdicts at c.loop-k.listed c.loop-k.k c.loop-k.parts _ s.commands commands c.item.result.now
+                c.item.ensures (sym c.is_exception.ensures ∙ w'.if-is_exception.false) before
           ] in
           (at, w.place-is ∙ capped, rw (w.parts-is, w.listed-is) stays)
     ]
 
 pub returns : goal.returns
 returns c =
-    parts_over c.args.hold c.args.selected.now c.args.verdicts.now c.loop-k.invariant.0 c.loop-k.listed c.loop-k.k c.loop-k.parts _ c.args.selected.now.commands
-    c.args.script.now.commands (omega arith) c.loop-k.invariant.2
+    parts_over c.args.ports c.args.hold c.args.selected.now c.args.verdicts.now c.loop-k.invariant.0 c.loop-k.listed c.loop-k.k c.loop-k.parts _
+    c.args.selected.now.commands c.args.script.now.commands (omega arith) c.loop-k.invariant.2

@@ -4,11 +4,13 @@ use Rattle.mend_groups.proofs.rows.rows_from.Goals as goal
 
 pub loop-at-preserved : goal.loop-at-preserved
 loop-at-preserved c =
-    row_more c.args.spelled c.args.selected.now c.args.verdicts.now c.loop-at.at (c.args.place + c.args.count) c.loop-at.rows c.push.new.self _
-    c.row_at.result.pair.now c.row_at.result.claim.now c.row_at.result.verdict.now c.row_of.result (omega arith) c.row_at.ensures.pair c.row_at.ensures.claim
-    c.row_at.ensures.verdict c.row_of.ensures c.in_ok-push.ensures.ok c.loop-at.invariant
+    let pairs = c.args.pairs.now in
+    row_more pairs.ports c.args.spelled pairs.selected.now pairs.verdicts.now c.loop-at.at (c.args.place + c.args.count) c.loop-at.rows c.push.new.self _
+    c.row_at-found.result.pair.now c.row_at-found.result.claim.now c.row_at-found.result.verdict.now c.row_of.result (omega arith)
+    c.row_at-found.ensures.pair c.row_at-found.ensures.claim c.row_at-found.ensures.verdict c.row_of.ensures c.in_ok-push.ensures.ok c.loop-at.invariant
 
 pub returns : goal.returns
 returns c =
-    rows_over c.args.spelled c.args.selected.now c.args.verdicts.now c.loop-at.at (c.args.place + c.args.count) c.loop-at.rows _ (omega arith)
+    let pairs = c.args.pairs.now in
+    rows_over pairs.ports c.args.spelled pairs.selected.now pairs.verdicts.now c.loop-at.at (c.args.place + c.args.count) c.loop-at.rows _ (omega arith)
     c.loop-at.invariant

@@ -4,4 +4,5 @@ use Rattle.mend_groups.proofs.rows.rows_from.Given as goal
 
 abbrev pub invariant-loop-at : goal.invariant-loop-at
 invariant-loop-at l =
-    l.rows ++ spec.rows_from l.spelled l.selected l.verdicts l.at (l.place + l.count - l.at) ≡ spec.rows_from l.spelled l.selected l.verdicts l.place l.count
+    l.rows ++ spec.rows_from l.pairs.ports l.spelled l.pairs.selected.now l.pairs.verdicts.now l.at (l.place + l.count - l.at) ≡
+    spec.rows_from l.pairs.ports l.spelled l.pairs.selected.now l.pairs.verdicts.now l.place l.count

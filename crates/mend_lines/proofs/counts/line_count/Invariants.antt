@@ -5,5 +5,5 @@ use Rattle.mend_lines.proofs.counts.line_count.Given as goal
 abbrev pub invariant-loop-group : goal.invariant-loop-group
 invariant-loop-group l = record {
   count : l.count ≡ line_count (take l.group-index l.group-items);
-  few : l.count ≤ 2 * l.group-index;
+  few : l.count ≤ 3 * l.group-index;
 }
