@@ -6,7 +6,7 @@ use Rattle.design_stages.specs.declared.designs.ReadTexts.{ReadTexts}
 use Rattle.run_options.specs.declared.resets.Reset.{Reset}
 use Rattle.design_stages.specs.declared.designs.Designed.{Designed}
 use Rattle.design_stages.specs.Stages.{Found, Then}
-use Rattle.design_stages.specs.Designs.{LinksTo, Designs, CanBeJudged, designed_by}
+use Rattle.design_stages.specs.Designs.{LinksIn, Designs, DesignsIn, CanBeJudged, designed_by}
 use Rattle.design_stages.proofs.Judging.{can_be_judged}
 
 -- it can be judged, has fewer pairs than a number of 64 bits can count, and is held in reset for as long as is said
@@ -17,14 +17,14 @@ pub record IsKnown (d : Designed) (reset_len : ℕ) : Type 0 where
 
 -- so is a design that is found
 pub known : (texts : ReadTexts) (reset : Reset) (judging : Judging) (d : Designed) → Designs texts reset judging (Ok d) → IsKnown d reset.len
-unfolding Designs LinksTo Then
-known texts reset judging d (linked, (inputs, has, (settings, set, links)), (selected, selects, is)) =
-    let made : Designed = designed_by texts judging linked selected in
+unfolding Designs DesignsIn LinksIn Then
+known texts reset judging d (cut, _, (linked, (inputs, has, (settings, set, links)), (selected, selects, is))) =
+    let made : Designed = designed_by texts judging cut linked selected in
     let same : made ≡ d = sym (ap (λ (r : Found Designed). elim r [ Ok found ↦ found | Err line ↦ d ]) is) in
     let count : length selected.claims ≡ length selects.chosen =
     sym (length-map selected.claims _) ∙ ap length selects.claims ∙ length-map selects.chosen _ in
     subst (λ (found : Designed). IsKnown found reset.len) same (record {
-      judged = can_be_judged linked texts.script judging selected made.notices links.1 selects;
+      judged = can_be_judged linked texts.script judging selected made.notices made.free links.1 selects;
       few = omega (arith, selects.few, count);
       len = links.0.reset_len;
     })

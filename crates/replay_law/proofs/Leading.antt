@@ -3,7 +3,7 @@ use Rattle.std.proofs.Common.{◌≡◌, ◌∙◌, ℕ, Bool, true, false, List
 use Rattle.std.proofs.lemmas.List.{append_assoc}
 use Rattle.netlist_types.specs.declared.sources.Source.{Source}
 use Rattle.cell_types.specs.declared.libraries.Library.{Library}
-use Rattle.run_options.specs.declared.forms.ScriptForm.{ScriptForm}
+use Rattle.run_options.specs.declared.forms.Forms.{Forms}
 use Rattle.script_types.specs.declared.scripts.Script.{Script}
 use Rattle.fault_lines.specs.declared.sources.Origin.{Origin}
 use Rattle.fault_lines.specs.declared.sources.Origin.TheVariants as origin
@@ -112,30 +112,30 @@ unfolding AfterCells
 named_cells_led name next reads due well run = cells_led (is_builtin name) next reads due well run
 
 -- what is due after a netlist and its cells, and after the netlist alone
-abbrev AfterTwo : ScriptForm → (ReadTexts → Due) → Source → Library → Due
-AfterTwo form next source library =
-    AfterText (Constraints form) (λ (script : Script). next (record { source = source; library = library; script = script; form = form }))
+abbrev AfterTwo : Forms → (ReadTexts → Due) → Source → Library → Due
+AfterTwo forms next source library =
+    AfterText (Constraints forms.script) (λ (script : Script). next (record { source = source; library = library; script = script; forms = forms }))
 
-abbrev AfterOne : List ℕ → ScriptForm → (ReadTexts → Due) → Source → Due
-AfterOne cells form next source = AfterCells cells (AfterTwo form next source)
+abbrev AfterOne : List ℕ → Forms → (ReadTexts → Due) → Source → Due
+AfterOne cells forms next source = AfterCells cells (AfterTwo forms next source)
 
 -- three fronts of a list, one after another
 three_parts : (a b c more : List Got) → (a ++ (b ++ c)) ++ more ≡ a ++ (b ++ (c ++ more))
 three_parts a b c more = append_assoc a (b ++ c) more ∙ ap (λ (xs : List Got). a ++ xs) (append_assoc b c more)
 
 -- three texts lead on with what is read of them
-pub texts_led : (names : TextNames) (form : ScriptForm) (next : ReadTexts → Due) (reads : List Got) (due : Outcome) → IsNoRefusal due
-    → AfterTexts names form next reads due → IsLed (AfterTexts names form) next reads due
+pub texts_led : (names : TextNames) (forms : Forms) (next : ReadTexts → Due) (reads : List Got) (due : Outcome) → IsNoRefusal due
+    → AfterTexts names forms next reads due → IsLed (AfterTexts names forms) next reads due
 unfolding AfterTexts
-texts_led names form next reads due well run =
-    let first = text_led Netlist (AfterOne names.cells form next) reads due (unless_one origin.Verilog _ netlist_one) well run in
-    let second = named_cells_led names.cells (AfterTwo form next first.value) first.rest due well first.goes in
-    let third = text_led (Constraints form) (λ (script : Script). next (record { source = first.value; library = second.value; script = script; form = form })) second.rest due
-    (unless_one origin.Sdc _ (constraints_one form)) well second.goes in
+texts_led names forms next reads due well run =
+    let first = text_led (Netlist forms.netlist) (AfterOne names.cells forms next) reads due (unless_one origin.Verilog _ (netlist_one forms.netlist)) well run in
+    let second = named_cells_led names.cells (AfterTwo forms next first.value) first.rest due well first.goes in
+    let third = text_led (Constraints forms.script) (λ (script : Script). next (record { source = first.value; library = second.value; script = script; forms = forms })) second.rest due
+    (unless_one origin.Sdc _ (constraints_one forms.script)) well second.goes in
     let AfterThree : (ReadTexts → Due) → Script → Due =
-    λ other script. other (record { source = first.value; library = second.value; script = script; form = form }) in
+    λ other script. other (record { source = first.value; library = second.value; script = script; forms = forms }) in
     record {
-      value = record { source = first.value; library = second.value; script = third.value; form = form };
+      value = record { source = first.value; library = second.value; script = third.value; forms = forms };
       front = first.front ++ (second.front ++ third.front);
       rest = third.rest;
       parts = three_parts first.front second.front third.front third.rest
@@ -143,13 +143,13 @@ texts_led names form next reads due well run =
           ∙ ap (λ (xs : List Got). first.front ++ xs) second.parts ∙ first.parts;
       goes = third.goes;
       on = λ other more again run.
-          let parted = subst (λ (xs : List Got). AfterTexts names form other xs again) (three_parts first.front second.front third.front more) run in
-          let cells = first.on (AfterOne names.cells form other) (second.front ++ (third.front ++ more)) again parted in
-          let script = second.on (AfterTwo form other first.value) (third.front ++ more) again cells in
+          let parted = subst (λ (xs : List Got). AfterTexts names forms other xs again) (three_parts first.front second.front third.front more) run in
+          let cells = first.on (AfterOne names.cells forms other) (second.front ++ (third.front ++ more)) again parted in
+          let script = second.on (AfterTwo forms other first.value) (third.front ++ more) again cells in
           third.on (AfterThree other) more again script;
       back = λ other more again run.
           let script = third.back (AfterThree other) more again run in
-          let cells = second.back (AfterTwo form other first.value) (third.front ++ more) again script in
-          let parted = first.back (AfterOne names.cells form other) (second.front ++ (third.front ++ more)) again cells in
-          subst (λ (xs : List Got). AfterTexts names form other xs again) (sym (three_parts first.front second.front third.front more)) parted;
+          let cells = second.back (AfterTwo forms other first.value) (third.front ++ more) again script in
+          let parted = first.back (AfterOne names.cells forms other) (second.front ++ (third.front ++ more)) again cells in
+          subst (λ (xs : List Got). AfterTexts names forms other xs again) (sym (three_parts first.front second.front third.front more)) parted;
     }

@@ -108,11 +108,11 @@ verified : (files : TextNames) (o : Options) (p : Proving) (out : List ℕ) (jso
 unfolding Worked
 verified files o p out json assist reads more due well one worked =
     let job = Verify out json p assist in
-    let led = texts_led files o.form (AfterPairs o job) (reads ++ more) due well worked in
+    let led = texts_led files o.forms (AfterPairs o job) (reads ++ more) due well worked in
     let finds = Designs led.value o.reset o.judging in
     let here = has_found finds (IsDone o.judging o.reset.len job) led.rest due well led.goes in
     let one_design = designs_one led.value o.reset o.judging in
-    let told = reported out json (run_options o.judging o.reset.len p) assist here.value led.front led.rest reads more due well one led.parts here.goes in
+    let told = reported out json (run_options o.judging o.reset.len here.value.free p) assist here.value led.front led.rest reads more due well one led.parts here.goes in
     record {
       texts = led.value;
       designed = here.value;
@@ -136,9 +136,10 @@ checks_again files o p out cert bytes json assist reads more due again judged on
     let is = verified files o p out json assist reads more due (told_no_refusal due judged told) one worked in
     let here = repeats is.designed is.options out bytes json is.extra due again is.report saved
     (is.on (Check cert) (Text bytes ∷ []) again checked) in
-    let count = sym is.report.right.right.as_many in
-    let same : is.report.judged ≡ judged = same_Some is.report.judged judged (sym is.report.told ∙ told) in
-    here ∙ ap (λ (n : ℕ). prints ending.Done (concat (accepted_lines (justified_numbers is.report.judged.verdicts) n))) count
+    let told_is = is.report.is_told in
+    let count = sym (told_is.each.as_many ∙ told_is.right.right.as_many) in
+    let same : is.report.told ≡ judged = same_Some is.report.told judged (sym is.report.handed ∙ told) in
+    here ∙ ap (λ (n : ℕ). prints ending.Done (concat (accepted_lines (justified_numbers is.report.told.verdicts) n))) count
     ∙ ap (λ (j : Judged). prints ending.Done (concat (accepted_lines (justified_numbers j.verdicts) (length j.verdicts)))) same
 
 -- a pair that a verification refutes is refuted in the report of the design that it found
@@ -146,7 +147,7 @@ refuted : (files : TextNames) (o : Options) (out : List ℕ) (reads : List Got) 
     (stimulus : Stimulus) (is : IsVerified files o out false reads due) → due.judged ≡ Some judged
     → item_numbered judged.verdicts number ≡ Some (Refuted offset stimulus) → HasRefuted is.texts o is.designed due number offset
 refuted files o out reads due judged number offset stimulus is told verdict =
-    let same : judged ≡ is.report.judged = same_Some judged is.report.judged (sym told ∙ is.report.told) in
+    let same : judged ≡ is.report.told = same_Some judged is.report.told (sym told ∙ is.report.handed) in
     record {
       found = is.found;
       out = Some out;

@@ -32,7 +32,8 @@ use Rattle.design_stages.specs.declared.designs.Designed.{Designed}
 use Rattle.design_stages.specs.Designs.{Designs}
 use Rattle.sdcv_words.specs.declared.commands.Options.{Options}
 use Rattle.sdcv_top.specs.Outcomes.{Outcome}
-use Rattle.sdcv_top.specs.Headline.{IsReported}
+use Rattle.sdcv_top.specs.Headline.{IsReported, free_bits}
+use Rattle.sdcv_top.proofs.Telling.{item_at, refuted_by}
 use Rattle.sdcv_top.specs.Jobs.{HasPair, ReadsStimulus, Replays, RunAgain, Replayed, replayed}
 use Rattle.sdcv_top.specs.Reads.{Text}
 use Rattle.sdcv_top.specs.Texts.{ReportText}
@@ -50,7 +51,7 @@ pub record HasRefuted (texts : ReadTexts) (o : Options) (d : Designed) (due : Ou
   pub extra : List InvClause
   pub report : IsReported out false options extra d due
   pub stimulus : Stimulus
-  pub verdict : item_numbered report.judged.verdicts number ≡ Some (Refuted offset stimulus)
+  pub verdict : item_numbered report.told.verdicts number ≡ Some (Refuted offset stimulus)
 
 -- want of memory has no line
 no_stimulus_line : (fault : StimFault) (line : List ℕ) → fault ≡ stimulus.Memory → ¬ (stimulus_line fault ≡ Some line)
@@ -60,15 +61,6 @@ no_stimulus_line fault line same told =
 no_replay_line : (fault : ReplayFault) (line : List ℕ) → fault ≡ replay.Memory → ¬ (replay_line fault ≡ Some line)
 no_replay_line fault line same told =
     let none : replay_line replay.Memory ≡ Some line = subst (λ (f : ReplayFault). replay_line f ≡ Some line) same told in absurd cc
-
--- lists of one length have an item at the same places
-item_at : {X Y : Type 0} (xs : List X) (ys : List Y) (place : ℕ) (y : Y) → length ys ≡ length xs → slice_get ys place ≡ Some y
-    → (x : X) × (slice_get xs place ≡ Some x)
-item_at [] [] place y same at = absurd cc
-item_at [] (z ∷ ys) place y same at = absurd (omega (arith, same))
-item_at (x ∷ xs) [] place y same at = absurd (omega (arith, same))
-item_at (x ∷ xs) (z ∷ ys) zero y same at = (x, refl)
-item_at (x ∷ xs) (z ∷ ys) (suc place) y same at = item_at xs ys place y (omega (arith, same)) at
 
 -- the pair of this number has a claim, which some stimulus violates at this offset and none at a smaller one, and this stimulus is
 -- the first of the pair's number in a text
@@ -96,17 +88,22 @@ told texts o d due zero offset refuted = absurd (none-some (Refuted offset refut
 told texts o d due (suc place) offset refuted =
     let found = known texts o.reset o.judging d refuted.found in
     let reported = refuted.report in
-    let verdicts : List Verdict = reported.judged.verdicts in
-    let all = reported.right.right in
-    let claim = item_at d.selected.claims verdicts place (Refuted offset refuted.stimulus) all.as_many refuted.verdict in
-    let rows : HasRows d.selected verdicts = record { claims = found.judged.each; found = all.as_many ∙ found.judged.each } in
+    let verdicts : List Verdict = reported.told.verdicts in
+    let is = reported.is_told in
+    let all = is.right.right in
+    let many = is.each.as_many ∙ all.as_many in
+    let claim = item_at d.selected.claims verdicts place (Refuted offset refuted.stimulus) many refuted.verdict in
+    let judged = item_at reported.judged.verdicts verdicts place (Refuted offset refuted.stimulus) is.each.as_many refuted.verdict in
+    let same = refuted_by d.linked.design (free_bits d.linked.names) claim.0 judged.0 (Refuted offset refuted.stimulus) offset refuted.stimulus
+    (is.each.each place claim.0 judged.0 (Refuted offset refuted.stimulus) claim.1 judged.1 refuted.verdict) refl in
+    let rows : HasRows d.selected verdicts = record { claims = found.judged.each; found = many ∙ found.judged.each } in
     let within = slice_get_within verdicts place (Refuted offset refuted.stimulus) refuted.verdict in
-    let small : place + 1 < 2 ^ 64 = omega (arith, found.few, all.as_many, within) in
+    let small : place + 1 < 2 ^ 64 = omega (arith, found.few, many, within) in
     record {
       claim = claim.0;
       claim_at = claim.1;
       stimulus = refuted.stimulus;
-      least = reported.right.violated place offset claim.0 refuted.stimulus claim.1 refuted.verdict;
+      least = is.right.violated place offset claim.0 refuted.stimulus claim.1 (judged.1 ∙ ap (λ (v : Verdict). Some v) same);
       first = first_in refuted.options d.notices d.selected verdicts place offset refuted.stimulus due.printed rows small
           refuted.verdict reported.printed;
     }

@@ -17,7 +17,7 @@ use Rattle.exception_expand.proofs.Ranging.{all_from_in}
 use Rattle.design_stages.specs.declared.designs.ReadTexts.{ReadTexts}
 use Rattle.run_options.specs.declared.resets.Reset.{Reset}
 use Rattle.design_stages.specs.declared.designs.Designed.{Designed}
-use Rattle.design_stages.specs.Designs.{Designs, LinksTo, designed_by}
+use Rattle.design_stages.specs.Designs.{Designs, DesignsIn, LinksIn, designed_by}
 use Rattle.design_stages.specs.Stages.{Then}
 
 -- judged with hazards, or without
@@ -46,15 +46,15 @@ all_alike l script judging s is =
 -- those that are selected in the design of texts
 pub designs_alike : (t : ReadTexts) (reset : Reset) (judging : Judging) (d : Designed) → Designs t reset judging (Ok d)
     → AreAlike judging.hazard d.selected.claims
-unfolding Designs Then
-designs_alike t reset judging d (linked, _, (selected, is, same)) =
-    let ours : designed_by t judging linked selected ≡ d = cc in
+unfolding Designs DesignsIn Then
+designs_alike t reset judging d (cut, _, (linked, _, (selected, is, same))) =
+    let ours : designed_by t judging cut linked selected ≡ d = cc in
     subst (λ (x : Designed). AreAlike judging.hazard x.selected.claims) ours (all_alike linked t.script judging selected is)
 
 -- their design is held in reset for as long as is said
 pub designs_held : (t : ReadTexts) (reset : Reset) (judging : Judging) (d : Designed) → Designs t reset judging (Ok d)
     → d.linked.design.reset_len ≡ reset.len
-unfolding Designs LinksTo Then
-designs_held t reset judging d (linked, (inputs, has, (settings, set, links)), (selected, selects, same)) =
-    let ours : designed_by t judging linked selected ≡ d = cc in
+unfolding Designs DesignsIn LinksIn Then
+designs_held t reset judging d (cut, _, (linked, (inputs, has, (settings, set, links)), (selected, selects, same))) =
+    let ours : designed_by t judging cut linked selected ≡ d = cc in
     subst (λ (x : Designed). x.linked.design.reset_len ≡ reset.len) ours links.0.reset_len

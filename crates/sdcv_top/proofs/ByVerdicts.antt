@@ -18,11 +18,11 @@ findings_by m o verdicts =
 -- by the verdicts that are handed out
 pub mends_by : (m : Mendable) (o : RunOptions) (j : Judged) (verdicts : List Verdict) (result : Result Mended Refusal) → verdicts ≡ j.verdicts
     → Finds (Staged (Mends m.text (scene_of m) (findings_by m o verdicts)) mend_line) result
-    → Finds (Staged (Mends m.text (scene_of m) (findings_of m o j)) mend_line) result
+    → Finds (Staged (Mends m.text (scene_of m) (findings_of m o j.verdicts)) mend_line) result
 mends_by m o j verdicts result same found =
     subst (λ (vs : List Verdict). Finds (Staged (Mends m.text (scene_of m) (findings_by m o vs)) mend_line) result) same found
 
 -- so are the lines
 pub lines_by : {A : Type 0} (f : Findings → A → List (List ℕ)) (m : Mendable) (o : RunOptions) (j : Judged) (verdicts : List Verdict) (parts other : A)
-    (lines : List (List ℕ)) → verdicts ≡ j.verdicts → parts ≡ other → lines ≡ f (findings_by m o verdicts) parts → lines ≡ f (findings_of m o j) other
+    (lines : List (List ℕ)) → verdicts ≡ j.verdicts → parts ≡ other → lines ≡ f (findings_by m o verdicts) parts → lines ≡ f (findings_of m o j.verdicts) other
 lines_by {A} f m o j verdicts parts other lines same equal is = is ∙ ap₂ (λ (vs : List Verdict) (ps : A). f (findings_by m o vs) ps) same equal

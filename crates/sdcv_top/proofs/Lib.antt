@@ -12,3 +12,5 @@ pub mod Noticing
 pub mod Reading
 pub mod Staging
 pub mod Steps
+pub mod Telling
+pub mod Whole

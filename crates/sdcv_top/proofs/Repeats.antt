@@ -17,10 +17,12 @@ use Rattle.cert_defs.specs.Accepted.{justified_numbers}
 use Rattle.cert_call.specs.Texts.{IsAcceptedText}
 use Rattle.run_options.specs.declared.options.RunOptions.{RunOptions}
 use Rattle.design_stages.specs.declared.designs.Designed.{Designed}
+use Rattle.sdcv_top.specs.Headline.{free_bits}
 use Rattle.sdcv_top.specs.Stages.{After, AfterText}
 use Rattle.sdcv_top.specs.Laws.{CheckRepeats}
 use Rattle.sdcv_top.specs.Jobs.{Checks, TellsCheck, IsChecked, Checked}
 use Rattle.cert_check.specs.Checking.{IsAnswerFor}
+use Rattle.sdcv_top.proofs.Telling.{numbers_told}
 
 -- want of memory has no line
 not_memory : (fault : CertFault) (line : List ℕ) → rejected_line fault ≡ Some line → fault ≢ Memory
@@ -54,7 +56,11 @@ unfolding Checked AfterText After
 repeats d o name bytes json extra due again report saved (inl (text, read, last)) =
     let found = last.1 in
     let cert = report.certificate in
+    let is = report.is_told in
+    let numbers = numbers_told d.linked.design (free_bits d.linked.names) d.selected.claims report.judged.verdicts report.told.verdicts is.right.right.as_many
+    is.each in
     let same : cert.0 ≡ text = sym (text_of_ok text bytes read ∙ only_bytes name bytes cert.0 (sym saved ∙ cert.2)) in
     let accepted = subst (λ (t : List ℕ). IsAcceptedText d.linked.design d.selected.claims t (justified_numbers report.judged.verdicts)) same cert.1.accepted in
     told_of_list (length d.selected.claims) (justified_numbers report.judged.verdicts) found.0 again (found.1.only _ accepted) found.2
+    ∙ ap (λ (ns : List ℕ). prints ending.Done (concat (accepted_lines ns (length d.selected.claims)))) (sym numbers)
 repeats d o name bytes json extra due again report saved (inr (line, read, none, refusal)) = absurd cc

@@ -12,10 +12,9 @@ use Rattle.run_options.specs.declared.resets.Reset.{Reset}
 use Rattle.design_stages.specs.declared.designs.Designed.{Designed}
 use Rattle.design_stages.specs.Designs.{Designs}
 use Rattle.design_stages.specs.Stages.{Found, Finds}
-use Rattle.run_options.specs.declared.forms.ScriptForm.{ScriptForm}
-use Rattle.run_options.specs.declared.forms.ScriptForm.TheVariants.{Narrow}
+use Rattle.run_options.specs.declared.forms.Forms.{Forms}
 use Rattle.sdcv_words.specs.Commands.{Texts}
-use Rattle.sdcv_top.specs.Due.{demo_reset}
+use Rattle.sdcv_top.specs.Due.{demo_reset, narrow_forms}
 use Rattle.sdcv_top.specs.declared.plans.Plan.{Plan}
 use Rattle.sdcv_top.specs.declared.plans.Stop.{Stop}
 use Rattle.sdcv_top.specs.declared.plans.Stop.TheVariants as stop
@@ -134,34 +133,34 @@ unfolding AfterCells cell_reads
 cells_err name = none_if (is_builtin name) name
 
 -- the three texts are found, and the host tells the same files
-texts_as : (names : Texts) (form : ScriptForm) (next : ReadTexts → Due) (more : List ReadOf) (files mid_files : Option Files) (before mid now : Asked)
-    (t : ReadTexts) (result : Result Plan Stop) → AreRead names form files before mid t → mid_files ≡ files
-    → Plans (next (record t { form = form })) more mid_files mid now result
-    → Plans (AfterTexts names form next) (text_reads names more) files before now result
+texts_as : (names : Texts) (forms : Forms) (next : ReadTexts → Due) (more : List ReadOf) (files mid_files : Option Files) (before mid now : Asked)
+    (t : ReadTexts) (result : Result Plan Stop) → AreRead names forms files before mid t → mid_files ≡ files
+    → Plans (next (record t { forms = forms })) more mid_files mid now result
+    → Plans (AfterTexts names forms next) (text_reads names more) files before now result
 unfolding AfterTexts text_reads
-texts_as names form next more files mid_files before mid now t result read same rest =
-    read_ok Netlist _ _ _ files files before read.after_netlist now t.source result read.netlist refl
+texts_as names forms next more files mid_files before mid now t result read same rest =
+    read_ok (Netlist forms.netlist) _ _ _ files files before read.after_netlist now t.source result read.netlist refl
     (cells_ok names.cells _ _ files files read.after_netlist read.after_cells now t.library result read.cells refl
-    (read_ok (Constraints form) _ _ _ files mid_files read.after_cells mid now t.script result read.constraints same rest))
+    (read_ok (Constraints forms.script) _ _ _ files mid_files read.after_cells mid now t.script result read.constraints same rest))
 
-pub texts_ok : (names : Texts) (form : ScriptForm) (next : ReadTexts → Due) (more : List ReadOf) (files mid_files : Option Files)
-    (before mid now : Asked) (t : ReadTexts) (result : Result Plan Stop) → AreRead names form files before mid t → mid_files ≡ files
-    → Plans (next t) more mid_files mid now result → Plans (AfterTexts names form next) (text_reads names more) files before now result
-texts_ok names form next more files mid_files before mid now t result read same rest =
-    texts_as names form next more files mid_files before mid now t result read same
-    (subst (λ (f : ScriptForm). Plans (next (record t { form = f })) more mid_files mid now result) read.form_is rest)
+pub texts_ok : (names : Texts) (forms : Forms) (next : ReadTexts → Due) (more : List ReadOf) (files mid_files : Option Files)
+    (before mid now : Asked) (t : ReadTexts) (result : Result Plan Stop) → AreRead names forms files before mid t → mid_files ≡ files
+    → Plans (next t) more mid_files mid now result → Plans (AfterTexts names forms next) (text_reads names more) files before now result
+texts_ok names forms next more files mid_files before mid now t result read same rest =
+    texts_as names forms next more files mid_files before mid now t result read same
+    (subst (λ (f : Forms). Plans (next (record t { forms = f })) more mid_files mid now result) read.forms_are rest)
 
 -- the run stops at one of them
-pub texts_err : (names : Texts) (form : ScriptForm) (next : ReadTexts → Due) (more : List ReadOf) (files : Option Files) (before now : Asked)
-    (why : Stop) → StopsAt names form files before now why → Plans (AfterTexts names form next) (text_reads names more) files before now (Err why)
+pub texts_err : (names : Texts) (forms : Forms) (next : ReadTexts → Due) (more : List ReadOf) (files : Option Files) (before now : Asked)
+    (why : Stop) → StopsAt names forms files before now why → Plans (AfterTexts names forms next) (text_reads names more) files before now (Err why)
 unfolding AfterTexts text_reads
-texts_err names form next more files before now why (AtNetlist stops) = read_err Netlist _ _ _ files before now why stops
-texts_err names form next more files before now why (AtCells mid source read stops) =
-    read_ok Netlist _ _ _ files files before mid now source (Err why) read refl (cells_err names.cells _ _ files mid now why stops)
-texts_err names form next more files before now why (AtConstraints mid last source library read cells stops) =
-    read_ok Netlist _ _ _ files files before mid now source (Err why) read refl
+texts_err names forms next more files before now why (AtNetlist stops) = read_err (Netlist forms.netlist) _ _ _ files before now why stops
+texts_err names forms next more files before now why (AtCells mid source read stops) =
+    read_ok (Netlist forms.netlist) _ _ _ files files before mid now source (Err why) read refl (cells_err names.cells _ _ files mid now why stops)
+texts_err names forms next more files before now why (AtConstraints mid last source library read cells stops) =
+    read_ok (Netlist forms.netlist) _ _ _ files files before mid now source (Err why) read refl
     (cells_ok names.cells _ _ files files mid last now library (Err why) cells refl
-    (read_err (Constraints form) _ _ _ files last now why stops))
+    (read_err (Constraints forms.script) _ _ _ files last now why stops))
 
 -- what is planned without a read is planned
 pub planned_ok : (R : Due) (files_of : List ReadOf) (files : Option Files) (before now : Asked) (plan : Plan) → IsPlanned R (Ok plan) → now ≡ before
@@ -233,11 +232,11 @@ finds_text {A} R text other result same found = subst (λ (t : List ℕ). Finds 
 
 -- a design is found over the cells that are known without a file, in the reset of generated designs
 pub demo_designs : (source : Source) (library : Library) (script : Script) (reset : Reset) (judging : Judging) (result : Result Designed Refusal) → library ≡ builtin_library
-    → reset ≡ demo_reset → Finds (Designs (record { source = source; library = library; script = script; form = Narrow }) reset judging) result
-    → Finds (Designs (record { source = source; library = builtin_library; script = script; form = Narrow }) demo_reset judging) result
+    → reset ≡ demo_reset → Finds (Designs (record { source = source; library = library; script = script; forms = narrow_forms }) reset judging) result
+    → Finds (Designs (record { source = source; library = builtin_library; script = script; forms = narrow_forms }) demo_reset judging) result
 demo_designs source library script reset judging result cells held found =
-    let with_cells = subst (λ (l : Library). Finds (Designs (record { source = source; library = l; script = script; form = Narrow }) reset judging) result) cells found in
-    subst (λ (r : Reset). Finds (Designs (record { source = source; library = builtin_library; script = script; form = Narrow }) r judging) result) held with_cells
+    let with_cells = subst (λ (l : Library). Finds (Designs (record { source = source; library = l; script = script; forms = narrow_forms }) reset judging) result) cells found in
+    subst (λ (r : Reset). Finds (Designs (record { source = source; library = builtin_library; script = script; forms = narrow_forms }) r judging) result) held with_cells
 
 -- what is planned by a text is planned by an equal one
 pub planned_text : (R : List ℕ → Due) (text other : List ℕ) (result : Result Plan Refusal) → text ≡ other → IsPlanned (R text) result

@@ -1,5 +1,5 @@
 -- What is saved and told of the multicycle pairs of a design.
-use Rattle.std.specs.Prelude.{◌≡◌, ℕ, Bool, List, [], ◌∷◌, None, Some, Result, Ok, Err}
+use Rattle.std.specs.Prelude.{◌≡◌, ℕ, Bool, List, [], ◌∷◌, Option, None, Some, Result, Ok, Err}
 use Rattle.std.specs.List.{concat}
 use Rattle.linked_types.specs.declared.names.Linked.{Linked}
 use Rattle.mcp_detect.specs.declared.detections.Detected.{Detected}
@@ -21,11 +21,11 @@ Detects l o (Err fault) = IsDetectCause l fault
 
 -- the found pairs are saved as SDC, with a hold line after each line where these are asked for; it selects exactly the pairs, and
 -- they are told, after what is told of the constraints
-pub record IsFoundOut (out : List ℕ) (hold : Bool) (o : DetectOptions) (reset_len : ℕ) (n : Notices) (l : Linked) (found : Detected)
+pub record IsFoundOut (out : List ℕ) (hold : Bool) (o : DetectOptions) (reset_len : ℕ) (free : Option ℕ) (n : Notices) (l : Linked) (found : Detected)
     (due : Outcome) : Type 0 where
   pub selects : SelectsFound l o found hold
   pub saved : due.saved ≡ (out, found_bytes hold found) ∷ []
   pub ending : due.ending ≡ ending.Done
-  pub printed : due.printed ≡ concat (detected_lines o reset_len None n found)
+  pub printed : due.printed ≡ concat (detected_lines o reset_len free n found)
   pub judged : due.judged ≡ None
   pub told : due.detected ≡ Some found

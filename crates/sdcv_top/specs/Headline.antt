@@ -1,8 +1,11 @@
 -- What is told of the pairs of a selection, and what that is worth.
-use Rattle.std.specs.Prelude.{◌≡◌, ℕ, ◌≤◌, ◌<◌, nat_lt, ◌||◌, Bool, List, [], ◌∷◌, Option, None, Some, if◌then◌else◌}
+use Rattle.std.specs.Prelude.{◌≡◌, ℕ, ◌≤◌, ◌<◌, nat_lt, ◌||◌, Bool, List, [], ◌∷◌, length, Option, None, Some, if◌then◌else◌}
 use Rattle.net_model.specs.declared.netlist.Design.{Design}
 use Rattle.net_model.specs.declared.claims.Claim.{Claim}
 use Rattle.net_model.specs.declared.invariants.InvClause.{InvClause}
+use Rattle.firm_runs.specs.declared.free_bits.FreeBits.{FreeBits}
+use Rattle.linked_types.specs.declared.names.Names.{Names}
+use Rattle.told_verdicts.specs.Tolds.{AreTold, AreRightTold}
 use Rattle.verdict_types.specs.declared.outcomes.Limits.{Limits}
 use Rattle.run_options.specs.declared.options.RunOptions.{RunOptions}
 use Rattle.report_text.specs.declared.tallies.Tally.{Tally}
@@ -36,13 +39,27 @@ abbrev pub IsSaved : Option (List ℕ) → Design → List Claim → Judged → 
 IsSaved None d claims judged saved = saved ≡ []
 IsSaved (Some name) d claims judged saved = (bytes : List ℕ) × IsCertificateOf d claims judged bytes × (saved ≡ (name, bytes) ∷ [])
 
--- each selected pair has its verdict: those that are justified hold in all runs, those that are refuted have a run that
--- violates them; a certificate of it is saved, and the report says exactly that. Further clauses are tried where there are any
+-- the inputs of a design that are free behind what is cut out, and its outputs that only cut cells read: those after the ports
+abbrev pub free_bits : Names → FreeBits
+free_bits n = record { first = length n.ins; count = length n.free; sinks_from = length n.outs }
+
+-- each selected pair has its verdict: those that are justified hold in all runs, those that are refuted have a run that violates them.
+-- What is told of them: a pair is told as refuted where the violation stands whatever the free inputs are, and else, where there are
+-- any, as undecided
+pub record IsTold (o : RunOptions) (extra : List InvClause) (d : Designed) (judged told : Judged) : Type 0 where
+  pub right : AreJudged d.linked.design d.selected.claims extra o.inv_depth (limits_of o) judged
+  pub inv : told.inv ≡ judged.inv
+  pub each : AreTold d.linked.design (free_bits d.linked.names) d.selected.claims judged.verdicts told.verdicts
+  pub right_told : AreRightTold d.linked.design (free_bits d.linked.names) d.selected.claims judged.verdicts told.verdicts
+
+-- each selected pair is judged, a certificate of it is saved, and the report says exactly what is told. Further clauses are tried where
+-- there are any
 pub record IsReported (out : Option (List ℕ)) (json : Bool) (o : RunOptions) (extra : List InvClause) (d : Designed) (due : Outcome) : Type 0 where
   pub judged : Judged
-  pub right : AreJudged d.linked.design d.selected.claims extra o.inv_depth (limits_of o) judged
+  pub told : Judged
+  pub is_told : IsTold o extra d judged told
   pub certificate : IsSaved out d.linked.design d.selected.claims judged due.saved
-  pub ending : due.ending ≡ ending_by (leaves_open o d.notices d.selected) (tally_of judged.verdicts)
-  pub printed : due.printed ≡ report_bytes json o d.notices d.selected judged.verdicts
-  pub told : due.judged ≡ Some judged
+  pub ending : due.ending ≡ ending_by (leaves_open o d.notices d.selected) (tally_of told.verdicts)
+  pub printed : due.printed ≡ report_bytes json o d.notices d.selected told.verdicts
+  pub handed : due.judged ≡ Some told
   pub detected : due.detected ≡ None

@@ -32,8 +32,8 @@ use Rattle.sdcv_top.specs.Stages.{Due, After, AfterText, Last, ◌>>=◌}
 use Rattle.sdcv_top.specs.Texts.{AssistText, CertText, ReportText}
 
 -- the options that a report tells
-abbrev pub run_options : Judging → ℕ → Proving → RunOptions
-run_options judging reset_len p = record {
+abbrev pub run_options : Judging → ℕ → Option ℕ → Proving → RunOptions
+run_options judging reset_len free p = record {
   hazard = judging.hazard;
   reset_len = reset_len;
   depth = p.depth;
@@ -42,7 +42,7 @@ run_options judging reset_len p = record {
   lag = judging.lag;
   hold = judging.hold;
   assist = None;
-  free = None;
+  free = free;
   assumed = None;
   strict = judging.strict;
 }
@@ -112,7 +112,7 @@ Checked d = do
 unfoldable pub Watched : List ℕ → ℕ → Bool → Designed → Due
 Watched out number symbols d = do
   claim ← After (HasPair d.selected.claims number)
-  Last (IsWatchedOut out number symbols d.linked claim)
+  Last (IsWatchedOut out number symbols d.free d.linked claim)
 
 -- the options of a verification that tries so many further clauses
 abbrev pub with_assist : RunOptions → ℕ → RunOptions
@@ -131,7 +131,7 @@ Verified out json o (Some name) d = Assisted out json o d
 
 -- a job is done
 abbrev pub IsDone : Judging → ℕ → Job → Designed → Due
-IsDone judging reset_len (Verify out json proving assist) d = Verified (Some out) json (run_options judging reset_len proving) assist d
+IsDone judging reset_len (Verify out json proving assist) d = Verified (Some out) json (run_options judging reset_len d.free proving) assist d
 IsDone judging reset_len (Check cert) d = Checked d
 IsDone judging reset_len (ReplayJob report number) d = Replayed number d
 IsDone judging reset_len (Aiger out number symbols) d = Watched out number symbols d

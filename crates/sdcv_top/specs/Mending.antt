@@ -5,7 +5,7 @@ use Rattle.net_model.specs.declared.invariants.InvClause.{InvClause}
 use Rattle.run_options.specs.declared.options.RunOptions.{RunOptions}
 use Rattle.selected_types.specs.declared.notices.Notices.{Notices}
 use Rattle.judgements.specs.declared.judged.Judged.{Judged}
-use Rattle.judgements.specs.Judgements.{AreJudged}
+use Rattle.verdict_types.specs.declared.outcomes.Verdict.{Verdict}
 use Rattle.mended_text.specs.declared.faults.MendFault.{MendFault}
 use Rattle.mended_text.specs.declared.mending.Mended.{Mended}
 use Rattle.mended_text.specs.Mended.{IsMended, IsMendCause}
@@ -18,7 +18,7 @@ use Rattle.design_stages.specs.Stages.{Found, Staged}
 use Rattle.run_ends.specs.declared.statuses.Ending.TheVariants as ending
 use Rattle.sdcv_top.specs.declared.mendables.Mendable.{Mendable}
 use Rattle.sdcv_top.specs.Outcomes.{Outcome}
-use Rattle.sdcv_top.specs.Headline.{limits_of}
+use Rattle.sdcv_top.specs.Headline.{IsTold}
 use Rattle.sdcv_top.specs.Jobs.{run_options, with_assist}
 use Rattle.sdcv_top.specs.Stages.{Due, After, AfterText, Last, ◌>>=◌}
 use Rattle.sdcv_top.specs.Texts.{Netlist, ConstraintsText, AssistText, AfterCells}
@@ -30,19 +30,19 @@ scene_of m = record {
   linked = m.designed.linked;
   inputs = m.settled.inputs;
   resets = m.reset.ports;
-  form = m.form;
+  form = m.forms.script;
   settings = m.settled.settings;
   judging = m.judging;
 }
 
 -- a script with what is found out about its pairs
-abbrev pub findings_of : Mendable → RunOptions → Judged → Findings
-findings_of m o judged =
-    record { script = m.script; hold = m.judging.hold; selected = m.designed.selected; verdicts = judged.verdicts; depth = o.depth }
+abbrev pub findings_of : Mendable → RunOptions → List Verdict → Findings
+findings_of m o told =
+    record { script = m.script; hold = m.judging.hold; selected = m.designed.selected; verdicts = told; depth = o.depth }
 
--- each selected pair has its verdict, with further clauses among those that are tried: those that are justified hold in all runs
+-- what is told of each selected pair, with further clauses among those that are tried: those that are justified hold in all runs
 abbrev pub Judges : RunOptions → List InvClause → Designed → Found Judged → Type 0
-Judges o extra d (Ok judged) = AreJudged d.linked.design d.selected.claims extra o.inv_depth (limits_of o) judged
+Judges o extra d (Ok told) = (judged : Judged) × IsTold o extra d judged told
 Judges o extra d (Err line) = ⊥
 
 -- the text is mended: read again, it selects exactly the pairs that are kept and can be written, and these hold in all runs; or it is
@@ -62,9 +62,9 @@ pub record IsMendedOut (out : List ℕ) (o : RunOptions) (n : Notices) (f : Find
 -- the pairs are judged, and the script is mended
 unfoldable pub MendedBy : List ℕ → RunOptions → List InvClause → Mendable → Due
 MendedBy out o extra m = do
-  judged ← After (Judges o extra m.designed)
-  mended ← After (Staged (Mends m.text (scene_of m) (findings_of m o judged)) mend_line)
-  Last (IsMendedOut out o m.designed.notices (findings_of m o judged) judged mended)
+  told ← After (Judges o extra m.designed)
+  mended ← After (Staged (Mends m.text (scene_of m) (findings_of m o told.verdicts)) mend_line)
+  Last (IsMendedOut out o m.designed.notices (findings_of m o told.verdicts) told mended)
 
 -- the clauses of an assisting text are tried too
 unfoldable pub MendedAssisted : List ℕ → RunOptions → Mendable → Due
@@ -80,8 +80,8 @@ MendedWith out o (Some name) m = MendedAssisted out o m
 -- three texts are read, the pairs of the third are selected and judged, and it is written again
 unfoldable pub MendsPairs : Texts → Options → Mending → Due
 MendsPairs files o m = do
-  source ← AfterText Netlist
+  source ← AfterText (Netlist o.forms.netlist)
   library ← AfterCells files.cells
   text ← AfterText ConstraintsText
   mendable ← After (IsMendable source library o text)
-  MendedWith m.out (run_options o.judging o.reset.len m.proving) m.assist mendable
+  MendedWith m.out (run_options o.judging o.reset.len mendable.designed.free m.proving) m.assist mendable

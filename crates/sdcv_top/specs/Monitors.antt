@@ -1,5 +1,5 @@
 -- What is saved and told of the graph that watches a claim.
-use Rattle.std.specs.Prelude.{◌≡◌, ℕ, Bool, true, false, List, [], ◌∷◌, ◌++◌, length, None}
+use Rattle.std.specs.Prelude.{◌≡◌, ℕ, Bool, true, false, List, [], ◌∷◌, ◌++◌, length, Option, None}
 use Rattle.net_model.specs.declared.claims.Claim.{Claim}
 use Rattle.and_graphs.specs.Texts.{aiger_text}
 use Rattle.and_graphs.specs.declared.aigs.Aig.{Aig}
@@ -16,11 +16,11 @@ symbols_if false l claim = []
 symbols_if true l claim = symbols_text l.names l.design claim
 
 -- a graph that watches the claim is saved as AIGER text, with symbols where they are asked for, and its counts are told
-pub record IsWatchedOut (out : List ℕ) (number : ℕ) (symbols : Bool) (l : Linked) (claim : Claim) (due : Outcome) : Type 0 where
+pub record IsWatchedOut (out : List ℕ) (number : ℕ) (symbols : Bool) (free : Option ℕ) (l : Linked) (claim : Claim) (due : Outcome) : Type 0 where
   pub graph : Aig
   pub watches : Watches l.design claim graph
   pub saved : due.saved ≡ (out, aiger_text graph ++ symbols_if symbols l claim) ∷ []
   pub ending : due.ending ≡ ending.Done
-  pub printed : due.printed ≡ aiger_line number graph.inputs (length graph.latches) (length graph.lines) None
+  pub printed : due.printed ≡ aiger_line number graph.inputs (length graph.latches) (length graph.lines) free
   pub judged : due.judged ≡ None
   pub detected : due.detected ≡ None

@@ -16,7 +16,7 @@ use Rattle.sdcv_top.specs.Outcomes.{Outcome, refused}
 use Rattle.sdcv_top.specs.Reads.{ReadOf, Got, Text, Longer, Asked, IsTold, is_builtin, text_of}
 use Rattle.netlist_types.specs.declared.sources.Source.{Source}
 use Rattle.cell_types.specs.declared.libraries.Library.{Library}
-use Rattle.run_options.specs.declared.forms.ScriptForm.{ScriptForm}
+use Rattle.run_options.specs.declared.forms.Forms.{Forms}
 use Rattle.sdcv_words.specs.Commands.{Texts}
 use Rattle.design_stages.specs.declared.designs.ReadTexts.{ReadTexts}
 use Rattle.judgements.specs.Reports.{joined}
@@ -97,28 +97,28 @@ CellsFindIf false name files before now result = ReadFinds Cells (text_of name) 
 abbrev pub CellsFind : List ℕ → Option Files → Asked → Asked → Result Library Stop → Type 0
 CellsFind name = CellsFindIf (is_builtin name) name
 
--- the texts were read one after another, the last in a form, and stand for these
-pub record AreRead (names : Texts) (form : ScriptForm) (files : Option Files) (before now : Asked) (t : ReadTexts) : Type 0 where
+-- the texts were read one after another, netlist and constraints in their forms, and stand for these
+pub record AreRead (names : Texts) (forms : Forms) (files : Option Files) (before now : Asked) (t : ReadTexts) : Type 0 where
   pub after_netlist : Asked
   pub after_cells : Asked
-  pub netlist : IsRead (λ answer. Netlist answer (Ok t.source)) (text_of names.netlist) files before after_netlist
+  pub netlist : IsRead (λ answer. Netlist forms.netlist answer (Ok t.source)) (text_of names.netlist) files before after_netlist
   pub cells : CellsFind names.cells files after_netlist after_cells (Ok t.library)
-  pub constraints : IsRead (λ answer. Constraints form answer (Ok t.script)) (text_of names.constraints) files after_cells now
-  pub form_is : t.form ≡ form
+  pub constraints : IsRead (λ answer. Constraints forms.script answer (Ok t.script)) (text_of names.constraints) files after_cells now
+  pub forms_are : t.forms ≡ forms
 
 -- the first text that is not found, and those before it
-pub data StopsAt (names : Texts) (form : ScriptForm) (files : Option Files) (before now : Asked) (why : Stop) : Type 0 where
-  AtNetlist : ReadFinds Netlist (text_of names.netlist) files before now (Err why) → StopsAt names form files before now why
-  AtCells : (mid : Asked) (source : Source) → IsRead (λ answer. Netlist answer (Ok source)) (text_of names.netlist) files before mid
-      → CellsFind names.cells files mid now (Err why) → StopsAt names form files before now why
+pub data StopsAt (names : Texts) (forms : Forms) (files : Option Files) (before now : Asked) (why : Stop) : Type 0 where
+  AtNetlist : ReadFinds (Netlist forms.netlist) (text_of names.netlist) files before now (Err why) → StopsAt names forms files before now why
+  AtCells : (mid : Asked) (source : Source) → IsRead (λ answer. Netlist forms.netlist answer (Ok source)) (text_of names.netlist) files before mid
+      → CellsFind names.cells files mid now (Err why) → StopsAt names forms files before now why
   AtConstraints : (mid last : Asked) (source : Source) (library : Library)
-      → IsRead (λ answer. Netlist answer (Ok source)) (text_of names.netlist) files before mid → CellsFind names.cells files mid last (Ok library)
-      → ReadFinds (Constraints form) (text_of names.constraints) files last now (Err why) → StopsAt names form files before now why
+      → IsRead (λ answer. Netlist forms.netlist answer (Ok source)) (text_of names.netlist) files before mid → CellsFind names.cells files mid last (Ok library)
+      → ReadFinds (Constraints forms.script) (text_of names.constraints) files last now (Err why) → StopsAt names forms files before now why
 
 -- the three texts are found, or the run stops at one of them
-abbrev pub TextsFind : Texts → ScriptForm → Option Files → Asked → Asked → Result ReadTexts Stop → Type 0
-TextsFind names form files before now (Ok t) = AreRead names form files before now t
-TextsFind names form files before now (Err why) = StopsAt names form files before now why
+abbrev pub TextsFind : Texts → Forms → Option Files → Asked → Asked → Result ReadTexts Stop → Type 0
+TextsFind names forms files before now (Ok t) = AreRead names forms files before now t
+TextsFind names forms files before now (Err why) = StopsAt names forms files before now why
 
 -- without a read, the stages made a plan of what is due, or refused the run with the line that is due, or memory was wanting
 unfoldable pub IsPlanned : Due → Result Plan Refusal → Type 0

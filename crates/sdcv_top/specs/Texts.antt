@@ -4,7 +4,9 @@ use Rattle.net_model.specs.declared.invariants.InvClause.{InvClause}
 use Rattle.netlist_types.specs.declared.sources.Source.{Source}
 use Rattle.cell_types.specs.declared.libraries.Library.{Library}
 use Rattle.cell_types.specs.Builtin.{builtin_cells}
+use Rattle.run_options.specs.declared.forms.Forms.{Forms}
 use Rattle.run_options.specs.declared.forms.ScriptForm.{ScriptForm}
+use Rattle.run_options.specs.declared.netlists.NetlistForm.{NetlistForm}
 use Rattle.script_types.specs.declared.scripts.Script.{Script}
 use Rattle.linked_types.specs.declared.names.Names.{Names}
 use Rattle.assist_types.specs.declared.clauses.Assist.{Assist}
@@ -27,8 +29,8 @@ abbrev pub Unless : {A : Type 0} → Origin → (List ℕ → Found A → Type 0
 Unless from Reads (Text text) found = Reads text found
 Unless from Reads Longer found = found ≡ Err (too_long_line from)
 
-abbrev pub Netlist : Got → Found Source → Type 0
-Netlist = Unless origin.Verilog texts.Netlist
+abbrev pub Netlist : NetlistForm → Got → Found Source → Type 0
+Netlist form = Unless origin.Verilog (texts.Netlist form)
 
 abbrev pub Cells : Got → Found Library → Type 0
 Cells = Unless origin.Liberty texts.Cells
@@ -74,10 +76,10 @@ AfterCellsIf false next = AfterText Cells next
 unfoldable pub AfterCells : List ℕ → (Library → Due) → Due
 AfterCells name = AfterCellsIf (is_builtin name)
 
--- the netlist, its cells and its constraints are read, in this order, and these in a form
-unfoldable pub AfterTexts : TextNames → ScriptForm → (ReadTexts → Due) → Due
-AfterTexts names form next = do
-  source ← AfterText Netlist
+-- the netlist, its cells and its constraints are read, in this order, netlist and constraints in their forms
+unfoldable pub AfterTexts : TextNames → Forms → (ReadTexts → Due) → Due
+AfterTexts names forms next = do
+  source ← AfterText (Netlist forms.netlist)
   library ← AfterCells names.cells
-  script ← AfterText (Constraints form)
-  next (record { source = source; library = library; script = script; form = form })
+  script ← AfterText (Constraints forms.script)
+  next (record { source = source; library = library; script = script; forms = forms })

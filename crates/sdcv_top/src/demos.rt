@@ -8,7 +8,7 @@ use crate::verifying::{Verifying, verified};
 use cell_types::builtin;
 use design_stages::{ReadTexts, Refusal, constraints, designed, netlist};
 use judgements::Progress;
-use run_options::{Judging, Reset, RunOptions, ScriptForm};
+use run_options::{Forms, Judging, NetlistForm, Reset, RunOptions, ScriptForm};
 use sdcv_base::{Name, Seq, Setting};
 use sdcv_gen::generate;
 use std::alloc::{AllocError, Global};
@@ -46,14 +46,17 @@ pub fn demonstrated<'a, P: Progress>(
     ensures { IsPlanned (Demonstrated seed size) result }
 {
     let texts = generate(alloc, seed, size)?;
-    let source = netlist(alloc, &texts.verilog)?;
+    let source = netlist(alloc, &texts.verilog, &NetlistForm::Narrow)?;
     let script = constraints(alloc, &texts.sdc, &ScriptForm::Narrow)?;
     let library = builtin(alloc)?;
     let texts = ReadTexts {
         source,
         library,
         script,
-        form: ScriptForm::Narrow,
+        forms: Forms {
+            netlist: NetlistForm::Narrow,
+            script: ScriptForm::Narrow,
+        },
     };
     let reset = demo_reset(alloc)?;
     let designed = designed(alloc, &texts, reset, JUDGING)?;

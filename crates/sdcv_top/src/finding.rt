@@ -14,7 +14,7 @@ ghost use Rattle.sdcv_top.specs.Plans.{StopCounts, Plans, outcome_of};
 
 use crate::plans::{Plan, SavedFile, Stop};
 use crate::readers::texts;
-use design_stages::{Refusal, linked, skipped_alone};
+use design_stages::{Refusal, free_count, linked, told_alone};
 use found_pairs::{detect_line, detected_lines, found_is_selected, found_text};
 use judgements::Progress;
 use linked_types::Linked;
@@ -25,11 +25,13 @@ use sdcv_words::{Finding, Options, Texts};
 use selected_types::Notices;
 use std::alloc::{AllocError, Global};
 
-/// How pairs are tried, for how many cycles reset is held, and what is told of the constraints.
+/// How pairs are tried, for how many cycles reset is held, how many nets are free behind what is cut out, and what is told of netlist
+/// and constraints.
 #[derive(Drop)]
 pub struct Manner {
     pub options: DetectOptions,
     pub reset_len: usize,
+    pub free: Option<u64>,
     pub notices: Notices,
 }
 
@@ -59,15 +61,16 @@ pub fn found_out<'a, H: Host, P: Progress>(
         inv_depth: finding.proving.inv_depth,
         bound: finding.bound,
     };
-    let Options { form, reset, .. } = options;
-    let texts = texts(alloc, host, files, form)?;
+    let Options { forms, reset, .. } = options;
+    let texts = texts(alloc, host, files, forms)?;
     let reset_len = reset.len;
     let linked = linked(alloc, &texts, reset)?;
     let detected = detected(alloc, &linked, &trying, progress)?;
-    let notices = skipped_alone(alloc, &texts)?;
+    let notices = told_alone(alloc, &texts, &linked.names)?;
     let manner = Manner {
         options: trying,
         reset_len,
+        free: free_count(&texts.forms.netlist, &linked.names),
         notices,
     };
     let plan = told(alloc, &linked, &manner, finding, detected)?;
@@ -102,17 +105,18 @@ fn told<'a>(
     requires linked { IsUsable linked.now }
     requires range { AreInRange manner.now.options }
     requires found { AreDetected linked.now manner.now.options detected }
-    ensures { IfOk result (λ plan. IsFoundOut finding.entry.out.now finding.entry.hold manner.now.options manner.now.reset_len manner.now.notices
+    ensures { IfOk result (λ plan. IsFoundOut finding.entry.out.now finding.entry.hold manner.now.options manner.now.reset_len manner.now.free manner.now.notices
         linked.now detected (outcome_of plan)) }
 {
     let Manner {
         options,
         reset_len,
+        free,
         notices,
     } = manner;
     found_is_selected(linked, options, &detected, finding.hold);
     let bytes = found_text(alloc, &detected, finding.hold)?;
-    let lines = detected_lines(alloc, options, *reset_len, None, notices, &detected)?;
+    let lines = detected_lines(alloc, options, *reset_len, *free, notices, &detected)?;
     Ok(Plan {
         ending: Ending::Done,
         saved: Some(SavedFile {

@@ -25,7 +25,7 @@ mod verifying;
 mod watching;
 
 pub use judgements::{Judged, Progress, Silent};
-pub use laws::check_repeats;
+pub use laws::{check_repeats, tells_as_judged};
 pub use mcp_detect::Detected;
 pub use rans::Ran;
 pub use run_ends::Status;

@@ -11,19 +11,19 @@ ghost use Rattle.sdcv_top.specs.Mendables.{IsMendable};
 use cell_types::Library;
 use design_stages::{Designed, ReadTexts, Refusal, Settled, constraints, designed, settled};
 use netlist_types::Source;
-use run_options::{Judging, Reset, ScriptForm};
+use run_options::{Forms, Judging, Reset};
 use script_types::Script;
 use sdcv_base::{Seq, Setting};
 use sdcv_words::Options;
 use std::alloc::{AllocError, Global};
 
-/// A text of constraints and the script that it is in a form, how claims are judged and how runs begin, what the script sets, and the
+/// A text of constraints and the script that it is, how texts are read, how claims are judged and how runs begin, what the script sets, and the
 /// pairs that it selects.
 #[derive(Drop)]
 pub struct Mendable {
     pub text: Seq<u8>,
     pub script: Script,
-    pub form: ScriptForm,
+    pub forms: Forms,
     pub judging: Judging,
     pub reset: Reset,
     pub settled: Settled,
@@ -47,24 +47,24 @@ pub fn mendable_of(
 {
     let Options {
         judging,
-        form,
+        forms,
         reset,
     } = options;
-    let script = constraints(alloc, &text, &form)?;
+    let script = constraints(alloc, &text, &forms.script)?;
     let texts = ReadTexts {
         source,
         library,
         script,
-        form,
+        forms,
     };
     let settled = settled(alloc, &texts, &reset.ports)?;
     let held = copied(alloc, &reset)?;
     let designed = designed(alloc, &texts, held, judging)?;
-    let ReadTexts { script, form, .. } = texts;
+    let ReadTexts { script, forms, .. } = texts;
     Ok(Mendable {
         text: Seq::from_vec(text),
         script,
-        form,
+        forms,
         judging,
         reset,
         settled,

@@ -14,7 +14,7 @@ ghost use Rattle.sdcv_top.specs.Plans.{IsPlanned};
 
 use crate::mendables::Mendable;
 use crate::plans::{Plan, SavedFile};
-use crate::verifying::judged;
+use crate::verifying::{judged, told_of};
 use design_stages::Refusal;
 use judgements::Progress;
 use mended_text::{Findings, Mended, Scene, mend, mend_line, mended_lines};
@@ -48,11 +48,12 @@ pub fn mended<'a, P: Progress>(
 {
     let Wanted { out, options, .. } = *wanted;
     let judged = judged(alloc, &mendable.designed, &options, extra, progress)?;
+    let told = told_of(alloc, &mendable.designed, judged)?;
     let findings = Findings {
         script: &mendable.script,
         hold: mendable.judging.hold,
         selected: &mendable.designed.selected,
-        verdicts: judged.verdicts.as_slice(),
+        verdicts: told.verdicts.as_slice(),
         depth: options.depth,
     };
     let mended = mended_by(alloc, mendable, &findings)?;
@@ -68,7 +69,7 @@ pub fn mended<'a, P: Progress>(
         ending: Ending::Done,
         saved: Some(SavedFile { name: out, bytes }),
         lines,
-        judged: Some(judged),
+        judged: Some(told),
         detected: None,
     })
 }
@@ -85,7 +86,7 @@ fn mended_by(alloc: Global, mendable: &Mendable, findings: &Findings<'_>) -> Res
         linked: &mendable.designed.linked,
         inputs: &mendable.settled.inputs,
         resets: &mendable.reset.ports,
-        form: &mendable.form,
+        form: &mendable.forms.script,
         settings: &mendable.settled.settings,
         judging: mendable.judging,
     };

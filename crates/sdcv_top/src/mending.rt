@@ -43,15 +43,16 @@ pub fn mended_out<'a, H: Host, P: Progress>(
     ensures printed { H.printed host.new ≡ H.printed host.old }
     ensures saved { H.saved host.new ≡ H.saved host.old }
 {
-    let wanted = Wanted {
-        out: mending.out,
-        options: run_options(options.judging, options.reset.len, mending.proving),
-        assist: mending.assist,
-    };
-    let source = netlist(alloc, host, files.netlist)?;
+    let (judging, reset_len) = (options.judging, options.reset.len);
+    let source = netlist(alloc, host, files.netlist, &options.forms.netlist)?;
     let library = cells(alloc, host, files.cells)?;
     let text = text(alloc, host, files.constraints, LONGEST, Origin::Sdc)?;
     let mendable = mendable_of(alloc, source, library, options, text)?;
+    let wanted = Wanted {
+        out: mending.out,
+        options: run_options(judging, reset_len, mendable.designed.free, mending.proving),
+        assist: mending.assist,
+    };
     let plan = mended_with(alloc, host, &mendable, wanted, progress)?;
     Ok(plan)
 }

@@ -17,7 +17,7 @@ use design_stages::{
 };
 use fault_lines::{Origin, too_long_line};
 use netlist_types::Source;
-use run_options::ScriptForm;
+use run_options::{Forms, NetlistForm, ScriptForm};
 use script_types::Script;
 use sdcv_base::Host;
 use sdcv_words::Texts;
@@ -44,9 +44,14 @@ pub fn text<H: Host>(
     }
 }
 
-/// Reads the netlist.
-pub fn netlist<H: Host>(alloc: Global, host: &mut H, name: &str) -> Result<Source, Stop>
-    ensures found { ReadFinds Netlist (text_of name.now) (H.files host.old) (H.asked host.old) (H.asked host.new) result }
+/// Reads the netlist, in this form.
+pub fn netlist<H: Host>(
+    alloc: Global,
+    host: &mut H,
+    name: &str,
+    form: &NetlistForm,
+) -> Result<Source, Stop>
+    ensures found { ReadFinds (Netlist form.now) (text_of name.now) (H.files host.old) (H.asked host.old) (H.asked host.new) result }
     ensures lawful { IfOk result IsLawful }
     ensures count { StopCounts (H.faults host.old) (H.faults host.new) result }
     ensures files { H.files host.new ≡ H.files host.old }
@@ -54,7 +59,7 @@ pub fn netlist<H: Host>(alloc: Global, host: &mut H, name: &str) -> Result<Sourc
     ensures saved { H.saved host.new ≡ H.saved host.old }
 {
     let text = text(alloc, host, name, LONGEST, Origin::Verilog)?;
-    let source = netlist_of(alloc, &text)?;
+    let source = netlist_of(alloc, &text, form)?;
     Ok(source)
 }
 
@@ -107,27 +112,27 @@ pub fn constraints<H: Host>(
     Ok(script)
 }
 
-/// Reads the netlist, its cells and its constraints, in this order, and these in this form.
+/// Reads the netlist, its cells and its constraints, in this order, netlist and constraints in these forms.
 pub fn texts<'a, H: Host>(
     alloc: Global,
     host: &mut H,
     names: Texts<'a>,
-    form: ScriptForm,
+    forms: Forms,
 ) -> Result<ReadTexts, Stop>
-    ensures found { TextsFind (seen_texts names.entry) form (H.files host.old) (H.asked host.old) (H.asked host.new) result }
+    ensures found { TextsFind (seen_texts names.entry) forms (H.files host.old) (H.asked host.old) (H.asked host.new) result }
     ensures lawful { IfOk result AreLawful }
     ensures count { StopCounts (H.faults host.old) (H.faults host.new) result }
     ensures files { H.files host.new ≡ H.files host.old }
     ensures printed { H.printed host.new ≡ H.printed host.old }
     ensures saved { H.saved host.new ≡ H.saved host.old }
 {
-    let source = netlist(alloc, host, names.netlist)?;
+    let source = netlist(alloc, host, names.netlist, &forms.netlist)?;
     let library = cells(alloc, host, names.cells)?;
-    let script = constraints(alloc, host, names.constraints, &form)?;
+    let script = constraints(alloc, host, names.constraints, &forms.script)?;
     Ok(ReadTexts {
         source,
         library,
         script,
-        form,
+        forms,
     })
 }

@@ -83,10 +83,10 @@ fn worked<'a, H: Host, P: Progress>(
 {
     let Options {
         judging,
-        form,
+        forms,
         reset,
     } = options;
-    let texts = texts(alloc, host, files, form)?;
+    let texts = texts(alloc, host, files, forms)?;
     let designed = designed(alloc, &texts, reset, judging)?;
     let done = done(alloc, host, &designed, judging, job, progress)?;
     Ok(done)
@@ -120,7 +120,7 @@ fn done<'a, H: Host, P: Progress>(
         } => {
             let reset_len = designed.linked.design.reset_len;
             let verifying = Verifying {
-                options: run_options(judging, reset_len, proving),
+                options: run_options(judging, reset_len, designed.free, proving),
                 out: Some(out),
                 json,
             };
@@ -133,8 +133,13 @@ fn done<'a, H: Host, P: Progress>(
 }
 
 /// What a report tells of how the run was made.
-pub fn run_options(judging: Judging, reset_len: usize, proving: Proving) -> RunOptions
-    ensures { result ≡ run_options judging reset_len proving }
+pub fn run_options(
+    judging: Judging,
+    reset_len: usize,
+    free: Option<u64>,
+    proving: Proving,
+) -> RunOptions
+    ensures { result ≡ run_options judging reset_len free proving }
 {
     RunOptions {
         hazard: judging.hazard,
@@ -145,7 +150,7 @@ pub fn run_options(judging: Judging, reset_len: usize, proving: Proving) -> RunO
         lag: judging.lag,
         hold: judging.hold,
         assist: None,
-        free: None,
+        free,
         assumed: None,
         strict: judging.strict,
     }

@@ -3,20 +3,24 @@ ghost use Rattle.std.specs.Prelude.{◌≡◌, ℕ, List, All, IfOk};
 ghost use Rattle.std.specs.Option.{option_map};
 ghost use Rattle.net_model.specs.declared.invariants.InvClause.{InvClause as InvClauseRecord};
 ghost use Rattle.net_model.specs.Fits.{NamesRegs};
+ghost use Rattle.told_verdicts.specs.Tolds.{AreTold, AreRightTold};
 ghost use Rattle.verdict_types.specs.Forms.{IsKeptClause};
+ghost use Rattle.verdict_types.specs.declared.outcomes.Limits.{Limits as LimitsRecord};
 ghost use Rattle.design_stages.specs.Designs.{CanBeJudged};
 ghost use Rattle.judgements.specs.Judgements.{AreJudged, AreAllInForm};
-ghost use Rattle.sdcv_top.specs.Headline.{IsReported, IsSaved, ending_by, limits_of, AreInRange};
+ghost use Rattle.sdcv_top.specs.Headline.{IsReported, IsSaved, ending_by, free_bits, limits_of, AreInRange};
 ghost use Rattle.sdcv_top.specs.Plans.{outcome_of, saved_of};
 
 use crate::plans::{Plan, SavedFile};
 use design_stages::Designed;
 use judgements::{InvSearch, Judged, Progress, certificate, judge, report};
+use linked_types::Names;
 use net_model::InvClause;
 use report_text::{Tally, leaves_open, tally_of};
 use run_ends::Ending;
 use run_options::RunOptions;
 use std::alloc::{AllocError, Global};
+use told_verdicts::{FreeBits, told};
 use verdict_types::Limits;
 
 /// How a verification is made, and what is told of it.
@@ -51,20 +55,21 @@ pub fn verified<'a, P: Progress>(
     };
     let judged = judged(alloc, designed, &options, extra, progress)?;
     let saved = certified(alloc, designed, &limits, &judged, out)?;
+    let told = told_of(alloc, designed, judged)?;
     let left_open = leaves_open(&options, &designed.notices, &designed.selected);
     let lines = report(
         alloc,
         &options,
         &designed.notices,
         &designed.selected,
-        judged.verdicts.as_slice(),
+        told.verdicts.as_slice(),
         json,
     )?;
     Ok(Plan {
-        ending: ending_by(left_open, tally_of(judged.verdicts.as_slice())),
+        ending: ending_by(left_open, tally_of(told.verdicts.as_slice())),
         saved,
         lines,
-        judged: Some(judged),
+        judged: Some(told),
         detected: None,
     })
 }
@@ -95,6 +100,40 @@ pub fn judged<P: Progress>(
         budget: options.budget,
     };
     judge(alloc, design, claims, &search, &limits, progress)
+}
+
+/// What is told of the verdicts: a pair that is refuted by bits of free inputs is undecided.
+pub fn told_of(alloc: Global, designed: &Designed, judged: Judged) -> Result<Judged, AllocError>
+    requires designed { CanBeJudged designed.now }
+    requires judged { (extra : List InvClauseRecord) × (inv_depth : ℕ) × (limits : LimitsRecord) × AreJudged designed.now.linked.design
+        designed.now.selected.claims extra inv_depth limits judged }
+    ensures inv { IfOk result (λ told. told.inv ≡ judged.inv) }
+    ensures each { IfOk result (λ told. AreTold designed.now.linked.design (free_bits designed.now.linked.names) designed.now.selected.claims
+        judged.verdicts told.verdicts) }
+    ensures right { IfOk result (λ told. AreRightTold designed.now.linked.design (free_bits designed.now.linked.names) designed.now.selected.claims
+        judged.verdicts told.verdicts) }
+{
+    let Judged { inv, verdicts } = judged;
+    let free = free_bits(&designed.linked.names);
+    let verdicts = told(
+        alloc,
+        &designed.linked.design,
+        &free,
+        &designed.selected.claims,
+        verdicts,
+    )?;
+    Ok(Judged { inv, verdicts })
+}
+
+// The inputs and outputs of a design that are none of its ports'.
+fn free_bits(names: &Names) -> FreeBits
+    ensures { result ≡ free_bits names.now }
+{
+    FreeBits {
+        first: names.ins.len(),
+        count: names.free.len(),
+        sinks_from: names.outs.len(),
+    }
 }
 
 // The certificate of the verdicts, where it has a name.

@@ -19,6 +19,14 @@ use net_model::Claim;
 use run_ends::Ending;
 use std::alloc::{AllocError, Global};
 
+/// Where a graph is saved, the number of its pair, and how many nets are free behind what is cut out.
+#[derive(Clone, Copy)]
+struct Asked<'a> {
+    out: &'a str,
+    number: u64,
+    free: Option<u64>,
+}
+
 /// Watches the claim of a pair: the text of the graph is to be saved, with symbols where they are asked for, and its counts are to
 /// be told.
 pub fn watched<'a>(
@@ -38,7 +46,12 @@ pub fn watched<'a>(
     };
     let text = write_aiger(alloc, &designed.linked.design, claim)?;
     let symbols = symbols_if(alloc, symbols, &designed.linked, claim)?;
-    let plan = plan(alloc, out, number, text, symbols)?;
+    let asked = Asked {
+        out,
+        number,
+        free: designed.free,
+    };
+    let plan = plan(alloc, asked, text, symbols)?;
     Ok(plan)
 }
 
@@ -61,20 +74,21 @@ fn symbols_if(
 // The text is saved with the symbols after it, and its counts are told.
 fn plan<'a>(
     alloc: Global,
-    out: &'a str,
-    number: u64,
+    asked: Asked<'a>,
     text: AigerText,
     symbols: Vec<u8>,
 ) -> Result<Plan<'a>, AllocError>
-    ensures { IfOk result (λ plan. (asked : Bool) (l : TheLinked) (claim : TheClaim) → IsAigerOf l.design claim text
-        → symbols.items ≡ symbols_if asked l claim → IsWatchedOut out.entry.now number asked l claim (outcome_of plan)) }
+    ensures { IfOk result (λ plan. (with_symbols : Bool) (l : TheLinked) (claim : TheClaim) → IsAigerOf l.design claim text
+        → symbols.items ≡ symbols_if with_symbols l claim
+        → IsWatchedOut asked.entry.out.now asked.entry.number with_symbols asked.entry.free l claim (outcome_of plan)) }
 {
+    let Asked { out, number, free } = asked;
     let counts = GraphCounts {
         inputs: text.inputs,
         latches: text.latches,
         gates: text.gates,
     };
-    let line = aiger_line(alloc, number, counts, None)?;
+    let line = aiger_line(alloc, number, counts, free)?;
     let told = Plan::printing_one(alloc, Ending::Done, line)?;
     let mut bytes = text.bytes;
     bytes.extend_from_slice(&symbols)?;

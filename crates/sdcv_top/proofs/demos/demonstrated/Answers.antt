@@ -1,6 +1,7 @@
 use Rattle.std.proofs.Common.{Ok, Err, ap, ◌∙◌}
 use Rattle.std.proofs.lemmas.Result.{err_from_is_err_and}
 use Rattle.run_options.specs.declared.forms.ScriptForm.TheVariants.{Narrow}
+use Rattle.run_options.specs.declared.netlists.NetlistForm.TheVariants as netlists
 use Rattle.design_stages.specs.Texts.{Netlist, Constraints}
 use Rattle.sdcv_top.specs.Due.{Demonstrated}
 use Rattle.sdcv_top.proofs.BuiltinLibrary.{builtin_is}
@@ -17,7 +18,7 @@ returns-in_err-texts g c =
 pub returns-in_err-source : goal.returns-in_err-source
 unfolding Demonstrated
 returns-in_err-source g c =
-    let found = finds_text Netlist _ _ (Err c.in_err-source.field-0.0) (c.deref.ensures.value ∙ c.in_ok-texts.ensures.verilog) c.in_err-source.ensures.found in
+    let found = finds_text (Netlist netlists.Narrow) _ _ (Err c.in_err-source.field-0.0) (c.deref.ensures.value ∙ c.in_ok-texts.ensures.verilog) c.in_err-source.ensures.found in
     let p = err_from_is_err_and c.from_residual-in_err-source.result c.from_residual-in_err-source.ensures.1 in
     planned_by _ _ _ (p.1 ∙ ap Err p.2)
     (after_err _ _ _ found)
@@ -25,7 +26,7 @@ returns-in_err-source g c =
 pub returns-in_err-script : goal.returns-in_err-script
 unfolding Demonstrated
 returns-in_err-script g c =
-    let source = finds_text Netlist _ _ (Ok c.in_ok-source.source) (c.deref.ensures.value ∙ c.in_ok-texts.ensures.verilog) c.in_ok-source.ensures.found in
+    let source = finds_text (Netlist netlists.Narrow) _ _ (Ok c.in_ok-source.source) (c.deref.ensures.value ∙ c.in_ok-texts.ensures.verilog) c.in_ok-source.ensures.found in
     let same = c.deref-2.ensures.value ∙ c.in_ok-texts.ensures.sdc in
     let found = finds_text (Constraints Narrow) _ _ (Err c.in_err-script.field-0.0) same c.in_err-script.ensures.found in
     let p = err_from_is_err_and c.from_residual-in_err-script.result c.from_residual-in_err-script.ensures.1 in
@@ -35,7 +36,7 @@ returns-in_err-script g c =
 pub returns-in_err-library : goal.returns-in_err-library
 unfolding Demonstrated
 returns-in_err-library g c =
-    let source = finds_text Netlist _ _ (Ok c.in_ok-source.source) (c.deref.ensures.value ∙ c.in_ok-texts.ensures.verilog) c.in_ok-source.ensures.found in
+    let source = finds_text (Netlist netlists.Narrow) _ _ (Ok c.in_ok-source.source) (c.deref.ensures.value ∙ c.in_ok-texts.ensures.verilog) c.in_ok-source.ensures.found in
     let script = finds_text (Constraints Narrow) _ _ (Ok c.in_ok-script.script) (c.deref-2.ensures.value ∙ c.in_ok-texts.ensures.sdc) c.in_ok-script.ensures.found in
     let p = err_from_is_err_and c.from_residual-in_err-library.result c.from_residual-in_err-library.ensures.1 in
     planned_by _ _ _ (p.1 ∙ ap Err p.2)
@@ -44,7 +45,7 @@ returns-in_err-library g c =
 pub returns-in_err-reset : goal.returns-in_err-reset
 unfolding Demonstrated
 returns-in_err-reset g c =
-    let source = finds_text Netlist _ _ (Ok c.in_ok-source.source) (c.deref.ensures.value ∙ c.in_ok-texts.ensures.verilog) c.in_ok-source.ensures.found in
+    let source = finds_text (Netlist netlists.Narrow) _ _ (Ok c.in_ok-source.source) (c.deref.ensures.value ∙ c.in_ok-texts.ensures.verilog) c.in_ok-source.ensures.found in
     let script = finds_text (Constraints Narrow) _ _ (Ok c.in_ok-script.script) (c.deref-2.ensures.value ∙ c.in_ok-texts.ensures.sdc) c.in_ok-script.ensures.found in
     let p = err_from_is_err_and c.from_residual-in_err-reset.result c.from_residual-in_err-reset.ensures.1 in
     planned_by _ _ _ (p.1 ∙ ap Err p.2)
@@ -53,7 +54,7 @@ returns-in_err-reset g c =
 pub returns-in_err-designed : goal.returns-in_err-designed
 unfolding Demonstrated
 returns-in_err-designed g c =
-    let source = finds_text Netlist _ _ (Ok c.in_ok-source.source) (c.deref.ensures.value ∙ c.in_ok-texts.ensures.verilog) c.in_ok-source.ensures.found in
+    let source = finds_text (Netlist netlists.Narrow) _ _ (Ok c.in_ok-source.source) (c.deref.ensures.value ∙ c.in_ok-texts.ensures.verilog) c.in_ok-source.ensures.found in
     let script = finds_text (Constraints Narrow) _ _ (Ok c.in_ok-script.script) (c.deref-2.ensures.value ∙ c.in_ok-texts.ensures.sdc) c.in_ok-script.ensures.found in
     let cells = builtin_is c.in_ok-library.library c.in_ok-library.ensures.table in
     let designed = demo_designs _ _ _ _ _ (Err c.in_err-designed.field-0.0) cells c.in_ok-reset.ensures c.in_err-designed.ensures.found in
@@ -64,7 +65,7 @@ returns-in_err-designed g c =
 pub returns-in_err-plan : goal.returns-in_err-plan
 unfolding Demonstrated
 returns-in_err-plan g c =
-    let source = finds_text Netlist _ _ (Ok c.in_ok-source.source) (c.deref.ensures.value ∙ c.in_ok-texts.ensures.verilog) c.in_ok-source.ensures.found in
+    let source = finds_text (Netlist netlists.Narrow) _ _ (Ok c.in_ok-source.source) (c.deref.ensures.value ∙ c.in_ok-texts.ensures.verilog) c.in_ok-source.ensures.found in
     let script = finds_text (Constraints Narrow) _ _ (Ok c.in_ok-script.script) (c.deref-2.ensures.value ∙ c.in_ok-texts.ensures.sdc) c.in_ok-script.ensures.found in
     let cells = builtin_is c.in_ok-library.library c.in_ok-library.ensures.table in
     let designed = demo_designs _ _ _ _ _ (Ok c.in_ok-designed.designed) cells c.in_ok-reset.ensures c.in_ok-designed.ensures.found in
@@ -75,7 +76,7 @@ returns-in_err-plan g c =
 pub returns : goal.returns
 unfolding Demonstrated
 returns g c =
-    let source = finds_text Netlist _ _ (Ok c.in_ok-source.source) (c.deref.ensures.value ∙ c.in_ok-texts.ensures.verilog) c.in_ok-source.ensures.found in
+    let source = finds_text (Netlist netlists.Narrow) _ _ (Ok c.in_ok-source.source) (c.deref.ensures.value ∙ c.in_ok-texts.ensures.verilog) c.in_ok-source.ensures.found in
     let script = finds_text (Constraints Narrow) _ _ (Ok c.in_ok-script.script) (c.deref-2.ensures.value ∙ c.in_ok-texts.ensures.sdc) c.in_ok-script.ensures.found in
     let cells = builtin_is c.in_ok-library.library c.in_ok-library.ensures.table in
     let designed = demo_designs _ _ _ _ _ (Ok c.in_ok-designed.designed) cells c.in_ok-reset.ensures c.in_ok-designed.ensures.found in

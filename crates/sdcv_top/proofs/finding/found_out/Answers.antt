@@ -51,7 +51,7 @@ unfolding FindsPairs
 returns-clause-planned g c =
     texts_ok _ _ _ _ _ _ _ _ _ _ _ c.in_ok-texts.ensures.found c.in_ok-texts.ensures.files
     (found_ok _ _ _ _ _ _ _ _ c.in_ok-linked.ensures.found
-    (found_ok _ _ _ _ _ _ _ _ c.in_ok-detected.ensures (last_due _ _ _ _ _ _ (told_alike _ _ _ _ _ _ _ _ _ c.in_ok-notices.ensures c.in_ok-plan.ensures) refl)))
+    (found_ok _ _ _ _ _ _ _ _ c.in_ok-detected.ensures (last_due _ _ _ _ _ _ (told_alike _ _ _ _ _ _ _ _ _ _ _ c.free_count.ensures c.in_ok-notices.ensures c.in_ok-plan.ensures) refl)))
 
 pub returns-in_err-detected-clause-count : goal.returns-in_err-detected-clause-count
 returns-in_err-detected-clause-count g c =

@@ -10,14 +10,14 @@ pub returns-in_err-source-clause-planned : goal.returns-in_err-source-clause-pla
 unfolding MendsPairs text_reads
 returns-in_err-source-clause-planned g c =
     let p = err_from_is_err_and c.from_residual.result c.from_residual.ensures.1 in
-    stops _ _ _ _ _ _ _ (p.1 ∙ ap Err p.2) (read_err Netlist _ _ _ _ _ _ _ c.in_err-source.ensures.found)
+    stops _ _ _ _ _ _ _ (p.1 ∙ ap Err p.2) (read_err (Netlist c.args.options.forms.netlist) _ _ _ _ _ _ _ c.in_err-source.ensures.found)
 
 pub returns-in_err-library-clause-planned : goal.returns-in_err-library-clause-planned
 unfolding MendsPairs text_reads
 returns-in_err-library-clause-planned g c =
     let p = err_from_is_err_and c.from_residual-in_err-library.result c.from_residual-in_err-library.ensures.1 in
     stops _ _ _ _ _ _ _ (p.1 ∙ ap Err p.2)
-    (read_ok Netlist _ _ _ _ _ _ _ _ _ _ c.in_ok-source.ensures.found c.in_ok-source.ensures.files
+    (read_ok (Netlist c.args.options.forms.netlist) _ _ _ _ _ _ _ _ _ _ c.in_ok-source.ensures.found c.in_ok-source.ensures.files
     (cells_err _ _ _ _ _ _ _ c.in_err-library.ensures.found))
 
 pub returns-in_err-text-clause-planned : goal.returns-in_err-text-clause-planned
@@ -25,7 +25,7 @@ unfolding MendsPairs text_reads
 returns-in_err-text-clause-planned g c =
     let p = err_from_is_err_and c.from_residual-in_err-text.result c.from_residual-in_err-text.ensures.1 in
     stops _ _ _ _ _ _ _ (p.1 ∙ ap Err p.2)
-    (read_ok Netlist _ _ _ _ _ _ _ _ _ _ c.in_ok-source.ensures.found c.in_ok-source.ensures.files
+    (read_ok (Netlist c.args.options.forms.netlist) _ _ _ _ _ _ _ _ _ _ c.in_ok-source.ensures.found c.in_ok-source.ensures.files
     (cells_ok _ _ _ _ _ _ _ _ _ _ c.in_ok-library.ensures.found c.in_ok-library.ensures.files
     (read_err ConstraintsText _ _ _ _ _ _ _ c.in_err-text.ensures.found)))
 
@@ -34,7 +34,7 @@ unfolding MendsPairs text_reads
 returns-in_err-mendable-clause-planned g c =
     let p = err_from_is_err_and c.from_residual-in_err-mendable.result c.from_residual-in_err-mendable.ensures.1 in
     stops _ _ _ _ _ _ _ (p.1 ∙ ap Err p.2)
-    (read_ok Netlist _ _ _ _ _ _ _ _ _ _ c.in_ok-source.ensures.found c.in_ok-source.ensures.files
+    (read_ok (Netlist c.args.options.forms.netlist) _ _ _ _ _ _ _ _ _ _ c.in_ok-source.ensures.found c.in_ok-source.ensures.files
     (cells_ok _ _ _ _ _ _ _ _ _ _ c.in_ok-library.ensures.found c.in_ok-library.ensures.files
     (read_ok ConstraintsText _ _ _ _ _ _ _ _ _ _ c.in_ok-text.ensures.found c.in_ok-text.ensures.files
     (found_err _ _ _ _ _ _ _ c.in_err-mendable.ensures.found refl))))
@@ -45,7 +45,7 @@ returns-in_err-plan-clause-planned g c =
     let p = err_from_is_err_and c.from_residual-in_err-plan.result c.from_residual-in_err-plan.ensures.1 in
     let planned = rw c.run_options.ensures at c.in_err-plan.ensures.planned in
     stops _ _ _ _ _ _ _ (p.1 ∙ ap Err p.2)
-    (read_ok Netlist _ _ _ _ _ _ _ _ _ _ c.in_ok-source.ensures.found c.in_ok-source.ensures.files
+    (read_ok (Netlist c.args.options.forms.netlist) _ _ _ _ _ _ _ _ _ _ c.in_ok-source.ensures.found c.in_ok-source.ensures.files
     (cells_ok _ _ _ _ _ _ _ _ _ _ c.in_ok-library.ensures.found c.in_ok-library.ensures.files
     (read_ok ConstraintsText _ _ _ _ _ _ _ _ _ _ c.in_ok-text.ensures.found c.in_ok-text.ensures.files
     (found_ok _ _ _ _ _ _ _ _ c.in_ok-mendable.ensures.found planned))))
@@ -54,7 +54,7 @@ pub returns-clause-planned : goal.returns-clause-planned
 unfolding MendsPairs text_reads
 returns-clause-planned g c =
     let planned = rw c.run_options.ensures at c.in_ok-plan.ensures.planned in
-    read_ok Netlist _ _ _ _ _ _ _ _ _ _ c.in_ok-source.ensures.found c.in_ok-source.ensures.files
+    read_ok (Netlist c.args.options.forms.netlist) _ _ _ _ _ _ _ _ _ _ c.in_ok-source.ensures.found c.in_ok-source.ensures.files
     (cells_ok _ _ _ _ _ _ _ _ _ _ c.in_ok-library.ensures.found c.in_ok-library.ensures.files
     (read_ok ConstraintsText _ _ _ _ _ _ _ _ _ _ c.in_ok-text.ensures.found c.in_ok-text.ensures.files
     (found_ok _ _ _ _ _ _ _ _ c.in_ok-mendable.ensures.found planned)))
