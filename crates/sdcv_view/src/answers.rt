@@ -3,13 +3,12 @@ ghost use Rattle.std.specs.Prelude.{◌≤◌};
 
 use crate::commands::{Asked, DesignWords, RunWords};
 use crate::ends::{Ended, or_ended};
-use crate::reads::{RunTexts, bytes_of, run_texts, texts_of};
+use crate::reads::{AskedForms, RunTexts, bytes_of, forms_of, run_texts, texts_of};
 use run_options::Reset;
-use sdcv_base::{Host, Name, Seq};
+use sdcv_base::Host;
 use std::alloc::Global;
 use view_commands::{
-    Difference, Gate, NamedText, Stop, bits, diff, gate, gate_with, groups, names_of, reset_of,
-    shown, waved,
+    Difference, Gate, NamedText, Stop, bits, diff, gate, gate_with, groups, reset_of, shown, waved,
 };
 
 /// Does what the words ask for.
@@ -133,8 +132,8 @@ fn print_diff<H: Host>(alloc: Global, host: &mut H, old: &str, new: &str) -> Res
 // Prints a line for each bit of a stimulus.
 fn print_bits<H: Host>(alloc: Global, host: &mut H, words: &DesignWords<'_>) -> Result<u8, Ended> {
     let reset = reset_of(alloc, &words.reset)?;
-    let names = names_of(alloc, words.skip)?;
-    print_bits_with(alloc, host, words, reset, names)
+    let forms = forms_of(alloc, words)?;
+    print_bits_with(alloc, host, words, reset, forms)
 }
 
 fn print_bits_with<H: Host>(
@@ -142,11 +141,11 @@ fn print_bits_with<H: Host>(
     host: &mut H,
     words: &DesignWords<'_>,
     reset: Reset,
-    names: Option<Seq<Name>>,
+    forms: AskedForms,
 ) -> Result<u8, Ended>
     requires { reset.len ≤ 64 }
 {
-    let texts = texts_of(alloc, host, words, names)?;
+    let texts = texts_of(alloc, host, words, forms)?;
     printed(host, bits(alloc, &texts, reset))
 }
 
@@ -158,8 +157,8 @@ fn tell_run<H: Host>(
     out: Option<&str>,
 ) -> Result<u8, Ended> {
     let reset = reset_of(alloc, &words.design.reset)?;
-    let names = names_of(alloc, words.design.skip)?;
-    tell_run_with(alloc, host, words, out, reset, names)
+    let forms = forms_of(alloc, &words.design)?;
+    tell_run_with(alloc, host, words, out, reset, forms)
 }
 
 fn tell_run_with<H: Host>(
@@ -168,11 +167,11 @@ fn tell_run_with<H: Host>(
     words: &RunWords<'_>,
     out: Option<&str>,
     reset: Reset,
-    names: Option<Seq<Name>>,
+    forms: AskedForms,
 ) -> Result<u8, Ended>
     requires { reset.len ≤ 64 }
 {
-    let RunTexts { texts, report } = run_texts(alloc, host, words, names)?;
+    let RunTexts { texts, report } = run_texts(alloc, host, words, forms)?;
     match out {
         None => printed(host, shown(alloc, &words.pair, &texts, reset, report)),
         Some(out) => saved(host, out, waved(alloc, &words.pair, &texts, reset, report)),

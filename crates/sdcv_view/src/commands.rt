@@ -5,12 +5,17 @@ use clap::{Arg, ArgAction, ArgMatches, Command, Error};
 use std::alloc::{AllocError, Global};
 use view_commands::{PairWords, ResetWords};
 
-/// The files of a design, which commands of its constraints are passed over, and how it is reset.
+/// The files of a design, what may be cut out of it, its top module, which commands of its constraints are passed over, and how it
+/// is reset.
 #[derive(Clone, Copy)]
 pub struct DesignWords<'a> {
     pub netlist: &'a str,
     pub cells: &'a str,
     pub constraints: &'a str,
+    /// The list of `--free`.
+    pub free: Option<&'a str>,
+    /// The name of `--top`.
+    pub top: Option<&'a str>,
     /// The list of `--skip`.
     pub skip: Option<&'a str>,
     pub reset: ResetWords<'a>,
@@ -106,6 +111,22 @@ const S: ArgRow = ArgRow {
     value: "S",
     rule: Rule::Text,
     sentence: "The constraints (SDC)",
+};
+
+const FREE: ArgRow = ArgRow {
+    id: "free",
+    form: Form::Valued,
+    value: "LIST",
+    rule: Rule::Text,
+    sentence: "Cut out the cells of these references, by patterns parted by commas, where they can't be modelled",
+};
+
+const TOP: ArgRow = ArgRow {
+    id: "top",
+    form: Form::Valued,
+    value: "NAME",
+    rule: Rule::Text,
+    sentence: "Take the module of this name for the top module",
 };
 
 const SKIP: ArgRow = ArgRow {
@@ -207,17 +228,29 @@ const ROWS: [CommandRow; 6] = [
     CommandRow {
         name: "bits",
         sentence: "Print which bit of a stimulus is which register or input",
-        args: &[V, L, S, SKIP, RESET, RESET_CYCLES],
+        args: &[V, L, S, FREE, TOP, SKIP, RESET, RESET_CYCLES],
     },
     CommandRow {
         name: "show",
         sentence: "Print the run of a refuted pair by cycles, and what of it is late",
-        args: &[V, L, S, SKIP, RESET, RESET_CYCLES, REPORT, PAIR],
+        args: &[V, L, S, FREE, TOP, SKIP, RESET, RESET_CYCLES, REPORT, PAIR],
     },
     CommandRow {
         name: "wave",
         sentence: "Save the run of a refuted pair as a value change dump",
-        args: &[V, L, S, SKIP, RESET, RESET_CYCLES, REPORT, PAIR, OUT],
+        args: &[
+            V,
+            L,
+            S,
+            FREE,
+            TOP,
+            SKIP,
+            RESET,
+            RESET_CYCLES,
+            REPORT,
+            PAIR,
+            OUT,
+        ],
     },
 ];
 
@@ -282,6 +315,8 @@ fn design_of<'a>(matches: &ArgMatches<'a>) -> DesignWords<'a> {
         netlist: given(matches, "V"),
         cells: given(matches, "L"),
         constraints: given(matches, "S"),
+        free: matches.get_str("free"),
+        top: matches.get_str("top"),
         skip: matches.get_str("skip"),
         reset: ResetWords {
             ports: matches.get_str("reset"),

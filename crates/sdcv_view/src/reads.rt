@@ -10,20 +10,36 @@ use crate::ends::{Ended, or_ended};
 use cell_types::{Library, builtin};
 use design_stages::{ReadTexts, cells, constraints, netlist};
 use netlist_types::Source;
-use run_options::ScriptForm;
+use run_options::{Forms, NetlistForm, ScriptForm};
 use script_types::Script;
 use sdcv_base::{Host, Name, ReadFault, Seq};
 use std::alloc::Global;
-use view_commands::{ReadReport, Stop, form_of, report_of};
+use view_commands::{ReadReport, Stop, form_of, names_of, netlist_of, report_of};
 
 /// The most bytes that a file may have.
 const MOST_BYTES: usize = 67_108_864;
+
+/// How the texts of a design are read, by its words.
+#[derive(Drop)]
+pub struct AskedForms {
+    pub netlist: NetlistForm,
+    /// Commands of these names are passed over.
+    pub names: Option<Seq<Name>>,
+}
 
 /// The texts of the run of a pair: those of its design, and a report.
 #[derive(Drop)]
 pub struct RunTexts {
     pub texts: ReadTexts,
     pub report: ReadReport,
+}
+
+/// How the texts of a design are read, where the lists and names of its words keep their rules.
+pub fn forms_of(alloc: Global, words: &DesignWords<'_>) -> Result<AskedForms, Ended> {
+    Ok(AskedForms {
+        netlist: netlist_of(alloc, words.free, words.top)?,
+        names: names_of(alloc, words.skip)?,
+    })
 }
 
 // Why a file was not read.
@@ -45,12 +61,17 @@ pub fn bytes_of<H: Host>(alloc: Global, host: &mut H, name: &str) -> Result<Vec<
     }
 }
 
-// The netlist in the file of that name.
-fn source_of<H: Host>(alloc: Global, host: &mut H, name: &str) -> Result<Source, Ended>
+// The netlist in the file of that name, in this form.
+fn source_of<H: Host>(
+    alloc: Global,
+    host: &mut H,
+    name: &str,
+    form: &NetlistForm,
+) -> Result<Source, Ended>
     ensures { IfOk result IsLawful }
 {
     let bytes = bytes_of(alloc, host, name)?;
-    match netlist(alloc, &bytes) {
+    match netlist(alloc, &bytes, form) {
         Ok(source) => Ok(source),
         Err(refusal) => Err(Ended::from(refusal)),
     }
@@ -101,25 +122,28 @@ fn is_strict(report: &Result<ReadReport, Ended>) -> bool {
     }
 }
 
-/// The netlist, its cells and its constraints, read in this order. Commands of these names are passed over.
+/// The netlist, its cells and its constraints, read in this order and in these forms.
 pub fn texts_of<H: Host>(
     alloc: Global,
     host: &mut H,
     words: &DesignWords<'_>,
-    names: Option<Seq<Name>>,
+    forms: AskedForms,
 ) -> Result<ReadTexts, Ended>
     ensures { IfOk result AreLawful }
 {
-    let source = source_of(alloc, host, words.netlist)?;
+    let source = source_of(alloc, host, words.netlist, &forms.netlist)?;
     let library = library_of(alloc, host, words.cells)?;
     let bytes = bytes_of(alloc, host, words.constraints)?;
-    let form = form_of(alloc, names, false);
+    let form = form_of(alloc, forms.names, false);
     let script = script_in(alloc, &bytes, &form)?;
     Ok(ReadTexts {
         source,
         library,
         script,
-        form,
+        forms: Forms {
+            netlist: forms.netlist,
+            script: form,
+        },
     })
 }
 
@@ -128,21 +152,24 @@ pub fn run_texts<H: Host>(
     alloc: Global,
     host: &mut H,
     words: &RunWords<'_>,
-    names: Option<Seq<Name>>,
+    forms: AskedForms,
 ) -> Result<RunTexts, Ended>
     ensures { IfOk result (λ read. AreLawful read.texts) }
 {
-    let source = source_of(alloc, host, words.design.netlist)?;
+    let source = source_of(alloc, host, words.design.netlist, &forms.netlist)?;
     let library = library_of(alloc, host, words.design.cells)?;
     let bytes = bytes_of(alloc, host, words.design.constraints)?;
     let report = report_in(alloc, host, words.pair.report);
-    let form = form_of(alloc, names, is_strict(&report));
+    let form = form_of(alloc, forms.names, is_strict(&report));
     let script = script_in(alloc, &bytes, &form)?;
     let texts = ReadTexts {
         source,
         library,
         script,
-        form,
+        forms: Forms {
+            netlist: forms.netlist,
+            script: form,
+        },
     };
     Ok(RunTexts {
         texts,

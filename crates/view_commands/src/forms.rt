@@ -1,13 +1,30 @@
-//! How the constraints of a view are read.
+//! How the netlist and the constraints of a view are read.
 ghost use Rattle.std.specs.Prelude.{◌≡◌, IfOk, Some};
 ghost use Rattle.std.specs.Option.{option_map};
+ghost use Rattle.sdcv_words.specs.Cuttings.{netlist_by};
 ghost use Rattle.view_commands.specs.Forms.{form_of, names_of};
 
 use crate::stops::Stop;
-use run_options::ScriptForm;
+use run_options::{NetlistForm, ScriptForm};
 use sdcv_base::{Name, Seq};
-use sdcv_words::skips_of;
+use sdcv_words::{netlist_by, skips_of};
 use std::alloc::Global;
+
+/// How the netlist is read: wide where a list of patterns of references, which may be cut out, or the name of a top module stands.
+pub fn netlist_of(
+    alloc: Global,
+    list: Option<&str>,
+    name: Option<&str>,
+) -> Result<NetlistForm, Stop>
+    ensures { IfOk result (λ form. netlist_by (option_map (λ t. t.now) list.entry) (option_map (λ t. t.now) name.entry) ≡ Some form) }
+{
+    match netlist_by(alloc, list, name)? {
+        Some(form) => Ok(form),
+        None => Err(Stop::Words(
+            "--free takes patterns of references, parted by commas and none of them empty, and --top a name",
+        )),
+    }
+}
 
 /// The names of the commands that are passed over, where a list of them stands.
 pub fn names_of(alloc: Global, list: Option<&str>) -> Result<Option<Seq<Name>>, Stop>

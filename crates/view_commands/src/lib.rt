@@ -17,7 +17,7 @@ mod views;
 mod words;
 
 pub use differences::{Difference, diff};
-pub use forms::{form_of, names_of};
+pub use forms::{form_of, names_of, netlist_of};
 pub use report_groups::Gate;
 pub use reports::{NamedText, ReadReport, gate, gate_with, groups, report_of};
 pub use resets::reset_of;

@@ -22,6 +22,13 @@ pub(crate) struct RefutedPair {
     pub asked: AskedPair,
 }
 
+/// How a design is read and held in reset: with cells cut out and its top module by name, or not, and for so many cycles.
+#[derive(Clone, Copy)]
+pub(crate) struct Given {
+    pub wide: bool,
+    pub reset_len: usize,
+}
+
 /// A refuted pair: its place among those of its report, from 0, its stimulus, and how its claim is judged.
 #[derive(Drop)]
 pub(crate) struct AskedPair {
@@ -64,32 +71,39 @@ fn check_refuted(alloc: Global, words: &PairWords<'_>, row: &PairRow) -> Result<
     )))
 }
 
-// What the first line asks for beside what can be shown here, where it asks for any of it.
-fn unknown_word(head: &Head) -> Option<&'static str> {
-    if head.asked.free.is_some() {
-        Some("free")
-    } else if head.asked.assumed.is_some() {
-        Some("assumed")
-    } else {
-        None
+// The report was made over a netlist of this form.
+fn check_form(alloc: Global, name: &str, head: &Head, wide: bool) -> Result<(), Stop> {
+    if head.asked.free.is_some() == wide {
+        return Ok(());
     }
+    let (then, now) = if wide {
+        ("without", "with")
+    } else {
+        ("with", "without")
+    };
+    Err(Stop::refused(format!(in alloc;
+        "{name} was made {then} --free or --top, these words are {now}: give them as then"
+    )))
 }
 
 // The report was made with nothing that these words can't give.
-fn check_words(alloc: Global, name: &str, head: &Head) -> Result<(), Stop> {
-    match unknown_word(head) {
-        Some(word) => {
-            Err(Stop::refused(format!(in alloc; "{name}: no run of a report with {word} is shown")))
-        }
+fn check_words(alloc: Global, name: &str, head: &Head, wide: bool) -> Result<(), Stop> {
+    check_form(alloc, name, head, wide)?;
+    match head.asked.assumed {
         None => Ok(()),
+        Some(_) => {
+            Err(Stop::refused(format!(in alloc;
+                "{name}: no run of a report with assumed is shown"
+            )))
+        }
     }
 }
 
 // How the claims of a report are judged.
-fn judging_of(alloc: Global, name: &str, head: &Head) -> Result<Judging, Stop>
+fn judging_of(alloc: Global, name: &str, head: &Head, wide: bool) -> Result<Judging, Stop>
     ensures { IfOk result CanJudge }
 {
-    check_words(alloc, name, head)?;
+    check_words(alloc, name, head, wide)?;
     if head.lag <= 8 {
         return Ok(Judging {
             hazard: head.hazard,
@@ -131,13 +145,13 @@ fn asked_pair(
     words: &PairWords<'_>,
     text: &[u8],
     report: &Report,
-    reset: usize,
+    given: Given,
 ) -> Result<AskedPair, Stop>
     ensures place { IfOk result (λ asked. asked.place < length report.now.pairs) }
     ensures judging { IfOk result (λ asked. CanJudge asked.judging) }
 {
-    check_reset(alloc, words.report, report, reset)?;
-    let judging = judging_of(alloc, words.report, &report.head)?;
+    check_reset(alloc, words.report, report, given.reset_len)?;
+    let judging = judging_of(alloc, words.report, &report.head, given.wide)?;
     let place = place_of(alloc, words, &report.pairs)?;
     check_refuted(alloc, words, report.pairs.item(place))?;
     let stimulus = stimulus_in(alloc, words, text)?;
@@ -148,16 +162,16 @@ fn asked_pair(
     })
 }
 
-/// The pair that these words ask for, in a report that was made with so many cycles of reset.
+/// The pair that these words ask for, in a report that was made over such a design.
 pub(crate) fn refuted_pair(
     alloc: Global,
     words: &PairWords<'_>,
     read: ReadReport,
-    reset: usize,
+    given: Given,
 ) -> Result<RefutedPair, Stop>
     ensures { IfOk result IsRefutedPair }
 {
     let ReadReport { text, report } = read;
-    let asked = asked_pair(alloc, words, &text, &report, reset)?;
+    let asked = asked_pair(alloc, words, &text, &report, given)?;
     Ok(RefutedPair { report, asked })
 }

@@ -4,21 +4,21 @@ ghost use Rattle.design_stages.specs.Designs.{AreLawful, CanBeJudged};
 ghost use Rattle.run_views.specs.Violations.{IsShowable};
 ghost use Rattle.view_commands.specs.Runs.{IsPairRun, IsRefutedPair};
 
-use crate::pairs::{RefutedPair, refuted_pair};
+use crate::pairs::{Given, RefutedPair, refuted_pair};
 use crate::reports::ReadReport;
 use crate::runs::{PairRun, pair_run};
 use crate::stops::{Stop, or_stop};
 use crate::words::PairWords;
 use design_stages::{Designed, ReadTexts, designed};
 use link_tops::one_top;
-use linked_types::Linked;
 use named_runs::bits_text;
 use netlist_types::Source;
 use report_rows::PairRow;
-use run_options::{Judging, Reset};
+use run_options::{Judging, NetlistForm, Reset};
 use run_views::Violation;
 use run_waves::wave;
 use sdcv_base::Name;
+use selected_types::Notices;
 use shown_runs::{Heading, show};
 use std::alloc::{AllocError, Global};
 
@@ -85,7 +85,11 @@ fn viewed(
     requires lawful { AreLawful texts.now }
     requires reset { reset.len ≤ 64 }
 {
-    let pair = refuted_pair(alloc, words, report, reset.len)?;
+    let given = Given {
+        wide: matches!(texts.forms.netlist, NetlistForm::Wide(_)),
+        reset_len: reset.len,
+    };
+    let pair = refuted_pair(alloc, words, report, given)?;
     pair_view(alloc, words, texts, reset, &pair, view)
 }
 
@@ -161,23 +165,31 @@ fn waved_pair(
     requires design { CanBeJudged designed.now }
 {
     let run = pair_run(alloc, words, pair, designed)?;
-    or_stop(wave_run(alloc, source, &designed.linked, &run.violation))
+    or_stop(wave_run(alloc, source, designed, &run.violation))
 }
 
 fn wave_run(
     alloc: Global,
     source: &Source,
-    linked: &Linked,
+    designed: &Designed,
     violation: &Violation,
 ) -> Result<Vec<u8>, AllocError>
-    requires { IsShowable linked.now.design violation.now }
+    requires { IsShowable designed.now.linked.design violation.now }
 {
-    let top = top_name(alloc, source)?;
-    wave(alloc, &top, linked, violation)
+    let top = top_name(alloc, source, &designed.notices)?;
+    wave(alloc, &top, &designed.linked, violation)
+}
+
+// The name of the top module, as it was given or found.
+fn top_name(alloc: Global, source: &Source, notices: &Notices) -> Result<Name, AllocError> {
+    match &notices.top {
+        Some(name) => name.copy(alloc),
+        None => only_top(alloc, source),
+    }
 }
 
 // The name of the module that no module instantiates. A source that was linked has one, so what is left is want of memory.
-fn top_name(alloc: Global, source: &Source) -> Result<Name, AllocError> {
+fn only_top(alloc: Global, source: &Source) -> Result<Name, AllocError> {
     match one_top(alloc, source) {
         Ok(place) => source.modules.item(place).name.copy(alloc),
         Err(_) => Err(AllocError),
