@@ -12,6 +12,7 @@ use cell_types::Library;
 use design_stages::netlist;
 use net_link::{LinkOptions, Linked, link, top_inputs};
 use netlist_types::Source;
+use run_options::NetlistForm;
 use sdcv_base::{Name, Seq, Setting};
 use std::alloc::{AllocError, Global};
 
@@ -19,7 +20,8 @@ use std::alloc::{AllocError, Global};
 /// at 0: the inputs of the top module, the design, and its names in order; or what is told of the fault.
 pub fn linked_text(session: &Session, words: &str) -> Result<String, AllocError> {
     let mut text = String::new(session.alloc());
-    match netlist(session.alloc(), session.bytes(word_at(words, 0))) {
+    let bytes = session.bytes(word_at(words, 0));
+    match netlist(session.alloc(), bytes, &NetlistForm::Narrow) {
         Ok(source) => push_linked(session, words, &source, &mut text)?,
         Err(refusal) => push_refusal(&mut text, &refusal)?,
     }
@@ -51,7 +53,8 @@ fn push_found(
     requires library { IsLawfulLibrary library.now.cells }
 {
     let options = options(session.alloc(), words)?;
-    match link(session.alloc(), source, library, &options) {
+    let items = Seq::new(session.alloc());
+    match link(session.alloc(), source, &items, library, &options) {
         Ok(linked) => push_inputs(session.alloc(), source, &linked, text),
         Err(fault) => writeln!(text, "{fault}"),
     }
@@ -112,7 +115,7 @@ fn at_zero(alloc: Global, name: &str) -> Result<Seq<Setting>, AllocError> {
 
 fn options(alloc: Global, words: &str) -> Result<LinkOptions, AllocError>
     ensures resets { IfOk result (λ made. made.reset_len ≡ 1) }
-    ensures narrow { IfOk result IsOnOneClock }
+    ensures clocks { IfOk result IsOnOneClock }
 {
     let clock = name_if_any(alloc, word_after(words, "clock"))?;
     let fixed = at_zero(alloc, word_after(words, "fixed"))?;

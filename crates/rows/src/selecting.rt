@@ -9,7 +9,7 @@ use crate::sessions::Session;
 use crate::steps::{number_of, word_after, word_at};
 use cell_types::{Library, builtin};
 use design_stages::{Designed, ReadTexts, Refusal, cells, constraints, designed, netlist};
-use run_options::{Judging, Reset, ScriptForm};
+use run_options::{Forms, Judging, NetlistForm, Reset, ScriptForm};
 use sdcv_base::{Name, Seq, Setting};
 use std::alloc::{AllocError, Global};
 
@@ -48,15 +48,26 @@ fn found(session: &Session, words: &str) -> Result<Designed, Refusal> {
 fn read(session: &Session, words: &str) -> Result<ReadTexts, Refusal>
     ensures { IfOk result AreLawful }
 {
-    let source = netlist(session.alloc(), session.bytes(word_at(words, 0)))?;
+    let forms = Forms {
+        netlist: NetlistForm::Narrow,
+        script: ScriptForm::Narrow,
+    };
+    let source = netlist(
+        session.alloc(),
+        session.bytes(word_at(words, 0)),
+        &forms.netlist,
+    )?;
     let library = library(session, word_at(words, 1))?;
-    let form = ScriptForm::Narrow;
-    let script = constraints(session.alloc(), session.bytes(word_at(words, 2)), &form)?;
+    let script = constraints(
+        session.alloc(),
+        session.bytes(word_at(words, 2)),
+        &forms.script,
+    )?;
     Ok(ReadTexts {
         source,
         library,
         script,
-        form,
+        forms,
     })
 }
 
