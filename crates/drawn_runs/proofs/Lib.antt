@@ -3,3 +3,4 @@ pub mod Stepping
 pub mod Filling
 pub mod Running
 pub mod Sifting
+pub mod Stretching

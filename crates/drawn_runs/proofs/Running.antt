@@ -34,7 +34,7 @@ words_more d t =
     omega (arith, product)
 
 -- an item of a list with one more is an earlier one, or that one
-pushed : {X : Type 0} (xs : List X) (x : X) (k : ℕ) (y : X) → slice_get (xs ++ x ∷ []) k ≡ Some y
+pub pushed : {X : Type 0} (xs : List X) (x : X) (k : ℕ) (y : X) → slice_get (xs ++ x ∷ []) k ≡ Some y
     → (slice_get xs k ≡ Some y) ⊎ ((k ≡ length xs) × (x ≡ y))
 pushed [] x zero y at = inr (refl, same_Some x y at)
 pushed [] x (suc k) y at = absurd (omega (arith, slice_get_within (x ∷ []) (suc k) y at))
@@ -89,7 +89,7 @@ first_more d i t bits run c same done x at =
           subst (AreFirst d i) e (done.begins (sym done.count ∙ sym last.0))
     ]
 
-follows_more : (d : Design) (t : ℕ) (run : List Cycle) (c : Cycle) (next : List Bool) → length run ≡ t → AreCaptures d c next → (k : ℕ) (x : Cycle)
+pub follows_more : (d : Design) (t : ℕ) (run : List Cycle) (c : Cycle) (next : List Bool) → length run ≡ t → AreCaptures d c next → (k : ℕ) (x : Cycle)
     → slice_get (run ++ c ∷ []) k ≡ Some x → k + 1 ≡ t + 1 → (r : ℕ) → r < length d.regs
     → bit_at next r ≡ capture d (RegEnd r) x
 follows_more d t run c next count captures k x at is r low =

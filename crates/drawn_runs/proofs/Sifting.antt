@@ -22,11 +22,11 @@ use Rattle.drawn_runs.specs.Survivors.{IsSifted, No_more, Is_left, Is_out}
 use Rattle.drawn_runs.specs.declared.sims.Sim.{Sim}
 use Rattle.drawn_runs.proofs.Running.{run_more, drawn_run}
 
-and_left : (a b : Bool) → (a && b) ≡ true → a ≡ true
+pub and_left : (a b : Bool) → (a && b) ≡ true → a ≡ true
 and_left true b e = refl
 and_left false b e = e
 
-and_right : (a b : Bool) → (a && b) ≡ true → b ≡ true
+pub and_right : (a b : Bool) → (a && b) ≡ true → b ≡ true
 and_right true b e = e
 and_right false b e = cc
 
@@ -77,7 +77,7 @@ pub holds_by_bits : (clause : InvClause) (c : Cycle) (i : ℕ) (bits : List Lane
 holds_by_bits clause c i bits same =
     ap (λ (row : List Bool). clause_holds (record { bits = row; ins = []; nets = [] }) clause) same
 
-push_at : {X : Type 0} (xs : List X) (x : X) (n : ℕ) → length xs ≡ n → slice_get (xs ++ x ∷ []) n ≡ Some x
+pub push_at : {X : Type 0} (xs : List X) (x : X) (n : ℕ) → length xs ≡ n → slice_get (xs ++ x ∷ []) n ≡ Some x
 push_at [] x zero e = refl
 push_at [] x (suc n) e = absurd (omega (arith, e))
 push_at (y ∷ xs) x zero e = absurd (omega (arith, e))

@@ -5,3 +5,4 @@ pub mod Inputs
 pub mod Sims
 pub mod Sifts
 pub mod Survivors
+pub mod Stretches

@@ -16,7 +16,7 @@ use sdcv_base::Seq;
 use std::alloc::{AllocError, Global};
 
 /// The bits that are 1 in both words.
-fn both(a: Lanes, b: Lanes) -> Lanes
+pub(crate) fn both(a: Lanes, b: Lanes) -> Lanes
     ensures { (i : ℕ) → i < 64 → lane result i ≡ (lane a i && lane b i) }
 {
     Lanes(a.0 & b.0)

@@ -18,7 +18,7 @@ fn lit64(lit: StateLit, bits: &Seq<Lanes>) -> Lanes
 }
 
 /// In each lane whether a clause holds.
-fn clause64(clause: &InvClause, bits: &Seq<Lanes>) -> Lanes
+pub(crate) fn clause64(clause: &InvClause, bits: &Seq<Lanes>) -> Lanes
     ensures { (i : ℕ) → i < 64 → lane result i ≡ clause_holds (bits_cycle i bits.now) clause.now }
 {
     let mut word = Lanes::of_bit(false);
