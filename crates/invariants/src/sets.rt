@@ -8,8 +8,9 @@ ghost use Rattle.verdicts.specs.Logs.{own_coding};
 ghost use Rattle.verdicts.specs.Certified.{ProveKept};
 ghost use Rattle.verdict_types.specs.Forms.{IsKeptClause, IsSetInForm};
 ghost use Rattle.invariants.specs.Invariants.{AreInvariants};
+ghost use Rattle.invariants.specs.Tried.{AreTried};
 
-use drawn_runs::survivors;
+use drawn_runs::{survivors, thinned};
 use induction::greatest_set;
 use inv_candidates::{candidates, with_more};
 use net_model::{Claim, Design, InvClause};
@@ -17,12 +18,16 @@ use sdcv_base::Seq;
 use std::alloc::{AllocError, Global};
 use verdicts::InvSet;
 
+/// So many further clauses are few: their queries are soon asked.
+const FEW_FURTHER: usize = 256;
+
 /// The greatest inductive set, at a depth, of the clauses near some claims and of further ones. A clause whose query spends the
 /// budget is left out, with an entry. The further clauses may be of any length and count for all claims; none of them is taken
 /// on trust.
 ///
 /// A clause that fails in a live cycle of a run from reset is in no inductive set, so no query is asked about those that fail in
-/// one of the 64 drawn runs.
+/// one of the 64 drawn runs. Where there are more than 256 further clauses, none is asked either about those that fail after a drawn
+/// stretch that meets all that are left.
 pub fn invariants(
     alloc: Global,
     design: &Design,
@@ -45,7 +50,27 @@ pub fn invariants(
 {
     let own = candidates(alloc, design, claims)?;
     let clauses = with_more(alloc, own, extra)?;
-    let left = survivors(alloc, design, clauses)?;
+    let many = extra.len() > FEW_FURTHER;
+    let left = tried(alloc, design, clauses, depth, many)?;
     let set = greatest_set(alloc, design, &left, depth, budget)?;
     Ok(set)
+}
+
+/// The clauses about which queries are asked: those that hold in the drawn runs, and where they are many after drawn stretches too.
+fn tried(
+    alloc: Global,
+    design: &Design,
+    clauses: Seq<InvClause>,
+    depth: usize,
+    many: bool,
+) -> Result<Seq<InvClause>, AllocError>
+    requires { IsSound design.now }
+    ensures { IfOk result (AreTried design.now depth clauses) }
+{
+    let left = survivors(alloc, design, clauses)?;
+    if !many {
+        return Ok(left);
+    }
+    let fewer = thinned(alloc, design, left, depth)?;
+    Ok(fewer)
 }

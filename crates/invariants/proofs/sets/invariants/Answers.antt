@@ -1,11 +1,10 @@
 use Rattle.std.proofs.Common.{ℕ, sym, subst}
 use Rattle.std.specs.Prelude.{All}
 use Rattle.net_model.specs.Fits.{NamesRegs}
-use Rattle.drawn_runs.specs.Drawn.{HoldsDrawn, FailsDrawn}
 use Rattle.verdicts.specs.Logs.{own_coding}
 use Rattle.verdicts.specs.Certified.{ProveKept}
 use Rattle.verdict_types.specs.Forms.{IsKeptClause}
-use Rattle.invariants.proofs.Surviving.{All-sifted, StandOnce-sifted, kept_all, entries_hold}
+use Rattle.invariants.proofs.Surviving.{All-tried, StandOnce-tried, kept_all, entries_hold}
 use Rattle.invariants.proofs.sets.invariants.Goals as goal
 
 pub with_more-requires : goal.with_more-requires
@@ -14,13 +13,13 @@ with_more-requires c = record { once = c.in_ok-own.ensures.once }
 pub greatest_set-requires-clause-names : goal.greatest_set-requires-clause-names
 greatest_set-requires-clause-names c =
     let d = c.args.design.now in
-    All-sifted (NamesRegs d) (HoldsDrawn d) (FailsDrawn d) c.in_ok-clauses.clauses c.in_ok-left.left c.in_ok-left.ensures
+    All-tried (NamesRegs d) d c.args.depth c.in_ok-clauses.clauses c.in_ok-left.left c.in_ok-left.ensures
     (c.in_ok-clauses.ensures.names d c.in_ok-own.ensures.names c.requires.extra_names)
 
 pub greatest_set-requires-clause-once : goal.greatest_set-requires-clause-once
 greatest_set-requires-clause-once c =
     let d = c.args.design.now in
-    StandOnce-sifted (HoldsDrawn d) (FailsDrawn d) c.in_ok-clauses.clauses c.in_ok-left.left c.in_ok-left.ensures c.in_ok-clauses.ensures.once
+    StandOnce-tried d c.args.depth c.in_ok-clauses.clauses c.in_ok-left.left c.in_ok-left.ensures c.in_ok-clauses.ensures.once
 
 pub returns-clause-kept : goal.returns-clause-kept
 returns-clause-kept c =
@@ -51,5 +50,5 @@ pub returns-clause-in_form : goal.returns-clause-in_form
 returns-clause-in_form c =
     let d = c.args.design.now in
     c.in_ok-set.ensures.in_form
-    (All-sifted IsKeptClause (HoldsDrawn d) (FailsDrawn d) c.in_ok-clauses.clauses c.in_ok-left.left c.in_ok-left.ensures
+    (All-tried IsKeptClause d c.args.depth c.in_ok-clauses.clauses c.in_ok-left.left c.in_ok-left.ensures
     (c.in_ok-clauses.ensures.in_form c.in_ok-own.ensures.in_form c.requires.extra_form))
