@@ -1,8 +1,9 @@
--- What a refusal of a circuit with further inputs and outputs speaks of has a full name.
-use Rattle.std.proofs.Common.{◌≡◌, ℕ, ◌+◌, ◌<◌, ◌≤◌, Bool, List, ◌++◌, length, subst, sym, arith, inl, inr, ◌⊎◌}
-use Rattle.std.specs.Prelude.{Option, Contains, flat_map, count_by, ◌==◌}
+-- What a refusal of a circuit that is left of another, with further inputs and outputs, speaks of has a full name.
+use Rattle.std.proofs.Common.{◌≡◌, ℕ, ◌+◌, ◌<◌, ◌≤◌, Bool, false, List, ◌++◌, length, subst, sym, arith, inl, inr, ◌⊎◌}
+use Rattle.std.specs.Prelude.{Option, Some, Contains, flat_map, count_by, ◌==◌, slice_get}
+use Rattle.net_model.specs.declared.netlist.Gate.{Gate}
 use Rattle.net_model.specs.Netlist.{gate_nets, reg_nets}
-use Rattle.net_model.proofs.Members.{In, In-cases, In-left, In-right, in_or, In-from_Contains, Contains-from_In}
+use Rattle.net_model.proofs.Members.{In, In-cases, In-left, In-right, In-map, in_or, In-from_Contains, Contains-from_In}
 use Rattle.net_model.proofs.Order.{count_append, count_contains}
 use Rattle.netlist_types.specs.declared.sources.Source.{Source}
 use Rattle.netlist_types.specs.declared.sources.Module.{Module}
@@ -13,16 +14,23 @@ use Rattle.link_design.specs.Faults.{IsCause}
 use Rattle.link_design.specs.declared.faults.CircuitFault.{CircuitFault}
 use Rattle.link_design.specs.declared.faults.CircuitFault.TheVariants as fault
 use Rattle.link_defs.specs.declared.circuits.Circuit.{Circuit}
-use Rattle.link_defs.specs.Circuits.{circuit_of, part_data, part_gated, part_reads, regs_of, all_gates, all_drivers, all_reads, all_data, OnTree}
+use Rattle.link_defs.specs.declared.circuits.Part.{Part}
+use Rattle.link_defs.specs.declared.cuts.CutItem.{CutItem}
+use Rattle.link_defs.specs.CellNames.{Leaf}
+use Rattle.link_defs.specs.Circuits.{circuit_of, part_data, part_gated, part_reads, regs_of, all_gates, all_drivers, all_reads, all_data, clock_of}
+use Rattle.link_defs.specs.Circuits.{OnTree, IsOnCycle}
 use Rattle.link_defs.specs.Circuits as net
 use Rattle.link_defs.specs.Flatten.{Scope, flat_of}
+use Rattle.link_defs.specs.Judged.{FlatNetlist, IsJudged, netlist_of}
 use Rattle.link_circuit.specs.Flats.{AreFine}
 use Rattle.link_circuit.specs.Names.{HasNet, HasName, with_more, IsExtended}
 use Rattle.link_circuit.proofs.Circuited.{circuit_lawful}
 use Rattle.link_circuit.proofs.Naming.{IsRefusedBelow, net_of, seen_or, drivers_once, read_seen, data_seen, tree_seen, either_seen, loop_seen}
-use Rattle.link_circuit.proofs.Naming.{undriven_seen, clocked_named, ports_below}
+use Rattle.link_circuit.proofs.Naming.{all_parts, clocked_named, ports_below}
+use Rattle.link_circuit.proofs.Reading.{IsConst, gates_of}
 use Rattle.link_circuit.proofs.Seating.{IsSeen, flat_whole}
 use Rattle.link_circuit.proofs.Spread.{zero_of}
+use Rattle.link_circuit.proofs.Thinned.{IsThinned, HasLeafAt, judged_thin, judged_leaf, thin_reads, thin_data}
 
 -- an instance with the net
 seen_by : (scopes : List Scope) (n : ℕ) → HasNet scopes n → IsSeen scopes n
@@ -75,74 +83,117 @@ tree_kept : (c : Circuit) (ins outs : List ℕ) (n : ℕ) (odd : Bool) → OnTre
 tree_kept c ins outs n odd (net.Root m there) = net.Root m there
 tree_kept c ins outs n odd (net.Buffered from gates g even has there tree) =
     net.Buffered from gates g even has there (tree_kept c ins outs from even tree)
-tree_kept c ins outs n odd (net.Gated from enables out even has tree) = net.Gated from enables out even has (tree_kept c ins outs from even tree)
+tree_kept c ins outs n odd (net.Gated from enables out has tree) = net.Gated from enables out has (tree_kept c ins outs from false tree)
 
 -- further inputs and outputs are nets of instances
 record AreNetsOf (scopes : List Scope) (ins outs : List ℕ) : Type 0 where
   pub of_ins : (net : ℕ) → Contains ins net → HasNet scopes net
   pub of_outs : (net : ℕ) → Contains outs net → HasNet scopes net
 
-more_read : (s : Source) (lib : Library) (top : Module) (clock : Option (List ℕ)) (ins outs : List ℕ) (n : ℕ) → IsRefusedBelow s lib top clock
-    → AreNetsOf (flat_of s lib top).scopes ins outs → Contains (all_reads (with_more (circuit_of s lib top clock) ins outs)) n
-    → (Contains (all_drivers (with_more (circuit_of s lib top clock) ins outs)) n → ⊥) → HasNet (flat_of s lib top).scopes n
-more_read s lib top clock ins outs n r are read undriven =
+-- a constant drives a net
+const_drives : (c : Circuit) (n : ℕ) → IsConst (all_gates c) n → Contains (all_drivers c) n
+const_drives c n (g, there, out, none) =
+    let before = c.clocks ++ c.inputs ++ flat_map reg_nets (regs_of c) in
+    let gated = flat_map part_gated c.parts in
+    let drives = subst (λ (m : ℕ). In m (gate_nets (all_gates c))) out (In-map (λ (g : Gate). g.out) g (all_gates c) there) in
+    Contains-from_In (all_drivers c) n
+    (In-left n (before ++ gate_nets (all_gates c)) gated (In-right n before (gate_nets (all_gates c)) drives))
+
+const_gates : (s : Source) (lib : Library) (top : Module) (clock : Option (List ℕ)) (n : ℕ) → IsConst (gates_of (all_parts s lib top)) n
+    → IsConst (all_gates (circuit_of s lib top clock)) n
+unfolding circuit_of
+const_gates s lib top clock n const = const
+
+-- what is left of the circuit below a module, with the nets of instances as further inputs and outputs
+record IsMoreBelow (s : Source) (lib : Library) (top : Module) (clock : Option (List ℕ)) (j : Circuit) (ins outs : List ℕ) : Type 0 where
+  pub refused : IsRefusedBelow s lib top clock
+  pub thin : IsThinned (circuit_of s lib top clock) j
+  pub nets : AreNetsOf (flat_of s lib top).scopes ins outs
+
+undriven_known : (s : Source) (lib : Library) (top : Module) (clock : Option (List ℕ)) (j : Circuit) (ins outs : List ℕ) (n : ℕ)
+    → IsMoreBelow s lib top clock j ins outs → (Contains (all_drivers (with_more j ins outs)) n → ⊥)
+    → IsSeen (flat_of s lib top).scopes n ⊎ IsConst (gates_of (all_parts s lib top)) n → IsSeen (flat_of s lib top).scopes n
+undriven_known s lib top clock j ins outs n m undriven (inl seen) = seen
+undriven_known s lib top clock j ins outs n m undriven (inr const) =
+    let here = subst (λ (gs : List Gate). IsConst gs n) (sym m.thin.gates) (const_gates s lib top clock n const) in
+    absurd (undriven (driver_kept j ins outs n (const_drives j n here)))
+
+more_read : (s : Source) (lib : Library) (top : Module) (clock : Option (List ℕ)) (j : Circuit) (ins outs : List ℕ) (n : ℕ)
+    → IsMoreBelow s lib top clock j ins outs → Contains (all_reads (with_more j ins outs)) n
+    → (Contains (all_drivers (with_more j ins outs)) n → ⊥) → HasNet (flat_of s lib top).scopes n
+more_read s lib top clock j ins outs n m read undriven =
     let c = circuit_of s lib top clock in
-    let reads = flat_map part_reads c.parts in
-    elim (with_outer c.outputs outs reads n (In-from_Contains (all_reads (with_more c ins outs)) n read)) [
+    elim (with_outer j.outputs outs (flat_map part_reads j.parts) n (In-from_Contains (all_reads (with_more j ins outs)) n read)) [
       | inl own ↦
           net_of (flat_of s lib top).scopes n
-          (undriven_seen s lib top clock n (read_seen s lib top clock n r own) (λ has. undriven (driver_kept c ins outs n has)))
-      | inr more ↦ are.of_outs n (Contains-from_In outs n more)
+          (undriven_known s lib top clock j ins outs n m undriven (read_seen s lib top clock n m.refused (thin_reads c j n m.thin own)))
+      | inr more ↦ m.nets.of_outs n (Contains-from_In outs n more)
     ]
 
-more_data : (s : Source) (lib : Library) (top : Module) (clock : Option (List ℕ)) (ins outs : List ℕ) (n : ℕ) (odd : Bool) → IsRefusedBelow s lib top clock
-    → AreNetsOf (flat_of s lib top).scopes ins outs → Contains (all_data (with_more (circuit_of s lib top clock) ins outs)) n
-    → OnTree (with_more (circuit_of s lib top clock) ins outs) n odd → HasNet (flat_of s lib top).scopes n
-more_data s lib top clock ins outs n odd r are read tree =
+more_data : (s : Source) (lib : Library) (top : Module) (clock : Option (List ℕ)) (j : Circuit) (ins outs : List ℕ) (n : ℕ) (odd : Bool)
+    → IsMoreBelow s lib top clock j ins outs → Contains (all_data (with_more j ins outs)) n → OnTree (with_more j ins outs) n odd
+    → HasNet (flat_of s lib top).scopes n
+more_data s lib top clock j ins outs n odd m read tree =
     let c = circuit_of s lib top clock in
-    let reads = flat_map part_data c.parts in
-    elim (with_outer c.outputs outs reads n (In-from_Contains (all_data (with_more c ins outs)) n read)) [
+    elim (with_outer j.outputs outs (flat_map part_data j.parts) n (In-from_Contains (all_data (with_more j ins outs)) n read)) [
       | inl own ↦
           net_of (flat_of s lib top).scopes n
-          (either_seen s lib top clock n r (data_seen s lib top clock n r own) (tree_seen s lib top clock n odd r (tree_kept c ins outs n odd tree)))
-      | inr more ↦ are.of_outs n (Contains-from_In outs n more)
+          (either_seen s lib top clock n m.refused (data_seen s lib top clock n m.refused (thin_data c j n m.thin own))
+          (tree_seen s lib top clock n odd m.refused (m.thin.tree n odd (tree_kept j ins outs n odd tree))))
+      | inr more ↦ m.nets.of_outs n (Contains-from_In outs n more)
     ]
 
-more_twice : (s : Source) (lib : Library) (top : Module) (clock : Option (List ℕ)) (ins outs : List ℕ) (n : ℕ) → IsRefusedBelow s lib top clock
-    → AreNetsOf (flat_of s lib top).scopes ins outs
-    → 1 < count_by (λ m. m == n) (all_drivers (with_more (circuit_of s lib top clock) ins outs)) → HasNet (flat_of s lib top).scopes n
-more_twice s lib top clock ins outs n r are twice = elim (seen_or (flat_of s lib top).scopes n) [
+more_twice : (s : Source) (lib : Library) (top : Module) (clock : Option (List ℕ)) (j : Circuit) (ins outs : List ℕ) (n : ℕ)
+    → IsMoreBelow s lib top clock j ins outs → 1 < count_by (λ m. m == n) (all_drivers (with_more j ins outs)) → HasNet (flat_of s lib top).scopes n
+more_twice s lib top clock j ins outs n m twice = elim (seen_or (flat_of s lib top).scopes n) [
   | inl seen ↦ net_of (flat_of s lib top).scopes n seen
   | inr unseen ↦
-      let most = drivers_once s lib top clock n r.known.whole r.ports unseen in
-      let none = zero_of n ins (λ has. unseen (seen_by (flat_of s lib top).scopes n (are.of_ins n (Contains-from_In ins n has)))) in
-      absurd (omega (arith, most, twice, none, drivers_counted (circuit_of s lib top clock) ins outs n))
+      let most = drivers_once s lib top clock n m.refused.known.whole m.refused.ports unseen in
+      let none = zero_of n ins (λ has. unseen (seen_by (flat_of s lib top).scopes n (m.nets.of_ins n (Contains-from_In ins n has)))) in
+      absurd (omega (arith, most, twice, none, drivers_counted j ins outs n, m.thin.drivers n))
 ]
 
-more_named : (s : Source) (lib : Library) (top : Module) (clock : Option (List ℕ)) (ins outs : List ℕ) (f : CircuitFault) → IsRefusedBelow s lib top clock
-    → AreNetsOf (flat_of s lib top).scopes ins outs → IsCause (with_more (circuit_of s lib top clock) ins outs) f
-    → HasName s lib (flat_of s lib top) (with_more (circuit_of s lib top clock) ins outs) f
-more_named s lib top clock ins outs (fault.Undriven n) r are cause = more_read s lib top clock ins outs n r are cause.0 cause.1
-more_named s lib top clock ins outs (fault.ManyDrivers n) r are cause = more_twice s lib top clock ins outs n r are cause
-more_named s lib top clock ins outs (fault.Loop n) r are cause = net_of (flat_of s lib top).scopes n (loop_seen s lib top clock n r cause)
-more_named s lib top clock ins outs (fault.NotTheClock place) r are cause =
-    let (q, pin, at, on, off) = cause in clocked_named s lib top clock place q pin on at
-more_named s lib top clock ins outs (fault.ClockAsData n) r are cause =
-    let (odd, reads, tree) = cause in more_data s lib top clock ins outs n odd r are reads tree
-more_named s lib top clock ins outs (fault.Limit kind number) r are cause = tt
-more_named s lib top clock ins outs fault.Memory r are cause = tt
+more_loop : (s : Source) (lib : Library) (top : Module) (clock : Option (List ℕ)) (j : Circuit) (ins outs : List ℕ) (n : ℕ)
+    → IsMoreBelow s lib top clock j ins outs → IsOnCycle (all_gates j) n → HasNet (flat_of s lib top).scopes n
+more_loop s lib top clock j ins outs n m cycle =
+    net_of (flat_of s lib top).scopes n
+    (loop_seen s lib top clock n m.refused (subst (λ (gs : List Gate). IsOnCycle gs n) m.thin.gates cycle))
+
+-- the leaf of the register or clock gate at a place
+abbrev AreClockedNamed : List Leaf → Circuit → Type 0
+AreClockedNamed found c = (place : ℕ) (q : Part) (pin : ℕ) → clock_of q ≡ Some pin → slice_get c.parts place ≡ Some q → HasLeafAt found c.parts place
+
+more_named : (s : Source) (lib : Library) (top : Module) (clock : Option (List ℕ)) (j : Circuit) (found : List Leaf) (ins outs : List ℕ) (f : CircuitFault)
+    → IsMoreBelow s lib top clock j ins outs → AreClockedNamed found j → IsCause (with_more j ins outs) f
+    → HasName found (flat_of s lib top) (with_more j ins outs) f
+more_named s lib top clock j found ins outs (fault.Undriven n) m named cause = more_read s lib top clock j ins outs n m cause.0 cause.1
+more_named s lib top clock j found ins outs (fault.ManyDrivers n) m named cause = more_twice s lib top clock j ins outs n m cause
+more_named s lib top clock j found ins outs (fault.Loop n) m named cause = more_loop s lib top clock j ins outs n m cause
+more_named s lib top clock j found ins outs (fault.NotTheClock place) m named cause =
+    let (q, pin, at, on, off) = cause in named place q pin on at
+more_named s lib top clock j found ins outs (fault.ClockAsData n) m named cause =
+    let (odd, reads, tree) = cause in more_data s lib top clock j ins outs n odd m reads tree
+more_named s lib top clock j found ins outs (fault.Limit kind number) m named cause = tt
+more_named s lib top clock j found ins outs fault.Memory m named cause = tt
 
 -- the law
 pub all_named : (s : Source) (lib : Library) (top : Module) → IsLawful s → IsLawfulLibrary lib.cells → IsLawfulModule s top → Contains s.modules top
-    → AreFine s lib (flat_of s lib top) → (clock : Option (List ℕ)) (k : Circuit) (f : CircuitFault)
-    → IsExtended (flat_of s lib top).scopes (circuit_of s lib top clock) k → IsCause k f → HasName s lib (flat_of s lib top) k f
-all_named s lib top lawful cells is there fine clock k f more cause =
+    → AreFine s lib (flat_of s lib top) → (clock : Option (List ℕ)) (items : List CutItem) (one : Bool) (j : FlatNetlist) (k : Circuit) (f : CircuitFault)
+    → IsJudged one (netlist_of (record { source = s; items = items }) lib top clock) j → IsExtended (flat_of s lib top).scopes j.circuit k → IsCause k f
+    → HasName j.found (flat_of s lib top) k f
+all_named s lib top lawful cells is there fine clock items one j k f judged more cause =
     let some : 1 ≤ length s.modules = omega (arith, there.1) in
-    let r : IsRefusedBelow s lib top clock = record {
-      known = record { whole = flat_whole s lib top some lawful is; fine = fine };
-      ports = ports_below s top clock is;
-      lawful = circuit_lawful s lib top lawful cells is fine clock;
+    let n : FlatNetlist = netlist_of (record { source = s; items = items }) lib top clock in
+    let m : IsMoreBelow s lib top clock j.circuit more.ins more.outs = record {
+      refused = record {
+        known = record { whole = flat_whole s lib top some lawful is; fine = fine };
+        ports = ports_below s top clock is;
+        lawful = circuit_lawful s lib top lawful cells is fine clock;
+      };
+      thin = judged_thin one n j judged;
+      nets = record { of_ins = more.ins_there; of_outs = more.outs_there };
     } in
-    subst (λ (x : Circuit). HasName s lib (flat_of s lib top) x f) (sym more.is)
-    (more_named s lib top clock more.ins more.outs f r (record { of_ins = more.ins_there; of_outs = more.outs_there })
-    (subst (λ (x : Circuit). IsCause x f) more.is cause))
+    let named : AreClockedNamed j.found j.circuit = λ place q pin on at.
+    judged_leaf one n j place q pin judged on at (λ here. clocked_named s lib top clock place q pin on here) in
+    subst (λ (x : Circuit). HasName j.found (flat_of s lib top) x f) (sym more.is)
+    (more_named s lib top clock j.circuit j.found more.ins more.outs f m named (subst (λ (x : Circuit). IsCause x f) more.is cause))

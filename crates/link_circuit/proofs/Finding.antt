@@ -20,7 +20,10 @@ use Rattle.link_design.proofs.Clocked.{position_some, position_none}
 use Rattle.link_defs.specs.declared.circuits.Circuit.{Circuit}
 use Rattle.link_defs.specs.declared.circuits.Part.{Part}
 use Rattle.link_defs.specs.declared.circuits.Part.TheVariants as part
-use Rattle.link_defs.specs.CellNames.{Leaf, leaves}
+use Rattle.link_defs.specs.CellNames.{Leaf}
+use Rattle.link_defs.specs.declared.cuts.CutSource.{CutSource}
+use Rattle.link_defs.specs.Judged.{FlatNetlist}
+use Rattle.linked_types.specs.declared.options.LinkOptions.{LinkOptions}
 use Rattle.link_defs.specs.Circuits.{OnTree, clock_of}
 use Rattle.link_defs.specs.Faults.{IsAboveLimit, HasManyDrivers, most_inputs}
 use Rattle.link_defs.specs.Faults as link
@@ -157,30 +160,30 @@ on_here clock parts x p is on =
     let hit : (elim (slice_get parts x.part) [ None ↦ false | Some q ↦ is_clocked clock q ]) ≡ is_clocked clock p = rw is refl in hit ∙ on_if clock p on
 
 -- a leaf on the clock of a register or a clock gate that a refusal speaks of
-pub leaf_there : (s : Source) (lib : Library) (flat : Flat) (c : Circuit) (places : List LeafPlace) (place clock : ℕ) (p : Part)
-    → AreLeavesAt lib c.parts places (leaves s lib flat) → slice_get c.parts place ≡ Some p → clock_of p ≡ Some clock
-    → HasName s lib flat c (circuit.NotTheClock place) → HasLeafOn c.parts places place
-leaf_there s lib flat c places place clock p all stands on (l, there, is) =
-    let (x, x_there, x_is) = place_of_leaf lib c.parts places (leaves s lib flat) l all (In-from_Contains (leaves s lib flat) l there) in
+pub leaf_there : (lib : Library) (found : List Leaf) (flat : Flat) (c : Circuit) (places : List LeafPlace) (place clock : ℕ) (p : Part)
+    → AreLeavesAt lib c.parts places found → slice_get c.parts place ≡ Some p → clock_of p ≡ Some clock
+    → HasName found flat c (circuit.NotTheClock place) → HasLeafOn c.parts places place
+leaf_there lib found flat c places place clock p all stands on (l, there, is) =
+    let (x, x_there, x_is) = place_of_leaf lib c.parts places found l all (In-from_Contains found l there) in
     let hit = on_here clock c.parts x p (x_is ∙ sym is ∙ stands) on in
     (p, clock, stands, on, (x, Contains-from_In places x x_there, hit))
 
 -- the leaf's name is a cause
-abbrev pub IsOffByName : Source → Library → Flat → Circuit → List ℕ → Type 0
-IsOffByName s lib flat c name =
-    (l : Leaf) × (clock : ℕ) × Contains (leaves s lib flat) l × (l.name ≡ name) × (clock_of l.part ≡ Some clock) × (OnTree c clock false → ⊥)
+abbrev pub IsOffByName : List Leaf → Circuit → List ℕ → Type 0
+IsOffByName found c name =
+    (l : Leaf) × (clock : ℕ) × Contains found l × (l.name ≡ name) × (clock_of l.part ≡ Some clock) × (OnTree c clock false → ⊥)
 
-pub off_named : (s : Source) (lib : Library) (flat : Flat) (c : Circuit) (places : List LeafPlace) (place : ℕ) (name : List ℕ)
-    → AreLeavesAt lib c.parts places (leaves s lib flat) → IsCause c (circuit.NotTheClock place) → IsNameOn c.parts places place name
-    → IsOffByName s lib flat c name
-off_named s lib flat c places place name all (p, clock, stands, clocked, off) (x, on, here, there, x_there, name_is, at_here, on_here, at_there, on_there) =
-    let (l, l_there, l_name, l_part) = leaf_of_place lib c.parts places (leaves s lib flat) x all (In-from_Contains places x x_there) in
+pub off_named : (lib : Library) (found : List Leaf) (c : Circuit) (places : List LeafPlace) (place : ℕ) (name : List ℕ)
+    → AreLeavesAt lib c.parts places found → IsCause c (circuit.NotTheClock place) → IsNameOn c.parts places place name
+    → IsOffByName found c name
+off_named lib found c places place name all (p, clock, stands, clocked, off) (x, on, here, there, x_there, name_is, at_here, on_here, at_there, on_there) =
+    let (l, l_there, l_name, l_part) = leaf_of_place lib c.parts places found x all (In-from_Contains places x x_there) in
     let same_part : p ≡ here = (let e = sym stands ∙ at_here in cc) in
     let same : clock ≡ on = (let e = sym clocked ∙ ap (λ (q : Part). clock_of q) same_part ∙ on_here in cc) in
     let part_is : l.part ≡ there = (let e = sym l_part ∙ at_there in cc) in (
       l,
       on,
-      Contains-from_In (leaves s lib flat) l l_there,
+      Contains-from_In found l l_there,
       sym l_name ∙ name_is,
       ap (λ (q : Part). clock_of q) part_is ∙ on_there,
       λ tree. off (subst (λ (n : ℕ). OnTree c n false) (sym same) tree),
@@ -190,27 +193,31 @@ off_named s lib flat c places place name all (p, clock, stands, clocked, off) (x
 pub module_is : (s : Source) (place : ℕ) (m : Module) → slice_get s.modules place ≡ Some m → m ≡ module_at s place
 module_is s place m at = sym (get_or_from_slice_get s.modules place m (record { name = []; ports = []; nets = []; items = [] }) at)
 
--- what a refusal of the circuit below a module speaks of has a name
-pub named_below : (s : Source) (lib : Library) (place : ℕ) (clock : Option (List ℕ)) (c : FlatCircuit) (f g : CircuitFault) → IsLawful s
-    → IsLawfulLibrary lib.cells → place < length s.modules → IsLeftBelow s lib (module_at s place) clock c
-    → AreFine s lib (flat_of s lib (module_at s place)) → IsCause c.circuit f → f ≡ g → HasName s lib (flat_of s lib (module_at s place)) c.circuit g
-named_below s lib place clock c f g lawful cells lt below fine cause same =
-    let top = module_at s place in
-    let (m, at) = some_at s.modules place lt in
-    let is = module_is s place m at in
-    let top_lawful : IsLawfulModule s top = subst (λ (t : Module). IsLawfulModule s t) is (lawful_at s lawful place m at) in
-    let there : Contains s.modules top = subst (λ (t : Module). Contains s.modules t) is (contains_at s.modules place m at) in
-    all_named s lib top lawful cells top_lawful there fine clock c.circuit g below.extended (subst (λ (h : CircuitFault). IsCause c.circuit h) same cause)
+-- what a refusal of the netlist that is judged speaks of has a name
+pub named_below : (s : CutSource) (lib : Library) (place : ℕ) (o : LinkOptions) (j : FlatNetlist) (c : FlatCircuit) (f g : CircuitFault)
+    → IsLawful s.source → IsLawfulLibrary lib.cells → place < length s.source.modules → IsLeftBelow s lib (module_at s.source place) o j c
+    → AreFine s.source lib (flat_of s.source lib (module_at s.source place)) → IsCause c.circuit f → f ≡ g
+    → HasName j.found (flat_of s.source lib (module_at s.source place)) c.circuit g
+named_below s lib place o j c f g lawful cells lt below fine cause same =
+    let top = module_at s.source place in
+    let (m, at) = some_at s.source.modules place lt in
+    let is = module_is s.source place m at in
+    let top_lawful : IsLawfulModule s.source top = subst (λ (t : Module). IsLawfulModule s.source t) is (lawful_at s.source lawful place m at) in
+    let there : Contains s.source.modules top =
+    subst (λ (t : Module). Contains s.source.modules t) is (contains_at s.source.modules place m at) in
+    all_named s.source lib top lawful cells top_lawful there fine o.clock s.items o.cut_clocks j c.circuit g below.judged below.extended
+    (subst (λ (h : CircuitFault). IsCause c.circuit h) same cause)
 
 -- the net is one of the instances'
-pub net_below : (s : Source) (lib : Library) (top : Module) (clock : Option (List ℕ)) (c : FlatCircuit) (n : ℕ) → IsLeftBelow s lib top clock c
-    → HasNet (flat_of s lib top).scopes n → HasNet (map (scope_of s) c.scopes) n
-net_below s lib top clock c n below has = subst (λ (xs : List Scope). HasNet xs n) (sym below.scopes) has
+pub net_below : (s : CutSource) (lib : Library) (top : Module) (o : LinkOptions) (j : FlatNetlist) (c : FlatCircuit) (n : ℕ)
+    → IsLeftBelow s lib top o j c → HasNet (flat_of s.source lib top).scopes n → HasNet (map (scope_of s.source) c.scopes) n
+net_below s lib top o j c n below has = subst (λ (xs : List Scope). HasNet xs n) (sym below.scopes) has
 
 -- a full name of the flat netlist
-pub name_below : (s : Source) (lib : Library) (top : Module) (clock : Option (List ℕ)) (c : FlatCircuit) (name : List ℕ) (n : ℕ) → IsLeftBelow s lib top clock c
-    → Contains (flat_map scope_names (map (scope_of s) c.scopes)) (name, n) → Contains (full_names (flat_of s lib top)) (name, n)
-name_below s lib top clock c name n below has =
+pub name_below : (s : CutSource) (lib : Library) (top : Module) (o : LinkOptions) (j : FlatNetlist) (c : FlatCircuit) (name : List ℕ) (n : ℕ)
+    → IsLeftBelow s lib top o j c → Contains (flat_map scope_names (map (scope_of s.source) c.scopes)) (name, n)
+    → Contains (full_names (flat_of s.source lib top)) (name, n)
+name_below s lib top o j c name n below has =
     let pair : List ℕ × ℕ = (name, n) in subst (λ (xs : List Scope). Contains (flat_map scope_names xs) pair) below.scopes has
 
 -- there are never more data inputs than a sound design may have

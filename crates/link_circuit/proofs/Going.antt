@@ -181,23 +181,23 @@ has_next s lib f x stack old whole at u =
 pub breaks : (s : Source) (lib : Library) (f : Frame) (x : Item) (stack : List Frame) (old : Flattened) (e : LinkFault)
     → slice_get (scope_at s old.scopes f.scope).body.items f.next ≡ Some x → IsRefused s lib (scope_at s old.scopes f.scope) x old.instances e
     → Breaks s lib f stack old e
-breaks s lib f x stack old e at (IsRefused.By_item cause) = λ whole u o top c.
+breaks s lib f x stack old e at (IsRefused.By_item cause) = λ whole u o top found c.
     let scope = scope_at s old.scopes f.scope in
     let here : Located = record { scope = scope; item = x; first = u.flat.count } in
-    cause whole o top c u.flat.count
+    cause whole o top found c u.flat.count
     (contains_more (with_item s lib scope x u.flat) whole here (has_next s lib f x stack old whole at u)
     (contains_at (u.flat.items ++ here ∷ []) (length u.flat.items) here (last_at u.flat.items here)))
-breaks s lib f x stack old e at (IsRefused.By_count is counts full) = λ whole u o top c.
+breaks s lib f x stack old e at (IsRefused.By_count is counts full) = λ whole u o top found c.
     let scope = scope_at s old.scopes f.scope in
     let here : Located = record { scope = scope; item = x; first = u.flat.count } in
     let one = ap (λ (b : Bool). cond {A = ℕ} b 1 0) counts in
     let more = count_more is_counted (with_item s lib scope x u.flat) whole (has_next s lib f x stack old whole at u) in
     let sum = sum_by_push (λ (y : Located). cond {A = ℕ} (is_counted y) 1 0) u.flat.items here in
-    subst (λ (b : LinkFault). IsFlatCause s lib o top whole c b) (sym is)
+    subst (λ (b : LinkFault). IsFlatCause s lib o top whole found c b) (sym is)
     (IsAboveLimit.Instances (omega (arith, one, more, sum, full, u.made_is.instances)))
-breaks s lib f x stack old e at (IsRefused.By_depth is counts deep) = λ whole u o top c.
+breaks s lib f x stack old e at (IsRefused.By_depth is counts deep) = λ whole u o top found c.
     let scope = scope_at s old.scopes f.scope in
     let here : Located = record { scope = scope; item = x; first = u.flat.count } in
-    subst (λ (b : LinkFault). IsFlatCause s lib o top whole c b) (sym is)
+    subst (λ (b : LinkFault). IsFlatCause s lib o top whole found c b) (sym is)
     (IsAboveLimit.Hierarchy here (contains_more (with_item s lib scope x u.flat) whole here (has_next s lib f x stack old whole at u)
     (contains_at (u.flat.items ++ here ∷ []) (length u.flat.items) here (last_at u.flat.items here))) counts deep)

@@ -9,6 +9,7 @@ pub mod Going
 pub mod Starting
 pub mod Chosen
 pub mod Tabled
+pub mod Thinned
 pub mod Scoped
 pub mod Kept
 pub mod Lawfully

@@ -515,16 +515,6 @@ data_seen s lib top clock n r has =
       | inr pin ↦ reads_known s lib top (flat_of s lib top) n r.known (data_reads (all_parts s lib top) n pin)
     ]
 
-const_driven : (s : Source) (lib : Library) (top : Module) (clock : Option (List ℕ)) (n : ℕ) → IsConst (gates_of (all_parts s lib top)) n
-    → Contains (all_drivers (circuit_of s lib top clock)) n
-unfolding circuit_of
-const_driven s lib top clock n (g, there, out, none) =
-    let gates = gates_of (all_parts s lib top) in
-    let before = bit_nets (clock_bits clock top) ++ bit_nets (data_bits clock top) ++ flat_map reg_nets (flat_map part_regs (all_parts s lib top)) in
-    let gated = gated_of (all_parts s lib top) in
-    let drives = subst (λ (m : ℕ). In m (gate_nets gates)) out (In-map (λ (g : Gate). g.out) g gates there) in
-    Contains-from_In (before ++ gate_nets gates ++ gated) n (In-left n (before ++ gate_nets gates) gated (In-right n before (gate_nets gates) drives))
-
 -- a gate that reads drives the net, or a clock gate does
 abbrev pub IsHandedOn : List Part → ℕ → Type 0
 IsHandedOn ps n = IsReader (gates_of ps) n ⊎ In n (gated_of ps)
@@ -543,7 +533,7 @@ tree_seen s lib top clock n odd r (net.Buffered from gates g even has g_there tr
     let gate = all_in (IsLawfulGate (flat_of s lib top).count (from ∷ [])) gates g is.drives (In-from_Contains gates g g_there) in
     let reads : In from g.ins = subst (λ (ns : List ℕ). In from ns) (sym gate.reads) (inl refl) in
     inr (inl (g, from, In-flat part_gates g p ps p_in (In-from_Contains gates g g_there), refl, reads))
-tree_seen s lib top clock n odd r (net.Gated from enables out even has tree) =
+tree_seen s lib top clock n odd r (net.Gated from enables out has tree) =
     let ps = all_parts s lib top in
     let p : Part = part.Gate from enables out in
     inr (inr (In-flat part_gated out p ps (In-from_Contains ps p has) (inl refl)))
@@ -565,12 +555,6 @@ loop_seen s lib top clock n r cycle =
     let reads = In-from_Contains g.ins n cycle.reads in
     let known = reads_known s lib top (flat_of s lib top) n r.known (gate_reads (flat_of s lib top).count ps g n r.lawful.parts there reads) in
     seen_of s lib top clock n r.known r.ports known (way_end (gates_of ps) g.out n g n there refl reads cycle.back)
-
-pub undriven_seen : (s : Source) (lib : Library) (top : Module) (clock : Option (List ℕ)) (n : ℕ)
-    → IsSeen (flat_of s lib top).scopes n ⊎ IsConst (gates_of (all_parts s lib top)) n
-    → (Contains (all_drivers (circuit_of s lib top clock)) n → ⊥) → IsSeen (flat_of s lib top).scopes n
-undriven_seen s lib top clock n (inl seen) undriven = seen
-undriven_seen s lib top clock n (inr const) undriven = absurd (undriven (const_driven s lib top clock n const))
 
 pub clocked_named : (s : Source) (lib : Library) (top : Module) (clock : Option (List ℕ)) (place : ℕ) (q : Part) (pin : ℕ) → clock_of q ≡ Some pin
     → slice_get (circuit_of s lib top clock).parts place ≡ Some q

@@ -6,7 +6,7 @@ use Rattle.cell_types.specs.declared.libraries.Library.{Library}
 use Rattle.link_defs.specs.declared.circuits.Circuit.{Circuit}
 use Rattle.linked_types.specs.declared.options.LinkOptions.{LinkOptions}
 use Rattle.linked_types.specs.declared.faults.LinkFault.{LinkFault}
-use Rattle.link_defs.specs.CellNames.{leaves}
+use Rattle.link_defs.specs.CellNames.{Leaf, leaves}
 use Rattle.link_defs.specs.Faults.{IsFlatCause, is_counted}
 use Rattle.link_defs.specs.Flatten.{Flat, Located, flat_of, numbers}
 use Rattle.link_defs.specs.Hierarchy.{IsRecursive}
@@ -45,7 +45,7 @@ IsUnrecursive s = (name : List ℕ) → IsRecursive s name → ⊥
 
 -- the refusal has its cause in a flat netlist, whatever is set from outside
 abbrev pub IsCauseIn : Source → Library → Flat → LinkFault → Type 0
-IsCauseIn s lib flat e = (o : LinkOptions) (top : Module) (c : Circuit) → IsFlatCause s lib o top flat c e
+IsCauseIn s lib flat e = (o : LinkOptions) (top : Module) (found : List Leaf) (c : Circuit) → IsFlatCause s lib o top flat found c e
 
 -- or in that below the module
 abbrev pub IsCauseBelow : Source → Library → Module → LinkFault → Type 0

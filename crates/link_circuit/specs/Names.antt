@@ -7,9 +7,12 @@ use Rattle.cell_types.specs.declared.libraries.Library.{Library}
 use Rattle.link_defs.specs.declared.circuits.Circuit.{Circuit}
 use Rattle.link_defs.specs.declared.circuits.Part.{Part}
 use Rattle.link_defs.specs.declared.circuits.Part.TheVariants as part
+use Rattle.link_defs.specs.declared.cuts.CutSource.{CutSource}
 use Rattle.link_defs.specs.Circuits.{circuit_of, clock_of}
 use Rattle.link_defs.specs.CellNames.{Leaf, leaves}
 use Rattle.link_defs.specs.Flatten.{Scope, Flat, flat_of}
+use Rattle.link_defs.specs.Judged.{FlatNetlist, IsJudged, netlist_of}
+use Rattle.linked_types.specs.declared.options.LinkOptions.{LinkOptions}
 use Rattle.link_items.specs.declared.made.Instance.{Instance}
 use Rattle.link_items.specs.declared.made.LeafPlace.{LeafPlace}
 use Rattle.link_items.specs.Items.{scope_of, AreLeavesAt}
@@ -23,14 +26,14 @@ abbrev pub HasNet : List Scope → ℕ → Type 0
 HasNet scopes net = (scope : Scope) × Contains scopes scope × Contains scope.nets net
 
 -- what the refusal speaks of has a full name: its net, or the register or clock gate at its place
-abbrev pub HasName : Source → Library → Flat → Circuit → CircuitFault → Type 0
-HasName s lib flat c (fault.Undriven net) = HasNet flat.scopes net
-HasName s lib flat c (fault.ManyDrivers net) = HasNet flat.scopes net
-HasName s lib flat c (fault.Loop net) = HasNet flat.scopes net
-HasName s lib flat c (fault.NotTheClock place) = (l : Leaf) × Contains (leaves s lib flat) l × (slice_get c.parts place ≡ Some l.part)
-HasName s lib flat c (fault.ClockAsData net) = HasNet flat.scopes net
-HasName s lib flat c (fault.Limit kind number) = Unit {0}
-HasName s lib flat c fault.Memory = Unit {0}
+abbrev pub HasName : List Leaf → Flat → Circuit → CircuitFault → Type 0
+HasName found flat c (fault.Undriven net) = HasNet flat.scopes net
+HasName found flat c (fault.ManyDrivers net) = HasNet flat.scopes net
+HasName found flat c (fault.Loop net) = HasNet flat.scopes net
+HasName found flat c (fault.NotTheClock place) = (l : Leaf) × Contains found l × (slice_get c.parts place ≡ Some l.part)
+HasName found flat c (fault.ClockAsData net) = HasNet flat.scopes net
+HasName found flat c (fault.Limit kind number) = Unit {0}
+HasName found flat c fault.Memory = Unit {0}
 
 -- a circuit with further data inputs and outputs after its own
 abbrev pub with_more : Circuit → List ℕ → List ℕ → Circuit
@@ -51,12 +54,13 @@ pub record IsCircuitBelow (s : Source) (lib : Library) (top : Module) (clock : O
   pub are_scopes : AreScopes s c.scopes
   pub leaves : AreLeavesAt lib c.circuit.parts c.leaves (leaves s lib (flat_of s lib top))
 
--- that circuit, or one with further data inputs and outputs
-pub record IsLeftBelow (s : Source) (lib : Library) (top : Module) (clock : Option (List ℕ)) (c : FlatCircuit) : Type 0 where
-  pub extended : IsExtended (flat_of s lib top).scopes (circuit_of s lib top clock) c.circuit
-  pub scopes : map (scope_of s) c.scopes ≡ (flat_of s lib top).scopes
-  pub are_scopes : AreScopes s c.scopes
-  pub leaves : AreLeavesAt lib c.circuit.parts c.leaves (leaves s lib (flat_of s lib top))
+-- the netlist below a module that is judged, or its circuit with further data inputs and outputs
+pub record IsLeftBelow (s : CutSource) (lib : Library) (top : Module) (o : LinkOptions) (j : FlatNetlist) (c : FlatCircuit) : Type 0 where
+  pub judged : IsJudged o.cut_clocks (netlist_of s lib top o.clock) j
+  pub extended : IsExtended (flat_of s.source lib top).scopes j.circuit c.circuit
+  pub scopes : map (scope_of s.source) c.scopes ≡ (flat_of s.source lib top).scopes
+  pub are_scopes : AreScopes s.source c.scopes
+  pub leaves : AreLeavesAt lib c.circuit.parts c.leaves j.found
 
 -- the net stands among these
 abbrev pub is_there : ℕ → List ℕ → Bool

@@ -1,9 +1,11 @@
 //! The refusals of a circuit by name.
-ghost use Rattle.std.specs.Prelude.{◌≡◌, ◌<◌, ◌≤◌, ℕ, Contains, Some, length, map, flat_map, IfOk};
+ghost use Rattle.std.specs.Prelude.{◌≡◌, ◌<◌, ◌≤◌, ℕ, List, Contains, Some, length, map, flat_map, IfOk};
 ghost use Rattle.link_design.specs.Faults.{IsCause};
+ghost use Rattle.link_defs.specs.declared.cuts.CutItem.{CutItem};
 ghost use Rattle.link_defs.specs.Circuits.{clock_of as clock_pin};
 ghost use Rattle.link_defs.specs.Faults.{IsFlatCause, most_inputs};
 ghost use Rattle.link_defs.specs.Flatten.{flat_of, scope_names};
+ghost use Rattle.link_defs.specs.Judged.{FlatNetlist};
 ghost use Rattle.link_items.specs.Items.{module_at, scope_of};
 ghost use Rattle.link_circuit.specs.Flats.{AreFine, AreScopes};
 ghost use Rattle.link_circuit.specs.Names.{HasNet, IsLeftBelow, IsNameOn, HasLeafOn};
@@ -63,8 +65,8 @@ fn reg_name(
     Ok(name)
 }
 
-/// The refusal of the circuit below the module at a place, or of it with further inputs and outputs, with the full name of what
-/// it speaks of: a net by its first name, a register or a clock gate that is not on the clock by the first one on the same net.
+/// The refusal of the netlist below the module at a place that is judged, or of its circuit with further inputs and outputs, with
+/// the full name of what it speaks of: a net by its first name, a register or a clock gate that is not on the clock by the first one on the same net.
 pub fn named_fault(
     alloc: Global,
     netlist: &Netlist,
@@ -74,13 +76,16 @@ pub fn named_fault(
     fault: CircuitFault,
 ) -> Result<LinkFault, AllocError>
     requires top { top < length netlist.now.source.now.modules }
-    requires circuit { IsLeftBelow netlist.now.source.now netlist.now.library.now (module_at netlist.now.source.now top) options.now.clock c.now }
+    requires circuit { (items : List CutItem) × (j : FlatNetlist) × IsLeftBelow (record { source = netlist.now.source.now; items = items })
+        netlist.now.library.now (module_at netlist.now.source.now top) options.now j c.now }
     requires fine { AreFine netlist.now.source.now netlist.now.library.now
         (flat_of netlist.now.source.now netlist.now.library.now (module_at netlist.now.source.now top)) }
     requires few { length c.now.circuit.inputs ≤ most_inputs options.now.wide }
     requires cause { IsCause c.now.circuit fault }
-    ensures { IfOk result (IsFlatCause netlist.now.source.now netlist.now.library.now options.now (module_at netlist.now.source.now top)
-        (flat_of netlist.now.source.now netlist.now.library.now (module_at netlist.now.source.now top)) c.now.circuit) }
+    ensures { IfOk result (λ f. (items : List CutItem) (j : FlatNetlist) → IsLeftBelow (record { source = netlist.now.source.now; items = items })
+        netlist.now.library.now (module_at netlist.now.source.now top) options.now j c.now
+        → IsFlatCause netlist.now.source.now netlist.now.library.now options.now (module_at netlist.now.source.now top)
+        (flat_of netlist.now.source.now netlist.now.library.now (module_at netlist.now.source.now top)) j.found c.now.circuit f) }
 {
     let scopes = &c.scopes;
     match fault {

@@ -15,7 +15,8 @@ use Rattle.link_defs.specs.Circuits.{all_drivers, all_reads}
 use Rattle.link_defs.specs.Cuts.{OwnedPin, owned_by, owned_pins, may_drive, stands_in, first_pins, is_loose, free_pins}
 use Rattle.link_cuts.specs.declared.frees.NetMarks.{NetMarks}
 use Rattle.link_cuts.specs.declared.places.PinPlace.{PinPlace}
-use Rattle.link_cuts.specs.Cutting.{cell_at, own_pin, pin_at, AreCellsBelow, IsInCells, IsRowOf, is_loose_by}
+use Rattle.link_clocks.specs.Netlists.{AreCellsBelow}
+use Rattle.link_cuts.specs.Cutting.{cell_at, own_pin, pin_at, IsInCells, IsRowOf, is_loose_by}
 use Rattle.link_cuts.proofs.Placed.{net_below}
 
 -- the pins that are loose, from a place on

@@ -12,7 +12,8 @@ use Rattle.link_defs.specs.declared.cuts.CutPin.{CutPin}
 use Rattle.link_defs.specs.declared.cuts.Way.TheVariants as way
 use Rattle.link_defs.specs.Cuts.{OwnedPin, owned_by, owned_pins, net_of, pin_name}
 use Rattle.link_cuts.specs.declared.places.PinPlace.{PinPlace}
-use Rattle.link_cuts.specs.Cutting.{cell_at, own_pin, pin_at, nets_at, AreCellsBelow, IsInCells}
+use Rattle.link_clocks.specs.Netlists.{AreCellsBelow}
+use Rattle.link_cuts.specs.Cutting.{cell_at, own_pin, pin_at, nets_at, IsInCells}
 
 -- the places so far are those of a cell's first pins, after the old ones
 pub record ArePlacesTo (cells : List CutCell) (old : List PinPlace) (cell k : ℕ) (places : List PinPlace) : Type 0 where

@@ -13,10 +13,6 @@ use Rattle.link_cuts.specs.declared.rows.CutRows.{CutRows}
 use Rattle.link_cuts.specs.declared.frees.NetMarks.{NetMarks}
 use Rattle.link_cuts.specs.declared.places.PinPlace.{PinPlace}
 
--- the nets on which the pins of cells stand are among so many
-abbrev pub AreCellsBelow : ℕ → List CutCell → Type 0
-AreCellsBelow nets cells = All (λ (x : CutCell). All (λ (p : CutPin). p.net < nets) x.pins) cells
-
 -- the cell at a place
 abbrev pub cell_at : List CutCell → ℕ → CutCell
 cell_at cells place = slice_index_or cells place (record { cell = []; name = []; clocked = false; pins = []; fault = None })

@@ -4,7 +4,8 @@ ghost use Rattle.link_defs.specs.Circuits.{all_drivers as spec_drivers, all_read
 ghost use Rattle.link_defs.specs.Cuts.{cut_circuit};
 ghost use Rattle.link_design.specs.Lawful.{IsLawfulCircuit};
 ghost use Rattle.link_design.specs.Trees.{tree_of};
-ghost use Rattle.link_cuts.specs.Cutting.{AreCellsBelow, IsCutOut, IsRowOf, with_nets};
+ghost use Rattle.link_clocks.specs.Netlists.{AreCellsBelow};
+ghost use Rattle.link_cuts.specs.Cutting.{IsCutOut, IsRowOf, with_nets};
 
 use crate::frees::{NetMarks, free_places};
 use crate::marks::row_of;

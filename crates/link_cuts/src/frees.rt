@@ -3,7 +3,8 @@ ghost use Rattle.std.specs.Prelude.{◌≡◌, ◌&&◌, not, [], length, map, f
 ghost use Rattle.sdcv_base.specs.Seqs.{is_marked as marked};
 ghost use Rattle.link_defs.specs.Cuts.{first_pins, may_drive as spec_may_drive, owned_by};
 ghost use Rattle.link_defs.specs.declared.cuts.CutCell.{CutCell as CellRecord};
-ghost use Rattle.link_cuts.specs.Cutting.{AreCellsBelow, IsInCells, is_loose_by, pin_at as spec_pin_at};
+ghost use Rattle.link_clocks.specs.Netlists.{AreCellsBelow};
+ghost use Rattle.link_cuts.specs.Cutting.{IsInCells, is_loose_by, pin_at as spec_pin_at};
 
 use crate::marks::is_marked;
 use crate::places::{PinPlace, pin_at};

@@ -15,6 +15,7 @@ use Rattle.link_defs.specs.Hierarchy.{cell_of, wires_of}
 use Rattle.netlist_types.specs.Lawful.{module_of}
 use Rattle.link_defs.specs.Flatten.{flat_of, add_scope, add_item, inst_nets, inner_nets, join_bits, top_scope}
 use Rattle.link_defs.specs.Parts.{inst_parts}
+use Rattle.link_defs.specs.CellNames.{leaves}
 use Rattle.link_defs.specs.Circuits.{circuit_of, all_drivers, Stay, Go_on}
 use Rattle.link_defs.specs.Faults.{IsFlatCause, Twice, Pin_open}
 use Rattle.link_defs.proofs.Worked.{conn, unconnected, port, comb, pin_0, pin_1}
@@ -35,7 +36,8 @@ source items = record { modules = top items ∷ [] }
 -- the source with these items is refused so
 abbrev IsRefused : List Item → LinkFault → Type 0
 IsRefused items f =
-    IsFlatCause (source items) builtin no_options (top items) (flat_of (source items) builtin (top items)) (circuit_of (source items) builtin (top items) None) f
+    IsFlatCause (source items) builtin no_options (top items) (flat_of (source items) builtin (top items))
+    (leaves (source items) builtin (flat_of (source items) builtin (top items))) (circuit_of (source items) builtin (top items) None) f
 
 abbrev inst : List ℕ → List ℕ → List Conn → Item
 inst cell name conns = item.Inst cell name conns

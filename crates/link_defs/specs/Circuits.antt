@@ -59,6 +59,14 @@ data_bits clock m = filter (λ (b : PortBit). not (is_clock clock b)) (input_bit
 abbrev pub clock_bits : Option (List ℕ) → Module → List PortBit
 clock_bits clock m = filter (is_clock clock) (input_bits m)
 
+-- its name, with its bus
+abbrev pub first_port : List PortBit → Option PortName
+first_port [] = None
+first_port (b ∷ bits) = Some b.port
+
+abbrev pub clock_port : Option (List ℕ) → Module → Option PortName
+clock_port clock m = first_port (clock_bits clock m)
+
 -- the nets of bits
 abbrev pub bit_nets : List PortBit → List ℕ
 bit_nets bits = map (λ (b : PortBit). b.net) bits
@@ -142,12 +150,13 @@ all_reads c = c.outputs ++ flat_map part_reads c.parts
 abbrev pub all_data : Circuit → List ℕ
 all_data c = c.outputs ++ flat_map part_data c.parts
 
--- the net is the clock's, or driven from it by buffers, inverters and clock gates alone; true after an odd number of inversions
+-- the net is the clock's, or driven from it by buffers, inverters and clock gates alone; true after an odd number of inversions. A clock
+-- gate carries on the clock as it comes, not its complement
 pub data OnTree (c : Circuit) : ℕ → Bool → Type 0 where
   Root : (net : ℕ) → Contains c.clocks net → OnTree c net false
   Buffered : (from : ℕ) (gates : List Gate) (g : Gate) (odd : Bool)
       → Contains c.parts (part.Comb true (from ∷ []) gates) → Contains gates g → OnTree c from odd → OnTree c g.out (xor odd (inverts g.func))
-  Gated : (clock : ℕ) (enables : List ℕ) (out : ℕ) (odd : Bool) → Contains c.parts (part.Gate clock enables out) → OnTree c clock odd → OnTree c out odd
+  Gated : (clock : ℕ) (enables : List ℕ) (out : ℕ) → Contains c.parts (part.Gate clock enables out) → OnTree c clock false → OnTree c out false
 
 -- a row that marks the nets of the clock tree
 abbrev pub IsTree : Circuit → List Bool → Type 0

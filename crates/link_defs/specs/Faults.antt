@@ -28,14 +28,15 @@ use Rattle.linked_types.specs.declared.faults.LinkFault.TheVariants as fault
 use Rattle.link_defs.specs.Hierarchy.{cell_of, is_modelled, wires_of, tops, IsRecursive}
 use Rattle.netlist_types.specs.Lawful.{module_of}
 use Rattle.link_defs.specs.Flatten.{Flat, Located, flat_of, full_names}
-use Rattle.link_defs.specs.Circuits.{PortBit, circuit_of, input_bits, output_bits, data_bits, clock_bits, regs_of, clock_of, all_gates, all_drivers}
+use Rattle.link_defs.specs.Circuits.{PortBit, input_bits, output_bits, data_bits, clock_bits, regs_of, clock_of, all_gates, all_drivers}
 use Rattle.link_defs.specs.Circuits.{all_reads, all_data, OnTree, IsTree, IsOnCycle}
 use Rattle.link_defs.specs.Designs.{equations, drivers_by}
 use Rattle.link_defs.specs.Above.{Under}
 use Rattle.link_defs.specs.GateOrders.{clock_parts}
 use Rattle.link_defs.specs.GatedDesigns.{Flop, flops_of}
 use Rattle.link_defs.specs.CellNames.{Leaf, leaves, out_pins, clock_pins}
-use Rattle.link_defs.specs.Cuts.{IsCut, cut_cells}
+use Rattle.link_defs.specs.Cuts.{IsCut}
+use Rattle.link_defs.specs.Judged.{FlatNetlist, IsJudged, netlist_of}
 
 -- an instance of the flat netlist: its reference, its full name and its connections
 pub record IsInstance (flat : Flat) (cell full : List ℕ) (conns : List Conn) : Type 0 where
@@ -102,8 +103,8 @@ abbrev pub bit_names : List PortBit → List (List ℕ)
 bit_names bits = map (λ (b : PortBit). b.port.name) bits
 
 -- the full names of cells, those that are cut out last
-abbrev pub cell_names_in : Source → Library → Flat → List CutCell → List (List ℕ)
-cell_names_in s lib flat cells = map (λ (l : Leaf). l.name) (leaves s lib flat) ++ map (λ (x : CutCell). x.name) cells
+abbrev pub cell_names_in : List Leaf → List CutCell → List (List ℕ)
+cell_names_in found cells = map (λ (l : Leaf). l.name) found ++ map (λ (x : CutCell). x.name) cells
 
 -- two cells, two port bits, or two nets that something drives or reads, with one full name
 pub data Clashes (s : Source) (lib : Library) (flat : Flat) (top : Module) (c : Circuit) (name : List ℕ) : Type 0 where
@@ -168,28 +169,28 @@ pub data IsBadSetting (top : Module) (o : LinkOptions) (name : List ℕ) : Type 
   No_input : Contains (set_names o) name → (Contains (bit_names (data_bits o.clock top)) name → ⊥) → IsBadSetting top o name
   Twice : StandsTwice (set_names o) name → IsBadSetting top o name
 
--- what a refusal says of the flat netlist below the top module
-abbrev pub IsFlatCause : Source → Library → LinkOptions → Module → Flat → Circuit → LinkFault → Type 0
-IsFlatCause s lib o top flat c (fault.UnknownCell cell) = (full : List ℕ) × (conns : List Conn) × IsInstance flat cell full conns
+-- what a refusal says of the flat netlist below the top module, of a circuit that is left of it and the leaves that are
+abbrev pub IsFlatCause : Source → Library → LinkOptions → Module → Flat → List Leaf → Circuit → LinkFault → Type 0
+IsFlatCause s lib o top flat found c (fault.UnknownCell cell) = (full : List ℕ) × (conns : List Conn) × IsInstance flat cell full conns
     × (module_of s cell ≡ None) × (cell_of lib cell ≡ None)
-IsFlatCause s lib o top flat c (fault.UnsupportedCell cell) =
-    (full : List ℕ) × (conns : List Conn) × (found : Cell) × IsOfCell s lib flat found full conns × (found.name ≡ cell) × (is_modelled found.kind ≡ false)
-IsFlatCause s lib o top flat c (fault.UnknownPin pin) = IsUnknownPin s lib flat pin
-IsFlatCause s lib o top flat c (fault.OpenInput pin) = IsOpenInput s lib flat pin
-IsFlatCause s lib o top flat c (fault.Undriven name) = (net : ℕ) × Contains (full_names flat) (name, net) × Contains (all_reads c) net
+IsFlatCause s lib o top flat found c (fault.UnsupportedCell cell) =
+    (full : List ℕ) × (conns : List Conn) × (x : Cell) × IsOfCell s lib flat x full conns × (x.name ≡ cell) × (is_modelled x.kind ≡ false)
+IsFlatCause s lib o top flat found c (fault.UnknownPin pin) = IsUnknownPin s lib flat pin
+IsFlatCause s lib o top flat found c (fault.OpenInput pin) = IsOpenInput s lib flat pin
+IsFlatCause s lib o top flat found c (fault.Undriven name) = (net : ℕ) × Contains (full_names flat) (name, net) × Contains (all_reads c) net
     × (Contains (all_drivers c) net → ⊥)
-IsFlatCause s lib o top flat c (fault.ManyDrivers name) = HasManyDrivers s lib flat c name
-IsFlatCause s lib o top flat c (fault.Loop name) = (net : ℕ) × Contains (full_names flat) (name, net) × IsOnCycle (all_gates c) net
-IsFlatCause s lib o top flat c (fault.NotTheClock name) =
-    (l : Leaf) × (clock : ℕ) × Contains (leaves s lib flat) l × (l.name ≡ name) × (clock_of l.part ≡ Some clock) × (OnTree c clock false → ⊥)
-IsFlatCause s lib o top flat c (fault.ClockAsData name) = (net : ℕ) × (odd : Bool) × Contains (full_names flat) (name, net)
+IsFlatCause s lib o top flat found c (fault.ManyDrivers name) = HasManyDrivers s lib flat c name
+IsFlatCause s lib o top flat found c (fault.Loop name) = (net : ℕ) × Contains (full_names flat) (name, net) × IsOnCycle (all_gates c) net
+IsFlatCause s lib o top flat found c (fault.NotTheClock name) =
+    (l : Leaf) × (clock : ℕ) × Contains found l × (l.name ≡ name) × (clock_of l.part ≡ Some clock) × (OnTree c clock false → ⊥)
+IsFlatCause s lib o top flat found c (fault.ClockAsData name) = (net : ℕ) × (odd : Bool) × Contains (full_names flat) (name, net)
     × Contains (all_data c) net × OnTree c net odd
-IsFlatCause s lib o top flat c (fault.NameClash name) = Clashes s lib flat top c name
-IsFlatCause s lib o top flat c (fault.Limit kind number) = IsAboveLimit o.wide s lib flat c kind number
-IsFlatCause s lib o top flat c (fault.BadSetting name) = IsBadSetting top o name
-IsFlatCause s lib o top flat c (fault.Recursive name) = IsRecursive s name
-IsFlatCause s lib o top flat c (fault.NoTop number) = ⊥
-IsFlatCause s lib o top flat c fault.Memory = Unit {0}
+IsFlatCause s lib o top flat found c (fault.NameClash name) = Clashes s lib flat top c name
+IsFlatCause s lib o top flat found c (fault.Limit kind number) = IsAboveLimit o.wide s lib flat c kind number
+IsFlatCause s lib o top flat found c (fault.BadSetting name) = IsBadSetting top o name
+IsFlatCause s lib o top flat found c (fault.Recursive name) = IsRecursive s name
+IsFlatCause s lib o top flat found c (fault.NoTop number) = ⊥
+IsFlatCause s lib o top flat found c fault.Memory = Unit {0}
 
 -- a constant is connected to an output of a cell that is cut out; or an output of one stands on a net that the circuit drives
 pub data IsCutDriver (flat : Flat) (c : Circuit) (cells : List CutCell) : List ℕ → Type 0 where
@@ -199,20 +200,22 @@ pub data IsCutDriver (flat : Flat) (c : Circuit) (cells : List CutCell) : List �
 
 -- what a refusal says of the cells that are cut out of a flat netlist: a connection to a port that isn't there, a second driver of a net, or
 -- the name of another cell
-abbrev pub IsCutCause : Source → Library → Flat → Circuit → List CutCell → LinkFault → Type 0
-IsCutCause s lib flat c cells (fault.UnknownPin name) =
+abbrev pub IsCutCause : Flat → List Leaf → Circuit → List CutCell → LinkFault → Type 0
+IsCutCause flat found c cells (fault.UnknownPin name) =
     (x : CutCell) × (pin : List ℕ) × Contains cells x × (x.fault ≡ Some (cut.Stray pin)) × (name ≡ pin_of x.name pin)
-IsCutCause s lib flat c cells (fault.ManyDrivers name) = IsCutDriver flat c cells name
-IsCutCause s lib flat c cells (fault.NameClash name) = StandsTwice (cell_names_in s lib flat cells) name
-IsCutCause s lib flat c cells e = ⊥
+IsCutCause flat found c cells (fault.ManyDrivers name) = IsCutDriver flat c cells name
+IsCutCause flat found c cells (fault.NameClash name) = StandsTwice (cell_names_in found cells) name
+IsCutCause flat found c cells e = ⊥
 
--- what a refusal says of the netlist below the top module: of what is left where these cells are cut out, or of these cells
+-- what a refusal says of a netlist that is judged: of what is left where its cells are cut out, or of these cells
+abbrev pub IsJudgedCause : CutSource → Library → LinkOptions → Module → FlatNetlist → LinkFault → Type 0
+IsJudgedCause s lib o top j f =
+    ((k : Circuit) → IsCut j.circuit j.cells k → IsFlatCause s.source lib o top (flat_of s.source lib top) j.found k f)
+    ⊎ IsCutCause (flat_of s.source lib top) j.found j.circuit j.cells f
+
+-- what a refusal says of the netlist below the top module
 abbrev pub IsCauseBelow : CutSource → Library → LinkOptions → Module → LinkFault → Type 0
-IsCauseBelow s lib o top f =
-    let flat = flat_of s.source lib top in
-    let c = circuit_of s.source lib top o.clock in
-    let cells = cut_cells s.items flat.scopes in
-    ((k : Circuit) → IsCut c cells k → IsFlatCause s.source lib o top flat k f) ⊎ IsCutCause s.source lib flat c cells f
+IsCauseBelow s lib o top f = (j : FlatNetlist) → IsJudged o.cut_clocks (netlist_of s lib top o.clock) j → IsJudgedCause s lib o top j f
 
 -- what a refusal says; want of memory alone is free
 abbrev pub IsCause : CutSource → Library → LinkOptions → LinkFault → Type 0

@@ -13,7 +13,7 @@ use Rattle.link_defs.specs.declared.circuits.Part.TheVariants as part
 use Rattle.link_defs.specs.Circuits.{part_gated, clock_of, all_data, OnTree, Gated}
 use Rattle.link_design.specs.Faults.{IsOffTheClock}
 use Rattle.link_design.specs.Made.{IsClocked}
-use Rattle.link_design.specs.Trees.{IsTreeRow, is_off, is_off_clock}
+use Rattle.link_design.specs.Trees.{IsWalked, IsTreeRow, is_off, is_off_clock}
 use Rattle.link_design.proofs.Parted.{all_in}
 
 place_here : {X : Type 0} (p : X → Bool) (x : X) (xs : List X) → p x ≡ true → position_or_len p (x ∷ xs) ≡ 0
@@ -78,18 +78,41 @@ on_parts true false e = (refl, refl)
 on_parts true true e = cc
 on_parts false b e = cc
 
+not_marked : (b : Bool) → b ≡ true → b ≡ false → ⊥
+not_marked b hit miss = cc
+
 -- a net that the rows show off the clock is not on it
-off_net : (c : Circuit) (tree odd : List Bool) (clock : ℕ) → IsTreeRow c tree odd → is_off tree odd clock ≡ true → OnTree c clock false → ⊥
-off_net c tree odd clock row off on =
-    let (hit, miss) = row.all clock false on in off_clash (is_marked tree clock) (is_marked odd clock) off hit miss
+off_net : (c : Circuit) (tree odd lost : List Bool) (clock : ℕ) → IsWalked c tree odd lost → is_off tree odd clock ≡ true → OnTree c clock false → ⊥
+off_net c tree odd lost clock row off on =
+    let (hit, miss, kept) = row.all clock false on in off_clash (is_marked tree clock) (is_marked odd clock) off hit miss
 
 -- a part that the rows show off the clock is a register or a clock gate off the clock
-pub off_cause : (c : Circuit) (tree odd : List Bool) (place : ℕ) (p : Part) → IsTreeRow c tree odd → slice_get c.parts place ≡ Some p
+pub off_cause : (c : Circuit) (tree odd lost : List Bool) (place : ℕ) (p : Part) → IsWalked c tree odd lost → slice_get c.parts place ≡ Some p
     → is_off_clock tree odd p ≡ true → IsOffTheClock c place
-off_cause c tree odd place (part.Comb buffer ins gates) row at off = cc
-off_cause c tree odd place (part.Flop clock reg) row at off = (part.Flop clock reg, clock, at, refl, off_net c tree odd clock row off)
-off_cause c tree odd place (part.Gate clock enables out) row at off =
-    (part.Gate clock enables out, clock, at, refl, off_net c tree odd clock row off)
+off_cause c tree odd lost place (part.Comb buffer ins gates) row at off = cc
+off_cause c tree odd lost place (part.Flop clock reg) row at off = (part.Flop clock reg, clock, at, refl, off_net c tree odd lost clock row off)
+off_cause c tree odd lost place (part.Gate clock enables out) row at off =
+    (part.Gate clock enables out, clock, at, refl, off_net c tree odd lost clock row off)
+
+kept_or : (c : Circuit) (tree odd lost : List Bool) (net : ℕ) (b : Bool) → is_marked lost net ≡ b → IsWalked c tree odd lost
+    → ((place : ℕ) (p : Part) → slice_get c.parts place ≡ Some p → is_off_clock tree odd p ≡ false) → is_marked tree net ≡ true
+    → is_marked lost net ≡ false
+kept_or c tree odd lost net false is row none hit = is
+kept_or c tree odd lost net true is row none hit =
+    let gate = row.lossy net hit is in
+    let (place, at) = at_contains c.parts (part.Gate gate.clock gate.enables gate.out) gate.stands in
+    let (below, even) = on_parts (is_marked tree gate.clock) (is_marked odd gate.clock) (none place (part.Gate gate.clock gate.enables gate.out) at) in
+    absurd (not_marked (is_marked odd gate.clock) gate.odd_is even)
+
+-- where no part is off the clock no net is lost: the nets below the clock are the clock tree
+pub row_is : (c : Circuit) (tree odd lost : List Bool) → IsWalked c tree odd lost
+    → ((place : ℕ) (p : Part) → slice_get c.parts place ≡ Some p → is_off_clock tree odd p ≡ false) → IsTreeRow c tree odd
+row_is c tree odd lost row none = record {
+  tree_len = row.tree_len;
+  odd_len = row.odd_len;
+  on = λ net hit. row.on net hit (kept_or c tree odd lost net (is_marked lost net) refl row none hit);
+  all = λ net inverted on. (let (hit, same, kept) = row.all net inverted on in (hit, same));
+}
 
 on_clock : (c : Circuit) (tree odd : List Bool) (clock : ℕ) → IsTreeRow c tree odd → is_off tree odd clock ≡ false → OnTree c clock false
 on_clock c tree odd clock row off = let (hit, miss) = on_parts (is_marked tree clock) (is_marked odd clock) off in
@@ -103,9 +126,6 @@ part_clocked c tree odd (part.Flop own reg) clock row off has =
     subst (λ (n : ℕ). OnTree c n false) (let same : own ≡ clock = cc in same) (on_clock c tree odd own row off)
 part_clocked c tree odd (part.Gate own enables out) clock row off has =
     subst (λ (n : ℕ). OnTree c n false) (let same : own ≡ clock = cc in same) (on_clock c tree odd own row off)
-
-not_marked : (b : Bool) → b ≡ true → b ≡ false → ⊥
-not_marked b hit miss = cc
 
 pub clocked_is : (c : Circuit) (tree odd : List Bool) → IsTreeRow c tree odd
     → ((place : ℕ) (p : Part) → slice_get c.parts place ≡ Some p → is_off_clock tree odd p ≡ false)
@@ -125,7 +145,7 @@ gated_part_on c (part.Gate clock enables out) n clocked stands (inl here) =
     let there = Contains-from_In c.parts (part.Gate clock enables out) stands in
     let (place, at) = at_contains c.parts (part.Gate clock enables out) there in
     subst (λ (m : ℕ). OnTree c m false) here
-    (Gated clock enables out false there (clocked.clocks place clock (part.Gate clock enables out) at refl))
+    (Gated clock enables out there (clocked.clocks place clock (part.Gate clock enables out) at refl))
 gated_part_on c (part.Gate clock enables out) n clocked stands (inr later) = absurd later
 
 -- and so is each net that a clock gate drives

@@ -1,4 +1,4 @@
--- The nets of the clock tree: what brings them onto it, and that each is on one branch.
+-- The nets below the clock: what brings them there, that each is on one branch, and which are the clock tree.
 use Rattle.std.proofs.Common.{◌≡◌, ◌≢◌, ℕ, ◌+◌, ◌≤◌, ◌==◌, Bool, true, false, ◌||◌, List, [], ◌∷◌, ◌++◌, length}
 use Rattle.std.proofs.Common.{refl, ap, subst, sym, ◌∙◌, arith, inl, inr}
 use Rattle.std.specs.Prelude.{Contains, Option, Some, slice_get, count_by, flat_map, ◌⊎◌}
@@ -35,6 +35,12 @@ pub any_same : (p q : ℕ → Bool) (xs : List ℕ) → ((n : ℕ) → In n xs �
 any_same p q [] same = refl
 any_same p q (x ∷ xs) same =
     ap (λ (b : Bool). b || list_any p xs) (same x (inl refl)) ∙ ap (λ (b : Bool). q x || b) (any_same p q xs (λ n has. same n (inr has)))
+
+-- where neither of two bits is set each is not
+neither : (a b : Bool) → (a || b) ≡ false → (a ≡ false) × (b ≡ false)
+neither false false e = (refl, refl)
+neither false true e = cc
+neither true b e = cc
 
 -- what a place has is one thing
 pub some_same : {X : Type 0} (o : Option X) (x y : X) → o ≡ Some x → o ≡ Some y → x ≡ y
@@ -124,20 +130,48 @@ buffer_is c lawful k g at marked =
       brings = λ odd before. Buffered from of.gates g odd stands (Contains-from_In of.gates g of.there) before;
     }
 
--- a net of a branch has its parity on the tree
-pub tree_of_branch : (c : Circuit) (net : ℕ) (b : Branch) → OnBranch c net b → OnTree c net b.odd
-tree_of_branch c net b (Rooted root has) = Root root has
-tree_of_branch c net b (AfterBuffer from gates g before stands there on) = Buffered from gates g before.odd stands there (tree_of_branch c from before on)
-tree_of_branch c net b (AfterGate clock enables out before stands on) = Gated clock enables out before.odd stands (tree_of_branch c clock before on)
+-- a net of a branch that is not lost has its parity on the tree
+pub tree_of_branch : (c : Circuit) (net : ℕ) (b : Branch) → OnBranch c net b → b.lost ≡ false → OnTree c net b.odd
+tree_of_branch c net b (Rooted root has) kept = Root root has
+tree_of_branch c net b (AfterBuffer from gates g before stands there on) kept =
+    Buffered from gates g before.odd stands there (tree_of_branch c from before on kept)
+tree_of_branch c net b (AfterGate clock enables out before stands on) kept =
+    let (before_kept, even) = neither before.lost before.odd kept in
+    let here : OnTree c clock false = subst (OnTree c clock) even (tree_of_branch c clock before on before_kept) in
+    subst (OnTree c out) (sym even) (Gated clock enables out stands here)
 
--- each net of the tree is on a branch with its parity
-pub branch_of_tree : (c : Circuit) (net : ℕ) (odd : Bool) → OnTree c net odd → (b : Branch) × OnBranch c net b × (b.odd ≡ odd)
-branch_of_tree c net odd (Root root has) = (root_branch, Rooted root has, refl)
+-- each net of the tree is on a branch with its parity that is not lost
+pub branch_of_tree : (c : Circuit) (net : ℕ) (odd : Bool) → OnTree c net odd → (b : Branch) × OnBranch c net b × (b.odd ≡ odd) × (b.lost ≡ false)
+branch_of_tree c net odd (Root root has) = (root_branch, Rooted root has, refl, refl)
 branch_of_tree c net odd (Buffered from gates g before stands there on) =
-    let (b, by, same) = branch_of_tree c from before on in
-    (past_buffer b g.func, AfterBuffer from gates g b stands there by, ap (λ (x : Bool). xor x (inverts g.func)) same)
-branch_of_tree c net odd (Gated clock enables out before stands on) =
-    let (b, by, same) = branch_of_tree c clock before on in (past_gate b out, AfterGate clock enables out b stands by, same)
+    let (b, by, same, kept) = branch_of_tree c from before on in
+    (past_buffer b g.func, AfterBuffer from gates g b stands there by, ap (λ (x : Bool). xor x (inverts g.func)) same, kept)
+branch_of_tree c net odd (Gated clock enables out stands on) =
+    let (b, by, even, kept) = branch_of_tree c clock false on in
+    (past_gate b out, AfterGate clock enables out b stands by, even, ap (λ (x : Bool). x || b.odd) kept ∙ even)
+
+-- a clock gate that is on a branch after an odd number of inversions
+pub record IsOnOdd (c : Circuit) : Type 0 where
+  pub clock : ℕ
+  pub enables : List ℕ
+  pub out : ℕ
+  pub before : Branch
+  pub stands : Contains c.parts (part.Gate clock enables out)
+  pub on : OnBranch c clock before
+  pub odd : before.odd ≡ true
+
+lost_or : (c : Circuit) (clock : ℕ) (enables : List ℕ) (out : ℕ) (before : Branch) (lost : Bool) → before.lost ≡ lost → (lost || before.odd) ≡ true
+    → Contains c.parts (part.Gate clock enables out) → OnBranch c clock before → (before.lost ≡ true → IsOnOdd c) → IsOnOdd c
+lost_or c clock enables out before true is hit stands on earlier = earlier is
+lost_or c clock enables out before false is hit stands on earlier =
+    record { clock = clock; enables = enables; out = out; before = before; stands = stands; on = on; odd = hit }
+
+-- such a one lost each net that is lost
+pub lost_by : (c : Circuit) (net : ℕ) (b : Branch) → OnBranch c net b → b.lost ≡ true → IsOnOdd c
+lost_by c net b (Rooted root has) lost = cc
+lost_by c net b (AfterBuffer from gates g before stands there on) lost = lost_by c from before on lost
+lost_by c net b (AfterGate clock enables out before stands on) lost =
+    lost_or c clock enables out before before.lost refl lost stands on (λ is. lost_by c clock before on is)
 
 -- each net below a clock gate, or below none, is on a branch with that
 pub branch_of_under : (c : Circuit) (net : ℕ) (up : Option ℕ) → Under c net up → (b : Branch) × OnBranch c net b × (b.above ≡ up)
@@ -208,7 +242,7 @@ gated_at c clock enables out stands =
 first_same : (x y : ℕ) → (x ∷ []) ≡ (y ∷ []) → x ≡ y
 first_same x y same = cc
 
--- a net of the tree is on one branch, as it has one driver
+-- a net is on one branch, as it has one driver
 pub one_branch : (c : Circuit) → IsLawfulCircuit c → ((net : ℕ) → count_by (λ m. m == net) (all_drivers c) ≤ 1)
     → (net : ℕ) (a b : Branch) → OnBranch c net a → OnBranch c net b → a ≡ b
 one_branch c lawful once net a b (Rooted root has) other = elim (brought_or c root b other) [

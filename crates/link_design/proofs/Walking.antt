@@ -1,4 +1,4 @@
--- Steps of a walk down the clock tree, and what it has come to at its end.
+-- Steps of a walk down from the clock, and what it has come to at its end.
 use Rattle.std.proofs.Common.{arith, ◌≡◌, ◌≢◌, ℕ, zero, suc, ◌+◌, ◌<◌, ◌≤◌, ◌==◌, Bool, true, false, List, [], ◌∷◌, ◌++◌, length, set, All, refl, sym, ap}
 use Rattle.std.proofs.Common.{◌∙◌, subst, inl, inr, take, get_or, get_or-set_same, get_or-set_other, length-set}
 use Rattle.std.specs.Prelude.{Contains, Option, Some, None, slice_get, count_by}
@@ -22,12 +22,12 @@ use Rattle.link_design.specs.declared.branches.Branch.{Branch}
 use Rattle.link_design.specs.Branches.{root_branch, past_buffer, past_gate, OnBranch, Rooted, AfterBuffer, AfterGate}
 use Rattle.link_design.specs.Lawful.{IsLawfulCircuit, IsLawfulPart, IsLawfulGate}
 use Rattle.link_design.specs.Readers.{HandsTo, readers_at, AreReaders}
-use Rattle.link_design.specs.Trees.{IsTreeRow}
+use Rattle.link_design.specs.Trees.{IsWalked}
 use Rattle.link_design.specs.Walks.{branch_of, reached, clock_reached, gate_reached, handed, IsReachable, AreRows, IsWalk, IsWalkTo}
 use Rattle.link_design.specs.declared.walks.Walk.{Walk}
 use Rattle.link_design.proofs.Parted.{all_in, all_from_in}
 use Rattle.link_design.proofs.Readings.{part_lawful, handed_on}
-use Rattle.link_design.proofs.Treed.{one_branch, branch_of_tree, branch_of_under, tree_of_branch, some_same}
+use Rattle.link_design.proofs.Treed.{one_branch, branch_of_tree, branch_of_under, tree_of_branch, lost_by, some_same}
 
 -- what each step keeps holds after all of them
 fold_kept : {A B : Type 0} (P : B → Type 0) (f : B → A → B) (xs : List A) (w : B) → ((x : A) → In x xs → (v : B) → P v → P (f v x)) → P w → P (fold f w xs)
@@ -72,40 +72,59 @@ place_kept (x ∷ xs) ys zero n at = at
 place_kept (x ∷ xs) ys (suc i) n at = place_kept xs ys i n at
 
 -- the branch that has these
-abbrev branch_with : Bool → Option ℕ → Branch
-branch_with odd above = record { odd = odd; above = above }
+abbrev branch_with : Bool → Option ℕ → Bool → Branch
+branch_with odd above lost = record { odd = odd; above = above; lost = lost }
 
 -- branches that have the same are one
-branch_same : (a b : Branch) → a.odd ≡ b.odd → a.above ≡ b.above → a ≡ b
-branch_same a b odd above = ap (λ (x : Bool). branch_with x a.above) odd ∙ ap (λ (x : Option ℕ). branch_with b.odd x) above
+branch_same : (a b : Branch) → a.odd ≡ b.odd → a.above ≡ b.above → a.lost ≡ b.lost → a ≡ b
+branch_same a b odd above lost =
+    ap (λ (x : Bool). branch_with x a.above a.lost) odd ∙ ap (λ (x : Option ℕ). branch_with b.odd x a.lost) above
+    ∙ ap (λ (x : Bool). branch_with b.odd b.above x) lost
+
+-- a walk with one more net, on this branch
+abbrev gone_on : ℕ → Branch → Walk → Walk
+gone_on net b w = record {
+  nets = w.nets ++ net ∷ [];
+  tree = set w.tree net true;
+  odd = set w.odd net b.odd;
+  above = set w.above net b.above;
+  lost = set w.lost net b.lost;
+}
+
+-- the net is on this branch then
+branch_now : (net : ℕ) (b : Branch) (w : Walk) → net < length w.odd → net < length w.above → net < length w.lost → branch_of (gone_on net b w) net ≡ b
+branch_now net b w in_odd in_above in_lost =
+    branch_same (branch_of (gone_on net b w) net) b (get_or-set_same w.odd net b.odd false in_odd) (get_or-set_same w.above net b.above None in_above)
+    (get_or-set_same w.lost net b.lost false in_lost)
+
+-- and each other net on the one that it was on
+branch_kept : (net : ℕ) (b : Branch) (w : Walk) (n : ℕ) → n ≢ net → branch_of (gone_on net b w) n ≡ branch_of w n
+branch_kept net b w n apart =
+    branch_same (branch_of (gone_on net b w) n) (branch_of w n) (get_or-set_other w.odd net n b.odd false apart)
+    (get_or-set_other w.above net n b.above None apart) (get_or-set_other w.lost net n b.lost false apart)
 
 -- a step onto a net of a branch
 reached_new : (c : Circuit) (net : ℕ) (b : Branch) (w : Walk) → net < c.nets → OnBranch c net b → IsWalk c w
-    → IsWalkFrom c w (record { nets = w.nets ++ net ∷ []; tree = set w.tree net true; odd = set w.odd net b.odd; above = set w.above net b.above })
+    → IsWalkFrom c w (gone_on net b w)
 reached_new c net b w below on walk =
     let in_tree : net < length w.tree = omega (arith, below, walk.tree_len) in
     let in_odd : net < length w.odd = omega (arith, below, walk.odd_len) in
     let in_above : net < length w.above = omega (arith, below, walk.above_len) in
+    let in_lost : net < length w.lost = omega (arith, below, walk.lost_len) in
     let now : is_marked (set w.tree net true) net ≡ true = get_or-set_same w.tree net true false in_tree in
-    let now_odd : is_marked (set w.odd net b.odd) net ≡ b.odd = get_or-set_same w.odd net b.odd false in_odd in
-    let now_above : get_or (set w.above net b.above) net None ≡ b.above = get_or-set_same w.above net b.above None in_above in
     let kept : (n : ℕ) → n ≢ net → is_marked (set w.tree net true) n ≡ is_marked w.tree n = λ n apart. get_or-set_other w.tree net n true false apart in
-    let kept_odd : (n : ℕ) → n ≢ net → is_marked (set w.odd net b.odd) n ≡ is_marked w.odd n = λ n apart.
-    get_or-set_other w.odd net n b.odd false apart in
-    let kept_above : (n : ℕ) → n ≢ net → get_or (set w.above net b.above) n None ≡ get_or w.above n None = λ n apart.
-    get_or-set_other w.above net n b.above None apart in
     let here : (n : ℕ) → n ≡ net → is_marked (set w.tree net true) n ≡ true = λ n same. ap (is_marked (set w.tree net true)) same ∙ now in
-    let new : Walk = record { nets = w.nets ++ net ∷ []; tree = set w.tree net true; odd = set w.odd net b.odd; above = set w.above net b.above } in
+    let new : Walk = gone_on net b w in
     record {
       walk = record {
         tree_len = length-set w.tree net true ∙ walk.tree_len;
         odd_len = length-set w.odd net b.odd ∙ walk.odd_len;
         above_len = length-set w.above net b.above ∙ walk.above_len;
+        lost_len = length-set w.lost net b.lost ∙ walk.lost_len;
         on = λ n hit. elim (cases_eq n net) [
           | inl same ↦ subst (λ (m : ℕ). OnBranch c m (branch_of new m)) (sym same)
-              (subst (OnBranch c net) (sym (branch_same (branch_of new net) b now_odd now_above)) on)
-          | inr apart ↦ subst (OnBranch c n) (sym (branch_same (branch_of new n) (branch_of w n) (kept_odd n apart) (kept_above n apart)))
-              (walk.on n (sym (kept n apart) ∙ hit))
+              (subst (OnBranch c net) (sym (branch_now net b w in_odd in_above in_lost)) on)
+          | inr apart ↦ subst (OnBranch c n) (sym (branch_kept net b w n apart)) (walk.on n (sym (kept n apart) ∙ hit))
         ];
         listed = λ n hit. elim (cases_eq n net) [
           | inl same ↦ Contains-append_right w.nets (net ∷ []) n (0, omega arith, sym same)
@@ -309,6 +328,7 @@ clocks_walk c w lawful none rows =
       tree_len = rows.tree_len;
       odd_len = rows.odd_len;
       above_len = rows.above_len;
+      lost_len = rows.lost_len;
       on = λ n hit. (let miss = rows.none n in cc);
       listed = λ n hit. (let miss = rows.none n in cc);
       met = λ i n at. (let here : slice_get [] i ≡ Some n = subst (λ (ns : List ℕ). slice_get ns i ≡ Some n) none at in cc);
@@ -349,17 +369,27 @@ branch_found c i w lawful once whole to net b on =
     let marked = branch_marked c i w whole to net b on in
     (marked, one_branch c lawful once net (branch_of w net) b (to.walk.on net marked) on)
 
--- the rows that are read are those of the clock tree
+-- the rows that are read are those of the nets below the clock
 pub tree_is : (c : Circuit) (i : ℕ) (w : Walk) → IsLawfulCircuit c → ((net : ℕ) → count_by (λ m. m == net) (all_drivers c) ≤ 1) → length w.nets ≤ i
-    → IsWalkTo c i w → IsTreeRow c w.tree w.odd
+    → IsWalkTo c i w → IsWalked c w.tree w.odd w.lost
 tree_is c i w lawful once whole to = record {
   tree_len = to.walk.tree_len;
   odd_len = to.walk.odd_len;
-  on = λ net marked. tree_of_branch c net (branch_of w net) (to.walk.on net marked);
+  on = λ net marked kept. tree_of_branch c net (branch_of w net) (to.walk.on net marked) kept;
   all = λ net odd on.
-      let (b, by, same) = branch_of_tree c net odd on in
+      let (b, by, same, kept) = branch_of_tree c net odd on in
       let (marked, found) = branch_found c i w lawful once whole to net b by in
-      (marked, ap (λ (x : Branch). x.odd) found ∙ same);
+      (marked, ap (λ (x : Branch). x.odd) found ∙ same, ap (λ (x : Branch). x.lost) found ∙ kept);
+  lossy = λ net marked is.
+      let gate = lost_by c net (branch_of w net) (to.walk.on net marked) is in
+      let (hit, found) = branch_found c i w lawful once whole to gate.clock gate.before gate.on in
+      record {
+        clock = gate.clock;
+        enables = gate.enables;
+        out = gate.out;
+        stands = gate.stands;
+        odd_is = ap (λ (x : Branch). x.odd) found ∙ gate.odd;
+      };
 }
 
 -- a place that a row marks is one of its places

@@ -1,4 +1,4 @@
--- A walk down the clock tree, from the clock's net on.
+-- A walk down from the clock's net.
 use Rattle.std.specs.Prelude.{◌≡◌, ℕ, ◌<◌, true, false, if◌then◌else◌, [], ◌∷◌, ◌++◌, length, Contains, Some, None, slice_get, slice_set, slice_index_or}
 use Rattle.std.specs.List.{fold}
 use Rattle.sdcv_base.specs.Seqs.{is_marked}
@@ -14,7 +14,7 @@ use Rattle.link_design.specs.Readers.{hands_from, HandsTo}
 
 -- the branch on which a walk has come to a net
 abbrev pub branch_of : Walk → ℕ → Branch
-branch_of w net = record { odd = is_marked w.odd net; above = slice_index_or w.above net None }
+branch_of w net = record { odd = is_marked w.odd net; above = slice_index_or w.above net None; lost = is_marked w.lost net }
 
 -- the walk comes to a net on a branch, unless it has come to it before
 abbrev pub reached : ℕ → Branch → Walk → Walk
@@ -25,6 +25,7 @@ reached net b w =
       tree = slice_set w.tree net true;
       odd = slice_set w.odd net b.odd;
       above = slice_set w.above net b.above;
+      lost = slice_set w.lost net b.lost;
     }
 
 -- to a net of the clock
@@ -51,13 +52,15 @@ pub record AreRows (nets : ℕ) (w : Walk) : Type 0 where
   pub tree_len : length w.tree ≡ nets
   pub odd_len : length w.odd ≡ nets
   pub above_len : length w.above ≡ nets
+  pub lost_len : length w.lost ≡ nets
   pub none : (net : ℕ) → is_marked w.tree net ≡ false
 
--- the nets of a walk are those that it has marked, each on its branch of the clock tree
+-- the nets of a walk are those that it has marked, each on its branch below the clock
 pub record IsWalk (c : Circuit) (w : Walk) : Type 0 where
   pub tree_len : length w.tree ≡ c.nets
   pub odd_len : length w.odd ≡ c.nets
   pub above_len : length w.above ≡ c.nets
+  pub lost_len : length w.lost ≡ c.nets
   pub on : (net : ℕ) → is_marked w.tree net ≡ true → OnBranch c net (branch_of w net)
   pub listed : (net : ℕ) → is_marked w.tree net ≡ true → Contains w.nets net
   pub met : (i net : ℕ) → slice_get w.nets i ≡ Some net → is_marked w.tree net ≡ true

@@ -1,4 +1,4 @@
-//! A branch of the clock tree.
+//! A branch below the clock.
 ghost use Rattle.std.specs.Prelude.{◌≡◌};
 ghost use Rattle.net_model.specs.Form.{IsOver};
 ghost use Rattle.link_defs.specs.Parts.{inverts};
@@ -6,12 +6,14 @@ ghost use Rattle.link_design.specs.Branches.{root_branch, past_buffer, past_gate
 
 use net_model::{Args, Func, Value};
 
-/// What a net of the clock tree has: whether the clock comes to it after an odd number of inversions, and the clock gate
-/// above it, if there is one, by the net that this drives.
+/// What a net below the clock has: whether the clock comes to it after an odd number of inversions, the clock gate above
+/// it, if there is one, by the net that this drives, and whether it is lost: a clock gate carries on the clock as it comes,
+/// and one of those above the net gets its complement. The nets that are not lost are the clock tree.
 #[derive(Clone, Copy)]
 pub(crate) struct Branch {
     pub(crate) odd: bool,
     pub(crate) above: Option<usize>,
+    pub(crate) lost: bool,
 }
 
 impl Branch {
@@ -22,6 +24,7 @@ impl Branch {
         Branch {
             odd: false,
             above: None,
+            lost: false,
         }
     }
 
@@ -33,6 +36,7 @@ impl Branch {
         Branch {
             odd: self.odd ^ inverts(func),
             above: self.above,
+            lost: self.lost,
         }
     }
 
@@ -43,6 +47,7 @@ impl Branch {
         Branch {
             odd: self.odd,
             above: Some(out),
+            lost: self.lost || self.odd,
         }
     }
 }

@@ -4,10 +4,10 @@ ghost use Rattle.sdcv_base.specs.Seqs.{is_marked as marked};
 ghost use Rattle.link_defs.specs.Circuits.{all_drivers};
 ghost use Rattle.link_defs.specs.Cuts.{IsTreeOf};
 ghost use Rattle.link_design.specs.Lawful.{IsLawfulCircuit};
-ghost use Rattle.link_design.specs.Trees.{is_even, tree_of};
+ghost use Rattle.link_design.specs.Trees.{is_left, tree_of};
 
 use crate::marks::is_marked;
-use crate::trees::{ClockTree, clock_tree};
+use crate::trees::clock_tree;
 use link_defs::Circuit;
 use sdcv_base::Seq;
 use std::alloc::{AllocError, Global};
@@ -26,23 +26,22 @@ pub fn clock_rows(alloc: Global, circuit: &Circuit) -> Result<ClockRows, AllocEr
     ensures { IfOk result (λ rows. IsTreeOf circuit.now (tree_of rows)) }
 {
     let clock = clock_tree(alloc, circuit)?;
-    let even = even_row(alloc, &clock)?;
-    Ok(ClockRows {
-        all: clock.tree,
-        even,
-    })
+    let all = row_without(alloc, &clock.tree, &clock.lost)?;
+    let even = row_without(alloc, &all, &clock.odd)?;
+    Ok(ClockRows { all, even })
 }
 
-/// Marks of the nets of the tree after an even number of inversions.
-fn even_row(alloc: Global, clock: &ClockTree) -> Result<Seq<bool>, AllocError>
-    ensures { IfOk result (λ row. (net : ℕ) → marked row net ≡ is_even clock.now.tree clock.now.odd net) }
+/// Marks of the nets that one row marks and the other does not.
+fn row_without(
+    alloc: Global,
+    marks: &Seq<bool>,
+    others: &Seq<bool>,
+) -> Result<Seq<bool>, AllocError>
+    ensures { IfOk result (λ row. (net : ℕ) → marked row net ≡ is_left marks.now others.now net) }
 {
-    let mut row = Seq::filled(alloc, false, clock.tree.len())?;
-    for net in 0..clock.tree.len() {
-        row.put(
-            net,
-            is_marked(&clock.tree, net) && !is_marked(&clock.odd, net),
-        );
+    let mut row = Seq::filled(alloc, false, marks.len())?;
+    for net in 0..marks.len() {
+        row.put(net, is_marked(marks, net) && !is_marked(others, net));
     }
     Ok(row)
 }

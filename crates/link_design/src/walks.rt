@@ -1,4 +1,4 @@
-//! A walk down the clock tree, net by net.
+//! A walk down from the clock, net by net.
 ghost use Rattle.std.specs.Prelude.{◌≡◌, ◌<◌, ◌+◌, [], length, All, IfOk, OnOk};
 ghost use Rattle.std.specs.List.{fold};
 ghost use Rattle.net_model.specs.Netlist.{AllBelow};
@@ -15,7 +15,8 @@ use sdcv_base::Seq;
 use std::alloc::{AllocError, Global};
 
 /// The nets that a walk has come to, each once in their order, and as rows over the nets: marks of those, marks of those of
-/// them after an odd number of inversions, and the clock gate above each of them, if there is one.
+/// them after an odd number of inversions, the clock gate above each of them, if there is one, and marks of those of them
+/// that are lost.
 ///
 /// What a walk does not know: how many of its nets have handed the clock on. Its caller goes through them in their order.
 #[derive(Drop)]
@@ -24,6 +25,7 @@ pub(crate) struct Walk {
     pub(crate) tree: Seq<bool>,
     pub(crate) odd: Seq<bool>,
     pub(crate) above: Seq<Option<usize>>,
+    pub(crate) lost: Seq<bool>,
 }
 
 impl Walk {
@@ -65,6 +67,7 @@ impl Walk {
         Branch {
             odd: is_marked(&self.odd, net),
             above: gate_above(&self.above, net),
+            lost: is_marked(&self.lost, net),
         }
     }
 
@@ -73,6 +76,7 @@ impl Walk {
         requires part { IsLawfulPart (length self.old.tree) part.now }
         requires odd { length self.old.odd ≡ length self.old.tree }
         requires above { length self.old.above ≡ length self.old.tree }
+        requires lost { length self.old.lost ≡ length self.old.tree }
         ensures { OnOk result (self.new ≡ handed branch self.old part.now) }
     {
         match part {
@@ -86,6 +90,7 @@ impl Walk {
         requires gates { All (IsReachable (length self.old.tree)) gates.now }
         requires odd { length self.old.odd ≡ length self.old.tree }
         requires above { length self.old.above ≡ length self.old.tree }
+        requires lost { length self.old.lost ≡ length self.old.tree }
         ensures { OnOk result (self.new ≡ fold (gate_reached branch) self.old gates.now) }
     {
         for gate in gates {
@@ -98,6 +103,7 @@ impl Walk {
         requires clocks { AllBelow (length self.old.tree) clocks.now }
         requires odd { length self.old.odd ≡ length self.old.tree }
         requires above { length self.old.above ≡ length self.old.tree }
+        requires lost { length self.old.lost ≡ length self.old.tree }
         ensures { OnOk result (self.new ≡ fold clock_reached self.old clocks.now) }
     {
         for net in clocks {
@@ -111,6 +117,7 @@ impl Walk {
         requires tree { net < length self.old.tree }
         requires odd { net < length self.old.odd }
         requires above { net < length self.old.above }
+        requires lost { net < length self.old.lost }
         ensures { OnOk result (self.new ≡ reached net branch self.old) }
     {
         if is_marked(&self.tree, net) {
@@ -120,6 +127,7 @@ impl Walk {
         self.tree.put(net, true);
         self.odd.put(net, branch.odd);
         self.above.put(net, branch.above);
+        self.lost.put(net, branch.lost);
         Ok(())
     }
 
@@ -133,6 +141,7 @@ impl Walk {
             tree: Seq::filled(alloc, false, nets)?,
             odd: Seq::filled(alloc, false, nets)?,
             above: Seq::filled(alloc, no_gate, nets)?,
+            lost: Seq::filled(alloc, false, nets)?,
         })
     }
 }

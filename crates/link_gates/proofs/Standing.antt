@@ -1,5 +1,5 @@
 -- What stands above the nets of the clock tree: for each of them one clock gate, or none.
-use Rattle.std.proofs.Common.{◌≡◌, ℕ, Bool, List, [], ◌∷◌, refl, ap, subst, sym}
+use Rattle.std.proofs.Common.{◌≡◌, ℕ, Bool, false, List, [], ◌∷◌, refl, ap, subst, sym}
 use Rattle.std.specs.Prelude.{Contains, Option, Some, None, flat_map}
 use Rattle.net_model.proofs.Members.{In}
 use Rattle.link_defs.specs.declared.circuits.Circuit.{Circuit}
@@ -44,8 +44,8 @@ pub tree_is_under : (c : Circuit) (n : ℕ) (odd : Bool) → net.OnTree c n odd 
 tree_is_under c n odd (net.Root clock has) = (None, Root clock has)
 tree_is_under c n odd (net.Buffered from gates g even stands there on) =
     let (up, under) = tree_is_under c from even on in (up, Buffered from gates g up stands there under)
-tree_is_under c n odd (net.Gated clock enables out even stands on) =
-    let (up, under) = tree_is_under c clock even on in (Some out, Behind clock enables out up stands under)
+tree_is_under c n odd (net.Gated clock enables out stands on) =
+    let (up, under) = tree_is_under c clock false on in (Some out, Behind clock enables out up stands under)
 
 -- the clock gate that drives a net is a part, and its clock pin stands below what is above it
 pub record IsGateAbove (c : Circuit) (out : ℕ) : Type 0 where

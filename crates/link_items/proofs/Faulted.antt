@@ -23,7 +23,7 @@ use Rattle.linked_types.specs.declared.faults.LinkFault.{LinkFault}
 use Rattle.linked_types.specs.declared.faults.LinkFault.TheVariants as fault
 use Rattle.link_defs.specs.Hierarchy.{cell_of, is_modelled}
 use Rattle.link_defs.specs.Flatten.{Flat, Scope}
-use Rattle.link_defs.specs.CellNames.{out_pins, clock_pins}
+use Rattle.link_defs.specs.CellNames.{Leaf, out_pins, clock_pins}
 use Rattle.link_defs.specs.Faults.{in_pins, all_pins, most_pins, IsFlatCause, IsInstance, IsOfModule, IsOfCell, IsOfModelled}
 use Rattle.link_defs.specs.Faults.{IsUnknownPin, IsOpenInput, HasManyDrivers, HasManyPins, IsAboveLimit}
 use Rattle.link_items.specs.Faults.{IsModuleFault, IsPinFault, IsCellFault, IsUnknownFault, IsInstFault, IsPrimFault, IsCopyFault, IsItemFault}
@@ -190,9 +190,9 @@ copy_fine (fault.BadSetting name) other bad = bad
 copy_fine fault.Memory other bad = other refl
 
 -- the causes of refusals of one item in a flat netlist
-module _ (s : Source) (lib : Library) (o : LinkOptions) (top : Module) (flat : Flat) (circuit : Circuit) where
+module _ (s : Source) (lib : Library) (o : LinkOptions) (top : Module) (flat : Flat) (found : List Leaf) (circuit : Circuit) where
   module_cause : (m : Module) (full : List ℕ) (conns : List Conn) → IsOfModule s flat m full conns → (e : LinkFault) → IsModuleFault m full conns e
-      → IsFlatCause s lib o top flat circuit e
+      → IsFlatCause s lib o top flat found circuit e
   module_cause m full conns of (fault.UnknownCell name) bad = absurd bad
   module_cause m full conns of (fault.UnsupportedCell name) bad = absurd bad
   module_cause m full conns of (fault.UnknownPin name) bad =
@@ -243,7 +243,7 @@ module _ (s : Source) (lib : Library) (o : LinkOptions) (top : Module) (flat : F
   many_pins cell full conns of what.Hierarchy number wide = absurd wide
 
   pins_cause : (cell : Cell) (full : List ℕ) (conns : List Conn) → IsOfModelled s lib flat cell full conns → (e : LinkFault) → IsPinFault cell full conns e
-      → IsFlatCause s lib o top flat circuit e
+      → IsFlatCause s lib o top flat found circuit e
   pins_cause cell full conns of (fault.UnknownCell name) bad = absurd bad
   pins_cause cell full conns of (fault.UnsupportedCell name) bad = absurd bad
   pins_cause cell full conns of (fault.UnknownPin name) bad =
@@ -265,7 +265,7 @@ module _ (s : Source) (lib : Library) (o : LinkOptions) (top : Module) (flat : F
   pins_cause cell full conns of fault.Memory bad = tt
 
   cell_cause : (cell : Cell) (full : List ℕ) (conns : List Conn) → IsOfCell s lib flat cell full conns → (e : LinkFault) → IsCellFault cell full conns e
-      → IsFlatCause s lib o top flat circuit e
+      → IsFlatCause s lib o top flat found circuit e
   cell_cause cell full conns of (fault.UnknownCell name) bad = pins_cause cell full conns (of, bad.0) (fault.UnknownCell name) bad.1
   cell_cause cell full conns of (fault.UnsupportedCell name) bad = (full, conns, cell, of, sym bad.0, bad.1)
   cell_cause cell full conns of (fault.UnknownPin name) bad = pins_cause cell full conns (of, bad.0) (fault.UnknownPin name) bad.1
@@ -283,7 +283,7 @@ module _ (s : Source) (lib : Library) (o : LinkOptions) (top : Module) (flat : F
   cell_cause cell full conns of fault.Memory bad = tt
 
   unknown_cause : (cell full : List ℕ) (conns : List Conn) → IsInstance flat cell full conns → module_of s cell ≡ None → cell_of lib cell ≡ None
-      → (e : LinkFault) → IsUnknownFault cell e → IsFlatCause s lib o top flat circuit e
+      → (e : LinkFault) → IsUnknownFault cell e → IsFlatCause s lib o top flat found circuit e
   unknown_cause cell full conns at no_module no_cell (fault.UnknownCell name) bad =
       let again = λ (n : List ℕ). let r : Type 0 = (full : List ℕ) × (conns : List Conn) × IsInstance flat n full conns × (module_of s n ≡ None) × (cell_of
       lib n ≡ None) in r in
@@ -304,7 +304,7 @@ module _ (s : Source) (lib : Library) (o : LinkOptions) (top : Module) (flat : F
   unknown_cause cell full conns at no_module no_cell fault.Memory bad = tt
 
   inst_cause : (cell full : List ℕ) (conns : List Conn) → IsInstance flat cell full conns → (m : Option Module) (c : Option Cell) → module_of s cell ≡ m
-      → cell_of lib cell ≡ c → (e : LinkFault) → IsInstFault m c cell full conns e → IsFlatCause s lib o top flat circuit e
+      → cell_of lib cell ≡ c → (e : LinkFault) → IsInstFault m c cell full conns e → IsFlatCause s lib o top flat found circuit e
   inst_cause cell full conns at (Some m) c m_is c_is e bad = module_cause m full conns (cell, at, m_is) e bad
   inst_cause cell full conns at None (Some c) m_is c_is e bad = cell_cause c full conns (cell, at, m_is, c_is) e bad
   inst_cause cell full conns at None None m_is c_is e bad = unknown_cause cell full conns at m_is c_is e bad
@@ -327,7 +327,7 @@ module _ (s : Source) (lib : Library) (o : LinkOptions) (top : Module) (flat : F
 
   prim_cause : (scope : Scope) (k : PrimKind) (own : Option (List ℕ)) (outs : List ℕ) (ins : List Wire) (first : ℕ)
       → Contains flat.items (record { scope = scope; item = item.Prim k own outs ins; first = first }) → (e : LinkFault) → IsPrimFault (length ins) e
-      → IsFlatCause s lib o top flat circuit e
+      → IsFlatCause s lib o top flat found circuit e
   prim_cause scope k own outs ins first has (fault.UnknownCell name) bad = absurd bad
   prim_cause scope k own outs ins first has (fault.UnsupportedCell name) bad = absurd bad
   prim_cause scope k own outs ins first has (fault.UnknownPin name) bad = absurd bad
@@ -344,7 +344,7 @@ module _ (s : Source) (lib : Library) (o : LinkOptions) (top : Module) (flat : F
   prim_cause scope k own outs ins first has (fault.BadSetting name) bad = absurd bad
   prim_cause scope k own outs ins first has fault.Memory bad = tt
 
-  copy_cause : (e : LinkFault) → IsCopyFault e → IsFlatCause s lib o top flat circuit e
+  copy_cause : (e : LinkFault) → IsCopyFault e → IsFlatCause s lib o top flat found circuit e
   copy_cause (fault.UnknownCell name) bad = absurd bad
   copy_cause (fault.UnsupportedCell name) bad = absurd bad
   copy_cause (fault.UnknownPin name) bad = absurd bad
@@ -362,7 +362,7 @@ module _ (s : Source) (lib : Library) (o : LinkOptions) (top : Module) (flat : F
   copy_cause fault.Memory bad = tt
 
   item_cause : (scope : Scope) (i : Item) (first : ℕ) → Contains flat.items (record { scope = scope; item = i; first = first }) → (e : LinkFault)
-      → IsItemFault s lib scope i e → IsFlatCause s lib o top flat circuit e
+      → IsItemFault s lib scope i e → IsFlatCause s lib o top flat found circuit e
   item_cause scope (item.Inst cell name conns) first has e bad =
       inst_cause cell (scope.prefix ++ name) conns (record {
         at = record { scope = scope; item = item.Inst cell name conns; first = first };
@@ -376,4 +376,4 @@ module _ (s : Source) (lib : Library) (o : LinkOptions) (top : Module) (flat : F
 
 -- a refusal of an item has its cause in each flat netlist that has the item
 pub cause_within : (s : Source) (lib : Library) (scope : Scope) (i : Item) (e : LinkFault) → IsItemFault s lib scope i e → IsCauseWithin s lib scope i e
-cause_within s lib scope i e bad = λ flat o top c first has. item_cause s lib o top flat c scope i first has e bad
+cause_within s lib scope i e bad = λ flat o top found c first has. item_cause s lib o top flat found c scope i first has e bad

@@ -19,7 +19,7 @@ use Rattle.linked_types.specs.declared.faults.LinkFault.{LinkFault}
 use Rattle.linked_types.specs.declared.faults.LinkFault.TheVariants as fault
 use Rattle.link_defs.specs.Hierarchy.{cell_of, is_modelled, wires_of}
 use Rattle.link_defs.specs.Flatten.{Flat, Scope}
-use Rattle.link_defs.specs.CellNames.{out_pins}
+use Rattle.link_defs.specs.CellNames.{Leaf, out_pins}
 use Rattle.link_defs.specs.Faults.{in_pins, all_pins, pin_of, most_pins, IsFlatCause}
 use Rattle.link_items.specs.Pins.{port_names}
 
@@ -109,5 +109,5 @@ IsFaultless s lib scope i = (e : LinkFault) → e ≢ fault.Memory → IsItemFau
 
 -- the refusal has its cause in each flat netlist that has the item
 abbrev pub IsCauseWithin : Source → Library → Scope → Item → LinkFault → Type 0
-IsCauseWithin s lib scope i e = (flat : Flat) (o : LinkOptions) (top : Module) (c : Circuit) (first : ℕ)
-    → Contains flat.items (record { scope = scope; item = i; first = first }) → IsFlatCause s lib o top flat c e
+IsCauseWithin s lib scope i e = (flat : Flat) (o : LinkOptions) (top : Module) (found : List Leaf) (c : Circuit) (first : ℕ)
+    → Contains flat.items (record { scope = scope; item = i; first = first }) → IsFlatCause s lib o top flat found c e

@@ -14,7 +14,7 @@ abbrev pub output_names : Names → List (List ℕ)
 output_names n = map (λ (p : PortName). p.name) n.outs ++ n.sinks
 
 -- the names of a design in which nothing is cut out and nothing is assumed
-abbrev pub whole_names : List CellName → List PortName → List PortName → List NetName → Option (List ℕ) → Names
+abbrev pub whole_names : List CellName → List PortName → List PortName → List NetName → Option PortName → Names
 whole_names cells ins outs nets clock = record {
   cells = cells;
   ins = ins;

@@ -78,7 +78,7 @@ pub struct Names {
     pub ins: Seq<PortName>,
     pub outs: Seq<PortName>,
     pub nets: Seq<NetName>,
-    pub clock: Option<Name>,
+    pub clock: Option<PortName>,
     pub free: Seq<Name>,
     pub sinks: Seq<Name>,
     pub cuts: Seq<CutName>,
@@ -93,7 +93,7 @@ impl Names {
         ins: Seq<PortName>,
         outs: Seq<PortName>,
         nets: Seq<NetName>,
-        clock: Option<Name>,
+        clock: Option<PortName>,
     ) -> Names
         ensures { result ≡ spec.whole_names cells ins outs nets clock }
     {

@@ -23,8 +23,8 @@ use Rattle.link_defs.specs.GatedDesigns.{enabled_drivers}
 use Rattle.link_defs.specs.Links.{source_count}
 use Rattle.linked_types.specs.Usable.{IsCellOf, is_reg}
 use Rattle.link_circuit.proofs.Lawfully.{all_none}
-use Rattle.net_link.specs.Places.{ArePlacesOf}
-use Rattle.net_link.proofs.Leafing.{IsShaped, leaf_regs, HasPart}
+use Rattle.net_link.specs.Places.{ArePlacesOf, IsShaped}
+use Rattle.net_link.proofs.Leafing.{leaf_regs, HasPart}
 use Rattle.net_link.proofs.Enabled.{IsKnown, regs_many}
 use Rattle.net_link.proofs.Roles.{leaf_good}
 

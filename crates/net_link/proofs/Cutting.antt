@@ -1,9 +1,12 @@
 -- The pins of cells that are cut out stand on nets of instances.
-use Rattle.std.proofs.Common.{◌≡◌, ℕ, ◌<◌, Bool, true, false, List, [], ◌∷◌, length, map, All, refl, ap, subst, sym, ◌∙◌, arith, inl, inr}
+use Rattle.std.proofs.Common.{◌≡◌, ℕ, ◌<◌, Bool, true, false, not, ◌&&◌, List, [], ◌∷◌, length, map, All, refl, ap, subst, sym, ◌∙◌, arith, inl, inr}
 use Rattle.std.specs.Prelude.{Contains, filter, flat_map, slice_index}
+use Rattle.std.specs.List.{list_any}
 use Rattle.std.specs.Str.{bytes_eq}
+use Rattle.std.proofs.lemmas.Bool.{and_parts, both_ways, not-true}
 use Rattle.std.proofs.lemmas.Option.{get_or_from_slice_get}
 use Rattle.std.proofs.lemmas.Slice.Eq.{bytes_eq-Decides}
+use Rattle.sdcv_base.specs.Seqs.{is_marked}
 use Rattle.net_model.proofs.Members.{In, from_flat, from_map, In-from_Contains, Contains-from_In}
 use Rattle.netlist_types.specs.declared.sources.Source.{Source}
 use Rattle.netlist_types.specs.declared.sources.Module.{Module}
@@ -12,7 +15,8 @@ use Rattle.link_defs.specs.declared.cuts.CutCell.{CutCell}
 use Rattle.link_defs.specs.declared.cuts.CutItem.{CutItem}
 use Rattle.link_defs.specs.declared.cuts.CutPin.{CutPin}
 use Rattle.link_defs.specs.Cuts.{Tree, OwnedPin, IsFitItem, cell_in, cells_in, cut_cells, pin_in, owned_by, owned_pins, net_of, is_loose, first_pins}
-use Rattle.link_defs.specs.Cuts.{stands_in, free_nets, free_pins, is_sink, sink_pins}
+use Rattle.link_defs.specs.Circuits.{all_drivers, all_reads}
+use Rattle.link_defs.specs.Cuts.{stands_in, may_drive, free_nets, free_pins, is_clocked, is_sink, reads_data, sink_pins}
 use Rattle.link_defs.specs.Flatten.{Scope}
 use Rattle.link_items.specs.declared.made.Instance.{Instance}
 use Rattle.link_items.specs.Items.{scope_of}
@@ -23,8 +27,9 @@ use Rattle.link_circuit.specs.Flats.{IsScope, AreScopes}
 use Rattle.link_circuit.specs.Names.{HasNet}
 use Rattle.link_circuit.proofs.Finding.{module_is}
 use Rattle.link_circuit.proofs.Placing.{IsWithin}
-use Rattle.link_cuts.specs.Cutting.{AreCellsBelow}
+use Rattle.link_clocks.specs.Netlists.{AreCellsBelow}
 use Rattle.link_cuts.specs.Groups.{IsPlaced}
+use Rattle.link_cuts.proofs.Checked.{stands_there, there_stands}
 
 -- what is left of a list stands in it and passes
 filter_or : {X : Type 0} (p : X → Bool) (y : X) (ys : List X) (x : X) (b : Bool) → p y ≡ b → (In x (filter p ys) → In x ys × (p x ≡ true))
@@ -109,27 +114,40 @@ in_first : (seen : List ℕ) (qs : List OwnedPin) (p : OwnedPin) → In p (first
 in_first seen [] p has = has
 in_first seen (q ∷ qs) p has = first_or seen q qs p (stands_in seen q.pin.net) refl (λ more. in_first more qs p) has
 
-owned_seen : (scopes : List Scope) (cells : List CutCell) (p : OwnedPin) → AreSeen scopes cells → In p (flat_map owned_pins cells) → HasNet scopes (net_of p)
-owned_seen scopes cells p seen has =
-    let (x, x_in, p_in) = from_flat owned_pins p cells has in
-    let (q, q_in, same) = from_map (owned_by x) p x.pins p_in in
-    subst (λ (y : OwnedPin). HasNet scopes (net_of y)) same (seen x q x_in q_in)
+-- a net that is free is read and not driven
+loose_seen : (c : Circuit) (scopes : List Scope) (p : OwnedPin)
+    → ((net : ℕ) → Contains (all_reads c) net → (Contains (all_drivers c) net → ⊥) → HasNet scopes net) → is_loose c p ≡ true → HasNet scopes (net_of p)
+loose_seen c scopes p undriven loose =
+    let net = p.pin.net in
+    let read = stands_in (all_reads c) net in
+    let driven = stands_in (all_drivers c) net in
+    let (may, rest) = and_parts (may_drive p.pin.way) (read && not driven) loose in
+    let (reads, off) = and_parts read (not driven) rest in
+    undriven net (Contains-from_In (all_reads c) net (stands_there net (all_reads c) reads)) (λ has.
+    both_ways driven (not-true driven off) (there_stands net (all_drivers c) (In-from_Contains (all_drivers c) net has)))
 
--- free nets are nets of instances
-pub free_seen : (c : Circuit) (scopes : List Scope) (cells : List CutCell) → AreSeen scopes cells → (net : ℕ)
-    → Contains (free_nets c cells) net → HasNet scopes net
-free_seen c scopes cells seen = λ net has.
+-- free nets are nets of instances, where those are that are read and not driven
+pub free_seen : (c : Circuit) (scopes : List Scope) (cells : List CutCell)
+    → ((net : ℕ) → Contains (all_reads c) net → (Contains (all_drivers c) net → ⊥) → HasNet scopes net)
+    → (net : ℕ) → Contains (free_nets c cells) net → HasNet scopes net
+free_seen c scopes cells undriven = λ net has.
     let (p, p_in, same) = from_map net_of net (free_pins c cells) (In-from_Contains (free_nets c cells) net has) in
     let (there, loose) = in_filter (is_loose c) (flat_map owned_pins cells) p (in_first [] (filter (is_loose c) (flat_map owned_pins cells)) p p_in) in
-    subst (λ (n : ℕ). HasNet scopes n) same (owned_seen scopes cells p seen there)
+    subst (λ (n : ℕ). HasNet scopes n) same (loose_seen c scopes p undriven loose)
 
--- so are the nets of sinks
-pub sinks_seen : (c : Circuit) (t : Tree) (scopes : List Scope) (cells : List CutCell) → AreSeen scopes cells → (net : ℕ)
-    → Contains (map net_of (sink_pins c t cells)) net → HasNet scopes net
-sinks_seen c t scopes cells seen = λ net has.
+-- so are the nets of sinks, where those are on which a cell on the clock stands
+pub sinks_seen : (c : Circuit) (t : Tree) (scopes : List Scope) (cells : List CutCell)
+    → ((x : CutCell) (p : CutPin) → Contains cells x → x.clocked ≡ true → Contains x.pins p → HasNet scopes p.net)
+    → (net : ℕ) → Contains (map net_of (sink_pins c t cells)) net → HasNet scopes net
+sinks_seen c t scopes cells clocked = λ net has.
     let (p, p_in, same) = from_map net_of net (sink_pins c t cells) (In-from_Contains (map net_of (sink_pins c t cells)) net has) in
     let (there, sinks) = in_filter (is_sink c t (free_nets c cells)) (flat_map owned_pins cells) p p_in in
-    subst (λ (n : ℕ). HasNet scopes n) same (owned_seen scopes cells p seen there)
+    let (x, x_in, own) = from_flat owned_pins p cells there in
+    let (q, q_in, is) = from_map (owned_by x) p x.pins own in
+    let (on, reads) = and_parts (is_clocked t p.cell) (reads_data c t (free_nets c cells) p.pin) sinks in
+    let (captures, any) = and_parts p.cell.clocked (list_any (λ (z : CutPin). is_marked t.even z.net) p.cell.pins) on in
+    subst (λ (n : ℕ). HasNet scopes n) (ap (λ (y : OwnedPin). net_of y) is ∙ same)
+    (clocked x q (Contains-from_In cells x x_in) (ap (λ (y : OwnedPin). y.cell.clocked) is ∙ captures) (Contains-from_In x.pins q q_in))
 
 -- instances are placed
 pub placed_all : (s : Source) (scopes : List Instance) → AreScopes s scopes → All (IsPlaced s) scopes

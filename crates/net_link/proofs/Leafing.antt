@@ -25,6 +25,7 @@ use Rattle.link_defs.specs.declared.circuits.Part.TheVariants as part
 use Rattle.link_defs.specs.Circuits.{part_regs}
 use Rattle.link_defs.specs.CellNames.{Leaf, last_part, leaf_if_any, leaves_of}
 use Rattle.link_defs.specs.Flatten.{Scope, Located}
+use Rattle.link_defs.specs.GatedDesigns.{Flop, part_flop}
 use Rattle.link_defs.specs.Hierarchy.{cell_of, wires_of}
 use Rattle.link_defs.specs.Parts.{ties, pin_ties, bit_ties, cell_ties, cell_part, inst_parts, item_parts, parts_of, wire_nets, wire_net, prim_gate}
 use Rattle.link_defs.specs.Parts.{is_buffer_prim, outs_from}
@@ -33,49 +34,34 @@ use Rattle.link_items.specs.Items.{AreLeavesAt, IsLeafAt, IsCellAt}
 use Rattle.link_items.specs.Cells.{comb_part, flop_part, flop_ties, gate_part, gate_ties}
 use Rattle.link_items.proofs.Listing.{contains_at, with_none}
 use Rattle.link_circuit.proofs.Lawfully.{length_pin_nets, all_none}
-use Rattle.net_link.specs.Places.{cell_at, leaf_at}
+use Rattle.net_link.specs.Places.{cell_at, leaf_at, IsShaped, leaf_flop, AreLeavesOf}
 
 -- the register of a leaf, if it is one
 abbrev pub leaf_regs : Leaf → List Reg
 leaf_regs l = part_regs l.part
 
--- how many input pins a part reads
-abbrev pub part_pins : Part → ℕ
-part_pins (part.Comb buffer ins gates) = length ins
-part_pins (part.Flop clock reg) = length reg.ins
-part_pins (part.Gate clock enables out) = length enables
-
--- the part of a leaf has the input pins of its cell, and no others
-pub record IsShaped (l : Leaf) : Type 0 where
-  pub pins : (c : Cell) → l.cell ≡ Some c → part_pins l.part ≡ length c.inputs
-
--- leaves have the registers of parts
-pub record AreLeavesOf (parts : List Part) (ls : List Leaf) : Type 0 where
-  pub regs : flat_map part_regs parts ≡ flat_map leaf_regs ls
-  pub shaped : All IsShaped ls
-
-ties_none : (ws : List Wire) (own : ℕ) → flat_map part_regs (ties own ws) ≡ []
+ties_none : (ws : List Wire) (own : ℕ) → flat_map part_flop (ties own ws) ≡ []
 ties_none [] own = refl
 ties_none (wire.Const b ∷ ws) own = ties_none ws (own + 1)
 ties_none (wire.Net n ∷ ws) own = ties_none ws (own + 1)
 
-none_both : (ps qs : List Part) → flat_map part_regs ps ≡ [] → flat_map part_regs qs ≡ [] → flat_map part_regs (ps ++ qs) ≡ []
+none_both : (ps qs : List Part) → flat_map part_flop ps ≡ [] → flat_map part_flop qs ≡ [] → flat_map part_flop (ps ++ qs) ≡ []
 none_both ps qs first second =
-    flat_map-append part_regs ps qs ∙ ap (λ (rs : List Reg). rs ++ flat_map part_regs qs) first ∙ second
+    flat_map-append part_flop ps qs ∙ ap (λ (rs : List Flop). rs ++ flat_map part_flop qs) first ∙ second
 
-pin_ties_none : (conns : List Conn) (pins : List (List ℕ)) (own : ℕ) → flat_map part_regs (pin_ties conns own pins) ≡ []
+pin_ties_none : (conns : List Conn) (pins : List (List ℕ)) (own : ℕ) → flat_map part_flop (pin_ties conns own pins) ≡ []
 pin_ties_none conns [] own = refl
 pin_ties_none conns (pin ∷ pins) own =
     none_both (ties own (wires_of conns pin)) (pin_ties conns (own + 1) pins) (ties_none (wires_of conns pin) own) (pin_ties_none conns pins (own + 1))
 
-bit_ties_none : (first : ℕ) (bits : List ℕ) (ws : List Wire) → flat_map part_regs (bit_ties first bits ws) ≡ []
+bit_ties_none : (first : ℕ) (bits : List ℕ) (ws : List Wire) → flat_map part_flop (bit_ties first bits ws) ≡ []
 bit_ties_none first [] ws = refl
 bit_ties_none first (bit ∷ bits) [] = refl
 bit_ties_none first (bit ∷ bits) (w ∷ ws) =
     none_both (ties (first + bit) (w ∷ [])) (bit_ties first bits ws) (ties_none (w ∷ []) (first + bit)) (bit_ties_none first bits ws)
 
 port_ties_none : (first : ℕ) (conns : List Conn) (ports : List Port)
-    → flat_map part_regs (flat_map (λ (p : Port). bit_ties first p.bits (wires_of conns p.name)) ports) ≡ []
+    → flat_map part_flop (flat_map (λ (p : Port). bit_ties first p.bits (wires_of conns p.name)) ports) ≡ []
 port_ties_none first conns [] = refl
 port_ties_none first conns (p ∷ ps) =
     none_both (bit_ties first p.bits (wires_of conns p.name)) (flat_map (λ (p : Port). bit_ties first p.bits (wires_of conns p.name)) ps)
@@ -87,19 +73,19 @@ last_is (x ∷ []) p = refl
 last_is (x ∷ y ∷ ys) p = last_is (y ∷ ys) p
 
 -- constants and a part: the leaf has the part's register
-one_leaf : (front : List Part) (p : Part) (full : List ℕ) (cell : Option Cell) → flat_map part_regs front ≡ []
+one_leaf : (front : List Part) (p : Part) (full : List ℕ) (cell : Option Cell) → flat_map part_flop front ≡ []
     → IsShaped (record { name = full; cell = cell; part = p }) → AreLeavesOf (front ++ p ∷ []) (leaf_if_any full cell (last_part (front ++ p ∷ [])))
 one_leaf front p full cell none shaped =
     let leaf : Leaf = record { name = full; cell = cell; part = p } in
     rw (last_is front p) (record {
-      regs = flat_map-append part_regs front (p ∷ []) ∙ ap (λ (rs : List Reg). rs ++ flat_map part_regs (p ∷ [])) none;
+      flops = flat_map-append part_flop front (p ∷ []) ∙ ap (λ (rs : List Flop). rs ++ flat_map part_flop (p ∷ [])) none;
       shaped = All-cons IsShaped leaf [] shaped (all_none IsShaped);
     })
 
 -- constants and a part without a register, which is no leaf
-no_leaf : (front : List Part) (p : Part) → flat_map part_regs front ≡ [] → part_regs p ≡ [] → AreLeavesOf (front ++ p ∷ []) []
+no_leaf : (front : List Part) (p : Part) → flat_map part_flop front ≡ [] → part_flop p ≡ [] → AreLeavesOf (front ++ p ∷ []) []
 no_leaf front p none comb = record {
-  regs = none_both front (p ∷ []) none (with_none (part_regs p) ∙ comb);
+  flops = none_both front (p ∷ []) none (with_none (part_flop p) ∙ comb);
   shaped = all_none IsShaped;
 }
 
@@ -146,7 +132,7 @@ cell_leaves_are nets conns first full c (kind.Gate g) is =
 cell_leaves_are nets conns first full c (kind.Other o) is =
     let none : cell_ties conns first c ++ cell_part nets conns first c ≡ [] = rw is refl in
     subst (λ (ps : List Part). AreLeavesOf ps (leaf_if_any full (Some c) (last_part ps))) (sym none)
-    (record { regs = refl; shaped = all_none IsShaped })
+    (record { flops = refl; shaped = all_none IsShaped })
 
 -- the parts of an instance
 abbrev found_parts : List ℕ → List Conn → ℕ → Option Module → Option Cell → List Part
@@ -162,13 +148,13 @@ inst_leaves : (nets : List ℕ) (conns : List Conn) (first : ℕ) (full : List �
       | None ↦ elim owned [ None ↦ [] | Some c ↦ leaf_if_any full (Some c) (last_part parts) ]
     ])
 inst_leaves nets conns first full (Some m) owned parts is =
-    subst (λ (ps : List Part). AreLeavesOf ps []) (sym is) (record { regs = port_ties_none first conns m.ports; shaped = all_none IsShaped })
+    subst (λ (ps : List Part). AreLeavesOf ps []) (sym is) (record { flops = port_ties_none first conns m.ports; shaped = all_none IsShaped })
 inst_leaves nets conns first full None None parts is =
-    subst (λ (ps : List Part). AreLeavesOf ps []) (sym is) (record { regs = refl; shaped = all_none IsShaped })
+    subst (λ (ps : List Part). AreLeavesOf ps []) (sym is) (record { flops = refl; shaped = all_none IsShaped })
 inst_leaves nets conns first full None (Some c) parts is =
     subst (λ (ps : List Part). AreLeavesOf ps (leaf_if_any full (Some c) (last_part ps))) (sym is) (cell_leaves_are nets conns first full c c.kind refl)
 
-prim_leaves : (front : List Part) (p : Part) (prefix : List ℕ) (name : Option (List ℕ)) → flat_map part_regs front ≡ [] → part_regs p ≡ []
+prim_leaves : (front : List Part) (p : Part) (prefix : List ℕ) (name : Option (List ℕ)) → flat_map part_flop front ≡ [] → part_flop p ≡ []
     → AreLeavesOf (front ++ p ∷ [])
     (elim name [ None ↦ [] | Some n ↦ leaf_if_any (prefix ++ n) None (last_part (front ++ p ∷ [])) ])
 prim_leaves front p prefix None none comb = no_leaf front p none comb
@@ -190,17 +176,35 @@ item_leaves s lib scope first (item.Copy to from) =
 
 -- the leaves of all items
 pub flat_leaves : (s : Source) (lib : Library) (items : List Located) → AreLeavesOf (flat_map (parts_of s lib) items) (flat_map (leaves_of s lib) items)
-flat_leaves s lib [] = record { regs = refl; shaped = all_none IsShaped }
+flat_leaves s lib [] = record { flops = refl; shaped = all_none IsShaped }
 flat_leaves s lib (at ∷ ats) =
     let here = item_leaves s lib at.scope at.first at.item in
     let rest = flat_leaves s lib ats in
     record {
-      regs = flat_map-append part_regs (parts_of s lib at) (flat_map (parts_of s lib) ats)
-          ∙ ap (λ (rs : List Reg). rs ++ flat_map part_regs (flat_map (parts_of s lib) ats)) here.regs
-          ∙ ap (λ (rs : List Reg). flat_map leaf_regs (leaves_of s lib at) ++ rs) rest.regs
-          ∙ sym (flat_map-append leaf_regs (leaves_of s lib at) (flat_map (leaves_of s lib) ats));
+      flops = flat_map-append part_flop (parts_of s lib at) (flat_map (parts_of s lib) ats)
+          ∙ ap (λ (rs : List Flop). rs ++ flat_map part_flop (flat_map (parts_of s lib) ats)) here.flops
+          ∙ ap (λ (rs : List Flop). flat_map leaf_flop (leaves_of s lib at) ++ rs) rest.flops
+          ∙ sym (flat_map-append leaf_flop (leaves_of s lib at) (flat_map (leaves_of s lib) ats));
       shaped = All-append IsShaped (leaves_of s lib at) (flat_map (leaves_of s lib) ats) here.shaped rest.shaped;
     }
+
+-- registers by parts
+regs_by : (ps : List Part) → flat_map part_regs ps ≡ map (λ (f : Flop). f.reg) (flat_map part_flop ps)
+regs_by [] = refl
+regs_by (part.Comb buffer ins gates ∷ ps) = regs_by ps
+regs_by (part.Flop clock reg ∷ ps) = ap (λ (rs : List Reg). reg ∷ rs) (regs_by ps)
+regs_by (part.Gate clock enables out ∷ ps) = regs_by ps
+
+by_parts : {X : Type 0} (f : Part → List X) (ls : List Leaf) → flat_map (λ (l : Leaf). f l.part) ls ≡ flat_map f (map (λ (l : Leaf). l.part) ls)
+by_parts f [] = refl
+by_parts f (l ∷ ls) = ap (λ xs. f l.part ++ xs) (by_parts f ls)
+
+-- the registers of parts are those of their leaves
+pub same_regs : (parts : List Part) (ls : List Leaf) → AreLeavesOf parts ls → flat_map part_regs parts ≡ flat_map leaf_regs ls
+same_regs parts ls are =
+    let reg : Flop → Reg = λ f. f.reg in
+    regs_by parts ∙ ap (λ (fs : List Flop). map reg fs) (are.flops ∙ by_parts part_flop ls) ∙ sym (regs_by (map (λ (l : Leaf). l.part) ls))
+    ∙ sym (by_parts part_regs ls)
 
 -- the part of a leaf is one of the circuit
 abbrev pub HasPart : List Part → Leaf → Type 0

@@ -22,8 +22,10 @@ pub mod Causing
 pub mod Rooms
 pub mod Linking
 pub mod Staging
+pub mod Judging
 pub mod Leaving
 pub mod Owning
 pub mod Further
 pub mod Joining
 mod WorkedCut
+mod WorkedClocks

@@ -9,14 +9,10 @@ use Rattle.linked_types.specs.declared.names.PinName.{PinName}
 use Rattle.link_defs.specs.CellNames.{Leaf, output_role, cell_name, cell_names}
 use Rattle.link_defs.specs.declared.circuits.Circuit.{Circuit}
 use Rattle.link_defs.specs.Circuits.{part_regs}
-use Rattle.link_defs.specs.CellNames.{leaves}
 use Rattle.link_defs.specs.Designs.{number_by}
-use Rattle.link_defs.specs.Flatten.{Flat}
 use Rattle.link_defs.specs.GatedDesigns.{enabled_drivers}
 use Rattle.link_defs.specs.Links.{source_count}
-use Rattle.link_defs.specs.Parts.{parts_of}
 use Rattle.cell_types.specs.declared.libraries.Library.{Library}
-use Rattle.netlist_types.specs.declared.sources.Source.{Source}
 use Rattle.net_link.specs.declared.designs.GatedDesign.{GatedDesign}
 use Rattle.link_design.specs.Lawful.{IsLawfulCircuit}
 use Rattle.net_link.specs.Made.{IsGatedDesign}
@@ -27,14 +23,13 @@ use Rattle.link_items.specs.Items.{AreLeavesAt}
 use Rattle.link_tops.specs.Clashes.{leaf_names}
 use Rattle.link_items.proofs.Listing.{drop_next, drop_past, with_none}
 use Rattle.link_defs.specs.declared.circuits.Part.TheVariants as part
-use Rattle.std.specs.Prelude.{flat_map}
 use Rattle.std.proofs.lemmas.List.{length-map}
 use Rattle.std.proofs.lemmas.Option.{get_or_from_slice_get}
 use Rattle.net_link.specs.Numbers.{number_in}
-use Rattle.net_link.specs.Places.{drive_role, leaf_of, leaf_at, ArePlacesOf}
+use Rattle.net_link.specs.Places.{drive_role, leaf_of, leaf_at, AreLeavesOf, ArePlacesOf}
 use Rattle.net_link.proofs.Driving.{design_nets}
 use Rattle.net_link.proofs.Enabled.{IsKnown, numbered}
-use Rattle.net_link.proofs.Leafing.{leaves_are, leaf_parts, flat_leaves}
+use Rattle.net_link.proofs.Leafing.{leaves_are, leaf_parts, same_regs}
 use Rattle.net_link.proofs.Counting.{places_good, own_names}
 
 -- what is left begins with the next, which is pushed
@@ -141,16 +136,13 @@ names_agree c order made m nets sources lib places found all less lawful at =
     ∙ ap (λ (n : ℕ). cell_names by_drivers n made.tree 0 found) (omega (arith, less, design_nets c made.tree order d m.gated_is.design))
 
 -- every place of them is one of the rewritten design
-pub places_are : (c : Circuit) (order : List Gate) (made : GatedDesign) (m : IsGatedDesign c order made) (s : Source) (lib : Library)
-    (places : List LeafPlace) (f : Flat) (list : List CellName) → IsLawfulCircuit c → c.parts ≡ flat_map (parts_of s lib) f.items
-    → AreLeavesAt lib c.parts places (leaves s lib f)
-    → list ≡ cell_names (number_by (enabled_drivers c order m.gates)) (source_count c) made.tree 0 (leaves s lib f)
-    → ArePlacesOf (rewritten made.gated) list
-places_are c order made m s lib places f list lawful parts at is =
-    let all = flat_leaves s lib f.items in
+pub places_are : (c : Circuit) (order : List Gate) (made : GatedDesign) (m : IsGatedDesign c order made) (lib : Library) (places : List LeafPlace)
+    (found : List Leaf) (list : List CellName) → IsLawfulCircuit c → AreLeavesOf c.parts found → AreLeavesAt lib c.parts places found
+    → list ≡ cell_names (number_by (enabled_drivers c order m.gates)) (source_count c) made.tree 0 found → ArePlacesOf (rewritten made.gated) list
+places_are c order made m lib places found list lawful own at is =
     subst (λ (cs : List CellName). ArePlacesOf (rewritten made.gated) cs) (sym is)
-    (places_good c made.tree order m.gates made.gated (leaves s lib f) (known_of c order made lawful m)
-    (leaf_parts lib c.parts places (leaves s lib f) at) all.shaped (ap (λ (ps : List Part). flat_map part_regs ps) parts ∙ all.regs))
+    (places_good c made.tree order m.gates made.gated found (known_of c order made lawful m) (leaf_parts lib c.parts places found at) own.shaped
+    (same_regs c.parts found own))
 
 -- numbers of the nets of items
 pub map_map : {X : Type 0} (f : ℕ → ℕ) (g : X → ℕ) (xs : List X) → map f (map g xs) ≡ map (λ x. f (g x)) xs

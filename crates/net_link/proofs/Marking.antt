@@ -203,7 +203,7 @@ tree_driven c n odd (Root m there) =
 tree_driven c n odd (Buffered from gates g even stands there on) =
     let p : Part = part.Comb true (from ∷ []) gates in
     gate_all c g (In-flat part_gates g p c.parts (In-from_Contains c.parts p stands) (In-from_Contains gates g there))
-tree_driven c n odd (Gated clock enables out even stands on) =
+tree_driven c n odd (Gated clock enables out stands on) =
     let p : Part = part.Gate clock enables out in
     In-right out (sources_of c ++ gate_nets (all_gates c)) (flat_map part_gated c.parts)
     (In-flat part_gated out p c.parts (In-from_Contains c.parts p stands) (inl refl))

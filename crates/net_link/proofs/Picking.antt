@@ -5,12 +5,12 @@ use Rattle.std.specs.Str.{bytes_eq}
 use Rattle.std.proofs.lemmas.Bool.{and_parts, or_parts, not-true}
 use Rattle.texts.specs.Names.{is_among, are_distinct}
 use Rattle.linked_types.specs.declared.names.PortName.{PortName}
-use Rattle.link_defs.specs.Circuits.{PortBit, is_clock as is_clock_bit}
+use Rattle.link_defs.specs.Circuits.{PortBit, first_port, is_clock as is_clock_bit}
 use Rattle.link_defs.specs.Faults.{bit_names}
 use Rattle.link_defs.specs.Links.{ports_of}
 use Rattle.link_items.proofs.Searching.{eq_flips}
 use Rattle.link_tops.specs.Clashes.{port_names}
-use Rattle.net_link.specs.Data.{is_clock, data_port, data_ports}
+use Rattle.net_link.specs.Data.{is_clock, clock_in, data_port, data_ports}
 
 -- bits have the names of their ports
 pub names_of_bits : (bits : List PortBit) → port_names (ports_of bits) ≡ bit_names bits
@@ -33,6 +33,18 @@ pub data_is : (clock : Option (List ℕ)) (bits : List PortBit)
 data_is clock [] = refl
 data_is clock (b ∷ bs) =
     data_or clock b bs (filter (λ (b : PortBit). not (is_clock_bit clock b)) bs) (is_clock_bit clock b) refl (data_is clock bs)
+
+clock_or : (clock : Option (List ℕ)) (b : PortBit) (bs : List PortBit) (t : Bool) → is_clock_bit clock b ≡ t
+    → clock_in clock (ports_of bs) ≡ first_port (filter (is_clock_bit clock) bs)
+    → clock_in clock (ports_of (b ∷ bs)) ≡ first_port (filter (is_clock_bit clock) (b ∷ bs))
+clock_or clock b bs true e further = let is : is_clock clock b.port.name ≡ true = clock_same clock b ∙ e in rw (is, e) refl
+clock_or clock b bs false e further = let is : is_clock clock b.port.name ≡ false = clock_same clock b ∙ e in rw (is, e) further
+
+-- the name of the clock
+pub clock_is : (clock : Option (List ℕ)) (bits : List PortBit)
+    → clock_in clock (ports_of bits) ≡ first_port (filter (is_clock_bit clock) bits)
+clock_is clock [] = refl
+clock_is clock (b ∷ bs) = clock_or clock b bs (is_clock_bit clock b) refl (clock_is clock bs)
 
 among_or : (n : List ℕ) (clock : Option (List ℕ)) (p : PortName) (ps : List PortName) (ys : List (List ℕ)) (t : Bool) → is_clock clock p.name ≡ t
     → bytes_eq n p.name ≡ false → is_among n (port_names (data_ports clock ps) ++ ys) ≡ false

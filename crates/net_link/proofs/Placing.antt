@@ -15,18 +15,18 @@ use Rattle.linked_types.specs.declared.faults.LinkFault.{LinkFault}
 use Rattle.linked_types.specs.declared.faults.LinkFault.TheVariants as fault
 use Rattle.linked_types.specs.declared.names.PortName.{PortName}
 use Rattle.linked_types.specs.declared.options.LinkOptions.{LinkOptions}
-use Rattle.link_defs.specs.Circuits.{PortBit, input_bits, output_bits, data_bits, clock_bits, bit_nets, is_clock as is_clock_bit}
+use Rattle.link_defs.specs.Circuits.{PortBit, input_bits, output_bits, data_bits, clock_bits, clock_port, bit_nets, is_clock as is_clock_bit}
 use Rattle.link_defs.specs.Faults.{StandsTwice, bit_names, set_names, IsBadSetting, No_clock, No_input, Twice}
 use Rattle.link_defs.specs.Links.{ports_of}
 use Rattle.link_items.proofs.Searching.{among_in, in_among}
 use Rattle.link_tops.specs.Clashes.{port_names, IsClash}
 use Rattle.link_tops.proofs.Clashing.{apart}
 use Rattle.net_link.specs.declared.ports.TopPorts.{TopPorts}
-use Rattle.net_link.specs.Data.{data_ports}
+use Rattle.net_link.specs.Data.{clock_in, data_ports}
 use Rattle.net_link.specs.Given.{IsGiven, IsHeldAt, IsUnfit, IsUnfitName}
 use Rattle.net_link.specs.Ports.{AreTopPorts, IsPortCause, IsNameFault, IsClockAmong}
 use Rattle.net_link.proofs.Giving.{zip_append, given_among, all_set, inputs_below, given_once}
-use Rattle.net_link.proofs.Picking.{names_of_bits, data_is, distinct_fewer, no_clock, some_clock}
+use Rattle.net_link.proofs.Picking.{clock_is, names_of_bits, data_is, distinct_fewer, no_clock, some_clock}
 
 -- what a test says of a name
 pub absent_by : (r b : Bool) → r ≡ b → r ≡ false → b ≡ false
@@ -181,10 +181,16 @@ held_by ins o h held differ short =
       reset_len = omega (arith, held.reset_len, short);
     }
 
+-- the clock by name
+pub clock_named : (top : Module) (clock : Option (List ℕ)) (inputs : List PortName) (port : Option PortName) → inputs ≡ ports_of (input_bits top)
+    → port ≡ clock_in clock inputs → port ≡ clock_port clock top
+clock_named top clock inputs port inputs_are is = is ∙ ap (λ (ps : List PortName). clock_in clock ps) inputs_are ∙ clock_is clock (input_bits top)
+
 -- the ports with what is set
 pub ports_made : (top : Module) (o : LinkOptions) (inputs : List PortName) (p : TopPorts) → ArePorts top o.clock inputs p.outs
-    → p.ins ≡ data_ports o.clock inputs → IsHeldAt (port_names p.ins) o p.held → are_distinct (set_names o) ≡ true → o.reset_len ≤ 64 → AreTopPorts top o p
-ports_made top o inputs p are is held differ short =
+    → p.ins ≡ data_ports o.clock inputs → p.clock ≡ clock_port o.clock top → IsHeldAt (port_names p.ins) o p.held → are_distinct (set_names o) ≡ true
+    → o.reset_len ≤ 64 → AreTopPorts top o p
+ports_made top o inputs p are is named held differ short =
     let ins = data_names_are top o.clock inputs p.ins are.inputs_are is in
     let len : length (port_names p.ins) ≡ length (bit_nets (data_bits o.clock top)) =
     ap length ins ∙ length-map (data_bits o.clock top) (λ (b : PortBit). b.port.name) ∙ sym (length-map (data_bits o.clock top) (λ (b : PortBit). b.net)) in
@@ -192,6 +198,7 @@ ports_made top o inputs p are is held differ short =
     record {
       ins = data_are top o.clock inputs p.ins are.inputs_are is;
       outs = are.outs_are;
+      clock = named;
       differ = subst (λ (ns : List (List ℕ)). IsDistinct bytes_eq ns) (sym (map-append (λ (x : PortName). x.name) p.ins p.outs))
           (distinct_by_test (port_names p.ins ++ port_names p.outs) (data_differ top o.clock inputs p.outs p.ins are is));
       fixed = all_set (data_bits o.clock top) o.fixed p.held.fixed at.fixed;

@@ -27,9 +27,8 @@ use Rattle.linked_types.specs.Usable.{IsPinOf, IsRoleOf, IsCellOf}
 use Rattle.link_design.specs.Lawful.{IsLawfulPart, IsLawfulGate}
 use Rattle.link_design.proofs.Parted.{all_in, all_from_in}
 use Rattle.link_circuit.proofs.Lawfully.{all_none}
-use Rattle.net_link.specs.Places.{data_roles}
+use Rattle.net_link.specs.Places.{data_roles, IsShaped}
 use Rattle.net_link.proofs.Enabled.{IsKnown, reg_known, reg_below, enable_known, gate_known, all_numbers}
-use Rattle.net_link.proofs.Leafing.{IsShaped}
 
 -- what a pin is is of the design
 abbrev pub HasRole : Design → PinName → Type 0

@@ -13,12 +13,11 @@ use Rattle.link_design.specs.Faults.{IsFaultless as IsFaultlessCircuit}
 use Rattle.link_design.specs.Lawful.{IsLawfulCircuit}
 use Rattle.link_circuit.proofs.Circuited.{circuit_lawful}
 use Rattle.link_circuit.specs.declared.circuits.FlatCircuit.{FlatCircuit}
-use Rattle.link_tops.specs.Clashes.{leaf_names, cut_names, IsApart}
-use Rattle.link_tops.proofs.Clashing.{clash_more}
-use Rattle.linked_types.specs.declared.faults.LinkFault.TheVariants as fault
+use Rattle.link_tops.specs.Clashes.{leaf_names, IsApart}
 use Rattle.link_defs.specs.declared.cuts.CutCell.{CutCell}
 use Rattle.link_defs.specs.declared.cuts.CutSource.{CutSource}
-use Rattle.link_defs.specs.Cuts.{IsCut, cut_cells}
+use Rattle.link_defs.specs.Cuts.{IsCut}
+use Rattle.link_defs.specs.Judged.{FlatNetlist}
 use Rattle.link_defs.specs.declared.circuits.Circuit.{Circuit}
 use Rattle.link_defs.specs.declared.circuits.Part.{Part}
 use Rattle.linked_types.specs.declared.options.LinkOptions.{LinkOptions}
@@ -84,9 +83,9 @@ pub top_is : (s : Source) (place : ℕ) → IsTop s place → tops s ≡ module_
 top_is s place (top, at, one) = one ∙ ap (λ (m : Module). m ∷ []) (module_is s place top at)
 
 -- the full names below a module are those of the circuit's instances
-pub names_below : (s : Source) (lib : Library) (top : Module) (clock : Option (List ℕ)) (c : FlatCircuit) → IsLeftBelow s lib top clock c
-    → full_names (flat_of s lib top) ≡ names_in s c.scopes
-names_below s lib top clock c below = ap (λ (xs : List Scope). flat_map scope_names xs) (sym below.scopes) ∙ names_same s c.scopes
+pub names_below : (s : CutSource) (lib : Library) (top : Module) (o : LinkOptions) (j : FlatNetlist) (c : FlatCircuit) → IsLeftBelow s lib top o j c
+    → full_names (flat_of s.source lib top) ≡ names_in s.source c.scopes
+names_below s lib top o j c below = ap (λ (xs : List Scope). flat_map scope_names xs) (sym below.scopes) ∙ names_same s.source c.scopes
 
 -- each leaf has its part among those of the circuit
 leaf_part : (lib : Library) (parts : List Part) (places : List LeafPlace) (ls : List Leaf) (l : Leaf) → AreLeavesAt lib parts places ls → In l ls
@@ -97,34 +96,29 @@ leaf_part lib parts (x ∷ xs) [] l all has = absurd all
 leaf_part lib parts (x ∷ xs) (y ∷ ys) l all (inl same) = (x.part, subst (λ (z : Leaf). slice_get parts x.part ≡ Some z.part) same all.0.part)
 leaf_part lib parts (x ∷ xs) (y ∷ ys) l all (inr later) = leaf_part lib parts xs ys l all.1 later
 
--- names that stand apart with others do so alone
-apart_front : (xs ys : List (List ℕ)) → IsApart (xs ++ ys) → IsApart xs
-apart_front xs ys apart = λ name twice. apart name (clash_more xs ys (fault.NameClash name) twice)
-
 -- no refusal of the source has its cause, where no stage refused it
-pub free_below : (s : CutSource) (lib : Library) (o : LinkOptions) (top : Module) (l : LeftCircuit) → tops s.source ≡ top ∷ []
-    → IsLeft s.source lib top o s.items l → IsUnrecursive s.source → IsFaultlessCircuit l.flat.circuit → IsRoomy l.flat.circuit
+pub free_below : (s : CutSource) (lib : Library) (o : LinkOptions) (top : Module) (j : FlatNetlist) (l : LeftCircuit) → tops s.source ≡ top ∷ []
+    → IsLeft s lib top o j l → IsUnrecursive s.source → IsFaultlessCircuit l.flat.circuit → IsRoomy l.flat.circuit
     → IsApart (bit_names (input_bits top ++ output_bits top))
     → ((name : List ℕ) → IsOfTwoNets (names_in s.source l.flat.scopes) l.flat.circuit name → ⊥) → ((name : List ℕ) → IsBadSetting top o name → ⊥)
     → IsFaultless s lib o
-free_below s lib o top l one is ordered circuit room ports nets settings =
-    let flat = flat_of s.source lib top in
+free_below s lib o top j l one is ordered circuit room ports nets settings =
     let k = l.flat.circuit in
-    let c = circuit_of s.source lib top o.clock in
-    faultless_is s lib o top k one (record {
+    faultless_is s lib o top j k one (record {
+      judged = is.below.judged;
       flat = record {
         fine = is.fine;
         unrecursive = ordered;
         circuit = circuit;
         room = room;
-        places = λ x has. leaf_part lib k.parts l.flat.leaves (leaves s.source lib flat) x is.below.leaves (In-from_Contains (leaves s.source lib flat) x has);
-        cells = apart_front (map (λ (x : Leaf). x.name) (leaves s.source lib flat)) (cut_names (cut_cells s.items flat.scopes)) is.apart;
+        places = λ x has. leaf_part lib k.parts l.flat.leaves j.found x is.below.leaves (In-from_Contains j.found x has);
+        cells = is.apart;
         ports = ports;
         nets = subst (λ (ps : List (List ℕ × ℕ)). (name : List ℕ) → IsOfTwoNets ps k name → ⊥)
-            (sym (names_below s.source lib top o.clock l.flat is.below)) nets;
+            (sym (names_below s lib top o j l.flat is.below)) nets;
         settings = settings;
         few = is.few;
       };
-      cut = subst (λ (cells : List CutCell). IsCut c cells k) is.cells (as_cut c l.cut k is.cut);
+      cut = subst (λ (cells : List CutCell). IsCut j.circuit cells k) is.cells (as_cut j.circuit l.cut k is.cut);
       none = is.none;
     })

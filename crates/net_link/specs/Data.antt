@@ -1,5 +1,5 @@
--- The bits of input ports without the clock's.
-use Rattle.std.specs.Prelude.{ℕ, Bool, false, List, [], ◌∷◌, flat_map, if◌then◌else◌, Option, Some, None}
+-- The bits of input ports without the clock's, and the clock's.
+use Rattle.std.specs.Prelude.{ℕ, Bool, false, List, [], ◌∷◌, flat_map, find, if◌then◌else◌, Option, Some, None}
 use Rattle.std.specs.Str.{bytes_eq}
 use Rattle.linked_types.specs.declared.names.PortName.{PortName}
 
@@ -15,3 +15,7 @@ data_port clock p = if is_clock clock p.name then [] else p ∷ []
 -- those of these bits
 abbrev pub data_ports : Option (List ℕ) → List PortName → List PortName
 data_ports clock ports = flat_map (data_port clock) ports
+
+-- the clock's, if it is there
+abbrev pub clock_in : Option (List ℕ) → List PortName → Option PortName
+clock_in clock ports = find (λ (p : PortName). is_clock clock p.name) ports

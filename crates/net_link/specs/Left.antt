@@ -1,9 +1,8 @@
 -- The circuit that is left where cells are cut out of one, with what was found of these cells.
-use Rattle.std.specs.Prelude.{◌≡◌, ◌⊎◌, ℕ, ◌+◌, ◌<◌, ◌≤◌, ◌==◌, Bool, List, [], ◌++◌, length, All, Contains, Option, Some, None, count_by}
+use Rattle.std.specs.Prelude.{◌≡◌, ◌⊎◌, ℕ, ◌+◌, ◌<◌, ◌≤◌, ◌==◌, Bool, List, [], ◌++◌, length, map, Contains, Option, Some, None, count_by}
 use Rattle.std.specs.List.{IsDistinct}
 use Rattle.std.specs.Str.{bytes_eq}
 use Rattle.sdcv_base.specs.declared.limits.LimitName.TheVariants as what
-use Rattle.netlist_types.specs.declared.sources.Source.{Source}
 use Rattle.netlist_types.specs.declared.sources.Module.{Module}
 use Rattle.cell_types.specs.declared.libraries.Library.{Library}
 use Rattle.linked_types.specs.declared.faults.LinkFault.{LinkFault}
@@ -11,13 +10,15 @@ use Rattle.linked_types.specs.declared.faults.LinkFault.TheVariants as fault
 use Rattle.linked_types.specs.declared.options.LinkOptions.{LinkOptions}
 use Rattle.link_defs.specs.declared.circuits.Circuit.{Circuit}
 use Rattle.link_defs.specs.declared.cuts.CutCell.{CutCell}
-use Rattle.link_defs.specs.declared.cuts.CutItem.{CutItem}
 use Rattle.link_defs.specs.declared.cuts.CutPin.{CutPin}
+use Rattle.link_defs.specs.declared.cuts.CutSource.{CutSource}
 use Rattle.link_defs.specs.declared.cuts.Way.TheVariants as way
-use Rattle.link_defs.specs.Circuits.{circuit_of, all_drivers}
-use Rattle.link_defs.specs.Cuts.{Tree, CutFrame, IsTreeOf, IsCut, IsFitItem, cut_cells, cut_circuit}
-use Rattle.link_defs.specs.Faults.{IsCutCause, IsCutDriver, cell_names_in, most_inputs}
-use Rattle.link_defs.specs.Flatten.{Scope, Flat, flat_of, full_names}
+use Rattle.link_defs.specs.CellNames.{Leaf, leaves}
+use Rattle.link_defs.specs.Circuits.{all_drivers}
+use Rattle.link_defs.specs.Cuts.{Tree, CutFrame, IsTreeOf, IsCut, cut_circuit}
+use Rattle.link_defs.specs.Faults.{IsCutCause, IsCutDriver, most_inputs}
+use Rattle.link_defs.specs.Flatten.{Flat, flat_of, full_names}
+use Rattle.link_defs.specs.Judged.{FlatNetlist, IsJudged, netlist_of}
 use Rattle.link_design.specs.Lawful.{IsLawfulCircuit}
 use Rattle.link_design.specs.Trees.{tree_of}
 use Rattle.link_circuit.specs.declared.circuits.FlatCircuit.{FlatCircuit}
@@ -25,6 +26,7 @@ use Rattle.link_circuit.specs.Flats.{AreFine}
 use Rattle.link_circuit.specs.Names.{IsLeftBelow}
 use Rattle.link_cuts.specs.Cutting.{IsCutOut}
 use Rattle.link_tops.specs.Clashes.{IsApart, cut_names, leaf_names}
+use Rattle.net_link.specs.Places.{AreLeavesOf}
 use Rattle.net_link.specs.declared.left.CutOut.{CutOut}
 use Rattle.net_link.specs.declared.left.LeftCircuit.{LeftCircuit}
 
@@ -46,10 +48,6 @@ frame_of c cut number = record { circuit = c; tree = tree_in cut; cells = cells_
 abbrev pub IsCutAs : Circuit → Option CutOut → Circuit → Type 0
 IsCutAs c None k = k ≡ c
 IsCutAs c (Some x) k = IsCutOut c x.cells x.pins × (k ≡ cut_circuit c (tree_of x.pins.rows.tree) x.cells)
-
--- cells of these instances' modules
-abbrev pub AreCellsOf : Source → List Scope → List CutCell → Type 0
-AreCellsOf s scopes cells = (items : List CutItem) × All (IsFitItem s) items × (cells ≡ cut_cells items scopes)
 
 -- a net with two drivers, or one that the circuit drives and an output of a cell that is cut out; want of memory alone is free
 abbrev pub IsDriverCause : Flat → Circuit → List CutCell → LinkFault → Type 0
@@ -81,16 +79,17 @@ IsLimitHere c cells wide (fault.Limit what.Inputs number) =
 IsLimitHere c cells wide fault.Memory = Unit {0}
 IsLimitHere c cells wide e = ⊥
 
--- what is left of the circuit below a module where the items are cut out of it: nothing is refused so far, and nothing else can be left
-pub record IsLeft (s : Source) (lib : Library) (top : Module) (o : LinkOptions) (items : List CutItem) (l : LeftCircuit) : Type 0 where
-  pub below : IsLeftBelow s lib top o.clock l.flat
-  pub fine : AreFine s lib (flat_of s lib top)
+-- what is left of the judged netlist below a module where its cells are cut out: nothing is refused so far, and nothing else can be left
+pub record IsLeft (s : CutSource) (lib : Library) (top : Module) (o : LinkOptions) (j : FlatNetlist) (l : LeftCircuit) : Type 0 where
+  pub below : IsLeftBelow s lib top o j l.flat
+  pub sole : (i : FlatNetlist) → IsJudged o.cut_clocks (netlist_of s lib top o.clock) i → i ≡ j
+  pub fine : AreFine s.source lib (flat_of s.source lib top)
   pub lawful : IsLawfulCircuit l.flat.circuit
-  pub cells : cells_of l.cut ≡ cut_cells items (flat_of s lib top).scopes
-  pub cut : IsCutAs (circuit_of s lib top o.clock) l.cut l.flat.circuit
-  pub one : (j : Circuit) → IsCut (circuit_of s lib top o.clock) (cut_cells items (flat_of s lib top).scopes) j → j ≡ l.flat.circuit
+  pub cells : cells_of l.cut ≡ j.cells
+  pub cut : IsCutAs j.circuit l.cut l.flat.circuit
+  pub one : (k : Circuit) → IsCut j.circuit j.cells k → k ≡ l.flat.circuit
   pub few : length l.flat.circuit.inputs ≤ most_inputs o.wide
   pub differ : IsDistinct bytes_eq (leaf_names l.flat.leaves ++ cut_names (cells_of l.cut))
-  pub apart : IsApart (cell_names_in s lib (flat_of s lib top) (cut_cells items (flat_of s lib top).scopes))
-  pub none : (f : LinkFault)
-      → IsCutCause s lib (flat_of s lib top) (circuit_of s lib top o.clock) (cut_cells items (flat_of s lib top).scopes) f → ⊥
+  pub apart : IsApart (map (λ (x : Leaf). x.name) (leaves s.source lib (flat_of s.source lib top)))
+  pub own : AreLeavesOf l.flat.circuit.parts j.found
+  pub none : (f : LinkFault) → IsCutCause (flat_of s.source lib top) j.found j.circuit j.cells f → ⊥

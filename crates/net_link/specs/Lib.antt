@@ -9,4 +9,5 @@ pub mod Made
 pub mod Nets
 pub mod Stages
 pub mod Limits
+pub mod Judged
 pub mod Left

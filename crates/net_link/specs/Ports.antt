@@ -7,16 +7,17 @@ use Rattle.linked_types.specs.declared.faults.LinkFault.{LinkFault}
 use Rattle.linked_types.specs.declared.faults.LinkFault.TheVariants as fault
 use Rattle.linked_types.specs.declared.names.PortName.{PortName}
 use Rattle.linked_types.specs.declared.options.LinkOptions.{LinkOptions}
-use Rattle.link_defs.specs.Circuits.{input_bits, output_bits, data_bits, bit_nets}
+use Rattle.link_defs.specs.Circuits.{input_bits, output_bits, data_bits, bit_nets, clock_port}
 use Rattle.link_defs.specs.Faults.{StandsTwice, bit_names, IsBadSetting}
 use Rattle.link_defs.specs.Links.{ports_of, IsSet}
 use Rattle.link_design.specs.Made.{IsHeldBy}
 use Rattle.net_link.specs.declared.ports.TopPorts.{TopPorts}
 
--- the data inputs and outputs by name, and the settings by places among the data inputs
+-- the data inputs, the outputs and the clock by name, and the settings by places among the data inputs
 pub record AreTopPorts (top : Module) (o : LinkOptions) (p : TopPorts) : Type 0 where
   pub ins : p.ins ≡ ports_of (data_bits o.clock top)
   pub outs : p.outs ≡ ports_of (output_bits top)
+  pub clock : p.clock ≡ clock_port o.clock top
   pub differ : IsDistinct bytes_eq (map (λ (x : PortName). x.name) (p.ins ++ p.outs))
   pub fixed : AllZip (IsSet (data_bits o.clock top)) o.fixed p.held.fixed
   pub resets : AllZip (IsSet (data_bits o.clock top)) o.resets p.held.resets

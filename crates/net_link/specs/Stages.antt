@@ -1,5 +1,5 @@
 -- What stands after the stages of linking.
-use Rattle.std.specs.Prelude.{◌≡◌, ℕ, ◌+◌, ◌<◌, ◌≤◌, ◌==◌, Bool, List, ◌++◌, length, map, flat_map, Option, count_by}
+use Rattle.std.specs.Prelude.{◌≡◌, ℕ, ◌+◌, ◌<◌, ◌≤◌, ◌==◌, Bool, List, ◌++◌, length, map, Option, count_by}
 use Rattle.std.specs.List.{IsDistinct}
 use Rattle.std.specs.Str.{bytes_eq}
 use Rattle.sdcv_base.specs.declared.limits.LimitName.TheVariants as what
@@ -26,9 +26,8 @@ use Rattle.link_defs.specs.GatedDesigns.{IsGatedOf, enabled_drivers}
 use Rattle.link_defs.specs.Faults.{bit_names, IsBadSetting}
 use Rattle.link_defs.specs.Flatten.{Flat, flat_of, full_names}
 use Rattle.link_defs.specs.Links.{source_count}
-use Rattle.link_defs.specs.Parts.{parts_of}
 use Rattle.link_items.specs.Items.{AreLeavesAt}
-use Rattle.net_link.specs.Places.{ArePlacesOf}
+use Rattle.net_link.specs.Places.{AreLeavesOf, ArePlacesOf}
 use Rattle.link_tops.specs.Clashes.{leaf_names, cut_names, IsApart}
 use Rattle.link_circuit.specs.Flats.{AreFine}
 use Rattle.link_circuit.specs.declared.circuits.FlatCircuit.{FlatCircuit}
@@ -70,9 +69,8 @@ pub record AreInner (s : Source) (lib : Library) (l : LeftCircuit) (order : List
   pub cells_are : (c : Circuit) (found : List Leaf) → IsCutAs c l.cut l.flat.circuit → IsLawfulCircuit l.flat.circuit
       → AreLeavesAt lib l.flat.circuit.parts l.flat.leaves found
       → AreAllNames c l tree (number_by (enabled_drivers l.flat.circuit order gates)) found cells
-  pub places : (c : Circuit) (src : Source) (f : Flat) → IsCutAs c l.cut l.flat.circuit → IsLawfulCircuit l.flat.circuit
-      → l.flat.circuit.parts ≡ flat_map (parts_of src lib) f.items
-      → AreLeavesAt lib l.flat.circuit.parts l.flat.leaves (leaves src lib f) → ArePlacesOf (rewritten g) cells
+  pub places : (c : Circuit) (found : List Leaf) → IsCutAs c l.cut l.flat.circuit → IsLawfulCircuit l.flat.circuit
+      → AreLeavesOf l.flat.circuit.parts found → AreLeavesAt lib l.flat.circuit.parts l.flat.leaves found → ArePlacesOf (rewritten g) cells
   pub nets_are : (flat : Flat) → full_names flat ≡ names_in s l.flat.scopes
       → AreNetNames flat (drivers_by l.flat.circuit order) (number_by (drivers_by l.flat.circuit order)) nets
 

@@ -1,23 +1,20 @@
 //! The cells of a design by name.
-ghost use Rattle.std.specs.Prelude.{◌≡◌, ◌+◌, ◌<◌, ◌^◌, ◌++◌, [], ℕ, List, Option, All, length, map, flat_map, IfOk, OnOk};
+ghost use Rattle.std.specs.Prelude.{◌≡◌, ◌+◌, ◌<◌, ◌^◌, ◌++◌, [], ℕ, List, Option, All, length, map, IfOk, OnOk};
 ghost use Rattle.net_model.specs.declared.netlist.Gate.{Gate};
 ghost use Rattle.icg_rewrite.specs.Rewritten.{rewritten};
-ghost use Rattle.netlist_types.specs.declared.sources.Source.{Source as SourceRecord};
 ghost use Rattle.linked_types.specs.declared.names.CellName.{CellName as CellNameRecord};
-ghost use Rattle.link_defs.specs.CellNames.{Leaf, leaves as leaves_of_flat, cell_names as spec_names, cell_name as spec_name, reg_of as spec_reg};
+ghost use Rattle.link_defs.specs.CellNames.{Leaf, cell_names as spec_names, cell_name as spec_name, reg_of as spec_reg};
 ghost use Rattle.link_defs.specs.Circuits.{part_regs};
 ghost use Rattle.link_defs.specs.Designs.{number_by};
-ghost use Rattle.link_defs.specs.Flatten.{Flat};
 ghost use Rattle.link_defs.specs.GatedDesigns.{enabled_drivers};
 ghost use Rattle.link_defs.specs.Links.{source_count};
-ghost use Rattle.link_defs.specs.Parts.{parts_of};
 ghost use Rattle.link_items.specs.declared.made.LeafPlace.{LeafPlace as LeafRecord};
 ghost use Rattle.link_items.specs.Items.{AreLeavesAt};
 ghost use Rattle.link_design.specs.Lawful.{IsLawfulCircuit};
 ghost use Rattle.net_link.specs.Made.{IsGatedDesign};
 ghost use Rattle.link_tops.specs.Clashes.{leaf_names};
 ghost use Rattle.net_link.specs.Numbers.{number_in};
-ghost use Rattle.net_link.specs.Places.{leaf_of, leaf_at, ArePlacesOf};
+ghost use Rattle.net_link.specs.Places.{leaf_of, leaf_at, AreLeavesOf, ArePlacesOf};
 
 use crate::designs::GatedDesign;
 use crate::numbers::Numbering;
@@ -44,10 +41,9 @@ pub fn cell_names(
     ensures names { IfOk result (λ list. (order : List Gate) (g : IsGatedDesign flat.now.circuit order made.now) (found : List Leaf)
         → IsLawfulCircuit flat.now.circuit → AreLeavesAt library.now flat.now.circuit.parts flat.now.leaves found
         → list ≡ spec_names (number_by (enabled_drivers flat.now.circuit order g.gates)) (source_count flat.now.circuit) made.now.tree 0 found) }
-    ensures usable { IfOk result (λ list. (order : List Gate) (s : SourceRecord) (f : Flat) → IsLawfulCircuit flat.now.circuit
-        → IsGatedDesign flat.now.circuit order made.now → flat.now.circuit.parts ≡ flat_map (parts_of s library.now) f.items
-        → AreLeavesAt library.now flat.now.circuit.parts flat.now.leaves (leaves_of_flat s library.now f)
-        → ArePlacesOf (rewritten made.now.gated) list) }
+    ensures usable { IfOk result (λ list. (order : List Gate) (found : List Leaf) → IsLawfulCircuit flat.now.circuit
+        → IsGatedDesign flat.now.circuit order made.now → AreLeavesOf flat.now.circuit.parts found
+        → AreLeavesAt library.now flat.now.circuit.parts flat.now.leaves found → ArePlacesOf (rewritten made.now.gated) list) }
 {
     let design = &made.gated.design;
     let nets = net_count(&made.gated)?;

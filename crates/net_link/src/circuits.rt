@@ -9,6 +9,7 @@ ghost use Rattle.link_design.specs.Made.{IsHeldBy, IsMade};
 ghost use Rattle.link_defs.specs.declared.cuts.CutItem.{CutItem};
 ghost use Rattle.link_defs.specs.Faults.{IsFlatCause};
 ghost use Rattle.link_defs.specs.Flatten.{flat_of};
+ghost use Rattle.link_defs.specs.Judged.{FlatNetlist};
 ghost use Rattle.link_circuit.specs.Flats.{IsCauseBelow, IsUnrecursive};
 ghost use Rattle.link_items.specs.Items.{module_at};
 ghost use Rattle.net_link.specs.Left.{IsLeft};
@@ -54,12 +55,14 @@ pub(crate) fn made_design(
     held: Held,
 ) -> Result<CircuitDesign, LinkFault>
     requires top { top < length netlist.now.source.now.modules }
-    requires left { (items : List CutItem) × IsLeft netlist.now.source.now netlist.now.library.now (module_at netlist.now.source.now top)
-        options.now items left.now }
+    requires left { (items : List CutItem) × (j : FlatNetlist) × IsLeft (record { source = netlist.now.source.now; items = items })
+        netlist.now.library.now (module_at netlist.now.source.now top) options.now j left.now }
     requires held { IsHeldBy (length left.now.flat.circuit.inputs) held }
     ensures ok { IfOk result (IsMade left.now.flat.circuit held) }
-    ensures err { IfErr result (IsFlatCause netlist.now.source.now netlist.now.library.now options.now (module_at netlist.now.source.now top)
-        (flat_of netlist.now.source.now netlist.now.library.now (module_at netlist.now.source.now top)) left.now.flat.circuit) }
+    ensures err { IfErr result (λ e. (items : List CutItem) (j : FlatNetlist) → IsLeft (record { source = netlist.now.source.now; items = items })
+        netlist.now.library.now (module_at netlist.now.source.now top) options.now j left.now
+        → IsFlatCause netlist.now.source.now netlist.now.library.now options.now (module_at netlist.now.source.now top)
+        (flat_of netlist.now.source.now netlist.now.library.now (module_at netlist.now.source.now top)) j.found left.now.flat.circuit e) }
     ensures none { OnOk result (IsFaultless left.now.flat.circuit) }
 {
     match design_of(alloc, &left.flat.circuit, held) {

@@ -1,8 +1,9 @@
-//! The input bits without the clock's.
-ghost use Rattle.std.specs.Prelude.{◌≡◌, ◌++◌, [], if◌then◌else◌, IfOk, OnOk};
+//! The input bits without the clock's, and the clock's.
+ghost use Rattle.std.specs.Option.{option_copied};
+ghost use Rattle.std.specs.Prelude.{◌≡◌, ◌++◌, [], find, if◌then◌else◌, IfOk, OnOk};
 ghost use Rattle.texts.specs.Names.{with_names};
 ghost use Rattle.link_tops.specs.Clashes.{port_names};
-ghost use Rattle.net_link.specs.Data.{is_clock as has_clock, data_ports, data_port};
+ghost use Rattle.net_link.specs.Data.{is_clock as has_clock, clock_in, data_ports, data_port};
 
 use linked_types::PortName;
 use sdcv_base::{Name, Seq};
@@ -29,6 +30,36 @@ fn copy_bus(alloc: Global, bus: &Option<Name>) -> Result<Option<Name>, AllocErro
     }
 }
 
+/// An equal bit.
+fn copy_port(alloc: Global, port: &PortName) -> Result<PortName, AllocError>
+    ensures { IfOk result (λ copied. copied ≡ port.now) }
+{
+    let name = port.name.copy(alloc)?;
+    let bus = copy_bus(alloc, &port.bus)?;
+    Ok(PortName { name, bus })
+}
+
+/// The clock's bit, if it is there.
+fn clock_bit<'a>(ports: &'a [PortName], clock: &Option<Name>) -> Option<&'a PortName>
+    ensures { option_copied result ≡ clock_in clock.now ports.now }
+{
+    ports.iter().find(|port| is_clock(clock, &port.name))
+}
+
+/// The clock's bit by name, if it is there.
+pub(crate) fn clock_port(
+    alloc: Global,
+    ports: &Seq<PortName>,
+    clock: &Option<Name>,
+) -> Result<Option<PortName>, AllocError>
+    ensures { IfOk result (λ port. port ≡ clock_in clock.now ports.now) }
+{
+    match clock_bit(ports.as_slice(), clock) {
+        Some(port) => Ok(Some(copy_port(alloc, port)?)),
+        None => Ok(None),
+    }
+}
+
 /// Appends a bit, if it is not the clock's.
 fn push_data(
     alloc: Global,
@@ -39,9 +70,8 @@ fn push_data(
     ensures { OnOk result (list.new ≡ list.old ++ data_port clock.now port.now) }
 {
     if !is_clock(clock, &port.name) {
-        let name = port.name.copy(alloc)?;
-        let bus = copy_bus(alloc, &port.bus)?;
-        list.push(PortName { name, bus })?;
+        let port = copy_port(alloc, port)?;
+        list.push(port)?;
     }
     Ok(())
 }

@@ -1,21 +1,25 @@
 //! What is left of a circuit where cells are cut out of it.
-ghost use Rattle.std.specs.Prelude.{◌<◌, ◌≤◌, ◌==◌, ℕ, List, Option, All, length, count_by, IfOk, IfErr, OnOk};
-ghost use Rattle.link_defs.specs.declared.cuts.CutCell.{CutCell as CutCellRecord};
+ghost use Rattle.std.specs.Prelude.{◌≤◌, ◌==◌, ℕ, List, All, count_by, IfOk, IfErr, OnOk};
+ghost use Rattle.link_defs.specs.declared.cuts.CutItem.{CutItem as CutItemRecord};
 ghost use Rattle.link_defs.specs.Circuits.{all_drivers};
 ghost use Rattle.link_defs.specs.Cuts.{IsFitItem};
 ghost use Rattle.link_defs.specs.Faults.{IsCause};
 ghost use Rattle.link_defs.specs.Flatten.{flat_of};
+ghost use Rattle.link_defs.specs.Judged.{FlatNetlist};
+ghost use Rattle.linked_types.specs.declared.options.LinkOptions.{LinkOptions as LinkOptionsRecord};
 ghost use Rattle.link_design.specs.Lawful.{IsLawfulCircuit};
-ghost use Rattle.link_cuts.specs.Cutting.{AreCellsBelow};
+ghost use Rattle.link_clocks.specs.Netlists.{AreCellsBelow};
 ghost use Rattle.link_items.specs.Items.{module_at};
 ghost use Rattle.link_tops.specs.Tops.{IsTop};
-ghost use Rattle.net_link.specs.Left.{AreCellsOf, AreOffDrivers, IsDriverCause, IsLeft, IsLeftHere, IsLimitHere};
+ghost use Rattle.net_link.specs.Judged.{IsJudgedBelow};
+ghost use Rattle.net_link.specs.Left.{AreOffDrivers, IsDriverCause, IsLeft, IsLeftHere, IsLimitHere};
 ghost use Rattle.net_link.specs.Limits.{HasFewBits};
 ghost use Rattle.net_link.specs.Stages.{IsFlatCircuit};
 
+use crate::judged::{JudgedCircuit, judged_circuit};
 use crate::limits::{above_inputs, most_inputs};
 use link_circuit::{FlatCircuit, net_name};
-use link_cuts::{Cut, CutPins, check_cells, cut, cut_cells, cuts_are_one, driven_pin};
+use link_cuts::{Cut, CutPins, check_cells, cut, cuts_are_one, driven_pin};
 use link_defs::{CutCell, CutItem};
 use link_design::{CircuitFault, check_once};
 use link_items::Netlist;
@@ -39,8 +43,8 @@ pub struct LeftCircuit {
     pub cut: Option<CutOut>,
 }
 
-/// What is left of the circuit below the top module where the items are cut out of it. Where there are none, it goes through
-/// as it is.
+/// What is left of the circuit below the top module where the items are cut out of it, and with one clock of several what it
+/// doesn't come to. Where nothing is to be cut out, it goes through as it is.
 pub(crate) fn cut_out(
     alloc: Global,
     netlist: &Netlist,
@@ -53,18 +57,20 @@ pub(crate) fn cut_out(
     requires circuit { IsFlatCircuit netlist.now.source.now netlist.now.library.now (module_at netlist.now.source.now top) options.now.clock c }
     requires few { HasFewBits options.now.wide (module_at netlist.now.source.now top) options.now.clock }
     requires items { All (IsFitItem netlist.now.source.now) items.now }
-    ensures ok { IfOk result (IsLeft netlist.now.source.now netlist.now.library.now (module_at netlist.now.source.now top) options.now items.now) }
+    ensures ok { IfOk result (λ l. (j : FlatNetlist) × IsLeft (record { source = netlist.now.source.now; items = items.now }) netlist.now.library.now
+        (module_at netlist.now.source.now top) options.now j l) }
     ensures err { IfErr result (IsCause (record { source = netlist.now.source.now; items = items.now }) netlist.now.library.now options.now) }
 {
-    if items.is_empty() {
+    if items.is_empty() && !options.cut_clocks {
         return Ok(LeftCircuit { flat: c, cut: None });
     }
-    let cells = cut_cells(alloc, netlist, &c.scopes, items)?;
-    check_names(alloc, &c.leaves, &cells)?;
-    check_cells(alloc, &cells)?;
-    check_drivers(alloc, netlist, top, &c, &cells)?;
+    let judged = judged_circuit(alloc, netlist, items, top, options, c)?;
+    check_names(alloc, &judged.flat.leaves, &judged.cells)?;
+    check_cells(alloc, &judged.cells)?;
+    check_drivers(alloc, netlist, top, &judged)?;
+    let JudgedCircuit { flat, cells } = judged;
     cuts_are_one(&cells);
-    let left = left_of(alloc, c, cells, options.wide)?;
+    let left = left_of(alloc, flat, cells, options.wide)?;
     Ok(left)
 }
 
@@ -73,25 +79,22 @@ fn check_drivers(
     alloc: Global,
     netlist: &Netlist,
     top: usize,
-    c: &FlatCircuit,
-    cells: &Seq<CutCell>,
+    judged: &JudgedCircuit,
 ) -> Result<(), LinkFault>
-    requires top { top < length netlist.now.source.now.modules }
-    requires circuit { (clock : Option (List ℕ)) × IsFlatCircuit netlist.now.source.now netlist.now.library.now
-        (module_at netlist.now.source.now top) clock c.now }
-    requires cells { AreCellsOf netlist.now.source.now
-        (flat_of netlist.now.source.now netlist.now.library.now (module_at netlist.now.source.now top)).scopes cells.now }
-    ensures once { OnOk result ((net : ℕ) → count_by (λ m. m == net) (all_drivers c.now.circuit) ≤ 1) }
-    ensures off { OnOk result (AreOffDrivers c.now.circuit cells.now) }
+    requires { (items : List CutItemRecord) × (o : LinkOptionsRecord) × (j : FlatNetlist) × IsJudgedBelow
+        (record { source = netlist.now.source.now; items = items }) netlist.now.library.now (module_at netlist.now.source.now top) o j judged.now }
+    ensures once { OnOk result ((net : ℕ) → count_by (λ m. m == net) (all_drivers judged.now.flat.circuit) ≤ 1) }
+    ensures off { OnOk result (AreOffDrivers judged.now.flat.circuit judged.now.cells) }
     ensures err { IfErr result (IsDriverCause (flat_of netlist.now.source.now netlist.now.library.now (module_at netlist.now.source.now top))
-        c.now.circuit cells.now) }
+        judged.now.flat.circuit judged.now.cells) }
 {
-    check_single(alloc, netlist, top, c)?;
-    let place = driven_pin(alloc, &c.circuit, cells)?;
+    check_single(alloc, netlist, top, judged)?;
+    let c = &judged.flat;
+    let place = driven_pin(alloc, &c.circuit, &judged.cells)?;
     match place {
         None => Ok(()),
         Some(place) => {
-            let net = cells.item(place.cell).pins.item(place.pin).net;
+            let net = judged.cells.item(place.cell).pins.item(place.pin).net;
             Err(LinkFault::ManyDrivers(net_name(alloc, netlist, &c.scopes, net)?))
         }
     }
@@ -102,15 +105,15 @@ fn check_single(
     alloc: Global,
     netlist: &Netlist,
     top: usize,
-    c: &FlatCircuit,
+    judged: &JudgedCircuit,
 ) -> Result<(), LinkFault>
-    requires top { top < length netlist.now.source.now.modules }
-    requires circuit { (clock : Option (List ℕ)) × IsFlatCircuit netlist.now.source.now netlist.now.library.now
-        (module_at netlist.now.source.now top) clock c.now }
-    ensures once { OnOk result ((net : ℕ) → count_by (λ m. m == net) (all_drivers c.now.circuit) ≤ 1) }
-    ensures err { IfErr result (λ e. (cells : List CutCellRecord) → IsDriverCause
-        (flat_of netlist.now.source.now netlist.now.library.now (module_at netlist.now.source.now top)) c.now.circuit cells e) }
+    requires { (items : List CutItemRecord) × (o : LinkOptionsRecord) × (j : FlatNetlist) × IsJudgedBelow
+        (record { source = netlist.now.source.now; items = items }) netlist.now.library.now (module_at netlist.now.source.now top) o j judged.now }
+    ensures once { OnOk result ((net : ℕ) → count_by (λ m. m == net) (all_drivers judged.now.flat.circuit) ≤ 1) }
+    ensures err { IfErr result (IsDriverCause (flat_of netlist.now.source.now netlist.now.library.now (module_at netlist.now.source.now top))
+        judged.now.flat.circuit judged.now.cells) }
 {
+    let c = &judged.flat;
     match check_once(alloc, &c.circuit) {
         Ok(()) => Ok(()),
         Err(CircuitFault::ManyDrivers(net)) => {

@@ -7,6 +7,7 @@
 //! - `ports.rt`: the ports of the top module and what is set at them: its data inputs and outputs by name, and the inputs that
 //!   are given a value, by their places (`specs/Ports.antt`, in the words of `link_defs`, also why they are refused).
 //! - `limits.rt`: a module of more inputs or outputs than a design may have is refused before they are named.
+//! - `judged.rt`: the netlist that is judged: with one clock of several what that clock does not come to is cut out (`specs/Judged.antt`).
 //! - `left.rt`: what is left of the circuit where cells are cut out of it, with what was found of these (`specs/Left.antt`), and
 //!   why they can't be cut out; where there are none, the circuit goes through as it is.
 //! - `designs.rt`: from a circuit and its design to the design with its clock gates: in which order these are named, which nets
@@ -24,6 +25,7 @@ mod enables;
 mod gate_nets;
 mod given;
 mod inputs;
+mod judged;
 mod left;
 mod limits;
 mod links;
@@ -35,6 +37,7 @@ mod pins;
 mod ports;
 mod rows;
 
+pub use judged::JudgedCircuit;
 pub use left::{CutOut, LeftCircuit};
 pub use link_tops::top_inputs;
 pub use linked_types::{

@@ -1,31 +1,28 @@
 //! The design of a source and a library.
-ghost use Rattle.std.specs.Prelude.{◌≡◌, ◌≤◌, ◌++◌, ℕ, List, All, map, flat_map, IfOk, IfErr, OnOk};
+ghost use Rattle.std.specs.Prelude.{◌≡◌, ◌≤◌, ◌++◌, ℕ, List, All, map, IfOk, IfErr, OnOk};
 ghost use Rattle.cell_types.specs.Libraries.{IsLawful as IsLawfulLibrary};
 ghost use Rattle.link_defs.specs.Faults.{IsCause, IsFaultless};
 ghost use Rattle.link_defs.specs.Links.{IsLinked};
-ghost use Rattle.linked_types.specs.Narrow.{IsOnOneClock};
 ghost use Rattle.linked_types.specs.Usable.{IsUsable};
 ghost use Rattle.link_tops.specs.Tops.{IsTop};
 ghost use Rattle.link_design.specs.declared.designs.Held.{Held as HeldRecord};
 ghost use Rattle.link_design.specs.Lawful.{IsLawfulCircuit};
 ghost use Rattle.link_design.specs.Made.{IsMade};
-ghost use Rattle.link_defs.specs.CellNames.{Leaf as LeafRecord, leaves as leaves_of_flat};
+ghost use Rattle.link_defs.specs.CellNames.{Leaf as LeafRecord};
 ghost use Rattle.link_circuit.specs.Flats.{AreScopes, IsUnrecursive};
 ghost use Rattle.link_items.specs.Items.{module_at, AreLeavesAt};
 ghost use Rattle.link_defs.specs.declared.circuits.Circuit.{Circuit as CircuitRecord};
 ghost use Rattle.link_defs.specs.declared.cuts.CutItem.{CutItem as CutItemRecord};
 ghost use Rattle.link_defs.specs.Cuts.{IsFitItem, IsLawfulCut, cut_names as names_of_cuts, free_pins, pin_name, sink_pins};
 ghost use Rattle.link_defs.specs.Designs.{number_by};
-ghost use Rattle.link_defs.specs.Flatten.{Flat};
+ghost use Rattle.link_defs.specs.Judged.{FlatNetlist};
 ghost use Rattle.link_defs.specs.GatedDesigns.{enabled_drivers};
-ghost use Rattle.link_defs.specs.Parts.{parts_of};
 ghost use Rattle.linked_types.specs.declared.names.CellName.{CellName as CellNameRecord};
 ghost use Rattle.net_model.specs.declared.netlist.Gate.{Gate};
-ghost use Rattle.netlist_types.specs.declared.sources.Source.{Source as SourceRecord};
 ghost use Rattle.icg_rewrite.specs.Rewritten.{rewritten};
 ghost use Rattle.link_tops.specs.Clashes.{leaf_names, cut_names as spec_cut_names};
 ghost use Rattle.net_link.specs.Made.{IsGatedDesign};
-ghost use Rattle.net_link.specs.Places.{ArePlacesOf};
+ghost use Rattle.net_link.specs.Places.{AreLeavesOf, ArePlacesOf};
 ghost use Rattle.net_link.specs.Left.{IsCutAs, IsLeft, cells_of, tree_in};
 ghost use Rattle.net_link.specs.Ports.{AreTopPorts};
 ghost use Rattle.net_link.specs.Nets.{names_in, IsOfTwoNets, IsNetCause};
@@ -63,7 +60,6 @@ pub fn link(
     requires cut { IsLawfulCut (record { source = source.now; items = items.now }) }
     requires library { IsLawfulLibrary library.now.cells }
     requires resets { options.now.reset_len ≤ 64 }
-    requires clocks { IsOnOneClock options.now }
     ensures ok { IfOk result (IsLinked (record { source = source.now; items = items.now }) library.now options.now) }
     ensures usable { IfOk result IsUsable }
     ensures err { IfErr result (IsCause (record { source = source.now; items = items.now }) library.now options.now) }
@@ -74,23 +70,12 @@ pub fn link(
     link_below(alloc, &netlist, items, top, options)
 }
 
-/// An equal name, if there is one.
-fn copy_name(alloc: Global, name: &Option<Name>) -> Result<Option<Name>, AllocError>
-    ensures { IfOk result (λ copied. copied ≡ name.now) }
-{
-    match name {
-        Some(name) => Ok(Some(name.copy(alloc)?)),
-        None => Ok(None),
-    }
-}
-
 /// A design with its clock gates, and its names but those of its ports.
 #[derive(Drop)]
 struct InnerNames {
     gated: Gated,
     cells: Seq<CellName>,
     nets: Seq<NetName>,
-    clock: Option<Name>,
 }
 
 /// Cells with further ones behind them.
@@ -117,11 +102,10 @@ fn all_cell_names(
         (found : List LeafRecord) → IsCutAs c left.now.cut left.now.flat.circuit → IsLawfulCircuit left.now.flat.circuit
         → AreLeavesAt library.now left.now.flat.circuit.parts left.now.flat.leaves found
         → AreAllNames c left.now made.now.tree (number_by (enabled_drivers left.now.flat.circuit order g.gates)) found list) }
-    ensures usable { IfOk result (λ list. (order : List Gate) (c : CircuitRecord) (s : SourceRecord) (f : Flat)
+    ensures usable { IfOk result (λ list. (order : List Gate) (c : CircuitRecord) (found : List LeafRecord)
         → IsCutAs c left.now.cut left.now.flat.circuit → IsLawfulCircuit left.now.flat.circuit
-        → IsGatedDesign left.now.flat.circuit order made.now → left.now.flat.circuit.parts ≡ flat_map (parts_of s library.now) f.items
-        → AreLeavesAt library.now left.now.flat.circuit.parts left.now.flat.leaves (leaves_of_flat s library.now f)
-        → ArePlacesOf (rewritten made.now.gated) list) }
+        → IsGatedDesign left.now.flat.circuit order made.now → AreLeavesOf left.now.flat.circuit.parts found
+        → AreLeavesAt library.now left.now.flat.circuit.parts left.now.flat.leaves found → ArePlacesOf (rewritten made.now.gated) list) }
 {
     let cells = cell_names(alloc, library, &left.flat, made)?;
     match &left.cut {
@@ -139,7 +123,6 @@ fn all_cell_names(
 fn inner_names(
     alloc: Global,
     netlist: &Netlist,
-    options: &LinkOptions,
     left: &LeftCircuit,
     made: CircuitDesign,
 ) -> Result<InnerNames, LinkFault>
@@ -150,21 +133,14 @@ fn inner_names(
     ensures ok { IfOk result (λ n. (held : HeldRecord) (m : IsMade left.now.flat.circuit held made)
         → AreInner netlist.now.source.now netlist.now.library.now left.now m.order n.gated n.cells n.nets) }
     ensures design { IfOk result (λ n. n.gated.design ≡ made.design) }
-    ensures clock { IfOk result (λ n. n.clock ≡ options.now.clock) }
     ensures none { OnOk result ((name : List ℕ) → IsOfTwoNets (names_in netlist.now.source.now left.now.flat.scopes) left.now.flat.circuit name → ⊥) }
     ensures err { IfErr result (IsNetCause (names_in netlist.now.source.now left.now.flat.scopes) left.now.flat.circuit) }
 {
     let nets = net_names(alloc, netlist, &left.flat, &made)?;
     let made = gated_of(alloc, &left.flat.circuit, made)?;
     let cells = all_cell_names(alloc, netlist.library, left, &made)?;
-    let clock = copy_name(alloc, &options.clock)?;
     let GatedDesign { gated, .. } = made;
-    Ok(InnerNames {
-        gated,
-        cells,
-        nets,
-        clock,
-    })
+    Ok(InnerNames { gated, cells, nets })
 }
 
 /// The names of what was cut out: the free nets, the sinks, and the references.
@@ -207,32 +183,32 @@ fn named_design(
     ports: TopPorts,
 ) -> Result<Linked, LinkFault>
     requires top { IsTop netlist.now.source.now top }
-    requires left { (items : List CutItemRecord) × IsLeft netlist.now.source.now netlist.now.library.now (module_at netlist.now.source.now top)
-        options.now items left.now }
+    requires left { (items : List CutItemRecord) × (j : FlatNetlist) × IsLeft (record { source = netlist.now.source.now; items = items })
+        netlist.now.library.now (module_at netlist.now.source.now top) options.now j left.now }
     requires ordered { IsUnrecursive netlist.now.source.now }
     requires ports { AreTopPorts (module_at netlist.now.source.now top) options.now ports }
     requires fitting { IsFitting (module_at netlist.now.source.now top) options.now }
-    ensures ok { IfOk result (λ l. (items : List CutItemRecord) → IsLeft netlist.now.source.now netlist.now.library.now
-        (module_at netlist.now.source.now top) options.now items left.now
+    ensures ok { IfOk result (λ l. (items : List CutItemRecord) (j : FlatNetlist) → IsLeft (record { source = netlist.now.source.now; items = items })
+        netlist.now.library.now (module_at netlist.now.source.now top) options.now j left.now
         → IsLinked (record { source = netlist.now.source.now; items = items }) netlist.now.library.now options.now l) }
     ensures usable { IfOk result IsUsable }
-    ensures err { IfErr result (λ e. (items : List CutItemRecord) → IsLeft netlist.now.source.now netlist.now.library.now
-        (module_at netlist.now.source.now top) options.now items left.now
+    ensures err { IfErr result (λ e. (items : List CutItemRecord) (j : FlatNetlist) → IsLeft (record { source = netlist.now.source.now; items = items })
+        netlist.now.library.now (module_at netlist.now.source.now top) options.now j left.now
         → IsCause (record { source = netlist.now.source.now; items = items }) netlist.now.library.now options.now e) }
-    ensures none { OnOk result ((items : List CutItemRecord) → IsLeft netlist.now.source.now netlist.now.library.now
-        (module_at netlist.now.source.now top) options.now items left.now
+    ensures none { OnOk result ((items : List CutItemRecord) (j : FlatNetlist) → IsLeft (record { source = netlist.now.source.now; items = items })
+        netlist.now.library.now (module_at netlist.now.source.now top) options.now j left.now
         → IsFaultless (record { source = netlist.now.source.now; items = items }) netlist.now.library.now options.now) }
 {
-    let TopPorts { ins, outs, held } = ports;
-    let made = made_design(alloc, netlist, top, options, left, held)?;
-    let inner = inner_names(alloc, netlist, options, left, made)?;
-    let told = cut_names_of(alloc, &left.cut)?;
-    let InnerNames {
-        gated,
-        cells,
-        nets,
+    let TopPorts {
+        ins,
+        outs,
         clock,
-    } = inner;
+        held,
+    } = ports;
+    let made = made_design(alloc, netlist, top, options, left, held)?;
+    let inner = inner_names(alloc, netlist, left, made)?;
+    let told = cut_names_of(alloc, &left.cut)?;
+    let InnerNames { gated, cells, nets } = inner;
     gated_solutions_are(&left.flat.circuit, &gated);
     let design = enabled_design(alloc, gated)?;
     let names = Names {

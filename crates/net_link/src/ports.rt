@@ -10,7 +10,7 @@ ghost use Rattle.net_link.specs.Given.{IsHeldAt, IsUnfit};
 ghost use Rattle.net_link.specs.Ports.{AreTopPorts, IsPortCause, IsNameFault, IsClockAmong};
 
 use crate::given::held_of;
-use crate::inputs::{data_names, data_table};
+use crate::inputs::{clock_port, data_names, data_table};
 use link_design::Held;
 use link_tops::{add_ports, input_names, output_names};
 use linked_types::{LinkFault, LinkOptions, PortName};
@@ -19,12 +19,13 @@ use sdcv_base::{Name, Seq};
 use std::alloc::Global;
 use texts::NameTable;
 
-/// The data inputs and the outputs of a module by name, and the inputs that are given a value, by their places among the data
-/// inputs.
+/// The data inputs, the outputs and the clock of a module by name, and the inputs that are given a value, by their places among
+/// the data inputs.
 #[derive(Drop)]
 pub struct TopPorts {
     pub ins: Seq<PortName>,
     pub outs: Seq<PortName>,
+    pub clock: Option<PortName>,
     pub held: Held,
 }
 
@@ -42,7 +43,13 @@ pub fn top_ports(alloc: Global, body: &Module, options: &LinkOptions) -> Result<
     check_names(alloc, &inputs, &outs, &options.clock)?;
     let ins = data_names(alloc, &inputs, &options.clock)?;
     let held = held_among(alloc, &ins, options)?;
-    Ok(TopPorts { ins, outs, held })
+    let clock = clock_port(alloc, &inputs, &options.clock)?;
+    Ok(TopPorts {
+        ins,
+        outs,
+        clock,
+        held,
+    })
 }
 
 /// Refuses two port bits of one name, and a clock that is no input bit.

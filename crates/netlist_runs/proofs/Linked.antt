@@ -5,7 +5,6 @@ use Rattle.net_model.specs.declared.netlist.Design.{Design}
 use Rattle.net_model.specs.declared.netlist.Gate.{Gate}
 use Rattle.net_model.specs.declared.netlist.Reg.{Reg}
 use Rattle.cell_types.specs.declared.libraries.Library.{Library}
-use Rattle.icg_rewrite.specs.Gated.{AreGated}
 use Rattle.icg_rewrite.specs.Rewritten.{rewritten}
 use Rattle.icg_rewrite.specs.declared.clock_gates.Gated.{Gated}
 use Rattle.icg_rewrite.proofs.Lists.{length-gated_regs}
@@ -42,26 +41,24 @@ rewritten_inputs : (c : Circuit) (tree : List Bool) (order : List Gate) (gates :
 unfolding rewritten
 rewritten_inputs c tree order gates g is = ap (λ (ns : List ℕ). length ns) is.design.inputs ∙ length-map c.inputs (number_by (drivers_by c order))
 
+-- what registers and clock gates read as data is driven, as the design without enables is sound
+pub linked_driven : (s : CutSource) (lib : Library) (o : LinkOptions) (l : Linked) → (is : IsLinked s lib o l)
+    → AreDriven is.circuit (drivers_by is.circuit is.order)
+linked_driven s lib o l is = gated_driven is.circuit is.tree is.order is.gates is.gated is.clocked is.lawful is.gated_is
+
 -- what is known of a linked design
-designed : (s : CutSource) (lib : Library) (o : LinkOptions) (l : Linked) → (is : IsLinked s lib o l) → AreDriven is.circuit (drivers_by is.circuit is.order)
-    → IsDesigned is.circuit is.tree is.order l.design
-designed s lib o l is driven = record {
+designed : (s : CutSource) (lib : Library) (o : LinkOptions) (l : Linked) → (is : IsLinked s lib o l) → IsDesigned is.circuit is.tree is.order l.design
+designed s lib o l is = record {
   sound = is.sound;
   regs = ap (λ (d : Design). length d.regs) is.design ∙ rewritten_regs is.circuit is.tree is.order is.gates is.gated is.gated_is;
   inputs = ap (λ (d : Design). length d.inputs) is.design ∙ rewritten_inputs is.circuit is.tree is.order is.gates is.gated is.gated_is;
   clocked = is.clocked;
   solutions = is.solutions;
-  driven = driven;
+  driven = linked_driven s lib o l is;
 }
 
 -- each of its behaviours is shown by exactly one run
-pub linked_runs : (s : CutSource) (lib : Library) (o : LinkOptions) (l : Linked) → (is : IsLinked s lib o l)
-    → AreDriven is.circuit (drivers_by is.circuit is.order) → (v : ℕ → ℕ → Bool) (bits : ℕ → List Bool) → Behaves is.circuit is.tree l.design v bits
-    → (n : ℕ) → IsShownByOneRun l.design (drivers_by is.circuit is.order) v bits (n + 1)
-linked_runs s lib o l is driven v bits b n =
-    one_run is.circuit is.tree is.order l.design v bits (designed s lib o l is driven) b (n + 1) (omega arith)
-
--- what registers and clock gates read as data is driven where the design without enables is sound
-pub linked_driven : (s : CutSource) (lib : Library) (o : LinkOptions) (l : Linked) → (is : IsLinked s lib o l) → AreGated is.gated
-    → AreDriven is.circuit (drivers_by is.circuit is.order)
-linked_driven s lib o l is are = gated_driven is.circuit is.tree is.order is.gates is.gated is.clocked are is.gated_is
+pub linked_runs : (s : CutSource) (lib : Library) (o : LinkOptions) (l : Linked) → (is : IsLinked s lib o l) → (v : ℕ → ℕ → Bool) (bits : ℕ → List Bool)
+    → Behaves is.circuit is.tree l.design v bits → (n : ℕ) → IsShownByOneRun l.design (drivers_by is.circuit is.order) v bits (n + 1)
+linked_runs s lib o l is v bits b n =
+    one_run is.circuit is.tree is.order l.design v bits (designed s lib o l is) b (n + 1) (omega arith)

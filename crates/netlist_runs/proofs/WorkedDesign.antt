@@ -72,7 +72,7 @@ no_gate clock enables out (inr (inr (inr none))) = none
 clock_alone : (inputs outputs : List ℕ) (net : ℕ) (odd : Bool) → OnTree (netlist inputs outputs) net odd → net ≡ 0
 clock_alone inputs outputs net odd (Root clock has) = elim (In-from_Contains (0 ∷ []) clock has) [ inl same ↦ sym same | inr none ↦ absurd none ]
 clock_alone inputs outputs net odd (Buffered from gates g even stands there on) = absurd (no_buffer from gates (In-from_Contains parts _ stands))
-clock_alone inputs outputs net odd (Gated clock enables out even stands on) = absurd (no_gate clock enables out (In-from_Contains parts _ stands))
+clock_alone inputs outputs net odd (Gated clock enables out stands on) = absurd (no_gate clock enables out (In-from_Contains parts _ stands))
 
 abbrev clock_row : List Bool
 clock_row = true ∷ []

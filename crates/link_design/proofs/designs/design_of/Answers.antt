@@ -39,14 +39,14 @@ returns-in_err-check_sizes-clause-err c =
     let made = netlist_is c.args.circuit.now c.in_ok-numbers.numbers.drivers (drivers_by c.args.circuit.now order)
     (map (gate_at c.in_ok-ordered.ordered.gates) c.in_ok-kept.kept) order c.args.held c.in_ok-design.design drivers gates c.in_ok-design.ensures in
     rw (p.1, p.2) (size_cause c.args.circuit.now c.in_ok-clock.clock.tree order c.args.held c.in_ok-design.design c.in_err-check_sizes.field-0.0
-    (tree_of_row c.args.circuit.now c.in_ok-clock.clock.tree c.in_ok-clock.clock.odd c.in_ok-clock.ensures.tree)
+    (tree_of_row c.args.circuit.now c.in_ok-clock.clock.tree c.in_ok-clock.clock.odd c.in_ok-check_clock.ensures.tree)
     (kept_permutes c.args.circuit.now c.in_ok-clock.clock.tree c.in_ok-ordered.ordered.order c.requires.lawful c.in_ok-ordered.ensures.ok.order) made
     c.in_err-check_sizes.ensures.err)
 
 pub returns-clause-ok : goal.returns-clause-ok
 returns-clause-ok c =
     made_is c.args.circuit.now c.in_ok-ordered.ordered c.in_ok-clock.clock.tree c.in_ok-clock.clock.odd c.in_ok-clock.clock.above c.in_ok-kept.kept
-    c.in_ok-numbers.numbers c.args.held c.in_ok-design.design c.requires.lawful c.requires.held c.in_ok-ordered.ensures.ok c.in_ok-clock.ensures.tree
+    c.in_ok-numbers.numbers c.args.held c.in_ok-design.design c.requires.lawful c.requires.held c.in_ok-ordered.ensures.ok c.in_ok-check_clock.ensures.tree
     c.in_ok-clock.ensures.above c.in_ok-check_clock.ensures.ok c.in_ok-kept.ensures c.in_ok-numbers.ensures.ok c.in_ok-design.ensures
     c.in_ok-check_sizes.ensures.ok
 
@@ -60,6 +60,6 @@ returns-clause-none c =
     let made = netlist_is c.args.circuit.now c.in_ok-numbers.numbers.drivers (drivers_by c.args.circuit.now order)
     (map (gate_at c.in_ok-ordered.ordered.gates) c.in_ok-kept.kept) order c.args.held c.in_ok-design.design drivers gates c.in_ok-design.ensures in
     faultless_is c.args.circuit.now c.in_ok-ordered.ordered c.in_ok-clock.clock.tree order c.args.held c.in_ok-design.design c.in_ok-ordered.ensures.ok
-    c.in_ok-check_clock.ensures.ok (tree_of_row c.args.circuit.now c.in_ok-clock.clock.tree c.in_ok-clock.clock.odd c.in_ok-clock.ensures.tree)
+    c.in_ok-check_clock.ensures.ok (tree_of_row c.args.circuit.now c.in_ok-clock.clock.tree c.in_ok-clock.clock.odd c.in_ok-check_clock.ensures.tree)
     (kept_permutes c.args.circuit.now c.in_ok-clock.clock.tree c.in_ok-ordered.ordered.order c.requires.lawful c.in_ok-ordered.ensures.ok.order) made
     c.in_ok-check_sizes.ensures.ok

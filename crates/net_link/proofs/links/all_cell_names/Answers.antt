@@ -17,7 +17,7 @@ returns-in-None-clause-names c = λ order g own found cut lawful at.
     c.in-None.is (c.in_ok-cells.ensures.names order g found lawful at)
 
 pub returns-in-None-clause-usable : goal.returns-in-None-clause-usable
-returns-in-None-clause-usable c = λ order own s f cut lawful g parts at. c.in_ok-cells.ensures.usable order s f lawful g parts at
+returns-in-None-clause-usable c = λ order own found cut lawful g leaves at. c.in_ok-cells.ensures.usable order found lawful g leaves at
 
 pub returns-in_ok-list-in-Some-clause-own : goal.returns-in_ok-list-in-Some-clause-own
 returns-in_ok-list-in-Some-clause-own c = λ own cut.
@@ -32,7 +32,7 @@ returns-in_ok-list-in-Some-clause-names c = λ order g own found cut lawful at.
     (record { are = λ out. c.in_ok-further-in-Some.ensures own out }) c.in_ok-list-in-Some.ensures
 
 pub returns-in_ok-list-in-Some-clause-usable : goal.returns-in_ok-list-in-Some-clause-usable
-returns-in_ok-list-in-Some-clause-usable c = λ order own s f cut lawful g parts at.
+returns-in_ok-list-in-Some-clause-usable c = λ order own found cut lawful g leaves at.
     places_some own c.args.left.now order c.args.made.now g c.in-Some.cut c.in_ok-nets-in-Some.nets c.in_ok-cells.cells c.in_ok-further-in-Some.further
-    c.in_ok-list-in-Some.list c.in-Some.is cut lawful c.in_ok-nets-in-Some.ensures (c.in_ok-cells.ensures.usable order s f lawful g parts at)
+    c.in_ok-list-in-Some.list c.in-Some.is cut lawful c.in_ok-nets-in-Some.ensures (c.in_ok-cells.ensures.usable order found lawful g leaves at)
     (record { are = λ out. c.in_ok-further-in-Some.ensures own out }) c.in_ok-list-in-Some.ensures

@@ -12,6 +12,6 @@ returns-clause-ok c = λ held m.
       gated_is = g.gated_is;
       own = c.in_ok-cells.ensures.own;
       cells_are = λ own found cut lawful at. c.in_ok-cells.ensures.names m.order g own found cut lawful at;
-      places = λ own src f cut lawful parts at. c.in_ok-cells.ensures.usable m.order own src f cut lawful g parts at;
+      places = λ own found cut lawful leaves at. c.in_ok-cells.ensures.usable m.order own found cut lawful g leaves at;
       nets_are = c.in_ok-nets.ensures.ok held m;
     }

@@ -1,8 +1,8 @@
-use Rattle.std.proofs.Common.{subst, List}
+use Rattle.std.proofs.Common.{subst, List, []}
 use Rattle.netlist_types.specs.declared.sources.Source.{Source}
 use Rattle.link_defs.specs.declared.cuts.CutItem.{CutItem}
 use Rattle.link_defs.specs.declared.cuts.CutSource.{CutSource}
-use Rattle.std.proofs.lemmas.Result.{err_from_is_err_and}
+use Rattle.std.proofs.lemmas.Result.{err_from_is_err_and, IfOk-weaker, IfErr-weaker, on_ok_weaker}
 use Rattle.netlist_types.specs.declared.sources.Module.{Module}
 use Rattle.link_defs.specs.Circuits.{circuit_of}
 use Rattle.link_items.specs.Items.{module_at}
@@ -60,8 +60,9 @@ returns-in_err-c-clause-err c =
     let lib = c.args.netlist.now.library.now in
     let o = c.args.options.now in
     let top = module_at s c.args.top in
-    rw (p.1, p.2) (cause_of (source_of s c.args.items.now) lib o top (circuit_of s lib top o.clock) c.in_err-c.field-0.0 (top_is s c.args.top c.requires.top)
-    (c.in_err-c.ensures.err o top (circuit_of s lib top o.clock)) (λ j cut. c.in_err-c.ensures.err o top j))
+    rw (p.1, p.2) (cause_of (source_of s c.args.items.now) lib o top [] (circuit_of s lib top o.clock) c.in_err-c.field-0.0
+    (top_is s c.args.top c.requires.top) (c.in_err-c.ensures.err o top [] (circuit_of s lib top o.clock))
+    (λ j i judged cut. c.in_err-c.ensures.err o top j.found i))
 
 pub cut_out-requires-clause-few : goal.cut_out-requires-clause-few
 cut_out-requires-clause-few c =
@@ -70,7 +71,22 @@ cut_out-requires-clause-few c =
     (module_is c.args.netlist.now.source.now c.args.top c.item-body.result.now c.item-body.ensures) c.in_ok-check_bits.ensures.ok
 
 pub named_design-requires-clause-left : goal.named_design-requires-clause-left
-named_design-requires-clause-left c = (c.args.items.now, c.in_ok-left.ensures.ok)
+named_design-requires-clause-left c = let (j, left) = c.in_ok-left.ensures.ok in (c.args.items.now, j, left)
+
+pub returns-clause-ok : goal.returns-clause-ok
+returns-clause-ok c =
+    let (j, left) = c.in_ok-left.ensures.ok in
+    IfOk-weaker c.named_design.result _ _ (λ l each. each c.args.items.now j left) c.named_design.ensures.ok
+
+pub returns-clause-err : goal.returns-clause-err
+returns-clause-err c =
+    let (j, left) = c.in_ok-left.ensures.ok in
+    IfErr-weaker c.named_design.result _ _ (λ e each. each c.args.items.now j left) c.named_design.ensures.err
+
+pub returns-clause-none : goal.returns-clause-none
+returns-clause-none c =
+    let (j, left) = c.in_ok-left.ensures.ok in
+    on_ok_weaker c.named_design.result (λ each. each c.args.items.now j left) c.named_design.ensures.none
 
 pub named_design-requires-clause-ports : goal.named_design-requires-clause-ports
 named_design-requires-clause-ports c =

@@ -7,8 +7,9 @@ use Rattle.link_defs.specs.Circuits.{input_bits}
 use Rattle.link_tops.specs.Clashes.{port_names, IsApart}
 use Rattle.link_tops.proofs.Clashing.{apart}
 use Rattle.net_link.specs.Ports.{IsClockAmong}
+use Rattle.net_link.specs.declared.ports.TopPorts.{TopPorts}
 use Rattle.net_link.proofs.Picking.{names_of_bits, distinct_fewer}
-use Rattle.net_link.proofs.Placing.{name_cause, setting_cause, data_names_are, settings_fit, ports_made, all_names}
+use Rattle.net_link.proofs.Placing.{clock_named, name_cause, setting_cause, data_names_are, settings_fit, ports_made, all_names}
 use Rattle.net_link.proofs.ports.top_ports.Goals as goal
 
 pub returns-in_err-check_names-clause-err : goal.returns-in_err-check_names-clause-err
@@ -32,13 +33,15 @@ returns-in_err-held-clause-err c =
 
 pub returns-clause-ok : goal.returns-clause-ok
 returns-clause-ok c =
-    ports_made c.args.body.now c.args.options.now c.in_ok-inputs.inputs (record { ins = c.in_ok-ins.ins; outs = c.in_ok-outs.outs; held = c.in_ok-held.held })
-    (record {
+    let ports : TopPorts = record { ins = c.in_ok-ins.ins; outs = c.in_ok-outs.outs; clock = c.in_ok-clock.clock; held = c.in_ok-held.held } in
+    ports_made c.args.body.now c.args.options.now c.in_ok-inputs.inputs ports (record {
       inputs_are = c.in_ok-inputs.ensures;
       outs_are = c.in_ok-outs.ensures;
       differ = c.in_ok-check_names.ensures.distinct;
       clock_is = c.in_ok-check_names.ensures.clock;
-    }) c.in_ok-ins.ensures c.in_ok-held.ensures.ok c.in_ok-held.ensures.distinct c.requires.reset_len
+    }) c.in_ok-ins.ensures
+    (clock_named c.args.body.now c.args.options.now.clock c.in_ok-inputs.inputs c.in_ok-clock.clock c.in_ok-inputs.ensures c.in_ok-clock.ensures)
+    c.in_ok-held.ensures.ok c.in_ok-held.ensures.distinct c.requires.reset_len
 
 pub returns-clause-settings : goal.returns-clause-settings
 returns-clause-settings c =

@@ -9,4 +9,5 @@ invariant-loop-net l = record {
   tree_len : length l.self.tree ≡ length l.fn.self.tree;
   odd_len : length l.self.odd ≡ length l.fn.self.odd;
   above_len : length l.self.above ≡ length l.fn.self.above;
+  lost_len : length l.self.lost ≡ length l.fn.self.lost;
 }

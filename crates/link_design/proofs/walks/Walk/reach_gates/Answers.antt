@@ -10,4 +10,5 @@ loop-gate-preserved c = record {
   tree_len = search rules;
   odd_len = search rules;
   above_len = search rules;
+  lost_len = search rules;
 }

@@ -1,0 +1,4 @@
+pub mod Leaving
+pub mod Marking
+pub mod OneJudged
+pub mod Worked

@@ -1,0 +1,3 @@
+pub mod Netlists
+pub mod Marks
+pub mod Offs
