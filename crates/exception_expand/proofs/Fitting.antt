@@ -13,6 +13,7 @@ use Rattle.net_model.specs.declared.claims.PinRef.TheVariants.{Net as NetPin, Ou
 use Rattle.net_model.proofs.Members.{In, In-cases, from_flat, from_map, Contains-from_In}
 use Rattle.net_model.proofs.Settling.{All-at}
 use Rattle.linked_types.specs.declared.names.Linked.{Linked}
+use Rattle.linked_types.specs.declared.names.Names.{Names}
 use Rattle.linked_types.specs.declared.names.CellName.{CellName}
 use Rattle.linked_types.specs.declared.names.PinName.{PinName}
 use Rattle.linked_types.specs.declared.names.PinRole.{PinRole}
@@ -35,6 +36,9 @@ use Rattle.sdc_objects.specs.declared.things.Thing.TheVariants as thing
 use Rattle.sdc_objects.specs.declared.things.Place.TheVariants.{Through}
 use Rattle.sdc_objects.specs.declared.things.Side.TheVariants.{In as InSide, Out as OutSide}
 use Rattle.sdcv_base.specs.Seqs.{each_at, where_true}
+use Rattle.sdc_objects.specs.declared.things.ClockKind.TheVariants.{Judged, Other, Virtual}
+use Rattle.sdc_settings.specs.Sources.{clock_name}
+use Rattle.sdc_objects.specs.Clocks.{input_ports, clock_kind}
 use Rattle.sdc_objects.specs.Things as named
 use Rattle.sdc_objects.specs.Cuts.{is_cut}
 use Rattle.sdc_settings.specs.Inputs.{names_bit}
@@ -50,7 +54,8 @@ IsThingIn l (thing.Net n) = n < l.design.nets
 IsThingIn l (thing.Cell k) = Unit {0}
 IsThingIn l (thing.Pin k place) = Unit {0}
 IsThingIn l thing.ClockPort = Unit {0}
-IsThingIn l (thing.Clock place sourced) = Unit {0}
+IsThingIn l (thing.Clock place kind) = Unit {0}
+IsThingIn l (thing.Delayed place) = Unit {0}
 
 all_in : {A : Type 0} (P : A → Type 0) (xs : List A) (x : A) → All P xs → In x xs → P x
 all_in P xs x all has = All-contains P xs x all (Contains-from_In xs x has)
@@ -110,8 +115,10 @@ pin_in l (thing.In i) pin usable is has =
 pin_in l (thing.Out o) pin usable is has = one_in l.design (OutPort o) pin is has
 pin_in l thing.ClockPort pin usable is has = absurd has
 pin_in l (thing.Net n) pin usable is has = one_in l.design (NetPin n) pin is has
-pin_in l (thing.Clock place true) pin usable is has = absurd has
-pin_in l (thing.Clock place false) pin usable is has = absurd has
+pin_in l (thing.Clock place Judged) pin usable is has = absurd has
+pin_in l (thing.Clock place Other) pin usable is has = absurd has
+pin_in l (thing.Clock place Virtual) pin usable is has = absurd has
+pin_in l (thing.Delayed place) pin usable is has = absurd has
 
 -- what is made of items is made of one
 pub record Made {A B : Type 0} (f : ℕ → A → List B) (first : ℕ) (xs : List A) (y : B) : Type 0 where
@@ -142,46 +149,46 @@ single_is : {A : Type 0} (x y : A) → In y (x ∷ []) → x ≡ y
 single_is x y (inl here) = here
 single_is x y (inr none) = absurd none
 
-abbrev clock_of : Query → Option (List ℕ) → ℕ → What → List Thing
-clock_of q port place what = elim what as (λ w. List Thing) [
-  | ClockCommand name source ↦ where_true (named.names_some q (named.clock_name port name source)) (thing.Clock place (named.has_source source))
+abbrev clock_of : Query → Names → ℕ → What → List Thing
+clock_of q n place what = elim what as (λ w. List Thing) [
+  | ClockCommand name source ↦ where_true (named.names_some q (clock_name (input_ports n) name source)) (thing.Clock place (clock_kind n source))
   | _ ↦ []
 ]
 
-what_clock : (l : Linked) (q : Query) (port : Option (List ℕ)) (place : ℕ) (what : What) (t : Thing) → In t (clock_of q port place what) → IsThingIn l t
-what_clock l q port place (ClockCommand name source) t has =
-    subst (IsThingIn l) (wanted_is (named.names_some q (named.clock_name port name source)) (thing.Clock place (named.has_source source)) t has) tt
-what_clock l q port place (Case value objects) t has = absurd has
-what_clock l q port place (Claiming e) t has = absurd has
-what_clock l q port place (Hold h) t has = absurd has
-what_clock l q port place (Aside option) t has = absurd has
-what_clock l q port place Passed t has = absurd has
-what_clock l q port place (Unjudged name) t has = absurd has
-what_clock l q port place (Scope name) t has = absurd has
-what_clock l q port place (Generated name objects) t has = absurd has
-what_clock l q port place (Delay output clocks objects) t has = absurd has
+what_clock : (l : Linked) (q : Query) (n : Names) (place : ℕ) (what : What) (t : Thing) → In t (clock_of q n place what) → IsThingIn l t
+what_clock l q n place (ClockCommand name source) t has =
+    subst (IsThingIn l) (wanted_is (named.names_some q (clock_name (input_ports n) name source)) (thing.Clock place (clock_kind n source)) t has) tt
+what_clock l q n place (Case value objects) t has = absurd has
+what_clock l q n place (Claiming e) t has = absurd has
+what_clock l q n place (Hold h) t has = absurd has
+what_clock l q n place (Aside option) t has = absurd has
+what_clock l q n place Passed t has = absurd has
+what_clock l q n place (Unjudged name) t has = absurd has
+what_clock l q n place (Scope name) t has = absurd has
+what_clock l q n place (Generated name objects) t has = absurd has
+what_clock l q n place (Delay output clocks objects) t has = absurd has
 
-abbrev clock_of_any : ℕ → What → List Thing
-clock_of_any place what = elim what as (λ w. List Thing) [ ClockCommand name source ↦ thing.Clock place (named.has_source source) ∷ [] | _ ↦ [] ]
+abbrev clock_of_any : Names → ℕ → What → List Thing
+clock_of_any n place what = elim what as (λ w. List Thing) [ ClockCommand name source ↦ thing.Clock place (clock_kind n source) ∷ [] | _ ↦ [] ]
 
-any_what : (l : Linked) (place : ℕ) (what : What) (t : Thing) → In t (clock_of_any place what) → IsThingIn l t
-any_what l place (ClockCommand name source) t has = subst (IsThingIn l) (single_is (thing.Clock place (named.has_source source)) t has) tt
-any_what l place (Case value objects) t has = absurd has
-any_what l place (Claiming e) t has = absurd has
-any_what l place (Hold h) t has = absurd has
-any_what l place (Aside option) t has = absurd has
-any_what l place Passed t has = absurd has
-any_what l place (Unjudged name) t has = absurd has
-any_what l place (Scope name) t has = absurd has
-any_what l place (Generated name objects) t has = absurd has
-any_what l place (Delay output clocks objects) t has = absurd has
+any_what : (l : Linked) (n : Names) (place : ℕ) (what : What) (t : Thing) → In t (clock_of_any n place what) → IsThingIn l t
+any_what l n place (ClockCommand name source) t has = subst (IsThingIn l) (single_is (thing.Clock place (clock_kind n source)) t has) tt
+any_what l n place (Case value objects) t has = absurd has
+any_what l n place (Claiming e) t has = absurd has
+any_what l n place (Hold h) t has = absurd has
+any_what l n place (Aside option) t has = absurd has
+any_what l n place Passed t has = absurd has
+any_what l n place (Unjudged name) t has = absurd has
+any_what l n place (Scope name) t has = absurd has
+any_what l n place (Generated name objects) t has = absurd has
+any_what l n place (Delay output clocks objects) t has = absurd has
 
-command_clock : (l : Linked) (q : Query) (port : Option (List ℕ)) (what : What) (place : ℕ) (c : Command) (t : Thing) → c.what ≡ what
-    → In t (named.clock_named q port place c) → IsThingIn l t
-command_clock l q port what place c t is has = what_clock l q port place what t (subst (λ (w : What). In t (clock_of q port place w)) is has)
+command_clock : (l : Linked) (q : Query) (n : Names) (what : What) (place : ℕ) (c : Command) (t : Thing) → c.what ≡ what
+    → In t (named.clock_named q n place c) → IsThingIn l t
+command_clock l q n what place c t is has = what_clock l q n place what t (subst (λ (w : What). In t (clock_of q n place w)) is has)
 
-any_clock_thing : (l : Linked) (place : ℕ) (c : Command) (t : Thing) → In t (named.any_clock place c) → IsThingIn l t
-any_clock_thing l place c t has = any_what l place c.what t has
+any_clock_thing : (l : Linked) (n : Names) (place : ℕ) (c : Command) (t : Thing) → In t (named.any_clock n place c) → IsThingIn l t
+any_clock_thing l n place c t has = any_what l n place c.what t has
 
 -- the first list that is not empty is one of them
 in_first : {B : Type 0} (ys : List B) (rest : List (List B)) (y : B) → In y (named.first_some (ys ∷ rest)) → In y ys ⊎ In y (named.first_some rest)
@@ -201,9 +208,9 @@ out_thing : (l : Linked) (q : Query) (place : ℕ) (p : PortName) (t : Thing) �
     → In t (named.bit_named q OutSide place p) → IsThingIn l t
 out_thing l q place p t low has = subst (IsThingIn l) (wanted_is (names_bit q p) (thing.Out place) t has) low
 
-clock_port_thing : (l : Linked) (q : Query) (name : Option (List ℕ)) (t : Thing) → In t (named.clock_port_named q name) → IsThingIn l t
+clock_port_thing : (l : Linked) (q : Query) (port : Option PortName) (t : Thing) → In t (named.clock_port_named q port) → IsThingIn l t
 clock_port_thing l q None t has = absurd has
-clock_port_thing l q (Some name) t has = subst (IsThingIn l) (wanted_is (named.names q name) thing.ClockPort t has) tt
+clock_port_thing l q (Some port) t has = subst (IsThingIn l) (wanted_is (named.names q port.name) thing.ClockPort t has) tt
 
 ports_in : (l : Linked) (q : Query) (t : Thing) → IsUsable l → In t (named.ports_named q l.names) → IsThingIn l t
 ports_in l q t usable has =
@@ -247,8 +254,8 @@ found_in l script q class.Nets t usable has =
     let is = from_each (named.net_named q) 0 l.names.nets t has in
     net_thing l q (0 + is.place) is.item t (All-at (λ (n : NetName). n.net < l.design.nets) l.names.nets is.place is.item is.here usable.nets) is.of
 found_in l script q class.Clocks t usable has =
-    let is = from_each (named.clock_named q l.names.clock) 0 script.commands t has in
-    command_clock l q l.names.clock is.item.what (0 + is.place) is.item t refl is.of
+    let is = from_each (named.clock_named q l.names) 0 script.commands t has in
+    command_clock l q l.names is.item.what (0 + is.place) is.item t refl is.of
 found_in l script q class.Any t usable has = absurd has
 
 reg_thing : (l : Linked) (k : ℕ) (c : CellName) (t : Thing) → In t (named.cell_of_reg k c.reg) → IsThingIn l t
@@ -272,8 +279,8 @@ things_in l script AllRegisters t usable has =
     let is = from_each (λ k (c : CellName). named.cell_of_reg k c.reg) 0 l.names.cells t has in
     reg_thing l (0 + is.place) is.item t is.of
 things_in l script AllClocks t usable has =
-    let is = from_each named.any_clock 0 script.commands t has in
-    any_clock_thing l (0 + is.place) is.item t is.of
+    let is = from_each (named.any_clock l.names) 0 script.commands t has in
+    any_clock_thing l l.names (0 + is.place) is.item t is.of
 
 -- the pins of a through list
 pub pins_fit : (l : Linked) (script : Script) → IsUsable l → (objects : List Object) → All (IsPinIn l.design) (spec.pins_of l script objects)

@@ -142,7 +142,7 @@ memory_names = record {
   ins = record { name = codes "d"; bus = None } ∷ [];
   outs = record { name = codes "y"; bus = None } ∷ [];
   nets = [];
-  clock = Some (codes "clk");
+  clock = Some (record { name = codes "clk"; bus = None });
   free = codes "w/Q" ∷ codes "m/Q" ∷ [];
   sinks = codes "m/A" ∷ [];
   cuts = record { cell = codes "LAT"; count = 1; «open» = false } ∷ record { cell = codes "RAM"; count = 1; «open» = false } ∷ [];
@@ -175,7 +175,7 @@ abbrev whole_linked : Linked
 whole_linked = record {
   design = whole_design;
   names = whole_names (record { name = codes "a"; reg = Some 0; outs = 3 ∷ []; pins = [] } ∷ []) (record { name = codes "d"; bus = None } ∷ [])
-      (record { name = codes "y"; bus = None } ∷ []) [] (Some (codes "clk"));
+      (record { name = codes "y"; bus = None } ∷ []) [] (Some (record { name = codes "clk"; bus = None }));
 }
 
 all_begin : all_starts whole_linked ≡ start_points whole_design

@@ -14,7 +14,7 @@ use Rattle.linked_types.specs.declared.names.PortName.{PortName}
 use Rattle.script_types.specs.declared.objects.Query.{Query}
 use Rattle.sdc_settings.specs.Inputs.{names_bit, names_bus}
 use Rattle.sdcv_base.specs.Seqs.{each_at, option_list}
-use Rattle.sdc_objects.specs.Tables.{bit_names, port_names}
+use Rattle.sdc_objects.specs.Tables.{bit_names, clock_names, port_names}
 use Rattle.sdc_objects.specs.Things.{names, bit_named, clock_port_named, ports_named}
 use Rattle.sdc_objects.specs.declared.things.Side.{Side}
 use Rattle.sdc_objects.specs.declared.things.Side.TheVariants.{In, Out}
@@ -46,18 +46,18 @@ no_bits q side i (p ∷ ps) exact absent =
     let none : names_bit q p ≡ false = unnamed_bit q p.name p.bus exact here in
     rw (none, no_bits q side (i + 1) ps exact there) refl
 
-no_clock_port : (q : Query) (clock : Option (List ℕ)) → IsExact q.pattern q.hier → is_among q.pattern (option_list clock) ≡ false
+no_clock_port : (q : Query) (clock : Option PortName) → IsExact q.pattern q.hier → is_among q.pattern (clock_names clock) ≡ false
     → clock_port_named q clock ≡ []
 no_clock_port q None exact absent = refl
-no_clock_port q (Some name) exact absent =
-    let (here, rest) = or_parts (bytes_eq q.pattern name) false absent in
-    rw (unnamed q name exact here) refl
+no_clock_port q (Some port) exact absent =
+    let (here, rest) = or_parts (bytes_eq q.pattern port.name) false absent in
+    rw (unnamed q port.name exact here) refl
 
 -- nor a port, where it is not among the names of ports
 pub no_ports : (q : Query) (n : Names) → IsExact q.pattern q.hier → is_among q.pattern (each_once (port_names n)) ≡ false → ports_named q n ≡ []
 no_ports q n exact absent =
     let ins : List (List ℕ) = flat_map bit_names n.ins in
-    let clock : List (List ℕ) = option_list n.clock in
+    let clock : List (List ℕ) = clock_names n.clock in
     let outs : List (List ℕ) = flat_map bit_names n.outs in
     let all : list_any (bytes_eq q.pattern) ((ins ++ clock) ++ outs) ≡ false = sym (is_among-with_names q.pattern [] (port_names n)) ∙ absent in
     let (first, last) = or_parts (is_among q.pattern (ins ++ clock)) (is_among q.pattern outs)

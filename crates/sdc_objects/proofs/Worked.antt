@@ -24,6 +24,8 @@ use Rattle.sdcv_base.specs.declared.kinds.Edge.TheVariants.{Any, Rise, Fall}
 use Rattle.selected_types.specs.declared.warnings.Warning.TheVariants.{Dropped, Several}
 use Rattle.sdc_objects.specs.declared.things.Place.TheVariants.{From, To, Through}
 use Rattle.sdc_objects.specs.Standing.{starts_of, ends_of, pins_of, warnings, from_column, to_column, through_column}
+use Rattle.sdc_settings.specs.Inputs.{named_places}
+use Rattle.sdc_settings.specs.Sources.{source_bit}
 use Rattle.sdc_objects.specs.Cuts.{is_cut}
 
 -- the register s reads the input d, and the register a the input a; s/QN shows the complement of its bit
@@ -64,7 +66,7 @@ abbrev l : Linked
 l = record {
   design = design;
   names = whole_names (cell_s ∷ cell_a ∷ []) (record { name = codes "d"; bus = None } ∷ record { name = codes "a"; bus = None } ∷ [])
-      (record { name = codes "y"; bus = None } ∷ []) (record { name = codes "d"; net = 0 } ∷ record { name = codes "a"; net = 1 } ∷ []) (Some (codes "clk"));
+      (record { name = codes "y"; bus = None } ∷ []) (record { name = codes "d"; net = 0 } ∷ record { name = codes "a"; net = 1 } ∷ []) (Some (record { name = codes "clk"; bus = None }));
 }
 
 abbrev object : Class → List ℕ → Object
@@ -88,39 +90,39 @@ of c pattern = object c pattern ∷ []
 
 -- a clock stands for the registers and for the port with an input delay of it
 clock_has_its_inputs : starts_of l script true Any (of class.Clocks (codes "ck")) ≡ RegStart 0 ∷ RegStart 1 ∷ InputStart 0 ∷ []
-unfolding matches_whole star
+unfolding source_bit named_places matches_whole star
 clock_has_its_inputs = refl
 
 -- as before without the word
 clock_has_registers_alone : starts_of l script false Any (of class.Clocks (codes "ck")) ≡ RegStart 0 ∷ RegStart 1 ∷ []
-unfolding matches_whole star
+unfolding source_bit named_places matches_whole star
 clock_has_registers_alone = refl
 
 -- a virtual clock stands for its ports, and without the word for nothing
 virtual_clock_has_its_inputs : starts_of l script true Any (of class.Any (codes "vio")) ≡ InputStart 1 ∷ []
-unfolding matches_whole star
+unfolding source_bit named_places matches_whole star
 virtual_clock_has_its_inputs = refl
 
 virtual_clock_has_nothing : starts_of l script false Any (of class.Any (codes "vio")) ≡ []
-unfolding matches_whole star
+unfolding source_bit named_places matches_whole star
 virtual_clock_has_nothing = refl
 
 -- after -to for the outputs with an output delay of it
 clock_has_its_outputs : ends_of l script true (of class.Clocks (codes "vio")) ≡ OutputEnd 0 ∷ []
-unfolding matches_whole star
+unfolding source_bit named_places matches_whole star
 clock_has_its_outputs = refl
 
 clocks_have_registers_and_outputs : ends_of l script true (of class.Clocks (codes "ck")) ≡ RegEnd 0 ∷ RegEnd 1 ∷ OutputEnd 0 ∷ []
-unfolding matches_whole star
+unfolding source_bit named_places matches_whole star
 clocks_have_registers_and_outputs = refl
 
 -- after -rise_from it is dropped, its ports too
 clock_has_no_edge : starts_of l script true Rise (of class.Clocks (codes "vio")) ≡ []
-unfolding matches_whole star
+unfolding source_bit named_places matches_whole star
 clock_has_no_edge = refl
 
 clock_is_dropped : warnings (from_column l script true Rise) l script true From (of class.Clocks (codes "vio")) ≡ Dropped (codes "vio") 1 ∷ []
-unfolding matches_whole star
+unfolding source_bit named_places matches_whole star
 clock_is_dropped = refl
 
 -- after -rise_from a clock pin stands for its register, and an inverted output for nothing
@@ -166,6 +168,50 @@ port_and_net_are_one = refl
 cell_and_net_are_two : warnings (through_column l) l script true Through (of class.Any (codes "a")) ≡ Several (codes "a") ∷ []
 unfolding matches_whole star
 cell_and_net_are_two = refl
+
+-- ck at the clock's port, ck2 at the port d, and a clock without a name at the clock's port; a has an input delay of ck2
+abbrev two_clocks : Script
+two_clocks = record {
+  commands = command (Clock (Some (codes "ck")) (object class.Ports (codes "clk") ∷ []))
+      ∷ command (Clock (Some (codes "ck2")) (object class.Ports (codes "d") ∷ [])) ∷ command (Clock None (object class.Ports (codes "clk") ∷ []))
+      ∷ command (Delay false (Some (object class.Clocks (codes "ck2") ∷ [])) (object class.Ports (codes "a") ∷ [])) ∷ [];
+}
+
+-- a clock that is not judged stands for no register, and is dropped
+other_clock_has_no_registers : starts_of l two_clocks false Any (of class.Clocks (codes "ck2")) ≡ []
+unfolding source_bit named_places matches_whole star
+other_clock_has_no_registers = refl
+
+other_clock_is_dropped : warnings (from_column l two_clocks false Any) l two_clocks false From (of class.Clocks (codes "ck2")) ≡ Dropped (codes "ck2") 1 ∷ []
+unfolding source_bit named_places matches_whole star
+other_clock_is_dropped = refl
+
+-- in a strict run it stands for its ports, and is told as dropped
+other_clock_has_its_inputs : starts_of l two_clocks true Any (of class.Clocks (codes "ck2")) ≡ InputStart 1 ∷ []
+unfolding source_bit named_places matches_whole star
+other_clock_has_its_inputs = refl
+
+other_clock_is_told : warnings (from_column l two_clocks true Any) l two_clocks true From (of class.Clocks (codes "ck2")) ≡ Dropped (codes "ck2") 1 ∷ []
+unfolding source_bit named_places matches_whole star
+other_clock_is_told = refl
+
+-- after -rise_from it is dropped, its ports too
+other_clock_has_no_edge : starts_of l two_clocks true Rise (of class.Clocks (codes "ck2")) ≡ []
+unfolding source_bit named_places matches_whole star
+other_clock_has_no_edge = refl
+
+other_clock_is_told_once : warnings (from_column l two_clocks true Rise) l two_clocks true From (of class.Clocks (codes "ck2")) ≡ Dropped (codes "ck2") 1 ∷ []
+unfolding source_bit named_places matches_whole star
+other_clock_is_told_once = refl
+
+-- a clock at the clock's port is the judged one, whatever its name; without one it goes by the port
+clock_at_the_port_is_judged : starts_of l two_clocks false Any (of class.Clocks (codes "clk")) ≡ RegStart 0 ∷ RegStart 1 ∷ []
+unfolding source_bit named_places matches_whole star
+clock_at_the_port_is_judged = refl
+
+other_clocks_are_counted : warnings (to_column l two_clocks false) l two_clocks false To (AllClocks ∷ []) ≡ Dropped (codes "all_clocks") 1 ∷ []
+unfolding source_bit named_places matches_whole star
+other_clocks_are_counted = refl
 
 -- a design of the register a, which reads the port d, and three cells that are cut out: the memory m with the judged clock, whose
 -- pin A is a sink and whose pin Q is the source of an input; the latch h without it; and f, of which no pin is connected
@@ -215,7 +261,7 @@ cut_names = record {
   ins = record { name = codes "d"; bus = None } ∷ [];
   outs = record { name = codes "y"; bus = None } ∷ [];
   nets = [];
-  clock = Some (codes "clk");
+  clock = Some (record { name = codes "clk"; bus = None });
   free = codes "m/Q" ∷ codes "m/B" ∷ [];
   sinks = codes "m/A" ∷ [];
   cuts = record { cell = codes "RAM"; count = 1; «open» = false } ∷ record { cell = codes "X"; count = 2; «open» = false } ∷ [];
@@ -307,19 +353,19 @@ unclocked_cells_are_told = refl
 -- so it is with the clock
 unclocked_cells_are_told_of_a_clock : warnings (from_column cut clock_script true Any) cut clock_script true From (of class.Clocks (codes "ck")) ≡
     Dropped (codes "ck") 2 ∷ []
-unfolding matches_whole star
+unfolding source_bit named_places matches_whole star
 unclocked_cells_are_told_of_a_clock = refl
 
 clock_has_registers : starts_of cut clock_script false Any (of class.Clocks (codes "ck")) ≡ RegStart 0 ∷ []
-unfolding matches_whole star
+unfolding source_bit named_places matches_whole star
 clock_has_registers = refl
 
 clock_has_sources : starts_of cut clock_script true Any (of class.Clocks (codes "ck")) ≡ RegStart 0 ∷ InputStart 1 ∷ []
-unfolding matches_whole star
+unfolding source_bit named_places matches_whole star
 clock_has_sources = refl
 
 clock_has_sinks : ends_of cut clock_script true (of class.Clocks (codes "ck")) ≡ RegEnd 0 ∷ OutputEnd 1 ∷ []
-unfolding matches_whole star
+unfolding source_bit named_places matches_whole star
 clock_has_sinks = refl
 
 -- the input of a source toggles at the rise of the clock that its cell has: in a strict run after -rise_from it is a start, and after

@@ -12,7 +12,9 @@ use Rattle.sdc_objects.specs.declared.things.Thing.{Thing}
 use Rattle.sdc_objects.specs.declared.things.Place.TheVariants.{From}
 use Rattle.sdc_objects.specs.declared.things.Side.{Side}
 use Rattle.sdc_objects.specs.declared.things.Side.TheVariants.{In, Out}
-use Rattle.sdc_objects.specs.Things.{names_some, clock_name, things_of}
+use Rattle.sdc_settings.specs.Sources.{clock_name}
+use Rattle.sdc_objects.specs.Clocks.{input_ports}
+use Rattle.sdc_objects.specs.Things.{names_some, things_of}
 
 -- after `-clock` an object names a clock of this name: a pattern by the name, and `all_clocks` whatever it is
 abbrev pub is_clock_of : Option (List ℕ) → Object → Bool
@@ -44,7 +46,7 @@ delayed l script side name = flat_map (λ (c : Command). delayed_by l script sid
 
 -- what has a delay on this side of the clock that a command makes
 abbrev pub delayed_of : Linked → Script → Side → What → List Thing
-delayed_of l script side (ClockCommand name source) = delayed l script side (clock_name l.names.clock name source)
+delayed_of l script side (ClockCommand name source) = delayed l script side (clock_name (input_ports l.names) name source)
 delayed_of l script side _ = []
 
 abbrev pub delayed_of_some : Linked → Script → Side → Option Command → List Thing

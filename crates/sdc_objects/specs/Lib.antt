@@ -1,3 +1,4 @@
+pub mod Clocks
 pub mod Things
 pub mod Delays
 pub mod Cuts

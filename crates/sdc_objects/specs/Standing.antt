@@ -26,6 +26,8 @@ use Rattle.script_types.specs.declared.scripts.Script.{Script}
 use Rattle.sdc_settings.specs.Inputs.{object_text}
 use Rattle.sdc_objects.specs.declared.things.Thing.{Thing}
 use Rattle.sdc_objects.specs.declared.things.Thing.TheVariants as thing
+use Rattle.sdc_objects.specs.declared.things.ClockKind.{ClockKind}
+use Rattle.sdc_objects.specs.declared.things.ClockKind.TheVariants.{Judged, Other, Virtual}
 use Rattle.sdc_objects.specs.declared.things.Place.{Place}
 use Rattle.sdc_objects.specs.declared.things.Place.TheVariants.{From, To, Through}
 use Rattle.sdc_objects.specs.declared.things.Side.TheVariants.{In, Out}
@@ -117,6 +119,12 @@ abbrev pub pin_at_row : Design → Bool → Option CellName → ℕ → Stands
 pin_at_row d cut None place = row dropped dropped dropped
 pin_at_row d cut (Some c) place = role_row d cut c.reg (slice_get c.pins place)
 
+-- the judged clock stands for all registers, and a virtual one for nothing; what another one clocks is no register of the design
+abbrev pub clock_row : Design → ClockKind → Stands
+clock_row d Judged = row (Some (all_reg_starts d)) (Some (all_reg_ends d)) dropped
+clock_row d Other = row dropped dropped dropped
+clock_row d Virtual = row (Some []) (Some []) (Some [])
+
 abbrev pub stands : Linked → Thing → Stands
 stands l (thing.Cell k) = cell_at_row (is_cut l.names k) (slice_get l.names.cells k)
 stands l (thing.Pin k place) = pin_at_row l.design (is_cut l.names k) (slice_get l.names.cells k) place
@@ -124,8 +132,8 @@ stands l (thing.In i) = row (one (InputStart i)) dropped (one (NetPin (slice_ind
 stands l (thing.Out o) = row dropped (one (OutputEnd o)) (one (OutPort o))
 stands l thing.ClockPort = row dropped dropped dropped
 stands l (thing.Net n) = row dropped dropped (one (NetPin n))
-stands l (thing.Clock place true) = row (Some (all_reg_starts l.design)) (Some (all_reg_ends l.design)) dropped
-stands l (thing.Clock place false) = row (Some []) (Some []) (Some [])
+stands l (thing.Clock place kind) = clock_row l.design kind
+stands l (thing.Delayed place) = row (Some []) (Some []) (Some [])
 
 -- one of a register's outputs shows the complement of the register's bit on the net
 abbrev pub has_inverted : List RegOut → ℕ → Bool
@@ -158,10 +166,10 @@ abbrev pub pin_by : (Option ℕ → PinRole → Option (List Start)) → Option 
 pin_by of None place = dropped
 pin_by of (Some c) place = by_role of c.reg (slice_get c.pins place)
 
--- what a thing stands for after them: a clock with a source is dropped too, and all else is as after -from
+-- what a thing stands for after them: the judged clock is dropped too, and all else is as after -from
 abbrev pub edge_column : Linked → Thing → Option (List Start)
 edge_column l (thing.Pin k place) = pin_by (edge_pin l.design) (slice_get l.names.cells k) place
-edge_column l (thing.Clock place true) = dropped
+edge_column l (thing.Clock place Judged) = dropped
 edge_column l t = (stands l t).from
 
 -- a timing analyser begins a path from a register at its clock pin, whose rise makes both changes of the bit: in a strict run
@@ -179,6 +187,7 @@ rise_column l t = (stands l t).from
 -- its fall makes no change: after -fall_from a port alone stands for something
 abbrev pub fall_column : Thing → Option (List Start)
 fall_column (thing.In input) = one (InputStart input)
+fall_column (thing.Delayed place) = Some []
 fall_column _ = dropped
 
 -- what a thing gives in a column
@@ -199,22 +208,16 @@ abbrev pub output_of : Thing → List End
 output_of (thing.Out output) = OutputEnd output ∷ []
 output_of _ = []
 
--- in a strict run a clock with a source stands also for the clocked cells that are cut out, at their sources and sinks; and each
--- clock for the inputs with an input delay of it, and for the outputs with an output delay
-abbrev pub cut_starts : Linked → Bool → List Start
-cut_starts l sourced = if sourced then all_sources l.names.cells else []
-
-abbrev pub cut_ends : Linked → Bool → List End
-cut_ends l sourced = if sourced then all_sinks l.names.cells else []
-
+-- in a strict run the judged clock stands also for the clocked cells that are cut out, at their sources and sinks; and the ports of
+-- each clock are the inputs with an input delay of it, and the outputs with an output delay
 abbrev pub clock_starts : Linked → Script → Thing → Option (List Start)
-clock_starts l script (thing.Clock place sourced) =
-    Some (meant_by (stands l (thing.Clock place sourced)).from ++ cut_starts l sourced ++ flat_map input_of (delayed_at l script In place))
+clock_starts l script (thing.Clock place Judged) = Some (all_reg_starts l.design ++ all_sources l.names.cells)
+clock_starts l script (thing.Delayed place) = Some (flat_map input_of (delayed_at l script In place))
 clock_starts l script t = (stands l t).from
 
 abbrev pub clock_ends : Linked → Script → Thing → Option (List End)
-clock_ends l script (thing.Clock place sourced) =
-    Some (meant_by (stands l (thing.Clock place sourced)).to ++ cut_ends l sourced ++ flat_map output_of (delayed_at l script Out place))
+clock_ends l script (thing.Clock place Judged) = Some (all_reg_ends l.design ++ all_sinks l.names.cells)
+clock_ends l script (thing.Delayed place) = Some (flat_map output_of (delayed_at l script Out place))
 clock_ends l script t = (stands l t).to
 
 -- the three columns by their places, in a run that is strict or not; that of the starts by the edge of its option
@@ -249,19 +252,24 @@ registers_and_cuts n = each_at (λ k (c : CellName). where_true (is_some c.reg |
 abbrev pub unclocked : Names → List Thing
 unclocked n = each_at (λ k (c : CellName). where_true (is_cut n k && not (is_clocked c.pins)) (thing.Cell k)) 0 n.cells
 
-abbrev pub is_sourced_clock : Thing → Bool
-is_sourced_clock (thing.Clock place sourced) = sourced
-is_sourced_clock _ = false
+abbrev pub is_judged_clock : Thing → Bool
+is_judged_clock (thing.Clock place Judged) = true
+is_judged_clock _ = false
 
--- what is named, and where a clock with a source is named, these cells
+-- what is named, and where the judged clock is named, these cells
 abbrev pub with_unclocked : Names → List Thing → List Thing
-with_unclocked n things = things ++ (if list_any is_sourced_clock things then unclocked n else [])
+with_unclocked n things = things ++ (if list_any is_judged_clock things then unclocked n else [])
 
--- in a strict run `all_registers` and a clock with a source name cells that are cut out too, so that those without the judged clock
--- are told as dropped
+-- with a clock its ports are named
+abbrev pub with_ports : Thing → List Thing
+with_ports (thing.Clock place kind) = thing.Clock place kind ∷ thing.Delayed place ∷ []
+with_ports t = t ∷ []
+
+-- in a strict run a clock names its ports too, and `all_registers` and the judged clock name cells that are cut out, so that those
+-- without the judged clock are told as dropped
 abbrev pub strict_named : Linked → Script → Place → Object → List Thing
 strict_named l script place AllRegisters = registers_and_cuts l.names
-strict_named l script place o = with_unclocked l.names (things_of l script place o)
+strict_named l script place o = with_unclocked l.names (flat_map with_ports (things_of l script place o))
 
 abbrev pub point_named : Linked → Script → Bool → Place → Object → List Thing
 point_named l script false place o = things_of l script place o

@@ -17,6 +17,8 @@ use Rattle.script_types.specs.declared.scripts.What.TheVariants.{Clock as ClockC
 use Rattle.script_types.specs.declared.scripts.Command.{Command}
 use Rattle.script_types.specs.declared.scripts.Script.{Script}
 use Rattle.sdc_settings.specs.Inputs.{names_bit}
+use Rattle.sdc_settings.specs.Sources.{clock_name}
+use Rattle.sdc_objects.specs.Clocks.{input_ports, clock_kind}
 use Rattle.sdcv_base.specs.Seqs.{each_at, where_true}
 use Rattle.sdc_objects.specs.declared.things.Thing.{Thing}
 use Rattle.sdc_objects.specs.declared.things.Thing.TheVariants as thing
@@ -59,20 +61,9 @@ abbrev pub bit_named : Query → Side → ℕ → PortName → List Thing
 bit_named q side place p = where_true (names_bit q p) (bit_of side place)
 
 -- the clock port, by its own name alone
-abbrev pub clock_port_named : Query → Option (List ℕ) → List Thing
+abbrev pub clock_port_named : Query → Option PortName → List Thing
 clock_port_named q None = []
-clock_port_named q (Some name) = where_true (names q name) thing.ClockPort
-
--- a clock that has a source and no name has the name of the clock port; one without both has none
-abbrev pub clock_name : Option (List ℕ) → Option (List ℕ) → List Object → Option (List ℕ)
-clock_name port (Some name) source = Some name
-clock_name port None [] = None
-clock_name port None (o ∷ source) = port
-
--- a clock that is not virtual has a source
-abbrev pub has_source : List Object → Bool
-has_source [] = false
-has_source (o ∷ source) = true
+clock_port_named q (Some port) = where_true (names q port.name) thing.ClockPort
 
 -- the pattern matches the name, if there is one
 abbrev pub names_some : Query → Option (List ℕ) → Bool
@@ -80,9 +71,9 @@ names_some q None = false
 names_some q (Some name) = names q name
 
 -- the clock that the command at a place makes, by its name
-abbrev pub clock_named : Query → Option (List ℕ) → ℕ → Command → List Thing
-clock_named q port place c = elim c.what as (λ w. List Thing) [
-  | ClockCommand name source ↦ where_true (names_some q (clock_name port name source)) (thing.Clock place (has_source source))
+abbrev pub clock_named : Query → Names → ℕ → Command → List Thing
+clock_named q n place c = elim c.what as (λ w. List Thing) [
+  | ClockCommand name source ↦ where_true (names_some q (clock_name (input_ports n) name source)) (thing.Clock place (clock_kind n source))
   | _ ↦ []
 ]
 
@@ -96,7 +87,7 @@ found l script q class.Ports = ports_named q l.names
 found l script q class.Cells = each_at (cell_named q) 0 l.names.cells
 found l script q class.Pins = each_at (pins_named q) 0 l.names.cells
 found l script q class.Nets = each_at (net_named q) 0 l.names.nets
-found l script q class.Clocks = each_at (clock_named q l.names.clock) 0 script.commands
+found l script q class.Clocks = each_at (clock_named q l.names) 0 script.commands
 found l script q class.Any = []
 
 -- the classes in which a pattern is looked for, the first one that has it counting (the order is this tool's own)
@@ -117,8 +108,8 @@ abbrev pub cell_of_reg : ℕ → Option ℕ → List Thing
 cell_of_reg k reg = where_true (is_some reg) (thing.Cell k)
 
 -- the clock that the command at a place makes, whatever its name
-abbrev pub any_clock : ℕ → Command → List Thing
-any_clock place c = elim c.what as (λ w. List Thing) [ ClockCommand name source ↦ thing.Clock place (has_source source) ∷ [] | _ ↦ [] ]
+abbrev pub any_clock : Names → ℕ → Command → List Thing
+any_clock n place c = elim c.what as (λ w. List Thing) [ ClockCommand name source ↦ thing.Clock place (clock_kind n source) ∷ [] | _ ↦ [] ]
 
 -- all that an object names in a place of an exception
 abbrev pub things_of : Linked → Script → Place → Object → List Thing
@@ -126,7 +117,7 @@ things_of l script place (Named q) = first_some (map (found l script q) (classes
 things_of l script place AllInputs = each_at (λ i (p : PortName). bit_of In i ∷ []) 0 l.names.ins
 things_of l script place AllOutputs = each_at (λ o (p : PortName). bit_of Out o ∷ []) 0 l.names.outs
 things_of l script place AllRegisters = each_at (λ k (c : CellName). cell_of_reg k c.reg) 0 l.names.cells
-things_of l script place AllClocks = each_at any_clock 0 script.commands
+things_of l script place AllClocks = each_at (any_clock l.names) 0 script.commands
 
 -- the pattern is found in a class
 abbrev pub is_found : Linked → Script → Query → Class → Bool

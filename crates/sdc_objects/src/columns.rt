@@ -18,7 +18,7 @@ ghost use Rattle.sdc_objects.specs.Standing as spec;
 use crate::cuts::{add_cell_ends, add_cell_starts};
 use crate::scopes::Scope;
 use crate::strict::{add_clock_ends, add_clock_starts, add_fall_start, add_rise_start};
-use crate::things::{Place, Thing};
+use crate::things::{ClockKind, Place, Thing};
 use linked_types::{CellName, Linked, PinName, PinRole};
 use net_model::{Design, Edge, End, PinRef, RegOut, Start};
 use sdcv_base::Seq;
@@ -123,8 +123,8 @@ impl Column for PinRef {
             Thing::In(input) => add_one(Some(PinRef::Net(input_net(&linked.design, input))), found),
             Thing::Out(output) => add_one(Some(PinRef::OutPort(output)), found),
             Thing::Net(net) => add_one(Some(PinRef::Net(net)), found),
-            Thing::ClockPort => Ok(false),
-            Thing::Clock(_, sourced) => Ok(!sourced),
+            Thing::ClockPort | Thing::Clock(_, ClockKind::Judged | ClockKind::Other) => Ok(false),
+            Thing::Clock(_, ClockKind::Virtual) | Thing::Delayed(_) => Ok(true),
         }
     }
 }
@@ -144,7 +144,8 @@ pub(crate) fn add_start(
         Thing::Pin(k, place) => add_one(pin_start(linked, k, place), found),
         Thing::In(input) => add_one(Some(Start::Input(input)), found),
         Thing::Out(_) | Thing::ClockPort | Thing::Net(_) => Ok(false),
-        Thing::Clock(_, sourced) => add_reg_starts(&linked.design, sourced, found),
+        Thing::Clock(_, kind) => add_reg_starts(&linked.design, kind, found),
+        Thing::Delayed(_) => Ok(true),
     }
 }
 
@@ -155,7 +156,7 @@ fn add_edge_start(linked: &Linked, thing: Thing, found: &mut Seq<Start>) -> Resu
 {
     match thing {
         Thing::Pin(k, place) => add_one(edge_start(linked, k, place), found),
-        Thing::Clock(_, true) => Ok(false),
+        Thing::Clock(_, ClockKind::Judged) => Ok(false),
         _ => add_start(linked, thing, found),
     }
 }
@@ -175,7 +176,8 @@ pub(crate) fn add_end(
         Thing::Pin(k, place) => add_one(pin_end(linked, k, place), found),
         Thing::Out(output) => add_one(Some(End::Output(output)), found),
         Thing::In(_) | Thing::ClockPort | Thing::Net(_) => Ok(false),
-        Thing::Clock(_, sourced) => add_reg_ends(&linked.design, sourced, found),
+        Thing::Clock(_, kind) => add_reg_ends(&linked.design, kind, found),
+        Thing::Delayed(_) => Ok(true),
     }
 }
 
@@ -292,22 +294,27 @@ fn pin_end(linked: &Linked, k: usize, place: usize) -> Option<End>
     }
 }
 
-// A clock without a source stands for nothing.
+// A clock that is not judged is dropped, and one without a source stands for nothing.
 fn add_reg_starts(
     design: &Design,
-    sourced: bool,
+    kind: ClockKind,
     found: &mut Seq<Start>,
 ) -> Result<bool, AllocError>
-    ensures kept { IfOk result (λ kept. kept ≡ true) }
-    ensures added { OnOk result (found.new ≡ found.old ++ (if sourced then spec.all_reg_starts design.now else [])) }
+    ensures kept { IfOk result (λ kept. kept ≡ not (spec.is_dropped (spec.clock_row design.now kind).from)) }
+    ensures added { OnOk result (found.new ≡ found.old ++ spec.meant_by (spec.clock_row design.now kind).from) }
 {
-    if sourced {
-        push_reg_starts(design, found)?;
+    match kind {
+        ClockKind::Judged => {
+            push_reg_starts(design, found)?;
+            Ok(true)
+        }
+        ClockKind::Other => Ok(false),
+        ClockKind::Virtual => Ok(true),
     }
-    Ok(true)
 }
 
-fn push_reg_starts(design: &Design, found: &mut Seq<Start>) -> Result<(), AllocError>
+/// Adds each register as a start.
+pub(crate) fn push_reg_starts(design: &Design, found: &mut Seq<Start>) -> Result<(), AllocError>
     ensures { OnOk result (found.new ≡ found.old ++ spec.all_reg_starts design.now) }
 {
     for reg in 0..design.regs.len() {
@@ -316,17 +323,22 @@ fn push_reg_starts(design: &Design, found: &mut Seq<Start>) -> Result<(), AllocE
     Ok(())
 }
 
-fn add_reg_ends(design: &Design, sourced: bool, found: &mut Seq<End>) -> Result<bool, AllocError>
-    ensures kept { IfOk result (λ kept. kept ≡ true) }
-    ensures added { OnOk result (found.new ≡ found.old ++ (if sourced then spec.all_reg_ends design.now else [])) }
+fn add_reg_ends(design: &Design, kind: ClockKind, found: &mut Seq<End>) -> Result<bool, AllocError>
+    ensures kept { IfOk result (λ kept. kept ≡ not (spec.is_dropped (spec.clock_row design.now kind).to)) }
+    ensures added { OnOk result (found.new ≡ found.old ++ spec.meant_by (spec.clock_row design.now kind).to) }
 {
-    if sourced {
-        push_reg_ends(design, found)?;
+    match kind {
+        ClockKind::Judged => {
+            push_reg_ends(design, found)?;
+            Ok(true)
+        }
+        ClockKind::Other => Ok(false),
+        ClockKind::Virtual => Ok(true),
     }
-    Ok(true)
 }
 
-fn push_reg_ends(design: &Design, found: &mut Seq<End>) -> Result<(), AllocError>
+/// Adds each register as an end.
+pub(crate) fn push_reg_ends(design: &Design, found: &mut Seq<End>) -> Result<(), AllocError>
     ensures { OnOk result (found.new ≡ found.old ++ spec.all_reg_ends design.now) }
 {
     for reg in 0..design.regs.len() {

@@ -1,11 +1,11 @@
 //! The ports of a clock, which have a delay of it.
 ghost use Rattle.std.specs.Prelude.{◌≡◌, ◌++◌, IfOk, OnOk};
 ghost use Rattle.std.specs.List.{list_any};
-ghost use Rattle.std.specs.Option.{option_copied};
 ghost use Rattle.sdc_objects.specs.Tables.{IsTablesOf};
 ghost use Rattle.sdc_objects.specs.Delays as spec;
 
-use crate::found::{clock_name, names_some, things_of};
+use crate::clocks::name_of;
+use crate::found::{names_some, things_of};
 use crate::scopes::Scope;
 use crate::things::{Place, Side, Thing};
 use script_types::{Command, Object, What};
@@ -39,8 +39,8 @@ fn delayed_of(
 {
     match clock {
         What::Clock { name, source } => {
-            let name = clock_name(&scope.linked.names.clock, name, source);
-            delayed(alloc, scope, side, name)
+            let name = name_of(alloc, scope, name, source)?;
+            delayed(alloc, scope, side, &name)
         }
         _ => Ok(Seq::new(alloc)),
     }
@@ -50,10 +50,10 @@ fn delayed(
     alloc: Global,
     scope: &Scope,
     side: Side,
-    name: Option<&Name>,
+    name: &Option<Name>,
 ) -> Result<Seq<Thing>, AllocError>
     requires { IsTablesOf scope.now.linked.now scope.now.tables.now }
-    ensures { IfOk result (λ things. things ≡ spec.delayed scope.now.linked.now scope.now.script.now side (option_copied name.entry)) }
+    ensures { IfOk result (λ things. things ≡ spec.delayed scope.now.linked.now scope.now.script.now side name.now) }
 {
     let commands = &scope.script.commands;
     let mut found = Seq::new(alloc);
@@ -67,13 +67,13 @@ fn add_delayed(
     alloc: Global,
     scope: &Scope,
     side: Side,
-    name: Option<&Name>,
+    name: &Option<Name>,
     what: &What,
     found: &mut Seq<Thing>,
 ) -> Result<(), AllocError>
     requires { IsTablesOf scope.now.linked.now scope.now.tables.now }
     ensures { OnOk result (found.new ≡ found.old ++
-        spec.delayed_by scope.now.linked.now scope.now.script.now side (option_copied name.entry) what.now) }
+        spec.delayed_by scope.now.linked.now scope.now.script.now side name.now what.now) }
 {
     match what {
         What::Delay {
@@ -100,8 +100,8 @@ fn is_on(side: Side, output: bool) -> bool
 }
 
 // A delay without `-clock` is one of no clock.
-fn is_delay_of(name: Option<&Name>, clocks: &Option<Seq<Object>>) -> bool
-    ensures { result ≡ spec.is_delay_of (option_copied name.entry) clocks.now }
+fn is_delay_of(name: &Option<Name>, clocks: &Option<Seq<Object>>) -> bool
+    ensures { result ≡ spec.is_delay_of name.now clocks.now }
 {
     match clocks {
         Some(clocks) => names_clock(name, clocks),
@@ -109,8 +109,8 @@ fn is_delay_of(name: Option<&Name>, clocks: &Option<Seq<Object>>) -> bool
     }
 }
 
-fn names_clock(name: Option<&Name>, clocks: &Seq<Object>) -> bool
-    ensures { result ≡ list_any (spec.is_clock_of (option_copied name.entry)) clocks.now }
+fn names_clock(name: &Option<Name>, clocks: &Seq<Object>) -> bool
+    ensures { result ≡ list_any (spec.is_clock_of name.now) clocks.now }
 {
     for k in 0..clocks.len() {
         if is_clock_of(name, clocks.item(k)) {
@@ -120,8 +120,8 @@ fn names_clock(name: Option<&Name>, clocks: &Seq<Object>) -> bool
     false
 }
 
-fn is_clock_of(name: Option<&Name>, object: &Object) -> bool
-    ensures { result ≡ spec.is_clock_of (option_copied name.entry) object.now }
+fn is_clock_of(name: &Option<Name>, object: &Object) -> bool
+    ensures { result ≡ spec.is_clock_of name.now object.now }
 {
     match object {
         Object::Named(query) => names_some(query, name),

@@ -1,6 +1,5 @@
 //! What the objects of a script name.
 ghost use Rattle.std.specs.Prelude.{◌≡◌, ◌++◌, ◌∷◌, [], ℕ, IfOk, OnOk, map};
-ghost use Rattle.std.specs.Option.{option_copied};
 ghost use Rattle.script_types.specs.declared.objects.Class.TheVariants as class;
 ghost use Rattle.linked_types.specs.declared.names.CellName.{CellName as CellRecord};
 ghost use Rattle.linked_types.specs.declared.names.PortName.{PortName as PortRecord};
@@ -8,6 +7,7 @@ ghost use Rattle.sdcv_base.specs.Seqs.{each_at};
 ghost use Rattle.sdc_objects.specs.Tables.{IsTablesOf};
 ghost use Rattle.sdc_objects.specs.Things as spec;
 
+use crate::clocks::{clock_kind, name_of};
 use crate::pins::add_pins;
 use crate::scopes::Scope;
 use crate::things::{Place, Side, Thing, add_where};
@@ -34,7 +34,7 @@ pub(crate) fn things_of(
         Object::AllInputs => all_bits(alloc, Side::In, &names.ins),
         Object::AllOutputs => all_bits(alloc, Side::Out, &names.outs),
         Object::AllRegisters => all_registers(alloc, &names.cells),
-        Object::AllClocks => all_clocks(alloc, &scope.script.commands),
+        Object::AllClocks => all_clocks(alloc, scope),
     }
 }
 
@@ -105,7 +105,7 @@ pub(crate) fn found_in(
         Class::Cells => add_cells(scope, query, &mut found)?,
         Class::Pins => add_pins(alloc, scope, query, &mut found)?,
         Class::Nets => add_nets(scope, query, &mut found)?,
-        Class::Clocks => add_clocks(scope, query, &mut found)?,
+        Class::Clocks => add_clocks(alloc, scope, query, &mut found)?,
         Class::Any => {}
     }
     Ok(found)
@@ -161,14 +161,14 @@ fn bit_of(side: Side, place: usize) -> Thing
 }
 
 fn add_clock_port(
-    clock: &Option<Name>,
+    clock: &Option<PortName>,
     query: &Query,
     found: &mut Seq<Thing>,
 ) -> Result<(), AllocError>
     ensures { OnOk result (found.new ≡ found.old ++ spec.clock_port_named query.now clock.now) }
 {
     match clock {
-        Some(name) => add_where(is_named(query, name), Thing::ClockPort, found),
+        Some(port) => add_where(is_named(query, &port.name), Thing::ClockPort, found),
         None => Ok(()),
     }
 }
@@ -224,30 +224,39 @@ fn add_all_nets(
     Ok(())
 }
 
-fn add_clocks(scope: &Scope, query: &Query, found: &mut Seq<Thing>) -> Result<(), AllocError>
-    ensures { OnOk result (found.new ≡ found.old ++ each_at (spec.clock_named query.now scope.now.linked.now.names.clock) 0 scope.now.script.now.commands) }
+fn add_clocks(
+    alloc: Global,
+    scope: &Scope,
+    query: &Query,
+    found: &mut Seq<Thing>,
+) -> Result<(), AllocError>
+    requires { IsTablesOf scope.now.linked.now scope.now.tables.now }
+    ensures { OnOk result (found.new ≡ found.old ++ each_at (spec.clock_named query.now scope.now.linked.now.names) 0 scope.now.script.now.commands) }
 {
     let commands = &scope.script.commands;
     for place in 0..commands.len() {
-        let port = &scope.linked.names.clock;
-        add_clock(port, place, commands.item(place), query, found)?;
+        add_clock(alloc, scope, query, place, commands.item(place), found)?;
     }
     Ok(())
 }
 
 fn add_clock(
-    port: &Option<Name>,
+    alloc: Global,
+    scope: &Scope,
+    query: &Query,
     place: usize,
     command: &Command,
-    query: &Query,
     found: &mut Seq<Thing>,
 ) -> Result<(), AllocError>
-    ensures { OnOk result (found.new ≡ found.old ++ spec.clock_named query.now port.now place command.now) }
+    requires { IsTablesOf scope.now.linked.now scope.now.tables.now }
+    ensures { OnOk result (found.new ≡ found.old ++ spec.clock_named query.now scope.now.linked.now.names place command.now) }
 {
     match &command.what {
         What::Clock { name, source } => {
-            let named = names_some(query, clock_name(port, name, source));
-            add_where(named, Thing::Clock(place, !source.is_empty()), found)
+            if names_some(query, &name_of(alloc, scope, name, source)?) {
+                found.push(Thing::Clock(place, clock_kind(alloc, scope, source)?))?;
+            }
+            Ok(())
         }
         What::Case { .. }
         | What::Claiming(_)
@@ -262,8 +271,8 @@ fn add_clock(
 }
 
 /// Whether a pattern matches a name, if there is one.
-pub(crate) fn names_some(query: &Query, name: Option<&Name>) -> bool
-    ensures { result ≡ spec.names_some query.now (option_copied name.entry) }
+pub(crate) fn names_some(query: &Query, name: &Option<Name>) -> bool
+    ensures { result ≡ spec.names_some query.now name.now }
 {
     match name {
         Some(name) => is_named(query, name),
@@ -271,32 +280,21 @@ pub(crate) fn names_some(query: &Query, name: Option<&Name>) -> bool
     }
 }
 
-/// The name of a clock, if it has one: without a name of its own it goes by the clock port, where it has a source.
-pub(crate) fn clock_name<'a>(
-    port: &'a Option<Name>,
-    name: &'a Option<Name>,
-    source: &Seq<Object>,
-) -> Option<&'a Name>
-    ensures { option_copied result ≡ spec.clock_name port.now name.now source.now }
-{
-    if name.is_some() {
-        name.as_ref()
-    } else if source.is_empty() {
-        None
-    } else {
-        port.as_ref()
-    }
-}
-
-fn add_any_clock(place: usize, command: &Command, found: &mut Seq<Thing>) -> Result<(), AllocError>
-    ensures { OnOk result (found.new ≡ found.old ++ spec.any_clock place command.now) }
+fn add_any_clock(
+    alloc: Global,
+    scope: &Scope,
+    place: usize,
+    command: &Command,
+    found: &mut Seq<Thing>,
+) -> Result<(), AllocError>
+    requires { IsTablesOf scope.now.linked.now scope.now.tables.now }
+    ensures { OnOk result (found.new ≡ found.old ++ spec.any_clock scope.now.linked.now.names place command.now) }
 {
     match &command.what {
-        What::Clock { source, .. } => add_where(
-            true,
-            Thing::Clock(place, !source.is_empty()),
-            found,
-        ),
+        What::Clock { source, .. } => {
+            found.push(Thing::Clock(place, clock_kind(alloc, scope, source)?))?;
+            Ok(())
+        }
         What::Case { .. }
         | What::Claiming(_)
         | What::Hold(_)
@@ -330,12 +328,14 @@ fn all_registers(alloc: Global, cells: &Seq<CellName>) -> Result<Seq<Thing>, All
     Ok(found)
 }
 
-fn all_clocks(alloc: Global, commands: &Seq<Command>) -> Result<Seq<Thing>, AllocError>
-    ensures { IfOk result (λ things. things ≡ each_at spec.any_clock 0 commands.now) }
+fn all_clocks(alloc: Global, scope: &Scope) -> Result<Seq<Thing>, AllocError>
+    requires { IsTablesOf scope.now.linked.now scope.now.tables.now }
+    ensures { IfOk result (λ things. things ≡ each_at (spec.any_clock scope.now.linked.now.names) 0 scope.now.script.now.commands) }
 {
+    let commands = &scope.script.commands;
     let mut found = Seq::new(alloc);
     for place in 0..commands.len() {
-        add_any_clock(place, commands.item(place), &mut found)?;
+        add_any_clock(alloc, scope, place, commands.item(place), &mut found)?;
     }
     Ok(found)
 }

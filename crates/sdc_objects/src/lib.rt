@@ -2,11 +2,13 @@
 //! access).
 //!
 //! Read `specs/Things.antt` (what a pattern names in each class) and `specs/Standing.antt` (the table of what each thing
-//! stands for as a start, an end or a through pin) first, and `specs/Delays.antt` for the ports of a clock; then `lists.rt`,
+//! stands for as a start, an end or a through pin) first, `specs/Clocks.antt` for which clock is the judged one, and
+//! `specs/Delays.antt` for the ports of a clock; then `lists.rt`,
 //! which goes through the objects of a list. A name without wildcards is one look into a table of names (`tables.rt`), any
 //! other pattern goes through the names.
 #![tactic(auto)]
 
+mod clocks;
 mod columns;
 mod cuts;
 mod delays;
@@ -25,4 +27,4 @@ pub use columns::Column;
 pub use lists::meant;
 pub use scopes::Scope;
 pub use tables::Tables;
-pub use things::{Place, Thing};
+pub use things::{ClockKind, Place, Thing};

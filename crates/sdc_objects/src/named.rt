@@ -1,5 +1,5 @@
 //! What an object names in a place of an exception, in a run that is strict or not.
-ghost use Rattle.std.specs.Prelude.{◌≡◌, ◌++◌, not, ◌||◌, ◌&&◌, IfOk, OnOk};
+ghost use Rattle.std.specs.Prelude.{◌≡◌, ◌++◌, flat_map, not, ◌||◌, ◌&&◌, IfOk, OnOk};
 ghost use Rattle.std.specs.Option.{is_some};
 ghost use Rattle.sdc_objects.specs.Cuts as cuts;
 ghost use Rattle.std.specs.List.{list_any};
@@ -9,14 +9,14 @@ ghost use Rattle.sdc_objects.specs.Standing as spec;
 use crate::cuts::is_clocked;
 use crate::found::things_of;
 use crate::scopes::Scope;
-use crate::things::{Place, Thing, add_where};
+use crate::things::{ClockKind, Place, Thing, add_where};
 use linked_types::CellName;
 use script_types::Object;
 use sdcv_base::Seq;
 use std::alloc::{AllocError, Global};
 
-/// All that an object names. In a strict run `all_registers` and a clock with a source name cells that are cut out too, but for in
-/// through.
+/// All that an object names. In a strict run a clock names its ports too, and `all_registers` and the judged clock name cells that
+/// are cut out, but for in through.
 pub(crate) fn named_in(
     alloc: Global,
     scope: &Scope,
@@ -45,14 +45,35 @@ fn strict_named(
     match object {
         Object::AllRegisters => registers_and_cuts(alloc, scope),
         Object::Named(_) | Object::AllInputs | Object::AllOutputs | Object::AllClocks => {
-            let mut things = things_of(alloc, scope, place, object)?;
+            let mut things = with_ports(alloc, &things_of(alloc, scope, place, object)?)?;
             add_unclocked(scope, &mut things)?;
             Ok(things)
         }
     }
 }
 
-// Adds the cells that are cut out without the judged clock, where a clock is named.
+// With each clock its ports.
+fn with_ports(alloc: Global, things: &Seq<Thing>) -> Result<Seq<Thing>, AllocError>
+    ensures { IfOk result (λ named. named ≡ flat_map spec.with_ports things.now) }
+{
+    let mut named = Seq::new(alloc);
+    for k in 0..things.len() {
+        add_with_ports(things.at(k), &mut named)?;
+    }
+    Ok(named)
+}
+
+fn add_with_ports(thing: Thing, named: &mut Seq<Thing>) -> Result<(), AllocError>
+    ensures { OnOk result (named.new ≡ named.old ++ spec.with_ports thing) }
+{
+    named.push(thing)?;
+    if let Thing::Clock(place, _) = thing {
+        named.push(Thing::Delayed(place))?;
+    }
+    Ok(())
+}
+
+// Adds the cells that are cut out without the judged clock, where that clock is named.
 fn add_unclocked(scope: &Scope, things: &mut Seq<Thing>) -> Result<(), AllocError>
     requires { IsTablesOf scope.now.linked.now scope.now.tables.now }
     ensures { OnOk result (things.new ≡ spec.with_unclocked scope.now.linked.now.names things.old) }
@@ -64,21 +85,21 @@ fn add_unclocked(scope: &Scope, things: &mut Seq<Thing>) -> Result<(), AllocErro
 }
 
 fn has_clock(things: &Seq<Thing>) -> bool
-    ensures { result ≡ list_any spec.is_sourced_clock things.now }
+    ensures { result ≡ list_any spec.is_judged_clock things.now }
 {
     for k in 0..things.len() {
-        if is_sourced_clock(things.at(k)) {
+        if is_judged_clock(things.at(k)) {
             return true;
         }
     }
     false
 }
 
-fn is_sourced_clock(thing: Thing) -> bool
-    ensures { result ≡ spec.is_sourced_clock thing }
+fn is_judged_clock(thing: Thing) -> bool
+    ensures { result ≡ spec.is_judged_clock thing }
 {
     match thing {
-        Thing::Clock(_, sourced) => sourced,
+        Thing::Clock(_, ClockKind::Judged) => true,
         _ => false,
     }
 }

@@ -1,20 +1,22 @@
 //! What things stand for in a strict run: what a timing analyser takes them for.
-ghost use Rattle.std.specs.Prelude.{◌≡◌, ◌++◌, [], not, if◌then◌else◌, flat_map, IfOk, OnOk, slice_get};
+ghost use Rattle.std.specs.Prelude.{◌≡◌, ◌++◌, true, not, flat_map, IfOk, OnOk, slice_get};
 ghost use Rattle.sdc_objects.specs.Cuts as cuts;
 ghost use Rattle.sdc_objects.specs.Tables.{IsTablesOf};
 ghost use Rattle.sdc_objects.specs.Standing as spec;
 
-use crate::columns::{add_end, add_one, add_start, edge_role, reg_start};
+use crate::columns::{
+    add_end, add_one, add_start, edge_role, push_reg_ends, push_reg_starts, reg_start,
+};
 use crate::cuts::{add_all_sinks, add_all_sources};
 use crate::delays::delayed_at;
 use crate::scopes::Scope;
-use crate::things::{Side, Thing};
-use linked_types::{CellName, Linked, PinRole};
+use crate::things::{ClockKind, Side, Thing};
+use linked_types::{Linked, PinRole};
 use net_model::{End, Start};
 use sdcv_base::Seq;
 use std::alloc::{AllocError, Global};
 
-/// Adds the starts that a thing stands for where a clock stands for its ports too.
+/// Adds the starts that a thing stands for in a strict run, where the judged clock stands for clocked cells that are cut out too.
 pub(crate) fn add_clock_starts(
     alloc: Global,
     scope: &Scope,
@@ -25,25 +27,23 @@ pub(crate) fn add_clock_starts(
     ensures kept { IfOk result (λ kept. kept ≡ not (spec.is_dropped (spec.clock_starts scope.now.linked.now scope.now.script.now thing))) }
     ensures added { OnOk result (found.new ≡ found.old ++ spec.meant_by (spec.clock_starts scope.now.linked.now scope.now.script.now thing)) }
 {
-    let kept = add_start(scope.linked, thing, found)?;
-    if let Thing::Clock(place, sourced) = thing {
-        add_cut_starts(&scope.linked.names.cells, sourced, found)?;
-        add_inputs(&delayed_at(alloc, scope, Side::In, place)?, found)?;
+    match thing {
+        Thing::Clock(_, ClockKind::Judged) => add_judged_starts(scope.linked, found),
+        Thing::Delayed(place) => {
+            add_inputs(&delayed_at(alloc, scope, Side::In, place)?, found)?;
+            Ok(true)
+        }
+        _ => add_start(scope.linked, thing, found),
     }
-    Ok(kept)
 }
 
-fn add_cut_starts(
-    cells: &Seq<CellName>,
-    sourced: bool,
-    found: &mut Seq<Start>,
-) -> Result<(), AllocError>
-    ensures { OnOk result (found.new ≡ found.old ++ (if sourced then cuts.all_sources cells.now else [])) }
+fn add_judged_starts(linked: &Linked, found: &mut Seq<Start>) -> Result<bool, AllocError>
+    ensures kept { IfOk result (λ kept. kept ≡ true) }
+    ensures added { OnOk result (found.new ≡ found.old ++ (spec.all_reg_starts linked.now.design ++ cuts.all_sources linked.now.names.cells)) }
 {
-    if sourced {
-        add_all_sources(cells, found)?;
-    }
-    Ok(())
+    push_reg_starts(&linked.design, found)?;
+    add_all_sources(&linked.names.cells, found)?;
+    Ok(true)
 }
 
 fn add_inputs(things: &Seq<Thing>, found: &mut Seq<Start>) -> Result<(), AllocError>
@@ -87,6 +87,7 @@ pub(crate) fn add_fall_start(thing: Thing, found: &mut Seq<Start>) -> Result<boo
 {
     match thing {
         Thing::In(input) => add_one(Some(Start::Input(input)), found),
+        Thing::Delayed(_) => Ok(true),
         _ => Ok(false),
     }
 }
@@ -103,7 +104,7 @@ fn rise_start(linked: &Linked, k: usize, place: usize) -> Option<Start>
     }
 }
 
-/// Adds the ends that a thing stands for where a clock stands for its ports too.
+/// Adds the ends that a thing stands for in a strict run, where the judged clock stands for clocked cells that are cut out too.
 pub(crate) fn add_clock_ends(
     alloc: Global,
     scope: &Scope,
@@ -114,25 +115,23 @@ pub(crate) fn add_clock_ends(
     ensures kept { IfOk result (λ kept. kept ≡ not (spec.is_dropped (spec.clock_ends scope.now.linked.now scope.now.script.now thing))) }
     ensures added { OnOk result (found.new ≡ found.old ++ spec.meant_by (spec.clock_ends scope.now.linked.now scope.now.script.now thing)) }
 {
-    let kept = add_end(scope.linked, thing, found)?;
-    if let Thing::Clock(place, sourced) = thing {
-        add_cut_ends(&scope.linked.names.cells, sourced, found)?;
-        add_outputs(&delayed_at(alloc, scope, Side::Out, place)?, found)?;
+    match thing {
+        Thing::Clock(_, ClockKind::Judged) => add_judged_ends(scope.linked, found),
+        Thing::Delayed(place) => {
+            add_outputs(&delayed_at(alloc, scope, Side::Out, place)?, found)?;
+            Ok(true)
+        }
+        _ => add_end(scope.linked, thing, found),
     }
-    Ok(kept)
 }
 
-fn add_cut_ends(
-    cells: &Seq<CellName>,
-    sourced: bool,
-    found: &mut Seq<End>,
-) -> Result<(), AllocError>
-    ensures { OnOk result (found.new ≡ found.old ++ (if sourced then cuts.all_sinks cells.now else [])) }
+fn add_judged_ends(linked: &Linked, found: &mut Seq<End>) -> Result<bool, AllocError>
+    ensures kept { IfOk result (λ kept. kept ≡ true) }
+    ensures added { OnOk result (found.new ≡ found.old ++ (spec.all_reg_ends linked.now.design ++ cuts.all_sinks linked.now.names.cells)) }
 {
-    if sourced {
-        add_all_sinks(cells, found)?;
-    }
-    Ok(())
+    push_reg_ends(&linked.design, found)?;
+    add_all_sinks(&linked.names.cells, found)?;
+    Ok(true)
 }
 
 fn add_outputs(things: &Seq<Thing>, found: &mut Seq<End>) -> Result<(), AllocError>

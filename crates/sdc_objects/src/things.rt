@@ -7,7 +7,7 @@ use std::alloc::AllocError;
 
 /// A thing that an object of a script can name: a cell, an input bit or an output bit by its place among the names of the
 /// design, a pin by its cell's place and its own there, a net by its number, a clock by the place of its command in the script
-/// and by whether it has a source.
+/// and by how it stands to the judged one. In a strict run a clock is named with what has a delay of it.
 #[derive(Clone, Copy, PartialEq, Eq)]
 pub enum Thing {
     Cell(usize),
@@ -16,7 +16,16 @@ pub enum Thing {
     Out(usize),
     ClockPort,
     Net(usize),
-    Clock(usize, bool),
+    Clock(usize, ClockKind),
+    Delayed(usize),
+}
+
+/// How a clock stands to the judged one: its source is the judged clock's port bit, or another, or it has none.
+#[derive(Clone, Copy, PartialEq, Eq)]
+pub enum ClockKind {
+    Judged,
+    Other,
+    Virtual,
 }
 
 /// The place of an object in an exception.

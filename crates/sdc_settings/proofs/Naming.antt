@@ -70,11 +70,11 @@ flat_next {A} {B} f xs k x at =
     flat_map_more f [] (take k xs) x
     ∙ ap (flat_map f) (sym (take_more xs k x (slice_get_within xs k x at) ∙ ap (λ (y : A). take k xs ++ y ∷ []) (get_or_from_slice_get xs k x x at)))
 
-unnot : (b : Bool) → not b ≡ false → b ≡ true
+pub unnot : (b : Bool) → not b ≡ false → b ≡ true
 unnot true e = refl
 unnot false e = sym e
 
-renot : (b : Bool) → not b ≡ true → b ≡ false
+pub renot : (b : Bool) → not b ≡ true → b ≡ false
 renot true e = sym e
 renot false e = refl
 

@@ -1,6 +1,6 @@
 -- The settings of a script, which are one and exclude each refusal but that of memory.
-use Rattle.std.proofs.Common.{◌≡◌, ◌∙◌, ℕ, true, List, [], ◌∷◌, map, refl, sym, ap, subst}
-use Rattle.std.specs.Prelude.{All, Contains, Option, Some, None, option_map, flat_map, slice_get}
+use Rattle.std.proofs.Common.{◌≡◌, ◌∙◌, ℕ, true, List, [], ◌∷◌, refl, sym, ap, subst}
+use Rattle.std.specs.Prelude.{All, Contains, Option, Some, None, option_map, slice_get}
 use Rattle.std.proofs.lemmas.List.Elements.{All-contains}
 use Rattle.std.proofs.lemmas.Option.{same_Some, slice_get-map}
 use Rattle.sdcv_base.specs.declared.settings.Setting.{Setting}
@@ -13,28 +13,21 @@ use Rattle.sdc_settings.specs.declared.values.Settings.{Settings}
 use Rattle.sdc_settings.specs.declared.cases.Given.{Given}
 use Rattle.selected_types.specs.declared.faults.ExpandFault.{ExpandFault}
 use Rattle.selected_types.specs.declared.faults.ExpandFault.TheVariants as fault
-use Rattle.sdc_settings.specs.Inputs.{name_at, port_places}
-use Rattle.sdc_settings.specs.Settings.{sourced, source_of, HasClock, IsSourceOf, IsCaseObject, case_objects, all_given, setting_names, setting_of}
+use Rattle.sdc_settings.specs.Sources.{source_bit}
+use Rattle.sdc_settings.specs.Settings.{asked_clocks, source_of, HasClock, IsCaseObject, case_objects, all_given, setting_names, setting_of}
 use Rattle.sdc_settings.specs.Settings.{AreFixed, AreSettings}
 use Rattle.sdc_settings.specs.Causes.{IsGivenTwice, IsSettingsCause, IsFixedCause, IsCaseCause}
 use Rattle.sdc_settings.proofs.Keying.{IsKeyed, contains_at, place_of_item, same_items}
 
--- a source names one bit
-bit_same : (inputs : List PortName) (c d : Command) (x y : List ℕ) → c ≡ d → IsSourceOf inputs (source_of c.what) x
-    → IsSourceOf inputs (source_of d.what) y → y ≡ x
-bit_same inputs c d x y one first second =
-    let moved : IsSourceOf inputs (source_of c.what) y = subst (λ (e : Command). IsSourceOf inputs (source_of e.what) y) (sym one) second in
-    All-contains (λ (bit : List ℕ). bit ≡ x) (map (name_at inputs) (flat_map (port_places inputs) (source_of c.what))) y first.same moved.some
-
 -- a script has one clock
-clock_same : (script : Script) (inputs : List PortName) (x y : Option (List ℕ)) → HasClock script inputs x → HasClock script inputs y → y ≡ x
-clock_same script inputs None None a b = refl
-clock_same script inputs None (Some y) none (c, one, is) = let wrong : [] ≡ c ∷ [] = sym none ∙ one in absurd cc
-clock_same script inputs (Some x) None (c, one, is) none = let wrong : [] ≡ c ∷ [] = sym none ∙ one in absurd cc
-clock_same script inputs (Some x) (Some y) (c, one, is) (d, other, also) =
+clock_same : (script : Script) (inputs : List PortName) (asked x y : Option (List ℕ)) → HasClock script inputs asked x → HasClock script inputs asked y → y ≡ x
+clock_same script inputs asked None None a b = refl
+clock_same script inputs asked None (Some y) (unasked, none) (c, one, is) = let wrong : [] ≡ c ∷ [] = sym none ∙ one in absurd cc
+clock_same script inputs asked (Some x) None (c, one, is) (unasked, none) = let wrong : [] ≡ c ∷ [] = sym none ∙ one in absurd cc
+clock_same script inputs asked (Some x) (Some y) (c, one, is) (d, other, also) =
     let both : c ∷ [] ≡ d ∷ [] = sym one ∙ other in
     let same : c ≡ d = cc in
-    ap (λ (bit : List ℕ). Some bit) (bit_same inputs c d x y same is also)
+    sym also ∙ ap (λ (e : Command). source_bit inputs (source_of e.what)) (sym same) ∙ is
 
 -- of settings whose names differ each name stands at one place
 named_once : (settings : List Setting) → are_distinct (setting_names settings) ≡ true → IsKeyed (λ (s : Setting). s.name) settings
@@ -52,29 +45,35 @@ fixed_same inputs resets givens xs ys first second =
     (λ f has. let (g, there, is) = second.only f has in subst (Contains xs) is (first.all g there))
 
 -- a script has one list of settings
-pub settings_same : (script : Script) (inputs : List PortName) (resets : List Setting) (x y : Settings) → AreSettings script inputs resets x
-    → AreSettings script inputs resets y → y ≡ x
-settings_same script inputs resets x y first second =
-    let clock : y.clock ≡ x.clock = clock_same script inputs x.clock y.clock first.clock second.clock in
+pub settings_same : (script : Script) (inputs : List PortName) (resets : List Setting) (asked : Option (List ℕ)) (x y : Settings)
+    → AreSettings script inputs resets asked x → AreSettings script inputs resets asked y → y ≡ x
+settings_same script inputs resets asked x y first second =
+    let clock : y.clock ≡ x.clock = clock_same script inputs asked x.clock y.clock first.clock second.clock in
     let moved : AreFixed inputs resets (all_given script inputs x.clock) y.fixed =
     subst (λ (o : Option (List ℕ)). AreFixed inputs resets (all_given script inputs o) y.fixed) clock second.fixed in
     let fixed : y.fixed ≡ x.fixed = fixed_same inputs resets (all_given script inputs x.clock) x.fixed y.fixed first.fixed moved in
     λ i. record { clock = clock i; fixed = fixed i }
 
--- no script with a clock has two
-not_two : (script : Script) (inputs : List PortName) (clock : Option (List ℕ)) (a b : Command) (rest : List Command) → HasClock script inputs clock
-    → sourced script ≡ a ∷ b ∷ rest → ⊥
-not_two script inputs None a b rest none two = let wrong : [] ≡ a ∷ b ∷ rest = sym none ∙ two in cc
-not_two script inputs (Some bit) a b rest (c, one, is) two = let wrong : c ∷ [] ≡ a ∷ b ∷ rest = sym one ∙ two in cc
+-- no script with a clock has two that may be judged
+not_two : (script : Script) (inputs : List PortName) (asked clock : Option (List ℕ)) (a b : Command) (rest : List Command)
+    → HasClock script inputs asked clock → asked_clocks script inputs asked ≡ a ∷ b ∷ rest → ⊥
+not_two script inputs asked None a b rest (unasked, none) two = let wrong : [] ≡ a ∷ b ∷ rest = sym none ∙ two in cc
+not_two script inputs asked (Some bit) a b rest (c, one, is) two = let wrong : c ∷ [] ≡ a ∷ b ∷ rest = sym one ∙ two in cc
 
 -- nor one whose source is no bit
-not_missed : (script : Script) (inputs : List PortName) (clock : Option (List ℕ)) (c : Command) → HasClock script inputs clock → sourced script ≡ c ∷ []
-    → ¬ ((bit : List ℕ) × IsSourceOf inputs (source_of c.what) bit) → ⊥
-not_missed script inputs None c none one missed = let wrong : [] ≡ c ∷ [] = sym none ∙ one in cc
-not_missed script inputs (Some bit) c (d, other, is) one missed =
+not_missed : (script : Script) (inputs : List PortName) (asked clock : Option (List ℕ)) (c : Command) → HasClock script inputs asked clock
+    → asked_clocks script inputs asked ≡ c ∷ [] → source_bit inputs (source_of c.what) ≡ None → ⊥
+not_missed script inputs asked None c (unasked, none) one missed = let wrong : [] ≡ c ∷ [] = sym none ∙ one in cc
+not_missed script inputs asked (Some bit) c (d, other, is) one missed =
     let both : d ∷ [] ≡ c ∷ [] = sym other ∙ one in
     let same : d ≡ c = cc in
-    missed (bit, subst (λ (e : Command). IsSourceOf inputs (source_of e.what) bit) same is)
+    let wrong : Some bit ≡ None = sym is ∙ ap (λ (e : Command). source_bit inputs (source_of e.what)) same ∙ missed in cc
+
+-- nor none, where one is asked for
+not_unfound : (script : Script) (inputs : List PortName) (asked clock : Option (List ℕ)) (name : List ℕ) → HasClock script inputs asked clock
+    → asked ≡ Some name → asked_clocks script inputs asked ≡ [] → ⊥
+not_unfound script inputs asked None name (unasked, none) is empty = let wrong : None ≡ Some name = sym unasked ∙ is in cc
+not_unfound script inputs asked (Some bit) name (c, one, at) is empty = let wrong : [] ≡ c ∷ [] = sym empty ∙ one in cc
 
 -- no input that is fixed is given both values
 not_both : (inputs : List PortName) (resets : List Setting) (givens : List Given) (fixed : List Setting) (first later : ℕ)
@@ -105,25 +104,27 @@ not_on_pin script inputs clock line name are (c, there, (at, (o, has, text, wron
     wrong (All-contains (IsCaseObject inputs clock) (case_objects c.what) o all has)
 
 -- a script that has settings is refused for want of memory alone
-pub settings_only : (script : Script) (inputs : List PortName) (resets : List Setting) (s : Settings) (e : ExpandFault)
-    → AreSettings script inputs resets s → IsSettingsCause script inputs resets e → e ≡ fault.Memory
-settings_only script inputs resets s (fault.TwoClocks first second) are (a, b, rest, two, at, later) =
-    absurd (not_two script inputs s.clock a b rest are.clock two)
-settings_only script inputs resets s (fault.ClockNotPort line) are (c, one, at, missed) = absurd (not_missed script inputs s.clock c are.clock one missed)
-settings_only script inputs resets s (fault.CaseTwice first later) are (clock, has, twice) =
-    let same : clock ≡ s.clock = clock_same script inputs s.clock clock are.clock has in
+pub settings_only : (script : Script) (inputs : List PortName) (resets : List Setting) (asked : Option (List ℕ)) (s : Settings) (e : ExpandFault)
+    → AreSettings script inputs resets asked s → IsSettingsCause script inputs resets asked e → e ≡ fault.Memory
+settings_only script inputs resets asked s (fault.TwoClocks first second) are (a, b, rest, two, at, later) =
+    absurd (not_two script inputs asked s.clock a b rest are.clock two)
+settings_only script inputs resets asked s (fault.ClockNotPort line) are (c, one, at, missed) =
+    absurd (not_missed script inputs asked s.clock c are.clock one missed)
+settings_only script inputs resets asked s (fault.CaseTwice first later) are (clock, has, twice) =
+    let same : clock ≡ s.clock = clock_same script inputs asked s.clock clock are.clock has in
     absurd (not_both inputs resets (all_given script inputs s.clock) s.fixed first later are.fixed
     (subst (λ (o : Option (List ℕ)). IsGivenTwice inputs (all_given script inputs o) first later) same twice))
-settings_only script inputs resets s (fault.CaseOnReset line name) are (clock, has, cause) =
-    let same : clock ≡ s.clock = clock_same script inputs s.clock clock are.clock has in
+settings_only script inputs resets asked s (fault.CaseOnReset line name) are (clock, has, cause) =
+    let same : clock ≡ s.clock = clock_same script inputs asked s.clock clock are.clock has in
     absurd (not_on_reset inputs resets (all_given script inputs s.clock) s.fixed line name are.fixed
     (subst (λ (o : Option (List ℕ)). IsFixedCause inputs resets (all_given script inputs o) (fault.CaseOnReset line name)) same cause))
-settings_only script inputs resets s (fault.CaseOnPin line name) are (clock, has, cause) =
-    let same : clock ≡ s.clock = clock_same script inputs s.clock clock are.clock has in
+settings_only script inputs resets asked s (fault.CaseOnPin line name) are (clock, has, cause) =
+    let same : clock ≡ s.clock = clock_same script inputs asked s.clock clock are.clock has in
     absurd (not_on_pin script inputs s.clock line name are.objects
     (subst (λ (o : Option (List ℕ)). IsCaseCause inputs o script.commands (fault.CaseOnPin line name)) same cause))
-settings_only script inputs resets s (fault.Limit what number) are cause = absurd cause
-settings_only script inputs resets s fault.Memory are cause = refl
-settings_only script inputs resets s (fault.NoClock name) are cause = absurd cause
-settings_only script inputs resets s (fault.Generated line) are (c, rest, some, at) =
+settings_only script inputs resets asked s (fault.Limit what number) are cause = absurd cause
+settings_only script inputs resets asked s fault.Memory are cause = refl
+settings_only script inputs resets asked s (fault.NoClock name) are (is, none) =
+    absurd (not_unfound script inputs asked s.clock name are.clock is none)
+settings_only script inputs resets asked s (fault.Generated line) are (c, rest, some, at) =
     let wrong : [] ≡ c ∷ rest = sym are.generated ∙ some in absurd cc

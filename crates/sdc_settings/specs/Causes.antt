@@ -1,5 +1,5 @@
 -- What each refusal says. Want of memory alone is free.
-use Rattle.std.specs.Prelude.{◌≡◌, ◌≢◌, ℕ, ◌<◌, List, [], ◌∷◌, take, Contains, Option, Some, slice_get}
+use Rattle.std.specs.Prelude.{◌≡◌, ◌≢◌, ℕ, ◌<◌, List, [], ◌∷◌, take, Contains, Option, Some, None, slice_get}
 use Rattle.linked_types.specs.declared.names.PortName.{PortName}
 use Rattle.sdcv_base.specs.declared.settings.Setting.{Setting}
 use Rattle.script_types.specs.declared.objects.Object.{Object}
@@ -10,7 +10,8 @@ use Rattle.selected_types.specs.declared.faults.ExpandFault.TheVariants.{TwoCloc
 use Rattle.selected_types.specs.declared.faults.ExpandFault.TheVariants.{NoClock, Generated}
 use Rattle.sdc_settings.specs.declared.cases.Given.{Given}
 use Rattle.sdc_settings.specs.Inputs.{name_at, object_text}
-use Rattle.sdc_settings.specs.Settings.{sourced, source_of, generated, IsSourceOf, HasClock, all_given, case_objects, IsCaseObject, setting_names}
+use Rattle.sdc_settings.specs.Sources.{source_bit}
+use Rattle.sdc_settings.specs.Settings.{asked_clocks, source_of, generated, HasClock, all_given, case_objects, IsCaseObject, setting_names}
 
 -- an input is given a value for the first time, and later the other one
 pub record IsGivenTwice (inputs : List PortName) (all : List Given) (first later : ℕ) : Type 0 where
@@ -49,32 +50,32 @@ IsFixedCause inputs resets givens (CaseOnReset line name) =
 IsFixedCause inputs resets givens Memory = Unit {0}
 IsFixedCause inputs resets givens _ = ⊥
 
--- two clocks with a source, or one whose source is not exactly one input bit
-abbrev pub IsClockCause : Script → List PortName → ExpandFault → Type 0
-IsClockCause script inputs (TwoClocks first second) =
-    (a b : Command) × (rest : List Command) × (sourced script ≡ a ∷ b ∷ rest) × (a.line ≡ first) × (b.line ≡ second)
-IsClockCause script inputs (ClockNotPort line) =
-    (c : Command) × (sourced script ≡ c ∷ []) × (c.line ≡ line) × ¬ ((bit : List ℕ) × IsSourceOf inputs (source_of c.what) bit)
-IsClockCause script inputs Memory = Unit {0}
-IsClockCause script inputs _ = ⊥
+-- of the clocks that may be judged there are two, or one whose source is no input bit, or none, and one is asked for
+abbrev pub IsClockCause : Script → List PortName → Option (List ℕ) → ExpandFault → Type 0
+IsClockCause script inputs asked (TwoClocks first second) =
+    (a b : Command) × (rest : List Command) × (asked_clocks script inputs asked ≡ a ∷ b ∷ rest) × (a.line ≡ first) × (b.line ≡ second)
+IsClockCause script inputs asked (ClockNotPort line) =
+    (c : Command) × (asked_clocks script inputs asked ≡ c ∷ []) × (c.line ≡ line) × (source_bit inputs (source_of c.what) ≡ None)
+IsClockCause script inputs asked (NoClock name) = (asked ≡ Some name) × (asked_clocks script inputs asked ≡ [])
+IsClockCause script inputs asked Memory = Unit {0}
+IsClockCause script inputs asked _ = ⊥
 
 -- the first generated clock stands on this line
 abbrev pub IsGeneratedCause : Script → ExpandFault → Type 0
 IsGeneratedCause script (Generated line) = (c : Command) × (rest : List Command) × (generated script ≡ c ∷ rest) × (c.line ≡ line)
 IsGeneratedCause script _ = ⊥
 
--- the refusals of settings; those of case analyses come only where the clock is settled, and no script is refused for a clock that
--- is chosen by its name
-abbrev pub IsSettingsCause : Script → List PortName → List Setting → ExpandFault → Type 0
-IsSettingsCause script inputs resets (TwoClocks first second) = IsClockCause script inputs (TwoClocks first second)
-IsSettingsCause script inputs resets (ClockNotPort line) = IsClockCause script inputs (ClockNotPort line)
-IsSettingsCause script inputs resets (CaseTwice first later) =
-    (clock : Option (List ℕ)) × HasClock script inputs clock × IsFixedCause inputs resets (all_given script inputs clock) (CaseTwice first later)
-IsSettingsCause script inputs resets (CaseOnReset line name) =
-    (clock : Option (List ℕ)) × HasClock script inputs clock × IsFixedCause inputs resets (all_given script inputs clock) (CaseOnReset line name)
-IsSettingsCause script inputs resets (CaseOnPin line name) =
-    (clock : Option (List ℕ)) × HasClock script inputs clock × IsCaseCause inputs clock script.commands (CaseOnPin line name)
-IsSettingsCause script inputs resets (Limit what number) = ⊥
-IsSettingsCause script inputs resets Memory = Unit {0}
-IsSettingsCause script inputs resets (NoClock name) = ⊥
-IsSettingsCause script inputs resets (Generated line) = IsGeneratedCause script (Generated line)
+-- the refusals of settings; those of case analyses come only where the clock is settled
+abbrev pub IsSettingsCause : Script → List PortName → List Setting → Option (List ℕ) → ExpandFault → Type 0
+IsSettingsCause script inputs resets asked (TwoClocks first second) = IsClockCause script inputs asked (TwoClocks first second)
+IsSettingsCause script inputs resets asked (ClockNotPort line) = IsClockCause script inputs asked (ClockNotPort line)
+IsSettingsCause script inputs resets asked (CaseTwice first later) =
+    (clock : Option (List ℕ)) × HasClock script inputs asked clock × IsFixedCause inputs resets (all_given script inputs clock) (CaseTwice first later)
+IsSettingsCause script inputs resets asked (CaseOnReset line name) =
+    (clock : Option (List ℕ)) × HasClock script inputs asked clock × IsFixedCause inputs resets (all_given script inputs clock) (CaseOnReset line name)
+IsSettingsCause script inputs resets asked (CaseOnPin line name) =
+    (clock : Option (List ℕ)) × HasClock script inputs asked clock × IsCaseCause inputs clock script.commands (CaseOnPin line name)
+IsSettingsCause script inputs resets asked (Limit what number) = ⊥
+IsSettingsCause script inputs resets asked Memory = Unit {0}
+IsSettingsCause script inputs resets asked (NoClock name) = IsClockCause script inputs asked (NoClock name)
+IsSettingsCause script inputs resets asked (Generated line) = IsGeneratedCause script (Generated line)

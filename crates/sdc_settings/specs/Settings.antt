@@ -1,5 +1,5 @@
 -- The settings of a script: the clock's port bit, and the inputs that a case analysis fixes.
-use Rattle.std.specs.Prelude.{◌≡◌, ℕ, Bool, true, false, not, ◌==◌, List, [], ◌∷◌, length, map, filter, flat_map, All, Contains, Option, Some, None}
+use Rattle.std.specs.Prelude.{◌≡◌, ℕ, Bool, true, false, not, List, [], ◌∷◌, map, filter, flat_map, All, Contains, Option, Some, None}
 use Rattle.std.specs.Str.{bytes_eq}
 use Rattle.texts.specs.Names.{are_distinct, each_once}
 use Rattle.linked_types.specs.declared.names.PortName.{PortName}
@@ -13,19 +13,35 @@ use Rattle.script_types.specs.declared.scripts.Script.{Script}
 use Rattle.sdc_settings.specs.declared.values.Settings.{Settings}
 use Rattle.sdc_settings.specs.declared.cases.Given.{Given}
 use Rattle.sdc_settings.specs.Inputs.{is_port_object, port_places, places, name_at}
+use Rattle.sdc_settings.specs.Sources.{source_bit, clock_name}
 
 -- the objects of a clock's source
 abbrev pub source_of : What → List Object
 source_of (Clock name source) = source
 source_of _ = []
 
--- a clock that is not virtual: it has a source
-abbrev pub is_sourced : Command → Bool
-is_sourced c = not (length (source_of c.what) == 0)
+-- there is a name, and it is this one
+abbrev pub is_clock : Option (List ℕ) → List ℕ → Bool
+is_clock None name = false
+is_clock (Some bit) name = bytes_eq bit name
 
--- the clocks that have a source, in the order of the script
-abbrev pub sourced : Script → List Command
-sourced script = filter is_sourced script.commands
+-- a clock of this name and this source may be judged: it is not virtual, and goes by the name that is asked for, if one is
+abbrev pub is_asked_clock : List PortName → Option (List ℕ) → Option (List ℕ) → List Object → Bool
+is_asked_clock inputs asked own [] = false
+is_asked_clock inputs None own (o ∷ source) = true
+is_asked_clock inputs (Some name) own (o ∷ source) = is_clock (clock_name inputs own (o ∷ source)) name
+
+-- a command makes such a clock
+abbrev pub makes_asked : List PortName → Option (List ℕ) → What → Bool
+makes_asked inputs asked (Clock own source) = is_asked_clock inputs asked own source
+makes_asked inputs asked _ = false
+
+abbrev pub is_asked : List PortName → Option (List ℕ) → Command → Bool
+is_asked inputs asked c = makes_asked inputs asked c.what
+
+-- the clocks that may be judged, in the order of the script
+abbrev pub asked_clocks : Script → List PortName → Option (List ℕ) → List Command
+asked_clocks script inputs asked = filter (is_asked inputs asked) script.commands
 
 -- the generated clocks (SDC 2.1, create_generated_clock), in the order of the script
 abbrev pub generates : What → Bool
@@ -42,21 +58,12 @@ generated script = filter is_generated script.commands
 abbrev pub HasNoGenerated : Script → Type 0
 HasNoGenerated script = generated script ≡ []
 
--- the objects of a source name exactly this one input bit, however often
-pub record IsSourceOf (inputs : List PortName) (source : List Object) (bit : List ℕ) : Type 0 where
-  pub ports : All (λ o. is_port_object o ≡ true) source
-  pub some : Contains (map (name_at inputs) (flat_map (port_places inputs) source)) bit
-  pub same : All (λ other. other ≡ bit) (map (name_at inputs) (flat_map (port_places inputs) source))
-
--- the clock port of a script: no clock has a source, or one alone, which is that port bit
-abbrev pub HasClock : Script → List PortName → Option (List ℕ) → Type 0
-HasClock script inputs None = sourced script ≡ []
-HasClock script inputs (Some bit) = (c : Command) × (sourced script ≡ c ∷ []) × IsSourceOf inputs (source_of c.what) bit
-
--- the clock's bit has this name
-abbrev pub is_clock : Option (List ℕ) → List ℕ → Bool
-is_clock None name = false
-is_clock (Some bit) name = bytes_eq bit name
+-- the clock port of a script: of the clocks that may be judged there is one alone, whose source is that port bit, or there is none,
+-- and none is asked for by its name
+abbrev pub HasClock : Script → List PortName → Option (List ℕ) → Option (List ℕ) → Type 0
+HasClock script inputs asked None = (asked ≡ None) × (asked_clocks script inputs asked ≡ [])
+HasClock script inputs asked (Some bit) =
+    (c : Command) × (asked_clocks script inputs asked ≡ c ∷ []) × (source_bit inputs (source_of c.what) ≡ Some bit)
 
 -- the places of the data inputs
 unfoldable pub data_places : List PortName → Option (List ℕ) → List ℕ
@@ -117,9 +124,9 @@ pub record AreFixed (inputs : List PortName) (resets : List Setting) (givens : L
   pub once : are_distinct (setting_names fixed) ≡ true
   pub order : setting_names fixed ≡ each_once (map (λ (g : Given). name_at inputs g.input) givens)
 
--- the settings of a script among these input bits, with these resets
-pub record AreSettings (script : Script) (inputs : List PortName) (resets : List Setting) (s : Settings) : Type 0 where
-  pub clock : HasClock script inputs s.clock
+-- the settings of a script among these input bits, with these resets, the clock of a name being judged, if one is asked for
+pub record AreSettings (script : Script) (inputs : List PortName) (resets : List Setting) (asked : Option (List ℕ)) (s : Settings) : Type 0 where
+  pub clock : HasClock script inputs asked s.clock
   pub generated : HasNoGenerated script
   pub objects : AreCaseObjects script inputs s.clock
   pub fixed : AreFixed inputs resets (all_given script inputs s.clock) s.fixed

@@ -8,13 +8,14 @@ use Rattle.script_types.specs.declared.scripts.Command.{Command}
 use Rattle.sdc_settings.specs.declared.cases.Given.{Given}
 use Rattle.sdc_settings.specs.declared.fixed.Fixed.{Fixed}
 use Rattle.sdc_settings.specs.Inputs.{name_at}
-use Rattle.sdc_settings.specs.Settings.{is_sourced, setting_names, setting_of}
+use Rattle.sdc_settings.specs.Settings.{is_asked, setting_names, setting_of}
 
--- how many commands are passed up to and with the next one, after some, that is a clock with a source
-abbrev pub IsNextSourced : List Command → ℕ → Option ℕ → Type 0
-IsNextSourced commands from None = filter is_sourced (drop from commands) ≡ []
-IsNextSourced commands from (Some k) =
-    (c : Command) × (0 < k) × (slice_get commands (k - 1) ≡ Some c) × (filter is_sourced (drop from commands) ≡ c ∷ filter is_sourced (drop k commands))
+-- how many commands are passed up to and with the next one, after some, that is a clock that may be judged
+abbrev pub IsNextAsked : List PortName → Option (List ℕ) → List Command → ℕ → Option ℕ → Type 0
+IsNextAsked inputs asked commands from None = filter (is_asked inputs asked) (drop from commands) ≡ []
+IsNextAsked inputs asked commands from (Some k) =
+    (c : Command) × (0 < k) × (slice_get commands (k - 1) ≡ Some c)
+    × (filter (is_asked inputs asked) (drop from commands) ≡ c ∷ filter (is_asked inputs asked) (drop k commands))
 
 -- a setting is first given at this place, which is before another one
 pub record IsFirstGiven (inputs : List PortName) (givens : List Given) (before place : ℕ) (s : Setting) : Type 0 where

@@ -113,7 +113,7 @@ fn add_data(
     Ok(())
 }
 
-fn is_clock(clock: &Option<Name>, name: &Name) -> bool
+pub(crate) fn is_clock(clock: &Option<Name>, name: &Name) -> bool
     ensures { result ≡ spec.is_clock clock.now name.now }
 {
     match clock {

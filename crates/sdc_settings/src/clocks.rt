@@ -1,32 +1,39 @@
 //! The clock port of a script.
-ghost use Rattle.std.specs.Prelude.{◌≡◌, ◌<◌, ℕ, List, All, IsTrue, ◌↔◌, IfOk, IfErr, MatchOption, length, map, flat_map, true};
-ghost use Rattle.sdc_settings.specs.Inputs.{port_places, name_at, is_port_object as names_ports};
-ghost use Rattle.sdc_settings.specs.Settings.{HasClock, IsSourceOf, is_sourced as has_source, source_of};
+ghost use Rattle.std.specs.Prelude.{◌≡◌, IfOk, IfErr};
+ghost use Rattle.sdc_settings.specs.Settings as spec;
+ghost use Rattle.sdc_settings.specs.Settings.{HasClock, source_of};
+ghost use Rattle.sdc_settings.specs.Sources.{source_bit as bit_of_source};
 ghost use Rattle.sdc_settings.specs.Causes.{IsClockCause};
-ghost use Rattle.sdc_settings.specs.Stages.{IsNextSourced};
+ghost use Rattle.sdc_settings.specs.Stages.{IsNextAsked};
 
-use crate::inputs::{add_port_places, is_port_object};
+use crate::cases::is_clock;
+use crate::sources::{clock_name, source_bit};
 use linked_types::PortName;
 use script_types::{Command, Object, Script, What};
 use sdcv_base::{Name, Seq};
 use selected_types::ExpandFault;
 use std::alloc::{AllocError, Global};
 
-/// The name of the clock's port bit. `None` where no clock has a source.
+/// The name of the clock's port bit. `None` where no clock has a source, and none is asked for.
 pub(crate) fn clock(
     alloc: Global,
     script: &Script,
     inputs: &Seq<PortName>,
+    asked: &Option<Name>,
 ) -> Result<Option<Name>, ExpandFault>
-    ensures ok { IfOk result (HasClock script.now inputs.now) }
-    ensures err { IfErr result (IsClockCause script.now inputs.now) }
+    ensures ok { IfOk result (HasClock script.now inputs.now asked.now) }
+    ensures err { IfErr result (IsClockCause script.now inputs.now asked.now) }
 {
-    let Some(first) = next_sourced(&script.commands, 0) else {
-        return Ok(None);
+    let commands = &script.commands;
+    let Some(first) = next_asked(alloc, inputs, asked, commands, 0)? else {
+        return match asked {
+            Some(name) => Err(ExpandFault::NoClock(name.copy(alloc)?)),
+            None => Ok(None),
+        };
     };
-    let command = script.commands.item(first - 1);
-    if let Some(second) = next_sourced(&script.commands, first) {
-        let other = script.commands.item(second - 1);
+    let command = commands.item(first - 1);
+    if let Some(second) = next_asked(alloc, inputs, asked, commands, first)? {
+        let other = commands.item(second - 1);
         return Err(ExpandFault::TwoClocks(command.line, other.line));
     }
     match bit_of(alloc, command, inputs)? {
@@ -35,23 +42,34 @@ pub(crate) fn clock(
     }
 }
 
-// How many commands are passed up to and with the next clock that has a source, after those that were passed.
-fn next_sourced(commands: &Seq<Command>, from: usize) -> Option<usize>
-    ensures { IsNextSourced commands.now from result }
+// How many commands are passed up to and with the next clock that may be judged, after those that were passed.
+fn next_asked(
+    alloc: Global,
+    inputs: &Seq<PortName>,
+    asked: &Option<Name>,
+    commands: &Seq<Command>,
+    from: usize,
+) -> Result<Option<usize>, AllocError>
+    ensures { IfOk result (IsNextAsked inputs.now asked.now commands.now from) }
 {
     for place in from..commands.len() {
-        if is_sourced(commands.item(place)) {
-            return Some(place + 1);
+        if is_asked(alloc, inputs, asked, commands.item(place))? {
+            return Ok(Some(place + 1));
         }
     }
-    None
+    Ok(None)
 }
 
-fn is_sourced(command: &Command) -> bool
-    ensures { result ≡ has_source command.now }
+fn is_asked(
+    alloc: Global,
+    inputs: &Seq<PortName>,
+    asked: &Option<Name>,
+    command: &Command,
+) -> Result<bool, AllocError>
+    ensures { IfOk result (λ is. is ≡ spec.is_asked inputs.now asked.now command.now) }
 {
     match &command.what {
-        What::Clock { source, .. } => !source.is_empty(),
+        What::Clock { name, source } => is_asked_clock(alloc, inputs, asked, name, source),
         What::Case { .. }
         | What::Claiming(_)
         | What::Hold(_)
@@ -60,21 +78,39 @@ fn is_sourced(command: &Command) -> bool
         | What::Unjudged(_)
         | What::Scope(_)
         | What::Generated { .. }
-        | What::Delay { .. } => false,
+        | What::Delay { .. } => Ok(false),
     }
 }
 
-// The one input bit that the source of a command names, if it is one.
+fn is_asked_clock(
+    alloc: Global,
+    inputs: &Seq<PortName>,
+    asked: &Option<Name>,
+    own: &Option<Name>,
+    source: &Seq<Object>,
+) -> Result<bool, AllocError>
+    ensures { IfOk result (λ is. is ≡ spec.is_asked_clock inputs.now asked.now own.now source.now) }
+{
+    if source.is_empty() {
+        return Ok(false);
+    }
+    match asked {
+        Some(asked) => Ok(is_clock(&clock_name(alloc, inputs, own, source)?, asked)),
+        None => Ok(true),
+    }
+}
+
+// The input bit that the source of a command is.
+#[tactic(auto, unfolding(crate::specs::Sources::source_bit))]
 fn bit_of(
     alloc: Global,
     command: &Command,
     inputs: &Seq<PortName>,
 ) -> Result<Option<Name>, AllocError>
-    ensures { IfOk result (λ bit. MatchOption bit (¬ ((name : List ℕ) × IsSourceOf inputs.now (source_of command.now.what) name))
-        (IsSourceOf inputs.now (source_of command.now.what))) }
+    ensures { IfOk result (λ bit. bit ≡ bit_of_source inputs.now (source_of command.now.what)) }
 {
     match &command.what {
-        What::Clock { source, .. } => source_bit(alloc, source, inputs),
+        What::Clock { source, .. } => source_bit(alloc, inputs, source),
         What::Case { .. }
         | What::Claiming(_)
         | What::Hold(_)
@@ -85,62 +121,4 @@ fn bit_of(
         | What::Generated { .. }
         | What::Delay { .. } => Ok(None),
     }
-}
-
-fn source_bit(
-    alloc: Global,
-    source: &Seq<Object>,
-    inputs: &Seq<PortName>,
-) -> Result<Option<Name>, AllocError>
-    ensures { IfOk result (λ bit. MatchOption bit (¬ ((name : List ℕ) × IsSourceOf inputs.now source.now name)) (IsSourceOf inputs.now source.now)) }
-{
-    let places = source_places(alloc, source, inputs)?;
-    if !are_ports(source) || places.is_empty() {
-        return Ok(None);
-    }
-    let bit = &inputs.item(places.at(0)).name;
-    if !are_named(inputs, &places, bit) {
-        return Ok(None);
-    }
-    Ok(Some(bit.copy(alloc)?))
-}
-
-// The places of the input bits that the objects name.
-fn source_places(
-    alloc: Global,
-    source: &Seq<Object>,
-    inputs: &Seq<PortName>,
-) -> Result<Seq<usize>, AllocError>
-    ensures value { IfOk result (λ places. places ≡ flat_map (port_places inputs.now) source.now) }
-    ensures within { IfOk result (All (λ (place : ℕ). place < length inputs.now)) }
-{
-    let mut places = Seq::new(alloc);
-    for k in 0..source.len() {
-        add_port_places(inputs, source.item(k), &mut places)?;
-    }
-    Ok(places)
-}
-
-fn are_ports(objects: &Seq<Object>) -> bool
-    ensures { IsTrue result ↔ All (λ o. names_ports o ≡ true) objects.now }
-{
-    for k in 0..objects.len() {
-        if !is_port_object(objects.item(k)) {
-            return false;
-        }
-    }
-    true
-}
-
-// Whether all input bits at these places have this name.
-fn are_named(inputs: &Seq<PortName>, places: &Seq<usize>, name: &Name) -> bool
-    requires { All (λ (place : ℕ). place < length inputs.now) places.now }
-    ensures { IsTrue result ↔ All (λ other. other ≡ name.now) (map (name_at inputs.now) places.now) }
-{
-    for k in 0..places.len() {
-        if inputs.item(places.at(k)).name != *name {
-            return false;
-        }
-    }
-    true
 }

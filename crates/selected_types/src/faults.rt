@@ -6,11 +6,10 @@ use sdcv_base::{LimitName, Name};
 use std::alloc::{AllocError, AllocFailed};
 use thiserror::Error;
 
-/// Why a script gives no settings, or selects no pairs. Lines count from 1, and are those of the commands' first bytes. No
-/// call tells a `NoClock` yet.
+/// Why a script gives no settings, or selects no pairs. Lines count from 1, and are those of the commands' first bytes.
 #[derive(Debug, Drop, Error)]
 pub enum ExpandFault {
-    /// These are the first two clocks that have a source.
+    /// These are the first two clocks that have a source, of those of the name that is asked for, if one is.
     #[error("lines {0} and {1}: two clocks with a source")]
     TwoClocks(u64, u64),
     /// The objects of a clock's source do not name exactly one input port bit, or some are no ports.
@@ -30,7 +29,7 @@ pub enum ExpandFault {
     Limit(LimitName, u64),
     #[error("out of memory")]
     Memory,
-    /// The clock of this name is to be judged, and no clock of it has a source.
+    /// The clock of this name is asked for, and no clock of it has a source.
     #[error("no clock {0} has a source")]
     NoClock(Name),
     /// The generated clock of this line may clock a register that is judged by its source.

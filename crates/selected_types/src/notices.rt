@@ -24,12 +24,13 @@ pub struct CutCells {
     pub open: bool,
 }
 
-/// What is told of a netlist and a script: the top module, where it is asked for by its name; which cells are cut out, by
-/// reference; which commands are passed over, where any may be; which are not judged; and how many false paths take hold checks
+/// What is told of a netlist and a script: the top module and the clock, where they are asked for by their names; which cells are
+/// cut out, by reference; which commands are passed over, where any may be; which are not judged; and how many false paths take hold checks
 /// off that are not judged.
 #[derive(Drop)]
 pub struct Notices {
     pub top: Option<Name>,
+    pub clock: Option<Name>,
     pub cuts: Seq<CutCells>,
     pub skipped: Option<Seq<Skipped>>,
     pub unjudged: Seq<Unjudged>,

@@ -4,7 +4,7 @@ use Rattle.std.specs.List.{flat_map}
 use Rattle.std.proofs.lemmas.List.{take_all}
 use Rattle.sdc_settings.specs.Inputs.{port_places}
 use Rattle.sdc_settings.proofs.Naming.{flat_next, All-flat_map, port_places_within}
-use Rattle.sdc_settings.proofs.clocks.source_places.Goals as goal
+use Rattle.sdc_settings.proofs.sources.source_places.Goals as goal
 
 pub loop-k-preserved : goal.loop-k-preserved
 loop-k-preserved c =
