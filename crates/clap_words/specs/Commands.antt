@@ -32,25 +32,28 @@ abbrev pub verify_row : CommandRow
 verify_row = record {
   name = codes "verify";
   positions = codes "V" ∷ codes "L" ∷ codes "S" ∷ [];
-  options = needed (codes "out") ∷ flag (codes "hazard") ∷ valued (codes "lag") ∷ flag (codes "hold") ∷ valued (codes "free") ∷ valued (codes "top")
-      ∷ valued (codes "skip") ∷ flag (codes "strict") ∷ flag (codes "json") ∷ valued (codes "reset") ∷ valued (codes "reset-cycles")
-      ∷ valued (codes "depth") ∷ valued (codes "budget") ∷ valued (codes "inv-depth") ∷ valued (codes "assist") ∷ [];
+  options = needed (codes "out") ∷ flag (codes "hazard") ∷ valued (codes "lag") ∷ flag (codes "hold") ∷ valued (codes "free")
+      ∷ valued (codes "clock") ∷ valued (codes "top") ∷ valued (codes "skip") ∷ flag (codes "strict") ∷ flag (codes "json")
+      ∷ valued (codes "reset") ∷ valued (codes "reset-cycles") ∷ valued (codes "depth") ∷ valued (codes "budget")
+      ∷ valued (codes "inv-depth") ∷ valued (codes "assist") ∷ [];
 }
 
 abbrev pub check_row : CommandRow
 check_row = record {
   name = codes "check";
   positions = codes "V" ∷ codes "L" ∷ codes "S" ∷ codes "CERT" ∷ [];
-  options = flag (codes "hazard") ∷ valued (codes "lag") ∷ flag (codes "hold") ∷ valued (codes "free") ∷ valued (codes "top") ∷ valued (codes "skip")
-      ∷ flag (codes "strict") ∷ valued (codes "reset") ∷ valued (codes "reset-cycles") ∷ [];
+  options = flag (codes "hazard") ∷ valued (codes "lag") ∷ flag (codes "hold") ∷ valued (codes "free")
+      ∷ valued (codes "clock") ∷ valued (codes "top") ∷ valued (codes "skip") ∷ flag (codes "strict") ∷ valued (codes "reset")
+      ∷ valued (codes "reset-cycles") ∷ [];
 }
 
 abbrev pub replay_row : CommandRow
 replay_row = record {
   name = codes "replay";
   positions = codes "V" ∷ codes "L" ∷ codes "S" ∷ codes "REPORT" ∷ codes "PAIR" ∷ [];
-  options = flag (codes "hazard") ∷ valued (codes "lag") ∷ flag (codes "hold") ∷ valued (codes "free") ∷ valued (codes "top") ∷ valued (codes "skip")
-      ∷ flag (codes "strict") ∷ valued (codes "reset") ∷ valued (codes "reset-cycles") ∷ [];
+  options = flag (codes "hazard") ∷ valued (codes "lag") ∷ flag (codes "hold") ∷ valued (codes "free")
+      ∷ valued (codes "clock") ∷ valued (codes "top") ∷ valued (codes "skip") ∷ flag (codes "strict") ∷ valued (codes "reset")
+      ∷ valued (codes "reset-cycles") ∷ [];
 }
 
 abbrev pub demo_row : CommandRow
@@ -60,26 +63,27 @@ abbrev pub detect_row : CommandRow
 detect_row = record {
   name = codes "detect";
   positions = codes "V" ∷ codes "L" ∷ codes "S" ∷ [];
-  options = needed (codes "out") ∷ flag (codes "hazard") ∷ valued (codes "free") ∷ valued (codes "top") ∷ valued (codes "skip")
-      ∷ valued (codes "reset") ∷ valued (codes "reset-cycles") ∷ valued (codes "depth") ∷ valued (codes "budget") ∷ valued (codes "inv-depth")
-      ∷ valued (codes "bound") ∷ flag (codes "hold") ∷ [];
+  options = needed (codes "out") ∷ flag (codes "hazard") ∷ valued (codes "free") ∷ valued (codes "clock") ∷ valued (codes "top")
+      ∷ valued (codes "skip") ∷ valued (codes "reset") ∷ valued (codes "reset-cycles") ∷ valued (codes "depth") ∷ valued (codes "budget")
+      ∷ valued (codes "inv-depth") ∷ valued (codes "bound") ∷ flag (codes "hold") ∷ [];
 }
 
 abbrev pub aiger_row : CommandRow
 aiger_row = record {
   name = codes "aiger";
   positions = codes "V" ∷ codes "L" ∷ codes "S" ∷ codes "PAIR" ∷ [];
-  options = needed (codes "out") ∷ flag (codes "symbols") ∷ valued (codes "lag") ∷ flag (codes "hold") ∷ valued (codes "free") ∷ valued (codes "top")
-      ∷ valued (codes "skip") ∷ flag (codes "strict") ∷ valued (codes "reset") ∷ valued (codes "reset-cycles") ∷ [];
+  options = needed (codes "out") ∷ flag (codes "symbols") ∷ valued (codes "lag") ∷ flag (codes "hold") ∷ valued (codes "free")
+      ∷ valued (codes "clock") ∷ valued (codes "top") ∷ valued (codes "skip") ∷ flag (codes "strict") ∷ valued (codes "reset")
+      ∷ valued (codes "reset-cycles") ∷ [];
 }
 
 abbrev pub mend_row : CommandRow
 mend_row = record {
   name = codes "mend";
   positions = codes "V" ∷ codes "L" ∷ codes "S" ∷ [];
-  options = needed (codes "out") ∷ flag (codes "hazard") ∷ valued (codes "lag") ∷ flag (codes "hold") ∷ valued (codes "free") ∷ valued (codes "top")
-      ∷ valued (codes "skip") ∷ flag (codes "strict") ∷ valued (codes "reset") ∷ valued (codes "reset-cycles") ∷ valued (codes "depth")
-      ∷ valued (codes "budget") ∷ valued (codes "inv-depth") ∷ valued (codes "assist") ∷ [];
+  options = needed (codes "out") ∷ flag (codes "hazard") ∷ valued (codes "lag") ∷ flag (codes "hold") ∷ valued (codes "free")
+      ∷ valued (codes "clock") ∷ valued (codes "top") ∷ valued (codes "skip") ∷ flag (codes "strict") ∷ valued (codes "reset")
+      ∷ valued (codes "reset-cycles") ∷ valued (codes "depth") ∷ valued (codes "budget") ∷ valued (codes "inv-depth") ∷ valued (codes "assist") ∷ [];
 }
 
 abbrev pub command_rows : List CommandRow

@@ -231,6 +231,14 @@ const FREE: OptionRow = OptionRow {
     sentence: "Cut out the cells of these references, by patterns parted by commas, where they can't be modelled",
 };
 
+const CLOCK: OptionRow = OptionRow {
+    id: "clock",
+    form: Valued,
+    value: "NAME",
+    rule: ValueRule::Name,
+    sentence: "Judge the registers of the clock of this name, and cut out those of other clocks",
+};
+
 const TOP: OptionRow = OptionRow {
     id: "top",
     form: Valued,
@@ -298,6 +306,7 @@ const ROWS: [CommandRow; 7] = [
             LAG,
             HOLD,
             FREE,
+            CLOCK,
             TOP,
             SKIP,
             STRICT,
@@ -319,6 +328,7 @@ const ROWS: [CommandRow; 7] = [
             LAG,
             HOLD,
             FREE,
+            CLOCK,
             TOP,
             SKIP,
             STRICT,
@@ -335,6 +345,7 @@ const ROWS: [CommandRow; 7] = [
             LAG,
             HOLD,
             FREE,
+            CLOCK,
             TOP,
             SKIP,
             STRICT,
@@ -356,6 +367,7 @@ const ROWS: [CommandRow; 7] = [
             OUT_SDC,
             HAZARD,
             FREE,
+            CLOCK,
             TOP,
             SKIP,
             RESET,
@@ -377,6 +389,7 @@ const ROWS: [CommandRow; 7] = [
             LAG,
             HOLD,
             FREE,
+            CLOCK,
             TOP,
             SKIP,
             STRICT,
@@ -394,6 +407,7 @@ const ROWS: [CommandRow; 7] = [
             LAG,
             HOLD,
             FREE,
+            CLOCK,
             TOP,
             SKIP,
             STRICT,

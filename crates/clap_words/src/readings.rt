@@ -25,7 +25,7 @@ pub struct Reading<'a> {
 }
 
 // The ids of the arguments of all commands, each once, in the order of the table.
-const IDS: [&str; 25] = [
+const IDS: [&str; 26] = [
     "V",
     "L",
     "S",
@@ -34,6 +34,7 @@ const IDS: [&str; 25] = [
     "lag",
     "hold",
     "free",
+    "clock",
     "top",
     "skip",
     "strict",

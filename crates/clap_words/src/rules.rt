@@ -15,7 +15,7 @@ pub enum ValueRule {
     Commands,
     /// A list of patterns of references.
     Patterns,
-    /// The name of a module.
+    /// The name of a clock or a module.
     Name,
 }
 

@@ -5,3 +5,4 @@ pub mod Refusing
 pub mod Staging
 pub mod Topping
 pub mod Whole
+mod Worked

@@ -1,6 +1,7 @@
 -- What is found of a netlist of which nothing is cut out.
-use Rattle.std.proofs.Common.{◌≡◌, ◌∙◌, ◌↔◌, ℕ, List, [], ◌∷◌, ◌++◌, map, flat_map, Option, None, Result, Ok, Err, refl, sym, ap, subst, inl, inr}
-use Rattle.net_model.specs.declared.netlist.Design.{Design}
+use Rattle.std.proofs.Common.{◌≡◌, ◌∙◌, ◌↔◌, ℕ, Bool, true, false, List, [], ◌∷◌, map, None, Result, Ok, Err, refl, sym}
+use Rattle.std.proofs.Common.{ap, subst, inl, inr}
+use Rattle.std.specs.Prelude.{is_some}
 use Rattle.cell_types.specs.declared.libraries.Library.{Library}
 use Rattle.linked_types.specs.declared.faults.LinkFault.{LinkFault}
 use Rattle.linked_types.specs.declared.names.Linked.{Linked}
@@ -10,21 +11,20 @@ use Rattle.linked_types.specs.Narrow.{IsWhole}
 use Rattle.netlist_types.specs.declared.sources.Source.{Source}
 use Rattle.link_defs.specs.declared.cuts.CutCell.{CutCell}
 use Rattle.link_defs.specs.declared.cuts.CutSource.{CutSource}
-use Rattle.link_defs.specs.Circuits.{circuit_of}
-use Rattle.link_defs.specs.Cuts.{Tree, cells_in, cut_cells, cut_names, free_pins, pin_name, sink_pins}
+use Rattle.link_defs.specs.Cuts.{cut_cells, cut_names, free_pins, pin_name, sink_pins}
 use Rattle.link_defs.specs.Flatten.{Scope, flat_of}
+use Rattle.link_defs.specs.Judged.{FlatNetlist, IsJudged, netlist_of}
 use Rattle.link_defs.specs.Links.{IsLinked}
 use Rattle.run_options.specs.declared.judging.Judging.{Judging}
 use Rattle.run_options.specs.declared.netlists.NetlistForm.{NetlistForm}
 use Rattle.run_options.specs.declared.netlists.NetlistForm.TheVariants.{Narrow}
 use Rattle.run_options.specs.declared.resets.Reset.{Reset}
 use Rattle.script_notices.specs.Notices.{notices_of}
-use Rattle.selected_types.specs.declared.notices.CutCells.{CutCells}
 use Rattle.selected_types.specs.declared.notices.Notices.{Notices}
-use Rattle.fault_lines.specs.Designs.{link_line}
 use Rattle.design_stages.specs.declared.designs.Designed.{Designed}
 use Rattle.design_stages.specs.declared.designs.ReadTexts.{ReadTexts}
-use Rattle.design_stages.specs.Designs.{Cuts, Designs, DesignsIn, HasCuts, LinksIn, designed_by, free_count, told_cut, top_name, whole, with_netlist}
+use Rattle.design_stages.specs.Designs.{Cuts, DesignsIn, HasCuts, LinksIn, asked_clock, designed_by, free_count, told_cut, top_name, whole}
+use Rattle.design_stages.specs.Designs.{options_of, with_netlist}
 use Rattle.design_stages.specs.Stages.{Found, Then}
 use Rattle.design_stages.proofs.Cutting.{left_whole}
 
@@ -66,11 +66,17 @@ no_cells : (scopes : List Scope) → cut_cells [] scopes ≡ []
 no_cells [] = refl
 no_cells (scope ∷ scopes) = no_cells scopes
 
+-- without one clock of several the netlist itself is judged
+judged_cells : (one_clock : Bool) (n j : FlatNetlist) → one_clock ≡ false → IsJudged one_clock n j → j.cells ≡ n.cells
+judged_cells true n j alone judged = absurd cc
+judged_cells false n j alone judged = ap (λ (x : FlatNetlist). x.cells) judged.is
+
 -- so no name is that of a cut cell
-whole_names : (s : Source) (lib : Library) (o : LinkOptions) (l : Linked) → IsLinked (whole s) lib o l → IsWhole l.names
-whole_names s lib o l is =
-    let c = circuit_of s lib is.top o.clock in
-    let none = no_cells (flat_of s lib is.top).scopes in
+whole_names : (s : Source) (lib : Library) (o : LinkOptions) (l : Linked) → o.cut_clocks ≡ false → IsLinked (whole s) lib o l → IsWhole l.names
+whole_names s lib o l alone is =
+    let c = is.judged.circuit in
+    let none = judged_cells o.cut_clocks (netlist_of (whole s) lib is.top o.clock) is.judged alone is.judged_is
+    ∙ no_cells (flat_of s lib is.top).scopes in
     record {
       free = is.names.free ∙ ap (λ (cells : List CutCell). map pin_name (free_pins c cells)) none;
       sinks = is.names.sinks ∙ ap (λ (cells : List CutCell). map pin_name (sink_pins c is.cut.tree cells)) none;
@@ -79,16 +85,20 @@ whole_names s lib o l is =
     }
 
 -- the names of what is linked below the whole netlist
-linked_names : (t : ReadTexts) (reset : Reset) (l : Linked) → LinksIn t (whole t.source) reset (Ok l) → IsWhole l.names
+linked_names : (t : ReadTexts) (reset : Reset) (l : Linked) → t.forms.netlist ≡ Narrow → LinksIn t (whole t.source) reset (Ok l) → IsWhole l.names
 unfolding LinksIn Then
-linked_names t reset l (inputs, has, (settings, set, links)) = whole_names t.source t.library _ l links.0
+linked_names t reset l narrow (inputs, has, (settings, set, links)) =
+    let o = options_of t.forms.netlist settings reset in
+    whole_names t.source t.library o l (ap (λ (form : NetlistForm). is_some (asked_clock form)) narrow) links.0
 
 -- what is told where nothing is cut out
-told_whole : (form : NetlistForm) (names : Names) (n : Notices) → form ≡ Narrow → names.cuts ≡ [] → n.top ≡ None → n.cuts ≡ [] → with_netlist form names n ≡ n
-told_whole form names n is none untold uncut =
+told_whole : (form : NetlistForm) (names : Names) (n : Notices) → form ≡ Narrow → names.cuts ≡ [] → n.top ≡ None → n.clock ≡ None → n.cuts ≡ []
+    → with_netlist form names n ≡ n
+told_whole form names n is none untold unnamed uncut =
     let top = ap (λ (f : NetlistForm). (with_netlist f names n).top) is ∙ sym untold in
+    let clock = ap (λ (f : NetlistForm). (with_netlist f names n).clock) is ∙ sym unnamed in
     let cuts = ap (λ cs. map told_cut cs) none ∙ sym uncut in
-    λ i. record { top = top i; cuts = cuts i; skipped = n.skipped; unjudged = n.unjudged; hold_commands = n.hold_commands }
+    λ i. record { top = top i; clock = clock i; cuts = cuts i; skipped = n.skipped; unjudged = n.unjudged; hold_commands = n.hold_commands }
 
 -- a design that is found of the whole netlist is told as such
 pub told_of_whole : (t : ReadTexts) (reset : Reset) (judging : Judging) (d : Designed) → t.forms.netlist ≡ Narrow
@@ -97,9 +107,9 @@ pub told_of_whole : (t : ReadTexts) (reset : Reset) (judging : Judging) (d : Des
 unfolding DesignsIn Then
 told_of_whole t reset judging d narrow (linked, links, (selected, selects, is)) =
     let made : d ≡ designed_by t judging (whole t.source) linked selected = cc in
-    let names = linked_names t reset linked links in
+    let names = linked_names t reset linked narrow links in
     let told = notices_of t.forms.script judging (top_name t.source) t.script selected in
     let free = ap (λ (x : NetlistForm). free_count x linked.names) narrow in
     subst (λ (x : Designed). IsWhole x.linked.names × (x.free ≡ None)
     × (x.notices ≡ notices_of t.forms.script judging (top_name t.source) t.script x.selected)) (sym made)
-    (names, free, told_whole t.forms.netlist linked.names told narrow names.cuts refl refl)
+    (names, free, told_whole t.forms.netlist linked.names told narrow names.cuts refl refl refl)

@@ -1,5 +1,5 @@
 -- What is found of texts that were read: their design, and the pairs that are selected in it.
-use Rattle.std.specs.Prelude.{◌≡◌, ℕ, false, List, [], ◌∷◌, length, map, All, Option, None, Some, Result, Ok, Err}
+use Rattle.std.specs.Prelude.{◌≡◌, ℕ, List, [], ◌∷◌, length, map, All, Option, None, Some, is_some, Result, Ok, Err}
 use Rattle.net_model.specs.Netlist.{IsSound}
 use Rattle.net_model.specs.Fits.{Fits}
 use Rattle.sdcv_base.specs.declared.settings.Setting.{Setting}
@@ -66,10 +66,10 @@ abbrev pub HasInputs : Source → Result (List PortName) LinkFault → Type 0
 HasInputs s (Ok ports) = (top : Module) × (tops s ≡ top ∷ []) × (ports ≡ ports_of (input_bits top))
 HasInputs s (Err fault) = IsTopCause s fault
 
--- the settings of a script among these inputs, or why it has none
-abbrev pub HasSettings : Script → List PortName → List Setting → Result Settings ExpandFault → Type 0
-HasSettings script inputs resets (Ok s) = AreSettings script inputs resets s
-HasSettings script inputs resets (Err fault) = IsSettingsCause script inputs resets fault
+-- the settings of a script among these inputs, where the clock of this name is judged, if one is named; or why it has none
+abbrev pub HasSettings : Script → List PortName → List Setting → Option (List ℕ) → Result Settings ExpandFault → Type 0
+HasSettings script inputs resets clock (Ok s) = AreSettings script inputs resets clock s
+HasSettings script inputs resets clock (Err fault) = IsSettingsCause script inputs resets clock fault
 
 -- the design of a netlist and its cells, which then have no fault; or a fault of theirs
 abbrev pub Links : CutSource → Library → LinkOptions → Result Linked LinkFault → Type 0
@@ -81,7 +81,16 @@ abbrev pub Selects : Linked → Script → Judging → Result Selected ExpandFau
 Selects l script judging (Ok s) = IsSelectionOf l script judging s
 Selects l script judging (Err fault) = IsExpandCause l script judging fault
 
--- what is set from outside
+-- the names of the top module and of the clock, where they are asked for
+abbrev pub asked_top : NetlistForm → Option (List ℕ)
+asked_top Narrow = None
+asked_top (Wide cutting) = cutting.top
+
+abbrev pub asked_clock : NetlistForm → Option (List ℕ)
+asked_clock Narrow = None
+asked_clock (Wide cutting) = cutting.clock
+
+-- what is set from outside; where a clock is asked for, what is not on it is cut out
 abbrev pub options_of : NetlistForm → Settings → Reset → LinkOptions
 options_of form s reset = record {
   clock = s.clock;
@@ -89,7 +98,7 @@ options_of form s reset = record {
   resets = reset.ports;
   reset_len = reset.len;
   wide = is_wide form;
-  cut_clocks = false;
+  cut_clocks = is_some (asked_clock form);
 }
 
 -- the netlist without what is cut out of it, or the line of the fault of its top module
@@ -100,7 +109,7 @@ Cuts t = Staged (HasCuts t.forms.netlist t.source t.library) link_line
 unfoldable pub SettlesIn : ReadTexts → Source → List Setting → Found Settled → Type 0
 SettlesIn t source resets = do
   inputs ← Staged (HasInputs source) link_line
-  settings ← Staged (HasSettings t.script inputs resets) expand_line
+  settings ← Staged (HasSettings t.script inputs resets (asked_clock t.forms.netlist)) expand_line
   λ found. found ≡ Ok (record { inputs = inputs; settings = settings })
 
 -- those of what is left of the netlist
@@ -113,7 +122,7 @@ Settles t resets = do
 unfoldable pub LinksIn : ReadTexts → CutSource → Reset → Found Linked → Type 0
 LinksIn t cut reset = do
   inputs ← Staged (HasInputs cut.source) link_line
-  settings ← Staged (HasSettings t.script inputs reset.ports) expand_line
+  settings ← Staged (HasSettings t.script inputs reset.ports (asked_clock t.forms.netlist)) expand_line
   Staged (Links cut t.library (options_of t.forms.netlist settings reset)) link_line
 
 -- the design with its names, or the line of the first fault
@@ -131,18 +140,13 @@ first_name (m ∷ rest) = m.name
 unfoldable pub top_name : Source → List ℕ
 top_name s = first_name (tops s)
 
--- the name of the top module, where it is asked for
-abbrev pub asked_top : NetlistForm → Option (List ℕ)
-asked_top Narrow = None
-asked_top (Wide cutting) = cutting.top
-
 -- what is told of the cells of a reference that are cut out
 abbrev pub told_cut : CutName → CutCells
 told_cut c = record { cell = c.cell; count = c.count; «open» = c.«open» }
 
 -- with what is told of the netlist too
 abbrev pub with_netlist : NetlistForm → Names → Notices → Notices
-with_netlist form names n = record n { top = asked_top form; cuts = map told_cut names.cuts }
+with_netlist form names n = record n { top = asked_top form; clock = asked_clock form; cuts = map told_cut names.cuts }
 
 -- how many nets are free behind what is cut out, where cells may be cut out
 abbrev pub free_count : NetlistForm → Names → Option ℕ
@@ -151,7 +155,7 @@ free_count (Wide cutting) names = Some (length names.free)
 
 -- what is told of constraints of which nothing is judged: the commands that are passed over by their names
 abbrev pub skipped_alone : ReadTexts → Notices
-skipped_alone t = record { top = None; cuts = []; skipped = skipped_of t.forms.script t.script; unjudged = []; hold_commands = 0 }
+skipped_alone t = record { top = None; clock = None; cuts = []; skipped = skipped_of t.forms.script t.script; unjudged = []; hold_commands = 0 }
 
 -- with what is told of their netlist too, whose design has these names
 abbrev pub told_alone : ReadTexts → Names → Notices

@@ -6,18 +6,17 @@ ghost use Rattle.exception_expand.specs.Selections.{HasMultipliers};
 ghost use Rattle.run_options.specs.Judging.{CanJudge};
 ghost use Rattle.run_options.specs.declared.netlists.NetlistForm.TheVariants.{Wide};
 ghost use Rattle.link_defs.specs.Cuts.{IsLawfulCut};
-ghost use Rattle.linked_types.specs.Narrow.{IsOnOneClock};
 ghost use Rattle.linked_types.specs.Usable.{IsUsable};
 ghost use Rattle.fault_lines.specs.Designs.{link_line, expand_line};
 ghost use Rattle.design_stages.specs.Stages.{Finds, Staged};
 ghost use Rattle.design_stages.specs.Below.{cut_below};
 ghost use Rattle.design_stages.specs.Designs.{HasCuts, HasInputs, HasSettings, Links, Selects, Settles, SettlesIn, LinksTo, LinksIn, Designs, DesignsIn};
-ghost use Rattle.design_stages.specs.Designs.{AreLawful, CanBeJudged, options_of};
+ghost use Rattle.design_stages.specs.Designs.{AreLawful, CanBeJudged, asked_clock, options_of};
 
 use crate::designs::{Designed, ReadTexts, Settled};
 use crate::readers::is_wide;
 use crate::refusals::Refusal;
-use crate::tellings::{free_count, noticed, with_netlist};
+use crate::tellings::{asked_clock, free_count, is_clock_asked, noticed, with_netlist};
 use cell_types::Library;
 use cut_source::cut;
 use exception_expand::expand;
@@ -28,7 +27,7 @@ use netlist_types::Source;
 use run_options::{Cutting, Judging, NetlistForm, Reset};
 use script_types::Script;
 use sdc_settings::{Settings, settings};
-use sdcv_base::{Seq, Setting};
+use sdcv_base::{Name, Seq, Setting};
 use selected_types::Selected;
 use std::alloc::Global;
 
@@ -143,7 +142,7 @@ fn linked_in(
     ensures usable { IfOk result IsUsable }
 {
     let inputs = inputs(alloc, below.source)?;
-    let settings = settings_of(alloc, &texts.script, &inputs, &reset.ports)?;
+    let settings = settings_of(alloc, texts, &inputs, &reset.ports)?;
     let options = options_of(&texts.forms.netlist, settings, reset);
     linked_under(alloc, below, &texts.library, &options)
 }
@@ -173,7 +172,7 @@ fn settled_in(
     ensures { Finds (SettlesIn texts.now source.now resets.now) result }
 {
     let inputs = inputs(alloc, source)?;
-    let settings = settings_of(alloc, &texts.script, &inputs, resets)?;
+    let settings = settings_of(alloc, texts, &inputs, resets)?;
     Ok(Settled { inputs, settings })
 }
 
@@ -201,7 +200,7 @@ fn options_of(form: &NetlistForm, settings: Settings, reset: Reset) -> LinkOptio
         resets: ports,
         reset_len: len,
         wide: is_wide(form),
-        cut_clocks: false,
+        cut_clocks: is_clock_asked(form),
     }
 }
 
@@ -216,16 +215,30 @@ fn inputs(alloc: Global, source: &Source) -> Result<Seq<PortName>, Refusal>
     }
 }
 
-/// The clock and the fixed inputs.
+/// The clock, where one is asked for the one of its name, and the fixed inputs.
 fn settings_of(
+    alloc: Global,
+    texts: &ReadTexts,
+    inputs: &Seq<PortName>,
+    resets: &Seq<Setting>,
+) -> Result<Settings, Refusal>
+    ensures { Finds (Staged (HasSettings texts.now.script inputs.now resets.now (asked_clock texts.now.forms.netlist)) expand_line) result }
+{
+    let clock = asked_clock(alloc, &texts.forms.netlist)?;
+    settings_by(alloc, &texts.script, inputs, resets, &clock)
+}
+
+/// The same, where this clock is asked for.
+fn settings_by(
     alloc: Global,
     script: &Script,
     inputs: &Seq<PortName>,
     resets: &Seq<Setting>,
+    clock: &Option<Name>,
 ) -> Result<Settings, Refusal>
-    ensures { Finds (Staged (HasSettings script.now inputs.now resets.now) expand_line) result }
+    ensures { Finds (Staged (HasSettings script.now inputs.now resets.now clock.now) expand_line) result }
 {
-    match settings(alloc, script, inputs, resets) {
+    match settings(alloc, script, inputs, resets, clock) {
         Ok(settings) => Ok(settings),
         Err(fault) => Err(Refusal::Line(expand_line(alloc, &fault)?)),
     }
@@ -241,7 +254,6 @@ fn linked_under(
     requires source { IsLawfulCut (cut_below below.now) }
     requires library { IsLawfulLibrary library.now.cells }
     requires resets { options.now.reset_len ≤ 64 }
-    requires one_clock { IsOnOneClock options.now }
     ensures found { Finds (Staged (Links (cut_below below.now) library.now options.now) link_line) result }
     ensures usable { IfOk result IsUsable }
 {

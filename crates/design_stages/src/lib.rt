@@ -17,4 +17,4 @@ pub use designs::{Designed, ReadTexts, Settled};
 pub use laws::nothing_is_cut;
 pub use readers::{cells, constraints, netlist};
 pub use refusals::Refusal;
-pub use tellings::{free_count, told_alone};
+pub use tellings::{asked_clock, free_count, told_alone};

@@ -1,8 +1,8 @@
 //! What is told of a netlist and a script beside the selected pairs.
-ghost use Rattle.std.specs.Prelude.{◌≡◌, map, IfOk};
+ghost use Rattle.std.specs.Prelude.{◌≡◌, map, is_some, IfOk};
 ghost use Rattle.link_tops.specs.Tops.{IsTop};
 ghost use Rattle.script_notices.specs.Notices.{notices_of};
-ghost use Rattle.design_stages.specs.Designs.{asked_top, free_count, told_alone, told_cut, top_name, with_netlist};
+ghost use Rattle.design_stages.specs.Designs.{asked_clock, asked_top, free_count, told_alone, told_cut, top_name, with_netlist};
 
 use crate::designs::ReadTexts;
 use link_tops::one_top;
@@ -21,6 +21,7 @@ pub fn told_alone(alloc: Global, texts: &ReadTexts, names: &Names) -> Result<Not
 {
     let alone = Notices {
         top: None,
+        clock: None,
         cuts: Seq::new(alloc),
         skipped: skipped_of(alloc, &texts.forms.script, &texts.script)?,
         unjudged: Seq::new(alloc),
@@ -29,16 +30,43 @@ pub fn told_alone(alloc: Global, texts: &ReadTexts, names: &Names) -> Result<Not
     with_netlist(alloc, &texts.forms.netlist, names, alone)
 }
 
+/// A name, where there is one.
+fn name_of(alloc: Global, name: &Option<Name>) -> Result<Option<Name>, AllocError>
+    ensures { IfOk result (λ copied. copied ≡ name.now) }
+{
+    match name {
+        Some(name) => Ok(Some(name.copy(alloc)?)),
+        None => Ok(None),
+    }
+}
+
 /// The name of the top module, where it is asked for.
 fn asked_top(alloc: Global, form: &NetlistForm) -> Result<Option<Name>, AllocError>
     ensures { IfOk result (λ name. name ≡ asked_top form.now) }
 {
     match form {
         NetlistForm::Narrow => Ok(None),
-        NetlistForm::Wide(cutting) => match &cutting.top {
-            Some(name) => Ok(Some(name.copy(alloc)?)),
-            None => Ok(None),
-        },
+        NetlistForm::Wide(cutting) => name_of(alloc, &cutting.top),
+    }
+}
+
+/// The name of the clock, where it is asked for.
+pub fn asked_clock(alloc: Global, form: &NetlistForm) -> Result<Option<Name>, AllocError>
+    ensures { IfOk result (λ name. name ≡ asked_clock form.now) }
+{
+    match form {
+        NetlistForm::Narrow => Ok(None),
+        NetlistForm::Wide(cutting) => name_of(alloc, &cutting.clock),
+    }
+}
+
+/// Whether a clock is asked for by its name.
+pub(crate) fn is_clock_asked(form: &NetlistForm) -> bool
+    ensures { result ≡ is_some (asked_clock form.now) }
+{
+    match form {
+        NetlistForm::Narrow => false,
+        NetlistForm::Wide(cutting) => cutting.clock.is_some(),
     }
 }
 
@@ -68,6 +96,7 @@ pub(crate) fn with_netlist(
     ensures { IfOk result (λ n. n ≡ with_netlist form.now names.now notices) }
 {
     let top = asked_top(alloc, form)?;
+    let clock = asked_clock(alloc, form)?;
     let cuts = told_cuts(alloc, &names.cuts)?;
     let Notices {
         skipped,
@@ -77,6 +106,7 @@ pub(crate) fn with_netlist(
     } = notices;
     Ok(Notices {
         top,
+        clock,
         cuts,
         skipped,
         unjudged,

@@ -61,7 +61,7 @@ hold_between : commands_listed 1 (lines true)
 hold_between = refl
 
 abbrev passed_over : List Skipped → Notices
-passed_over skipped = record { top = None; cuts = []; skipped = Some skipped; unjudged = []; hold_commands = 0 }
+passed_over skipped = record { top = None; clock = None; cuts = []; skipped = Some skipped; unjudged = []; hold_commands = 0 }
 
 -- what is passed over stands between the header and the found pairs
 skipped_are_told : (o : DetectOptions) (found : Detected)
@@ -84,10 +84,11 @@ trying = record { hazard = false; depth = 8; budget = 20000; inv_depth = 1; boun
 abbrev rams : CutCells
 rams = record { cell = codes "RAM"; count = 2; «open» = false }
 
--- the top module and what is cut out stand before what is passed over, and the header has the free nets
+-- the top module, the clock and what is cut out stand before what is passed over, and the header has the free nets
 cuts_are_told : (found : Detected)
-    → detected_lines trying 1 (Some 3) (record (passed_over []) { top = Some (codes "chip"); cuts = rams ∷ [] }) (record found { tried = [] })
+    → detected_lines trying 1 (Some 3) (record (passed_over []) { top = Some (codes "chip"); clock = Some (codes "ck"); cuts = rams ∷ [] })
+    (record found { tried = [] })
     ≡ (codes "sdcv 1 detect mode plain reset 1 depth 8 budget 20000 inv 1 bound 4 free 3" ++ 10 ∷ []) ∷ (codes "top chip" ++ 10 ∷ [])
-    ∷ (codes "cut RAM 2" ++ 10 ∷ []) ∷ (codes "total tried 0 found 0 written 0" ++ 10 ∷ []) ∷ []
+    ∷ (codes "clock ck" ++ 10 ∷ []) ∷ (codes "cut RAM 2" ++ 10 ∷ []) ∷ (codes "total tried 0 found 0 written 0" ++ 10 ∷ []) ∷ []
 unfolding digits
 cuts_are_told found = refl

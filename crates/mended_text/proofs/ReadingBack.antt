@@ -1,5 +1,5 @@
 -- A text has one script, and a script one list of settings and one selection, so what is read back decides.
-use Rattle.std.proofs.Common.{◌≡◌, ◌∙◌, ◌↔◌, ℕ, Bool, false, List, sym, ap, subst}
+use Rattle.std.proofs.Common.{◌≡◌, ◌∙◌, ◌↔◌, ℕ, Bool, false, List, Option, sym, ap, subst}
 use Rattle.std.specs.Prelude.{IsTrue, Result, Ok, Err}
 use Rattle.sdcv_base.specs.declared.settings.Setting.{Setting}
 use Rattle.net_model.specs.declared.claims.Claim.{Claim}
@@ -21,15 +21,16 @@ use Rattle.mended_text.specs.Scenes.{Scene}
 use Rattle.mended_text.specs.Mended.{SelectsClaims, SelectsThese, SelectsExactly}
 
 -- a script with settings has these ones where both are the same
-pub settings_decide : (script : Script) (inputs : List PortName) (resets : List Setting) (s again : Settings) (same : Bool)
-    → AreSettings script inputs resets again → (IsTrue same ↔ (again ≡ s)) → IsTrue same ↔ AreSettings script inputs resets s
-settings_decide script inputs resets s again same are (to, from) =
-    (λ yes. subst (AreSettings script inputs resets) (to yes) are, λ those. from (settings_same script inputs resets s again those are))
+pub settings_decide : (script : Script) (inputs : List PortName) (resets : List Setting) (clock : Option (List ℕ)) (s again : Settings) (same : Bool)
+    → AreSettings script inputs resets clock again → (IsTrue same ↔ (again ≡ s)) → IsTrue same ↔ AreSettings script inputs resets clock s
+settings_decide script inputs resets clock s again same are (to, from) =
+    (λ yes. subst (AreSettings script inputs resets clock) (to yes) are, λ those. from (settings_same script inputs resets clock s again those are))
 
 -- a script without settings has not these ones
-pub settings_miss : (script : Script) (inputs : List PortName) (resets : List Setting) (s : Settings) (e : ExpandFault)
-    → IsSettingsCause script inputs resets e → (e ≡ fault.Memory → ⊥) → IsTrue false ↔ AreSettings script inputs resets s
-settings_miss script inputs resets s e cause other = (λ yes. absurd cc, λ those. absurd (other (settings_only script inputs resets s e those cause)))
+pub settings_miss : (script : Script) (inputs : List PortName) (resets : List Setting) (clock : Option (List ℕ)) (s : Settings) (e : ExpandFault)
+    → IsSettingsCause script inputs resets clock e → (e ≡ fault.Memory → ⊥) → IsTrue false ↔ AreSettings script inputs resets clock s
+settings_miss script inputs resets clock s e cause other =
+    (λ yes. absurd cc, λ those. absurd (other (settings_only script inputs resets clock s e those cause)))
 
 -- a script with a selection selects these claims where both are the same
 pub claims_decide : (scene : Scene) (claims : List Claim) (script : Script) (again : Selected) (same : Bool)
@@ -47,7 +48,7 @@ claims_miss scene claims script e cause other =
     (λ yes. absurd cc, λ those. absurd (other (selection_only scene.linked script scene.judging those.selected e those.selection cause)))
 
 -- a text does what its script does
-pub text_decides : (scene : Scene) (claims : List Claim) (text : List ℕ) (script : Script) (same : Bool) → script_of scene.form text ≡ Ok script
+pub text_decides : (scene : Scene) (claims : List Claim) (text : List ℕ) (script : Script) (same : Bool) → script_of scene.forms.script text ≡ Ok script
     → (IsTrue same ↔ SelectsThese scene claims script) → IsTrue same ↔ SelectsExactly scene claims text
 text_decides scene claims text script same read (to, from) = (
   λ yes. record { script = script; read = read; these = to yes },
@@ -57,7 +58,7 @@ text_decides scene claims text script same read (to, from) = (
 )
 
 -- a text that is refused has no script
-pub text_misses : (scene : Scene) (claims : List Claim) (text : List ℕ) (e : SdcFault) → script_of scene.form text ≡ Err e
+pub text_misses : (scene : Scene) (claims : List Claim) (text : List ℕ) (e : SdcFault) → script_of scene.forms.script text ≡ Err e
     → IsTrue false ↔ SelectsExactly scene claims text
 text_misses scene claims text e refused = (
   λ yes. absurd cc,

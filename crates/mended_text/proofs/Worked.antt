@@ -83,7 +83,14 @@ unfolding digits options
 header_of_a_plain_run = refl
 
 told : Notices
-told = record { top = None; cuts = []; skipped = Some (record { name = codes "set_sense"; count = 1 } ∷ []); unjudged = []; hold_commands = 0 }
+told = record {
+  top = None;
+  clock = None;
+  cuts = [];
+  skipped = Some (record { name = codes "set_sense"; count = 1 } ∷ []);
+  unjudged = [];
+  hold_commands = 0;
+}
 
 -- what is passed over stands between the header and the exceptions
 skipped_is_told : (f : Findings) → mended_texts options told (record f { script = record { commands = [] } }) []
@@ -93,9 +100,9 @@ skipped_is_told f = refl
 
 -- and what is told of the netlist before that
 cuts_are_told : (f : Findings) → mended_texts (record options { free = Some 0 })
-    (record told { top = Some (codes "chip"); cuts = record { cell = codes "RAM"; count = 2; «open» = true } ∷ [] })
+    (record told { top = Some (codes "chip"); clock = Some (codes "ck"); cuts = record { cell = codes "RAM"; count = 2; «open» = true } ∷ [] })
     (record f { script = record { commands = [] } }) []
-    ≡ header_text (record options { free = Some 0 }) ∷ codes "top chip" ∷ codes "cut RAM 2 open" ∷ codes "skipped set_sense 1"
+    ≡ header_text (record options { free = Some 0 }) ∷ codes "top chip" ∷ codes "clock ck" ∷ codes "cut RAM 2 open" ∷ codes "skipped set_sense 1"
     ∷ codes "total 0 kept 0 left 0 unwritten 0" ∷ []
 unfolding digits told texts_from
 cuts_are_told f = refl

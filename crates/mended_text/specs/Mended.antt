@@ -9,6 +9,7 @@ use Rattle.sdc_words.specs.Lines.{cleaned}
 use Rattle.sdc_pieces.specs.Pieces.{rewritten}
 use Rattle.sdc_text.specs.Scripts.{script_of}
 use Rattle.sdc_settings.specs.Settings.{AreSettings}
+use Rattle.design_stages.specs.Designs.{asked_clock}
 use Rattle.exception_expand.specs.Selections.{IsSelectionOf}
 use Rattle.mend_groups.specs.declared.ports.Ports.{Ports}
 use Rattle.mend_groups.specs.declared.parts.Part.{Part}
@@ -45,15 +46,15 @@ pub record SelectsClaims (scene : Scene) (claims : List Claim) (script : Script)
   pub selection : IsSelectionOf scene.linked script scene.judging selected
   pub exactly : selected.claims ≡ claims
 
--- a script has the same clock and the same fixed inputs, and selects exactly these claims
+-- a script has the same clock and the same fixed inputs, where the same clock is asked for, and selects exactly these claims
 pub record SelectsThese (scene : Scene) (claims : List Claim) (script : Script) : Type 0 where
-  pub settings : AreSettings script scene.inputs scene.resets scene.settings
+  pub settings : AreSettings script scene.inputs scene.resets (asked_clock scene.forms.netlist) scene.settings
   pub selects : SelectsClaims scene claims script
 
 -- a text is such a script
 pub record SelectsExactly (scene : Scene) (claims : List Claim) (text : List ℕ) : Type 0 where
   pub script : Script
-  pub read : script_of scene.form text ≡ Ok script
+  pub read : script_of scene.forms.script text ≡ Ok script
   pub these : SelectsThese scene claims script
 
 -- a text is mended: it selects exactly what is kept and can be written, and each of these claims holds in every run

@@ -8,7 +8,7 @@ use Rattle.linked_types.specs.declared.names.PortName.{PortName}
 use Rattle.script_types.specs.declared.scripts.Script.{Script}
 use Rattle.sdc_settings.specs.declared.values.Settings.{Settings}
 use Rattle.selected_types.specs.declared.selections.Selected.{Selected}
-use Rattle.run_options.specs.declared.forms.ScriptForm.{ScriptForm}
+use Rattle.run_options.specs.declared.forms.Forms.{Forms}
 use Rattle.run_options.specs.declared.judging.Judging.{Judging}
 use Rattle.verdict_types.specs.declared.outcomes.Proof.{Proof}
 use Rattle.verdict_types.specs.declared.outcomes.Verdict.{Verdict}
@@ -16,12 +16,13 @@ use Rattle.verdict_types.specs.declared.outcomes.Verdict.TheVariants.{Justified}
 use Rattle.mended_text.specs.declared.scenes.Scene.{Scene as TheScene}
 use Rattle.mended_text.specs.declared.scenes.Findings.{Findings as TheFindings}
 
--- a linked design with the input bits of its top, its resets, how a script is read and what it sets in it, and how claims are judged
+-- a linked design with the input bits of its top, its resets, how its netlist and a script are read, what the script sets in it, and how
+-- claims are judged
 pub record Scene : Type 0 where
   pub linked : Linked
   pub inputs : List PortName
   pub resets : List Setting
-  pub form : ScriptForm
+  pub forms : Forms
   pub settings : Settings
   pub judging : Judging
 
@@ -38,7 +39,7 @@ seen_scene s = record {
   linked = s.linked.now;
   inputs = s.inputs.now;
   resets = s.resets.now;
-  form = s.form.now;
+  forms = s.forms.now;
   settings = s.settings.now;
   judging = s.judging;
 }

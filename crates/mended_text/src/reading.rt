@@ -5,6 +5,7 @@ ghost use Rattle.linked_types.specs.Usable.{IsUsable};
 ghost use Rattle.run_options.specs.Judging.{CanJudge};
 ghost use Rattle.exception_expand.specs.Selections.{HasMultipliers};
 ghost use Rattle.sdc_settings.specs.Settings.{AreSettings};
+ghost use Rattle.design_stages.specs.Designs.{asked_clock};
 ghost use Rattle.mended_text.specs.Claims.{claims_at};
 ghost use Rattle.mended_text.specs.Mended.{SelectsClaims, SelectsThese, SelectsExactly};
 ghost use Rattle.mended_text.specs.Scenes.{seen_scene};
@@ -12,13 +13,13 @@ ghost use Rattle.mended_text.specs.Scenes.{seen_scene};
 use crate::claims::are_claims_at;
 use crate::scenes::Scene;
 use crate::settings::is_settings;
-use design_stages::{Refusal, constraints};
+use design_stages::{Refusal, asked_clock, constraints};
 use exception_expand::expand;
 use mend_groups::Row;
 use net_model::Claim;
 use script_types::Script;
 use sdc_settings::settings;
-use sdcv_base::Seq;
+use sdcv_base::{Name, Seq};
 use selected_types::ExpandFault;
 use std::alloc::{AllocError, Global};
 
@@ -32,14 +33,28 @@ fn refused(fault: &ExpandFault) -> Result<bool, AllocError>
     }
 }
 
-// Whether the script has the same clock and the same fixed inputs.
-fn has_settings(alloc: Global, script: &Script, scene: &Scene<'_>) -> Result<bool, AllocError>
-    ensures { IfOk result (λ same. IsTrue same ↔ AreSettings script.now scene.now.inputs.now scene.now.resets.now scene.now.settings.now) }
+// Whether the script has the same clock and the same fixed inputs, where this clock is asked for.
+fn gives_settings(
+    alloc: Global,
+    script: &Script,
+    scene: &Scene<'_>,
+    clock: &Option<Name>,
+) -> Result<bool, AllocError>
+    ensures { IfOk result (λ same. IsTrue same ↔ AreSettings script.now scene.now.inputs.now scene.now.resets.now clock.now scene.now.settings.now) }
 {
-    match settings(alloc, script, scene.inputs, scene.resets) {
+    match settings(alloc, script, scene.inputs, scene.resets, clock) {
         Ok(again) => Ok(is_settings(&again, scene.settings)),
         Err(fault) => refused(&fault),
     }
+}
+
+// Whether the script has the same clock and the same fixed inputs.
+fn has_settings(alloc: Global, script: &Script, scene: &Scene<'_>) -> Result<bool, AllocError>
+    ensures { IfOk result (λ same. IsTrue same
+        ↔ AreSettings script.now scene.now.inputs.now scene.now.resets.now (asked_clock scene.now.forms.now.netlist) scene.now.settings.now) }
+{
+    let clock = asked_clock(alloc, &scene.forms.netlist)?;
+    gives_settings(alloc, script, scene, &clock)
 }
 
 // Whether the script selects exactly the claims at the places of these pairs.
@@ -91,7 +106,7 @@ pub(crate) fn selects_exactly(
     requires judging { CanJudge scene.now.judging }
     ensures { IfOk result (λ same. IsTrue same ↔ SelectsExactly (seen_scene scene.now) (claims_at claims.now rows.now) text.now) }
 {
-    match constraints(alloc, text, scene.form) {
+    match constraints(alloc, text, &scene.forms.script) {
         Ok(script) => selects_these(alloc, &script, scene, claims, rows),
         Err(Refusal::Line(_)) => Ok(false),
         Err(Refusal::Memory) => Err(AllocError),

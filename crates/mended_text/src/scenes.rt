@@ -1,20 +1,20 @@
 //! What a script is mended by.
 use linked_types::{Linked, PortName};
-use run_options::{Judging, ScriptForm};
+use run_options::{Forms, Judging};
 use script_types::Script;
 use sdc_settings::Settings;
 use sdcv_base::{Seq, Setting};
 use selected_types::Selected;
 use verdict_types::Verdict;
 
-/// A linked design with the input bits of its top, the clock's among them, its resets, how a script is read and what it sets in it,
-/// and how claims are judged.
+/// A linked design with the input bits of its top, the clock's among them, its resets, how its netlist and a script are read, what
+/// the script sets in it, and how claims are judged.
 #[derive(Clone, Copy)]
 pub struct Scene<'a> {
     pub linked: &'a Linked,
     pub inputs: &'a Seq<PortName>,
     pub resets: &'a Seq<Setting>,
-    pub form: &'a ScriptForm,
+    pub forms: &'a Forms,
     pub settings: &'a Settings,
     pub judging: Judging,
 }

@@ -85,10 +85,10 @@ stands_twice o top i j x y low at_x at_y same =
     (are.first, are.second, are.rising, first, second ∙ ap (λ (n : List ℕ). Some n) (sym same))
 
 -- so a netlist without a fault has none
-not_twice : (s : CutSource) (lib : Library) (o : LinkOptions) (top : Module) → tops s.source ≡ top ∷ [] → IsFaultless s lib o → (i j : ℕ) (x y : PortBit) → i < j
-    → slice_get (data_bits o.clock top) i ≡ Some x → slice_get (data_bits o.clock top) j ≡ Some y → x.port.name ≡ y.port.name → ⊥
+not_twice : (s : CutSource) (lib : Library) (o : LinkOptions) (top : Module) → tops s.source ≡ top ∷ [] → IsFaultless s lib o → (i j : ℕ) (x y : PortBit)
+    → i < j → slice_get (data_bits o.clock top) i ≡ Some x → slice_get (data_bits o.clock top) j ≡ Some y → x.port.name ≡ y.port.name → ⊥
 not_twice s lib o top is faultless i j x y low at_x at_y same =
-    faultless (fault.NameClash x.port.name) (λ wrong. cc) (top, is, inl (λ k left. Ports (stands_twice o top i j x y low at_x at_y same)))
+    faultless (fault.NameClash x.port.name) (λ wrong. cc) (top, is, λ n judged. inl (λ k left. Ports (stands_twice o top i j x y low at_x at_y same)))
 
 -- and the names of its data inputs differ
 pub inputs_differ : (s : CutSource) (lib : Library) (o : LinkOptions) → IsFaultless s lib o → (top : Module) → tops s.source ≡ top ∷ []

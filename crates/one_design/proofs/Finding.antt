@@ -17,7 +17,7 @@ use Rattle.fault_lines.specs.Designs.{link_line, expand_line}
 use Rattle.design_stages.specs.declared.designs.Designed.{Designed}
 use Rattle.design_stages.specs.declared.designs.ReadTexts.{ReadTexts}
 use Rattle.run_options.specs.declared.resets.Reset.{Reset}
-use Rattle.design_stages.specs.Designs.{HasCuts, HasInputs, HasSettings, Links, Selects, Cuts, LinksIn, LinksTo, DesignsIn, Designs, designed_by}
+use Rattle.design_stages.specs.Designs.{HasCuts, HasInputs, HasSettings, Links, Selects, Cuts, LinksIn, LinksTo, DesignsIn, Designs, asked_clock, designed_by}
 use Rattle.design_stages.specs.Designs.{options_of}
 use Rattle.design_stages.specs.Stages.{Found, Staged, Then}
 use Rattle.one_design.specs.Answers.{IsOneAnswer}
@@ -94,8 +94,9 @@ left_one : (t : ReadTexts) (cut : CutSource) (reset : Reset) → FindsOne (Links
 unfolding LinksIn
 left_one t cut reset =
     then_one (Staged (HasInputs cut.source) link_line) _ (staged_one (HasInputs cut.source) link_line link.Memory refl (one_inputs cut.source))
-    (λ inputs. then_one (Staged (HasSettings t.script inputs reset.ports) expand_line) _
-    (staged_one (HasSettings t.script inputs reset.ports) expand_line expand.Memory refl (one_settings t.script inputs reset.ports))
+    (λ inputs. then_one (Staged (HasSettings t.script inputs reset.ports (asked_clock t.forms.netlist)) expand_line) _
+    (staged_one (HasSettings t.script inputs reset.ports (asked_clock t.forms.netlist)) expand_line expand.Memory refl
+    (one_settings t.script inputs reset.ports (asked_clock t.forms.netlist)))
     (λ settings. staged_one (Links cut t.library (options_of t.forms.netlist settings reset)) link_line link.Memory refl
     (links_once cut t.library (options_of t.forms.netlist settings reset))))
 

@@ -24,17 +24,19 @@ use Rattle.linked_types.specs.declared.names.Names.{Names}
 use Rattle.linked_types.specs.declared.names.NetName.{NetName}
 use Rattle.linked_types.specs.declared.faults.LinkFault.TheVariants.{Memory}
 use Rattle.linked_types.specs.declared.options.LinkOptions.{LinkOptions}
-use Rattle.link_defs.specs.CellNames.{Leaf, leaves, AreNetNames, cell_name, cell_names, pins_if_any, clock_role, output_role, input_roles, tree_pins, out_pins}
+use Rattle.link_defs.specs.CellNames.{Leaf, AreNetNames, cell_name, cell_names, pins_if_any, clock_role, output_role, input_roles, tree_pins, out_pins}
 use Rattle.link_defs.specs.CellNames.{reg_of}
-use Rattle.link_defs.specs.Circuits.{PortBit, IsTree, all_gates, circuit_of, data_bits, part_outs, part_drives, part_regs}
-use Rattle.link_defs.specs.Cuts.{Tree, OwnedPin, cut_cells, cut_cell_names, cut_circuit, pin_name}
+use Rattle.link_defs.specs.Circuits.{PortBit, IsTree, all_gates, data_bits, part_outs, part_drives, part_regs}
+use Rattle.link_defs.specs.Cuts.{Tree, OwnedPin, cut_cell_names, cut_circuit, pin_name}
 use Rattle.link_defs.specs.Designs.{IsOrderOf, gate_at, gates_at, is_on_tree, tree_marks}
 use Rattle.link_defs.specs.Faults.{IsCause, IsFaultless}
 use Rattle.link_defs.specs.Flatten.{Flat, flat_of}
 use Rattle.link_defs.specs.GateOrders.{ClockPart}
 use Rattle.link_defs.specs.GatedDesigns.{IsGatedOf}
 use Rattle.link_defs.specs.Hierarchy.{tops}
+use Rattle.link_defs.specs.Judged.{FlatNetlist, IsJudged, netlist_of}
 use Rattle.link_defs.specs.Links.{AreNames, IsLinked, IsSet, Numbered}
+use Rattle.link_clocks.proofs.OneJudged.{one_judged}
 use Rattle.link_gates.proofs.OneGated as gated
 use Rattle.one_design.specs.Answers.{IsOneAnswer}
 use Rattle.one_design.proofs.CutNames.{IsTreeFor, frame_of, one_left, one_names, one_sinks}
@@ -142,27 +144,23 @@ given_reset_len : (g : Gated) → (rewritten g).reset_len ≡ g.design.reset_len
 unfolding rewritten
 given_reset_len g = refl
 
--- the cells that are cut out below this top module
-abbrev cells_of : CutSource → Library → Module → List CutCell
-cells_of s lib top = cut_cells s.items (flat_of s.source lib top).scopes
-
--- what linking gives below this top module: this circuit is left by these rows of its clock tree, and it has this clock tree, these orders of
--- gates and of clock gates, and this design with clock gates
-record IsLinkedAt (s : CutSource) (lib : Library) (o : LinkOptions) (top : Module) (k : Circuit) (t : Tree) (n : Numbered) (g : Gated)
+-- what linking gives of a netlist that is judged below this top module, of this flat one: this circuit is left by these rows of its clock
+-- tree, and it has this clock tree, these orders of gates and of clock gates, and this design with clock gates
+record IsLinkedAt (f : Flat) (e : FlatNetlist) (o : LinkOptions) (top : Module) (k : Circuit) (t : Tree) (n : Numbered) (g : Gated)
     (l : Linked) : Type 0 where
-  marked : IsTreeFor (circuit_of s.source lib top o.clock) (cells_of s lib top) t
-  left : k ≡ cut_circuit (circuit_of s.source lib top o.clock) t (cells_of s lib top)
+  marked : IsTreeFor e.circuit e.cells t
+  left : k ≡ cut_circuit e.circuit t e.cells
   clocked : gated.AreClocked k
   gated_is : IsGatedOf k n.tree n.order n.gates g
   design : l.design ≡ rewritten g
   fixed : AllZip (IsSet (data_bits o.clock top)) o.fixed l.design.fixed
   resets : AllZip (IsSet (data_bits o.clock top)) o.resets l.design.resets
   reset_len : l.design.reset_len ≡ o.reset_len
-  names : AreNames (circuit_of s.source lib top o.clock) k o top (flat_of s.source lib top) (leaves s.source lib (flat_of s.source lib top))
-      (cells_of s lib top) t n l.names
+  names : AreNames e k o top f t n l.names
 
 linked_at : (s : CutSource) (lib : Library) (o : LinkOptions) (l : Linked) (is : IsLinked s lib o l)
-    → IsLinkedAt s lib o is.top is.circuit is.cut.tree (record { tree = is.tree; order = is.order; gates = is.gates }) is.gated l
+    → IsLinkedAt (flat_of s.source lib is.top) is.judged o is.top is.circuit is.cut.tree (record { tree = is.tree; order = is.order; gates = is.gates })
+    is.gated l
 linked_at s lib o l is = record {
   marked = is.cut.tree_is;
   left = is.cut.is;
@@ -176,11 +174,11 @@ linked_at s lib o l is = record {
 }
 
 -- of one circuit and one order of gates there is one design without the clock gates
-without_same : (s : CutSource) (lib : Library) (o : LinkOptions) (top : Module) (k : Circuit) (t u : Tree) (x y : List Bool) (order : List Gate)
+without_same : (f : Flat) (e : FlatNetlist) (o : LinkOptions) (top : Module) (k : Circuit) (t u : Tree) (x y : List Bool) (order : List Gate)
     (gates others : List ClockPart) (g h : Gated) (a b : Linked) → IsKeyed (λ (bit : PortBit). bit.port.name) (data_bits o.clock top)
-    → IsLinkedAt s lib o top k t (record { tree = x; order = order; gates = gates }) g a
-    → IsLinkedAt s lib o top k u (record { tree = y; order = order; gates = others }) h b → h.design ≡ g.design
-without_same s lib o top k t u x y order gates others g h a b once first second =
+    → IsLinkedAt f e o top k t (record { tree = x; order = order; gates = gates }) g a
+    → IsLinkedAt f e o top k u (record { tree = y; order = order; gates = others }) h b → h.design ≡ g.design
+without_same f e o top k t u x y order gates others g h a b once first second =
     let bits = data_bits o.clock top in
     let one = first.gated_is.design in
     let other = second.gated_is.design in
@@ -210,12 +208,12 @@ without_same s lib o top k t u x y order gates others g h a b once first second 
     }
 
 -- so there is one with them
-with_same : (s : CutSource) (lib : Library) (o : LinkOptions) (top : Module) (k : Circuit) (t u : Tree) (x y : List Bool) (order : List Gate)
+with_same : (f : Flat) (e : FlatNetlist) (o : LinkOptions) (top : Module) (k : Circuit) (t u : Tree) (x y : List Bool) (order : List Gate)
     (gates others : List ClockPart) (g h : Gated) (a b : Linked) → IsKeyed (λ (bit : PortBit). bit.port.name) (data_bits o.clock top)
-    → IsLinkedAt s lib o top k t (record { tree = x; order = order; gates = gates }) g a
-    → IsLinkedAt s lib o top k u (record { tree = y; order = order; gates = others }) h b → b.design ≡ a.design
-with_same s lib o top k t u x y order gates others g h a b once first second =
-    let without = without_same s lib o top k t u x y order gates others g h a b once first second in
+    → IsLinkedAt f e o top k t (record { tree = x; order = order; gates = gates }) g a
+    → IsLinkedAt f e o top k u (record { tree = y; order = order; gates = others }) h b → b.design ≡ a.design
+with_same f e o top k t u x y order gates others g h a b once first second =
+    let without = without_same f e o top k t u x y order gates others g h a b once first second in
     let one : g ≡ h = gated.gated_same k x y order gates others first.clocked g h first.gated_is second.gated_is (sym without) in
     second.design ∙ ap rewritten (sym one) ∙ sym first.design
 
@@ -230,18 +228,19 @@ all_cells_same c k cells t u x y number sources found marked also first second =
     λ i. kept i ++ cut i
 
 -- and one list of each kind of names
-names_same : (c k : Circuit) (o : LinkOptions) (top : Module) (flat : Flat) (found : List Leaf) (cells : List CutCell) (t u : Tree) (x y : List Bool)
-    (order : List Gate) (gates : List ClockPart) (a b : Names) → IsTreeFor c cells t → IsTreeFor c cells u → IsTree k x → IsTree k y
-    → AreNames c k o top flat found cells t (record { tree = x; order = order; gates = gates }) a
-    → AreNames c k o top flat found cells u (record { tree = y; order = order; gates = gates }) b → b ≡ a
-names_same c k o top flat found cells t u x y order gates a b marked also first_tree second_tree first second =
-    let named = second.cells ∙ all_cells_same c k cells t u x y _ _ found marked also first_tree second_tree ∙ sym first.cells in
+names_same : (e : FlatNetlist) (k : Circuit) (o : LinkOptions) (top : Module) (flat : Flat) (t u : Tree) (x y : List Bool)
+    (order : List Gate) (gates : List ClockPart) (a b : Names) → IsTreeFor e.circuit e.cells t → IsTreeFor e.circuit e.cells u
+    → IsTree k x → IsTree k y → AreNames e k o top flat t (record { tree = x; order = order; gates = gates }) a
+    → AreNames e k o top flat u (record { tree = y; order = order; gates = gates }) b → b ≡ a
+names_same e k o top flat t u x y order gates a b marked also first_tree second_tree first second =
+    let all = all_cells_same e.circuit k e.cells t u x y _ _ e.found marked also first_tree second_tree in
+    let named = second.cells ∙ all ∙ sym first.cells in
     let ins = second.ins ∙ sym first.ins in
     let outs = second.outs ∙ sym first.outs in
     let called = nets_same _ _ _ a.nets b.nets first.nets second.nets in
     let clock = second.clock ∙ sym first.clock in
     let free = second.free ∙ sym first.free in
-    let sinks = second.sinks ∙ ap (λ (ps : List OwnedPin). map pin_name ps) (one_sinks c cells u t also marked) ∙ sym first.sinks in
+    let sinks = second.sinks ∙ ap (λ (ps : List OwnedPin). map pin_name ps) (one_sinks e.circuit e.cells u t also marked) ∙ sym first.sinks in
     let cuts = second.cuts ∙ sym first.cuts in
     let assumed = second.assumed ∙ sym first.assumed in
     λ i. record {
@@ -257,34 +256,32 @@ names_same c k o top flat found cells t u x y order gates a b marked also first_
     }
 
 -- of one circuit and one order of gates there is one design with its names
-at_same : (s : CutSource) (lib : Library) (o : LinkOptions) (top : Module) (k : Circuit) (t u : Tree) (x y : List Bool) (order : List Gate)
+at_same : (f : Flat) (e : FlatNetlist) (o : LinkOptions) (top : Module) (k : Circuit) (t u : Tree) (x y : List Bool) (order : List Gate)
     (gates others : List ClockPart) (g h : Gated) (a b : Linked) → IsKeyed (λ (bit : PortBit). bit.port.name) (data_bits o.clock top)
-    → IsLinkedAt s lib o top k t (record { tree = x; order = order; gates = gates }) g a
-    → IsLinkedAt s lib o top k u (record { tree = y; order = order; gates = others }) h b → b ≡ a
-at_same s lib o top k t u x y order gates others g h a b once first second =
-    let design = with_same s lib o top k t u x y order gates others g h a b once first second in
+    → IsLinkedAt f e o top k t (record { tree = x; order = order; gates = gates }) g a
+    → IsLinkedAt f e o top k u (record { tree = y; order = order; gates = others }) h b → b ≡ a
+at_same f e o top k t u x y order gates others g h a b once first second =
+    let design = with_same f e o top k t u x y order gates others g h a b once first second in
     let ordered : gates ≡ others = gated.order_same k first.clocked gates others first.gated_is.ordered second.gated_is.ordered in
-    let moved : IsLinkedAt s lib o top k u (record { tree = y; order = order; gates = gates }) h b =
-    subst (λ (xs : List ClockPart). IsLinkedAt s lib o top k u (record { tree = y; order = order; gates = xs }) h b) (sym ordered) second in
+    let moved : IsLinkedAt f e o top k u (record { tree = y; order = order; gates = gates }) h b =
+    subst (λ (xs : List ClockPart). IsLinkedAt f e o top k u (record { tree = y; order = order; gates = xs }) h b) (sym ordered) second in
     let names =
-    names_same (circuit_of s.source lib top o.clock) k o top (flat_of s.source lib top) (leaves s.source lib (flat_of s.source lib top))
-    (cells_of s lib top) t u x y order gates a.names b.names first.marked second.marked first.gated_is.design.tree_is
+    names_same e k o top f t u x y order gates a.names b.names first.marked second.marked first.gated_is.design.tree_is
     second.gated_is.design.tree_is first.names moved.names in
     λ i. record { design = design i; names = names i }
 
--- below one top module one circuit is left, and its gates have one order
-left_same : (s : CutSource) (lib : Library) (o : LinkOptions) (top : Module) (k j : Circuit) (t u : Tree) (n m : Numbered) (g h : Gated) (a b : Linked)
-    → IsKeyed (λ (bit : PortBit). bit.port.name) (data_bits o.clock top) → IsLinkedAt s lib o top k t n g a → IsLinkedAt s lib o top j u m h b → b ≡ a
-left_same s lib o top k j t u n m g h a b once first second =
-    let c = circuit_of s.source lib top o.clock in
-    let circuit : j ≡ k = second.left ∙ one_left c (cells_of s lib top) u t second.marked first.marked ∙ sym first.left in
-    let moved : IsLinkedAt s lib o top k u m h b = subst (λ (x : Circuit). IsLinkedAt s lib o top x u m h b) circuit second in
+-- of one netlist that is judged one circuit is left, and its gates have one order
+left_same : (f : Flat) (e : FlatNetlist) (o : LinkOptions) (top : Module) (k j : Circuit) (t u : Tree) (n m : Numbered) (g h : Gated) (a b : Linked)
+    → IsKeyed (λ (bit : PortBit). bit.port.name) (data_bits o.clock top) → IsLinkedAt f e o top k t n g a → IsLinkedAt f e o top j u m h b → b ≡ a
+left_same f e o top k j t u n m g h a b once first second =
+    let circuit : j ≡ k = second.left ∙ one_left e.circuit e.cells u t second.marked first.marked ∙ sym first.left in
+    let moved : IsLinkedAt f e o top k u m h b = subst (λ (x : Circuit). IsLinkedAt f e o top x u m h b) circuit second in
     let one = first.gated_is.design in
     let other = moved.gated_is.design in
     let order : m.order ≡ n.order = order_same k n.tree m.tree one.tree_is other.tree_is n.order m.order one.order_is other.order_is in
-    let ready : IsLinkedAt s lib o top k u (record { tree = m.tree; order = n.order; gates = m.gates }) h b =
-    subst (λ (gates : List Gate). IsLinkedAt s lib o top k u (record { tree = m.tree; order = gates; gates = m.gates }) h b) order moved in
-    at_same s lib o top k t u n.tree m.tree n.order n.gates m.gates g h a b once first ready
+    let ready : IsLinkedAt f e o top k u (record { tree = m.tree; order = n.order; gates = m.gates }) h b =
+    subst (λ (gates : List Gate). IsLinkedAt f e o top k u (record { tree = m.tree; order = gates; gates = m.gates }) h b) order moved in
+    at_same f e o top k t u n.tree m.tree n.order n.gates m.gates g h a b once first ready
 
 -- a netlist whose input bits have different names has one design with its names
 pub linked_same : (s : CutSource) (lib : Library) (o : LinkOptions) (a b : Linked)
@@ -295,9 +292,17 @@ linked_same s lib o a b once first second =
     let top : second.top ≡ first.top = cc in
     let n : Numbered = record { tree = first.tree; order = first.order; gates = first.gates } in
     let m : Numbered = record { tree = second.tree; order = second.order; gates = second.gates } in
-    let moved : IsLinkedAt s lib o first.top second.circuit second.cut.tree m second.gated b =
-    subst (λ (x : Module). IsLinkedAt s lib o x second.circuit second.cut.tree m second.gated b) top (linked_at s lib o b second) in
-    left_same s lib o first.top first.circuit second.circuit first.cut.tree second.cut.tree n m first.gated second.gated a b
+    let f : Flat = flat_of s.source lib first.top in
+    let below : IsLinkedAt f second.judged o first.top second.circuit second.cut.tree m second.gated b =
+    subst (λ (x : Module). IsLinkedAt (flat_of s.source lib x) second.judged o x second.circuit second.cut.tree m second.gated b) top
+    (linked_at s lib o b second) in
+    let judged_is : IsJudged o.cut_clocks (netlist_of s lib first.top o.clock) second.judged =
+    subst (λ (x : Module). IsJudged o.cut_clocks (netlist_of s lib x o.clock) second.judged) top second.judged_is in
+    let judged : second.judged ≡ first.judged =
+    one_judged o.cut_clocks (netlist_of s lib first.top o.clock) second.judged first.judged judged_is first.judged_is in
+    let moved : IsLinkedAt f first.judged o first.top second.circuit second.cut.tree m second.gated b =
+    subst (λ (e : FlatNetlist). IsLinkedAt f e o first.top second.circuit second.cut.tree m second.gated b) judged below in
+    left_same f first.judged o first.top first.circuit second.circuit first.cut.tree second.cut.tree n m first.gated second.gated a b
     (once first.top first.top_is) (linked_at s lib o a first) moved
 
 -- a netlist without a fault has one answer

@@ -6,9 +6,15 @@ ghost use Rattle.one_design.specs.Answers.{IsOneAnswer};
 
 use linked_types::PortName;
 use script_types::Script;
-use sdcv_base::{Seq, Setting};
+use sdcv_base::{Name, Seq, Setting};
 
-/// A script has at most one clock and list of fixed inputs among these input bits, and no fault beside them.
-pub fn one_settings(script: &Script, inputs: &Seq<PortName>, resets: &Seq<Setting>)
-    ensures { IsOneAnswer (AreSettings script.now inputs.now resets.now) (IsSettingsCause script.now inputs.now resets.now) Memory }
+/// A script has at most one clock and list of fixed inputs among these input bits, and no fault beside them; also where the clock
+/// of this name is asked for.
+pub fn one_settings(
+    script: &Script,
+    inputs: &Seq<PortName>,
+    resets: &Seq<Setting>,
+    clock: &Option<Name>,
+)
+    ensures { IsOneAnswer (AreSettings script.now inputs.now resets.now clock.now) (IsSettingsCause script.now inputs.now resets.now clock.now) Memory }
 {}

@@ -9,7 +9,7 @@ use Rattle.report_rows.specs.declared.heads.Head.{Head}
 use Rattle.report_rows.specs.declared.reports.Word.{Word}
 use Rattle.report_rows.specs.declared.reports.Word.TheVariants.{Justified, Refuted, Undecided}
 use Rattle.report_rows.specs.declared.reports.Told.{Told}
-use Rattle.report_rows.specs.declared.reports.Told.TheVariants.{Top, Cut, Skipped, Unjudged, HoldSides}
+use Rattle.report_rows.specs.declared.reports.Told.TheVariants.{Top, Clock, Cut, Skipped, Unjudged, HoldSides}
 use Rattle.report_rows.specs.declared.reports.ScriptRow.{ScriptRow}
 use Rattle.report_rows.specs.declared.reports.PairRow.{PairRow}
 use Rattle.report_rows.specs.declared.reports.Report.{Report}
@@ -68,6 +68,7 @@ unjudged_row name = note_row (codes "unjudged " ⁀ shown name)
 
 abbrev pub told_rows : Told → List PairRow
 told_rows (Top name) = []
+told_rows (Clock name) = []
 told_rows (Cut cell count may_lead) = []
 told_rows (Skipped name count) = []
 told_rows (Unjudged line name) = unjudged_row name ∷ []

@@ -8,7 +8,7 @@ use Rattle.witness_replay.specs.StimulusTexts.{line_of}
 use Rattle.report_rows.specs.declared.reports.Word.{Word}
 use Rattle.report_rows.specs.declared.reports.Word.TheVariants.{Justified, Refuted, Undecided}
 use Rattle.report_rows.specs.declared.reports.Told.{Told}
-use Rattle.report_rows.specs.declared.reports.Told.TheVariants.{Top, Cut, Skipped, Unjudged, HoldSides}
+use Rattle.report_rows.specs.declared.reports.Told.TheVariants.{Top, Clock, Cut, Skipped, Unjudged, HoldSides}
 use Rattle.report_rows.specs.declared.reports.Said.{Said}
 use Rattle.report_rows.specs.declared.reports.Said.TheVariants.{Does, Warns}
 use Rattle.report_rows.specs.declared.reports.ScriptRow.{ScriptRow}
@@ -53,6 +53,7 @@ unjudged_text line name = codes "line " ⁀ decimal line ⁀ codes " unjudged " 
 -- the note on it; what is told of the netlist, what is passed over and what is not claimed have none
 abbrev pub told_notes : Told → List Finding
 told_notes (Top name) = []
+told_notes (Clock name) = []
 told_notes (Cut cell count may_lead) = []
 told_notes (Skipped name count) = []
 told_notes (Unjudged line name) = Note (unjudged_text line name) ∷ []

@@ -5,10 +5,10 @@ use Rattle.serde_json.specs.Data.{Data, Members, member, no_members, put}
 use Rattle.run_options.specs.declared.options.RunOptions.{RunOptions}
 use Rattle.selected_types.specs.declared.notices.Notices.{Notices}
 use Rattle.selected_types.specs.declared.notices.Skipped.{Skipped}
-use Rattle.report_json.specs.Reports.{cuts_data, cuts_member, top_member}
+use Rattle.report_json.specs.Reports.{cuts_data, cuts_member, name_member}
 use Rattle.report_json.specs.Reports.{count_data, flag_member, lag_member, number_member, holds_member, skipped_member, unjudged_member}
 use Rattle.report_json.specs.Reports.{tells_holds, unjudged_data}
-use Rattle.report_json.specs.Objects.{with_asked, with_cuts, with_flag, with_holds, with_lag, with_number, with_skipped, with_top}
+use Rattle.report_json.specs.Objects.{with_asked, with_cuts, with_flag, with_holds, with_lag, with_name, with_number, with_skipped}
 
 -- a member that is put last stands before those whose keys follow its own
 unjudged_placed : (told : Bool) (budget commands depth inv mode pairs reset total unjudged : Data)
@@ -23,22 +23,22 @@ unjudged_placed true budget commands depth inv mode pairs reset total unjudged =
 unjudged_placed false budget commands depth inv mode pairs reset total unjudged = refl
 
 top_placed : (top : Option (List ℕ)) (budget commands depth inv mode pairs reset total : Data) (rest : Members)
-    → with_top top (member (codes "budget") budget (member (codes "commands") commands (member (codes "depth") depth
+    → with_name (codes "top") top (member (codes "budget") budget (member (codes "commands") commands (member (codes "depth") depth
     (member (codes "inv") inv (member (codes "mode") mode (member (codes "pairs") pairs (member (codes "reset") reset
     (member (codes "total") total rest))))))))
     ≡ member (codes "budget") budget (member (codes "commands") commands (member (codes "depth") depth
     (member (codes "inv") inv (member (codes "mode") mode (member (codes "pairs") pairs (member (codes "reset") reset
-    (top_member top (member (codes "total") total rest))))))))
+    (name_member (codes "top") top (member (codes "total") total rest))))))))
 top_placed None budget commands depth inv mode pairs reset total rest = refl
 top_placed (Some name) budget commands depth inv mode pairs reset total rest = refl
 
 strict_placed : (strict : Bool) (top : Option (List ℕ)) (budget commands depth inv mode pairs reset total : Data) (rest : Members)
     → with_flag (codes "strict") strict (member (codes "budget") budget (member (codes "commands") commands (member (codes "depth") depth
     (member (codes "inv") inv (member (codes "mode") mode (member (codes "pairs") pairs (member (codes "reset") reset
-    (top_member top (member (codes "total") total rest)))))))))
+    (name_member (codes "top") top (member (codes "total") total rest)))))))))
     ≡ member (codes "budget") budget (member (codes "commands") commands (member (codes "depth") depth
     (member (codes "inv") inv (member (codes "mode") mode (member (codes "pairs") pairs (member (codes "reset") reset
-    (flag_member (codes "strict") strict (top_member top (member (codes "total") total rest)))))))))
+    (flag_member (codes "strict") strict (name_member (codes "top") top (member (codes "total") total rest)))))))))
 strict_placed true None budget commands depth inv mode pairs reset total rest = refl
 strict_placed true (Some name) budget commands depth inv mode pairs reset total rest = refl
 strict_placed false top budget commands depth inv mode pairs reset total rest = refl
@@ -46,10 +46,10 @@ strict_placed false top budget commands depth inv mode pairs reset total rest = 
 skipped_placed : (skipped : Option (List Skipped)) (strict : Bool) (top : Option (List ℕ)) (budget commands depth inv mode pairs reset total : Data)
     (rest : Members) → with_skipped skipped (member (codes "budget") budget (member (codes "commands") commands (member (codes "depth") depth
     (member (codes "inv") inv (member (codes "mode") mode (member (codes "pairs") pairs (member (codes "reset") reset
-    (flag_member (codes "strict") strict (top_member top (member (codes "total") total rest))))))))))
+    (flag_member (codes "strict") strict (name_member (codes "top") top (member (codes "total") total rest))))))))))
     ≡ member (codes "budget") budget (member (codes "commands") commands (member (codes "depth") depth
     (member (codes "inv") inv (member (codes "mode") mode (member (codes "pairs") pairs (member (codes "reset") reset
-    (skipped_member skipped (flag_member (codes "strict") strict (top_member top (member (codes "total") total rest))))))))))
+    (skipped_member skipped (flag_member (codes "strict") strict (name_member (codes "top") top (member (codes "total") total rest))))))))))
 skipped_placed None strict top budget commands depth inv mode pairs reset total rest = refl
 skipped_placed (Some skipped) true top budget commands depth inv mode pairs reset total rest = refl
 skipped_placed (Some skipped) false None budget commands depth inv mode pairs reset total rest = refl
@@ -99,6 +99,12 @@ cuts_placed : (told : Bool) (budget commands depth cuts : Data) (rest : Members)
 cuts_placed true budget commands depth cuts rest = refl
 cuts_placed false budget commands depth cuts rest = refl
 
+clock_placed : (clock : Option (List ℕ)) (budget commands : Data) (rest : Members)
+    → with_name (codes "clock") clock (member (codes "budget") budget (member (codes "commands") commands rest))
+    ≡ member (codes "budget") budget (name_member (codes "clock") clock (member (codes "commands") commands rest))
+clock_placed None budget commands rest = refl
+clock_placed (Some name) budget commands rest = refl
+
 assumed_placed : (assumed : Option ℕ) (budget : Data) (rest : Members)
     → with_number (codes "assumed") assumed (member (codes "budget") budget rest)
     ≡ number_member (codes "assumed") assumed (member (codes "budget") budget rest)
@@ -118,12 +124,14 @@ pub asked_placed : (o : RunOptions) (n : Notices) (budget commands depth inv mod
     (member (codes "inv") inv (member (codes "mode") mode (member (codes "pairs") pairs (member (codes "reset") reset
     (member (codes "total") total no_members))))))))
     ≡ number_member (codes "assist") o.assist (number_member (codes "assumed") o.assumed (member (codes "budget") budget
-    (member (codes "commands") commands (cuts_member o n (member (codes "depth") depth (number_member (codes "free") o.free
-    (flag_member (codes "hold") o.hold (holds_member o n (member (codes "inv") inv (lag_member o.lag (member (codes "mode") mode
-    (member (codes "pairs") pairs (member (codes "reset") reset (skipped_member n.skipped (flag_member (codes "strict") o.strict (top_member n.top
-    (member (codes "total") total (unjudged_member o n no_members))))))))))))))))))
+    (name_member (codes "clock") n.clock (member (codes "commands") commands (cuts_member o n (member (codes "depth") depth
+    (number_member (codes "free") o.free (flag_member (codes "hold") o.hold (holds_member o n (member (codes "inv") inv (lag_member o.lag
+    (member (codes "mode") mode (member (codes "pairs") pairs (member (codes "reset") reset (skipped_member n.skipped
+    (flag_member (codes "strict") o.strict (name_member (codes "top") n.top
+    (member (codes "total") total (unjudged_member o n no_members)))))))))))))))))))
 asked_placed o n budget commands depth inv mode pairs reset total =
-    let after_cuts = λ (m : Members). with_number (codes "assist") o.assist (with_number (codes "assumed") o.assumed m) in
+    let after_clock = λ (m : Members). with_number (codes "assist") o.assist (with_number (codes "assumed") o.assumed m) in
+    let after_cuts = λ (m : Members). after_clock (with_name (codes "clock") n.clock m) in
     let after_free = λ (m : Members). after_cuts (with_cuts o n m) in
     let after_hold = λ (m : Members). after_free (with_number (codes "free") o.free m) in
     let after_holds = λ (m : Members). after_hold (with_flag (codes "hold") o.hold m) in
@@ -134,11 +142,12 @@ asked_placed o n budget commands depth inv mode pairs reset total =
     let holds : Data = count_data n.hold_commands in
     let unjudged : Members = unjudged_member o n no_members in
     let ends : Members = member (codes "pairs") pairs (member (codes "reset") reset (skipped_member n.skipped (flag_member (codes "strict") o.strict
-    (top_member n.top (member (codes "total") total unjudged))))) in
+    (name_member (codes "top") n.top (member (codes "total") total unjudged))))) in
     let lagging : Members = lag_member o.lag (member (codes "mode") mode ends) in
     let free : Members = number_member (codes "free") o.free (flag_member (codes "hold") o.hold (holds_member o n (member (codes "inv") inv lagging))) in
-    let commanding : Members = member (codes "commands") commands (cuts_member o n (member (codes "depth") depth free)) in
-    ap (λ (m : Members). after_top (with_top n.top m))
+    let cutting : Members = cuts_member o n (member (codes "depth") depth free) in
+    let clocking : Members = name_member (codes "clock") n.clock (member (codes "commands") commands cutting) in
+    ap (λ (m : Members). after_top (with_name (codes "top") n.top m))
     (unjudged_placed o.strict budget commands depth inv mode pairs reset total (unjudged_data n.unjudged))
     ∙ ap after_top (top_placed n.top budget commands depth inv mode pairs reset total unjudged)
     ∙ ap after_strict (strict_placed o.strict n.top budget commands depth inv mode pairs reset total unjudged)
@@ -148,5 +157,6 @@ asked_placed o n budget commands depth inv mode pairs reset total =
     ∙ ap after_hold (hold_placed o.hold (tells_holds o) budget commands depth inv holds lagging)
     ∙ ap after_free (free_placed o.free o.hold (tells_holds o) budget commands depth inv holds lagging)
     ∙ ap after_cuts (cuts_placed (is_some o.free) budget commands depth (cuts_data n.cuts) free)
-    ∙ ap (with_number (codes "assist") o.assist) (assumed_placed o.assumed budget commanding)
-    ∙ assist_placed o.assist o.assumed budget commanding
+    ∙ ap after_clock (clock_placed n.clock budget commands cutting)
+    ∙ ap (with_number (codes "assist") o.assist) (assumed_placed o.assumed budget clocking)
+    ∙ assist_placed o.assist o.assumed budget clocking

@@ -23,7 +23,7 @@ use Rattle.report_text.specs.Words.{mode_text, warning_text}
 use Rattle.report_json.specs.Reports.{count_data, command_data, commands_data, one_command, evidence_data, pair_data, one_pair, pairs_data, total_data}
 use Rattle.report_json.specs.Reports.{flag_member, lag_member, number_member, holds_member, skipped_member, unjudged_member, tells_holds, report_data}
 use Rattle.report_json.specs.Reports.{one_skipped, one_unjudged, unjudged_data}
-use Rattle.report_json.specs.Reports.{one_cut, cuts_data, cuts_member, top_member}
+use Rattle.report_json.specs.Reports.{one_cut, cuts_data, cuts_member, name_member}
 
 texts_have_none : {A : Type 0} (text : A → List ℕ) (xs : List A) → items_have_float (items_of (map (λ x. string (text x)) xs)) ≡ false
 texts_have_none text [] = refl
@@ -104,14 +104,15 @@ cuts_has_none : (told : Bool) (cuts : List CutCells) (following : Members)
 cuts_has_none true cuts following = rw (cuts_have_none cuts) refl
 cuts_has_none false cuts following = refl
 
-top_has_none : (top : Option (List ℕ)) (following : Members) → members_have_float (top_member top following) ≡ members_have_float following
-top_has_none None following = refl
-top_has_none (Some name) following = refl
+name_has_none : (key : List ℕ) (name : Option (List ℕ)) (following : Members)
+    → members_have_float (name_member key name following) ≡ members_have_float following
+name_has_none key None following = refl
+name_has_none key (Some name) following = refl
 
 pub report_has_none : (o : RunOptions) (n : Notices) (selected : Selected) (vs : List Verdict) → has_float (report_data o n selected vs) ≡ false
 report_has_none o n selected vs =
     let total : Members = member (codes "total") (total_data vs) (unjudged_member o n no_members) in
-    let top : Members = top_member n.top total in
+    let top : Members = name_member (codes "top") n.top total in
     let strict : Members = flag_member (codes "strict") o.strict top in
     let mode : Members = member (codes "mode") (string (mode_text o.hazard)) (member (codes "pairs") (pairs_data o.depth selected vs)
     (member (codes "reset") (count_data o.reset_len) (skipped_member n.skipped strict))) in
@@ -119,11 +120,12 @@ report_has_none o n selected vs =
     let holds : Members = holds_member o n inv in
     let hold : Members = flag_member (codes "hold") o.hold holds in
     let depth : Members = member (codes "depth") (count_data o.depth) (number_member (codes "free") o.free hold) in
-    let budget : Members = member (codes "budget") (count_data o.budget) (member (codes "commands") (commands_data selected.commands)
-    (cuts_member o n depth)) in
+    let commands : Members = member (codes "commands") (commands_data selected.commands) (cuts_member o n depth) in
+    let budget : Members = member (codes "budget") (count_data o.budget) (name_member (codes "clock") n.clock commands) in
     rw (
       number_has_none (codes "assist") o.assist (number_member (codes "assumed") o.assumed budget),
       number_has_none (codes "assumed") o.assumed budget,
+      name_has_none (codes "clock") n.clock commands,
       commands_have_none 0 selected.commands,
       cuts_has_none (is_some o.free) n.cuts depth,
       number_has_none (codes "free") o.free hold,
@@ -133,6 +135,6 @@ report_has_none o n selected vs =
       pairs_have_none o.depth 1 selected.pairs selected.claims vs,
       skipped_has_none n.skipped strict,
       flag_has_none (codes "strict") o.strict top,
-      top_has_none n.top total,
+      name_has_none (codes "top") n.top total,
       unjudged_has_none o.strict n.unjudged no_members,
     ) refl

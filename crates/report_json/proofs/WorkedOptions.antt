@@ -29,7 +29,7 @@ abbrev nothing : Selected
 nothing = record { commands = []; pairs = []; claims = [] }
 
 abbrev untold : Notices
-untold = record { top = None; cuts = []; skipped = None; unjudged = []; hold_commands = 0 }
+untold = record { top = None; clock = None; cuts = []; skipped = None; unjudged = []; hold_commands = 0 }
 
 abbrev sense : Skipped
 sense = record { name = codes "set_sense"; count = 2 }
@@ -51,9 +51,10 @@ asked_for_nothing : keys (report_data plain untold nothing [])
 asked_for_nothing = refl
 
 asked_for_all : keys (report_data (record plain { lag = 2; hold = true; assist = Some 14; free = Some 0; assumed = Some 3; strict = true })
-    (record untold { top = Some (codes "chip"); skipped = Some [] }) nothing [])
-    ≡ codes "assist" ∷ codes "assumed" ∷ codes "budget" ∷ codes "commands" ∷ codes "cuts" ∷ codes "depth" ∷ codes "free" ∷ codes "hold" ∷ codes "inv"
-    ∷ codes "lag" ∷ codes "mode" ∷ codes "pairs" ∷ codes "reset" ∷ codes "skipped" ∷ codes "strict" ∷ codes "top" ∷ codes "total" ∷ codes "unjudged" ∷ []
+    (record untold { top = Some (codes "chip"); clock = Some (codes "ck"); skipped = Some [] }) nothing [])
+    ≡ codes "assist" ∷ codes "assumed" ∷ codes "budget" ∷ codes "clock" ∷ codes "commands" ∷ codes "cuts" ∷ codes "depth" ∷ codes "free"
+    ∷ codes "hold" ∷ codes "inv" ∷ codes "lag" ∷ codes "mode" ∷ codes "pairs" ∷ codes "reset" ∷ codes "skipped" ∷ codes "strict"
+    ∷ codes "top" ∷ codes "total" ∷ codes "unjudged" ∷ []
 asked_for_all = refl
 
 -- without hold sides a strict report says of how many false paths they are not judged

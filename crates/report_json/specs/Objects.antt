@@ -24,13 +24,13 @@ with_number key (Some count) members = put key (count_data count) members
 abbrev pub with_flag : List ℕ → Bool → Members → Members
 with_flag key stands members = if stands then put key (boolean true) members else members
 
--- the members with one of what is told of the netlist: which cells are cut out, and the name of the top module
+-- the members with one of what is told of the netlist: which cells are cut out, and the name of the top module or the clock
 abbrev pub with_cuts : RunOptions → Notices → Members → Members
 with_cuts o n members = if is_some o.free then put (codes "cuts") (cuts_data n.cuts) members else members
 
-abbrev pub with_top : Option (List ℕ) → Members → Members
-with_top None members = members
-with_top (Some name) members = put (codes "top") (string (shown name)) members
+abbrev pub with_name : List ℕ → Option (List ℕ) → Members → Members
+with_name key None members = members
+with_name key (Some name) members = put key (string (shown name)) members
 
 -- the members with one of what is told beside the exceptions: of how many false paths the hold side is not judged, the commands that
 -- are passed over, and those that are not judged
@@ -47,6 +47,6 @@ with_unjudged o n members = if o.strict then put (codes "unjudged") (unjudged_da
 -- the members with all of these
 abbrev pub with_asked : RunOptions → Notices → Members → Members
 with_asked o n members =
-    with_number (codes "assist") o.assist (with_number (codes "assumed") o.assumed (with_cuts o n (with_number (codes "free") o.free
-    (with_flag (codes "hold") o.hold (with_holds o n (with_lag o.lag
-    (with_skipped n.skipped (with_flag (codes "strict") o.strict (with_top n.top (with_unjudged o n members))))))))))
+    with_number (codes "assist") o.assist (with_number (codes "assumed") o.assumed (with_name (codes "clock") n.clock
+    (with_cuts o n (with_number (codes "free") o.free (with_flag (codes "hold") o.hold (with_holds o n (with_lag o.lag
+    (with_skipped n.skipped (with_flag (codes "strict") o.strict (with_name (codes "top") n.top (with_unjudged o n members)))))))))))

@@ -131,13 +131,13 @@ abbrev pub flag_member : List ℕ → Bool → Members → Members
 flag_member key stands following = if stands then member key (boolean true) following else following
 
 -- a member of what is told of the netlist, before those that follow it: which cells are cut out, in a run in which cells may be, and the
--- name of the top module, where it is asked for by it
+-- name of the top module or the clock, where it is asked for by it
 abbrev pub cuts_member : RunOptions → Notices → Members → Members
 cuts_member o n following = if is_some o.free then member (codes "cuts") (cuts_data n.cuts) following else following
 
-abbrev pub top_member : Option (List ℕ) → Members → Members
-top_member None following = following
-top_member (Some name) following = member (codes "top") (string (shown name)) following
+abbrev pub name_member : List ℕ → Option (List ℕ) → Members → Members
+name_member key None following = following
+name_member key (Some name) following = member key (string (shown name)) following
 
 -- a member of what is told beside the exceptions, before those that follow it: of how many false paths the hold side is not judged, in a
 -- strict run that doesn't judge hold sides; which commands are passed over, where any may be; and which are not judged, in a strict run
@@ -159,6 +159,7 @@ report_data o n selected verdicts =
     object (number_member (codes "assist") o.assist
     (number_member (codes "assumed") o.assumed
     (member (codes "budget") (count_data o.budget)
+    (name_member (codes "clock") n.clock
     (member (codes "commands") (commands_data selected.commands)
     (cuts_member o n
     (member (codes "depth") (count_data o.depth)
@@ -172,9 +173,9 @@ report_data o n selected verdicts =
     (member (codes "reset") (count_data o.reset_len)
     (skipped_member n.skipped
     (flag_member (codes "strict") o.strict
-    (top_member n.top
+    (name_member (codes "top") n.top
     (member (codes "total") (total_data verdicts)
-    (unjudged_member o n no_members)))))))))))))))))))
+    (unjudged_member o n no_members))))))))))))))))))))
 
 -- the text without spaces, and a newline
 abbrev pub json_text : RunOptions → Notices → Selected → List Verdict → List ℕ

@@ -1,7 +1,7 @@
 //! What is told of a netlist, as values.
 ghost use Rattle.std.specs.Prelude.{◌≡◌, IfOk, OnOk};
 ghost use Rattle.serde_json.specs.View.{view};
-ghost use Rattle.report_json.specs.Objects.{made, with_cuts, with_top};
+ghost use Rattle.report_json.specs.Objects.{made, with_cuts, with_name};
 ghost use Rattle.report_json.specs.Reports.{cuts_data, one_cut};
 
 use crate::objects::{Object, array_of};
@@ -48,16 +48,17 @@ pub(crate) fn put_cuts(
     }
 }
 
-/// Puts the name of the top module, where it is asked for by it.
-pub(crate) fn put_top(
+/// Puts the name of the top module or the clock, where it is asked for by it.
+pub(crate) fn put_asked_name(
     alloc: Global,
     object: &mut Object,
-    top: &Option<Name>,
+    key: &str,
+    name: &Option<Name>,
 ) -> Result<(), AllocError>
-    ensures { OnOk result (made object.new ≡ with_top top.now (made object.old)) }
+    ensures { OnOk result (made object.new ≡ with_name key.now name.now (made object.old)) }
 {
-    match top {
-        Some(name) => object.put_name(alloc, "top", name),
+    match name {
+        Some(name) => object.put_name(alloc, key, name),
         None => Ok(()),
     }
 }

@@ -7,7 +7,7 @@ ghost use Rattle.report_json.specs.Objects.{made, with_asked, with_lag};
 ghost use Rattle.report_json.specs.Reports.{commands_data, pairs_data, total_data, report_data, json_text};
 
 use crate::commands::commands_value;
-use crate::netlists::{put_cuts, put_top};
+use crate::netlists::{put_asked_name, put_cuts};
 use crate::notices::{put_holds, put_skipped, put_unjudged};
 use crate::objects::Object;
 use crate::pairs::pairs_value;
@@ -84,7 +84,7 @@ fn put_asked(
     ensures { OnOk result (made object.new ≡ with_asked options.now notices.now (made object.old)) }
 {
     put_unjudged(alloc, object, options, notices)?;
-    put_top(alloc, object, &notices.top)?;
+    put_asked_name(alloc, object, "top", &notices.top)?;
     object.put_flag(alloc, "strict", options.strict)?;
     put_skipped(alloc, object, &notices.skipped)?;
     put_lag(alloc, object, options.lag)?;
@@ -92,6 +92,7 @@ fn put_asked(
     object.put_flag(alloc, "hold", options.hold)?;
     object.put_number(alloc, "free", options.free)?;
     put_cuts(alloc, object, options, notices)?;
+    put_asked_name(alloc, object, "clock", &notices.clock)?;
     object.put_number(alloc, "assumed", options.assumed)?;
     object.put_number(alloc, "assist", options.assist)
 }

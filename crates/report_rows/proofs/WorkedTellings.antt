@@ -8,7 +8,7 @@ use Rattle.report_rows.specs.Tellings.{cut_count, skipped_count, unjudged_line, 
 use Rattle.report_rows.specs.Lines.{with_line}
 use Rattle.report_rows.specs.declared.heads.Head.{Head}
 use Rattle.report_rows.specs.declared.reports.Report.{Report}
-use Rattle.report_rows.specs.declared.reports.Told.TheVariants.{Top, Cut, Skipped, Unjudged, HoldSides}
+use Rattle.report_rows.specs.declared.reports.Told.TheVariants.{Top, Clock, Cut, Skipped, Unjudged, HoldSides}
 
 abbrev plain : Head
 plain = record { hazard = false; reset = 1; lag = 0; hold = false; asked = record { assist = None; free = None; assumed = None; strict = false } }
@@ -91,6 +91,38 @@ top_is_the_second_line : after 2 free (codes "top chip") ≡ Some topped
 unfolding with_line
 top_is_the_second_line = refl
 
+abbrev clocked : Report
+clocked = with_told topped (Clock (codes "main ck"))
+
+-- a name may have spaces
+clock_comes_after_top : after 3 topped (codes "clock main ck") ≡ Some clocked
+unfolding with_line
+clock_comes_after_top = refl
+
+clock_comes_without_top : after 2 free (codes "clock ck") ≡ Some (with_told free (Clock (codes "ck")))
+unfolding with_line
+clock_comes_without_top = refl
+
+clock_comes_once : after 4 clocked (codes "clock ck") ≡ None
+unfolding with_line
+clock_comes_once = refl
+
+clock_has_a_name : after 3 topped (codes "clock") ≡ None
+unfolding with_line
+clock_has_a_name = refl
+
+top_does_not_come_after_clock : after 3 (with_told free (Clock (codes "ck"))) (codes "top chip") ≡ None
+unfolding with_line
+top_does_not_come_after_clock = refl
+
+cut_comes_after_clock : after 4 clocked (codes "cut DFFC 1") ≡ Some (with_told clocked (Cut (codes "DFFC") 1 false))
+unfolding with_line cut_count number_in
+cut_comes_after_clock = refl
+
+clock_does_not_come_after_cut : after 4 cut (codes "clock ck") ≡ None
+unfolding with_line
+clock_does_not_come_after_cut = refl
+
 top_comes_once : after 3 topped (codes "top chip") ≡ None
 unfolding with_line
 top_comes_once = refl
@@ -119,10 +151,14 @@ cut_counts_some : after 2 free (codes "cut RAM 0 open") ≡ None
 unfolding with_line cut_count number_in
 cut_counts_some = refl
 
--- without the word no cell is cut out, and no top module is asked for
+-- without the word no cell is cut out, and neither a top module nor a clock is asked for
 cut_is_told_where_it_is_asked_for : after 2 strict (codes "cut RAM 3") ≡ None
 unfolding with_line cut_count number_in
 cut_is_told_where_it_is_asked_for = refl
+
+clock_is_told_where_it_is_asked_for : after 2 strict (codes "clock ck") ≡ None
+unfolding with_line
+clock_is_told_where_it_is_asked_for = refl
 
 top_is_told_where_it_is_asked_for : after 2 strict (codes "top chip") ≡ None
 unfolding with_line

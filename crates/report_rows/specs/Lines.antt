@@ -5,7 +5,7 @@ use Rattle.std.specs.Str.{bytes_eq}
 use Rattle.texts.specs.Reads.{◌>>=◌}
 use Rattle.report_rows.specs.Words.{word_at, is_word, part, joined, number_in}
 use Rattle.report_rows.specs.Rows.{verdict_in, with_script, last_script, with_pair}
-use Rattle.report_rows.specs.Tellings.{with_top, with_cut, with_skipped, with_unjudged, with_note}
+use Rattle.report_rows.specs.Tellings.{with_top, with_clock, with_cut, with_skipped, with_unjudged, with_note}
 use Rattle.report_rows.specs.declared.pair_lines.PairPlaces.{PairPlaces}
 use Rattle.report_rows.specs.declared.script_lines.CommandPlaces.{CommandPlaces}
 use Rattle.report_rows.specs.declared.reports.Said.TheVariants.{Does, Warns}
@@ -96,7 +96,8 @@ with_any_warning number found ws = if is_word ws 1 (codes "line") then with_unju
 abbrev pub with_netlist_line : ℕ → Report → List (List ℕ) → Option Report
 with_netlist_line number found ws =
     if is_word ws 0 (codes "top") then with_top number found ws
-    else (if is_word ws 0 (codes "cut") then with_cut number found ws else (if is_stimulus ws then Some found else None))
+    else (if is_word ws 0 (codes "clock") then with_clock number found ws
+    else (if is_word ws 0 (codes "cut") then with_cut number found ws else (if is_stimulus ws then Some found else None)))
 
 -- the report with what the words of the line of this number say
 unfoldable pub with_line : ℕ → Report → List (List ℕ) → Option Report

@@ -9,7 +9,7 @@ use Rattle.report_rows.specs.Heads.{rowless}
 use Rattle.report_rows.specs.declared.heads.Asked.{Asked}
 use Rattle.report_rows.specs.declared.heads.Head.{Head}
 use Rattle.report_rows.specs.Tellings.{tells_cuts, tells_holds}
-use Rattle.report_rows.specs.declared.reports.Told.TheVariants.{Top, Cut, Skipped, Unjudged, HoldSides}
+use Rattle.report_rows.specs.declared.reports.Told.TheVariants.{Top, Clock, Cut, Skipped, Unjudged, HoldSides}
 use Rattle.report_rows.specs.declared.reports.Said.TheVariants.{Does, Warns}
 use Rattle.report_rows.specs.declared.reports.ScriptRow.{ScriptRow}
 use Rattle.report_rows.specs.declared.reports.PairRow.{PairRow}
@@ -138,12 +138,28 @@ with_unjudged_data found d =
 abbrev pub without : List ℕ → Report → Data → Option Report
 without key found d = if lacks key d then Some found else None
 
--- where the first line has the word and there alone, the row on the top module, where the key stands, and those on cells that are cut out
-abbrev pub with_top_key : Report → Data → Option Report
-with_top_key found d = if lacks (codes "top") d then Some found else (text_in (codes "top") d >>= λ name. Some (with_told found (Top name)))
+-- the name of a key, where the key stands; it may do so where the report says of the netlist
+abbrev pub name_in : List ℕ → Data → Option (Option (List ℕ))
+name_in key d = text_in key d >>= λ name. Some (Some name)
+
+abbrev pub name_asked : Report → List ℕ → Data → Option (Option (List ℕ))
+name_asked found key d = if lacks key d then Some None else (if tells_cuts found.head then name_in key d else None)
+
+-- where the first line has the word and there alone, the rows on the top module and the clock, where their keys stand, and those on cells
+-- that are cut out
+abbrev pub with_top : Report → Option (List ℕ) → Report
+with_top found None = found
+with_top found (Some name) = with_told found (Top name)
 
 abbrev pub with_top_in : Report → Data → Option Report
-with_top_in found d = if tells_cuts found.head then with_top_key found d else without (codes "top") found d
+with_top_in found d = name_asked found (codes "top") d >>= λ name. Some (with_top found name)
+
+abbrev pub with_clock : Report → Option (List ℕ) → Report
+with_clock found None = found
+with_clock found (Some name) = with_told found (Clock name)
+
+abbrev pub with_clock_in : Report → Data → Option Report
+with_clock_in found d = name_asked found (codes "clock") d >>= λ name. Some (with_clock found name)
 
 abbrev pub with_cuts_in : Report → Data → Option Report
 with_cuts_in found d =
@@ -151,7 +167,7 @@ with_cuts_in found d =
     else without (codes "cuts") found d
 
 unfoldable pub with_netlist_in : Report → Data → Option Report
-with_netlist_in found d = with_top_in found d >>= λ more. with_cuts_in more d
+with_netlist_in found d = with_top_in found d >>= λ topped. with_clock_in topped d >>= λ clocked. with_cuts_in clocked d
 
 -- the rows on what is passed over, where the key stands; and, where the first line has the words and there alone, those on what is not
 -- judged, and that on hold sides, of which there may be none

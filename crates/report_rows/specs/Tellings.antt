@@ -6,7 +6,7 @@ use Rattle.report_rows.specs.Words.{word_at, is_word, part, joined, number_in}
 use Rattle.report_rows.specs.Rows.{with_told}
 use Rattle.report_rows.specs.declared.heads.Head.{Head}
 use Rattle.report_rows.specs.declared.reports.Told.{Told}
-use Rattle.report_rows.specs.declared.reports.Told.TheVariants.{Top, Cut, Skipped, Unjudged, HoldSides}
+use Rattle.report_rows.specs.declared.reports.Told.TheVariants.{Top, Clock, Cut, Skipped, Unjudged, HoldSides}
 use Rattle.report_rows.specs.declared.reports.Report.{Report}
 
 -- the number of decimal digits that begin with no 0, so it is above 0
@@ -16,13 +16,15 @@ count_of w = if slice_index w 0 == 48 then None else number_in w
 -- in which order the rows come, and whether there may be several of a kind
 abbrev pub rank : Told → ℕ
 rank (Top name) = 0
-rank (Cut cell count may_lead) = 1
-rank (Skipped name count) = 2
-rank (Unjudged line name) = 3
-rank (HoldSides count) = 4
+rank (Clock name) = 1
+rank (Cut cell count may_lead) = 2
+rank (Skipped name count) = 3
+rank (Unjudged line name) = 4
+rank (HoldSides count) = 5
 
 abbrev pub may_repeat : Told → Bool
 may_repeat (Top name) = false
+may_repeat (Clock name) = false
 may_repeat (Cut cell count may_lead) = true
 may_repeat (Skipped name count) = true
 may_repeat (Unjudged line name) = true
@@ -39,7 +41,7 @@ may_follow_last (Some last) next = may_follow last next
 abbrev pub last_told : Report → Option Told
 last_told found = slice_get found.told (length found.told - 1)
 
--- a report says of cells that are cut out where any may be; a report of hold sides says not that they are not judged, and one that is
+-- a report says of a netlist where cells may be cut out of it; a report of hold sides says not that they are not judged, and one that is
 -- not strict says of nothing that it is not judged
 abbrev pub tells_cuts : Head → Bool
 tells_cuts h = is_some h.asked.free
@@ -49,6 +51,7 @@ tells_holds h = h.asked.strict && not h.hold
 
 abbrev pub may_tell : Head → Told → Bool
 may_tell h (Top name) = tells_cuts h
+may_tell h (Clock name) = tells_cuts h
 may_tell h (Cut cell count may_lead) = tells_cuts h
 may_tell h (Skipped name count) = true
 may_tell h (Unjudged line name) = h.asked.strict
@@ -62,9 +65,17 @@ stands_at number found row = number == length found.told + 2 && (may_follow_last
 abbrev pub with_told_at : ℕ → Report → Told → Option Report
 with_told_at number found row = if stands_at number found row then Some (with_told found row) else None
 
+-- the name after the first word
+abbrev pub name_of : List (List ℕ) → Option (List ℕ)
+name_of ws = if nat_lt 1 (length ws) then Some (joined (drop 1 ws)) else None
+
 -- `top NAME`
 abbrev pub with_top : ℕ → Report → List (List ℕ) → Option Report
-with_top number found ws = if nat_lt 1 (length ws) then with_told_at number found (Top (joined (drop 1 ws))) else None
+with_top number found ws = name_of ws >>= λ name. with_told_at number found (Top name)
+
+-- `clock NAME`
+abbrev pub with_clock : ℕ → Report → List (List ℕ) → Option Report
+with_clock number found ws = name_of ws >>= λ name. with_told_at number found (Clock name)
 
 -- `cut REF COUNT`, with `open` after it where a path may lead through such cells; and how many words the line has but for that one
 abbrev pub may_lead : List (List ℕ) → Bool

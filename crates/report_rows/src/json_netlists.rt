@@ -1,5 +1,5 @@
 //! What a report as JSON tells of a netlist.
-ghost use Rattle.std.specs.Prelude.{◌≡◌, IfOk, map};
+ghost use Rattle.std.specs.Prelude.{◌≡◌, IfOk, OnOk, map};
 ghost use Rattle.serde_json.specs.View.{view};
 ghost use Rattle.report_rows.specs.Words.{when};
 ghost use Rattle.report_rows.specs.Members as spec;
@@ -10,30 +10,72 @@ use sdcv_base::Name;
 use serde_json::Value;
 use std::alloc::{AllocError, Global};
 
-// Adds the row on the top module, where the key stands.
-fn add_top_key(alloc: Global, found: &mut Report, value: &Value) -> Result<bool, AllocError>
-    ensures { IfOk result (λ fits. when fits found.new ≡ spec.with_top_key found.old (view value.now)) }
+// The name of a key, as text.
+fn name_in(alloc: Global, value: &Value, key: &str) -> Result<Option<Option<Name>>, AllocError>
+    ensures { IfOk result (λ name. name ≡ spec.name_in key.now (view value.now)) }
 {
-    if lacks(value, "top") {
-        return Ok(true);
+    match text_in(value, key) {
+        Some(name) => Ok(Some(Some(Name::new(alloc, name.as_bytes())?))),
+        None => Ok(None),
     }
-    let Some(name) = text_in(value, "top") else {
-        return Ok(false);
-    };
-    let name = Name::new(alloc, name.as_bytes())?;
-    found.told.push(Told::Top(name))?;
-    Ok(true)
 }
 
-// Adds that row in a report that says which cells are cut out; in another the key does not stand.
+// The name of a key, where the key stands; it may do so in a report that says which cells are cut out.
+fn name_asked(
+    alloc: Global,
+    found: &Report,
+    value: &Value,
+    key: &str,
+) -> Result<Option<Option<Name>>, AllocError>
+    ensures { IfOk result (λ name. name ≡ spec.name_asked found.now key.now (view value.now)) }
+{
+    if lacks(value, key) {
+        return Ok(Some(None));
+    }
+    if !found.head.tells_cuts() {
+        return Ok(None);
+    }
+    name_in(alloc, value, key)
+}
+
+// Adds the row on the top module, where one is named.
+fn add_top(found: &mut Report, name: Option<Name>) -> Result<(), AllocError>
+    ensures { OnOk result (found.new ≡ spec.with_top found.old name) }
+{
+    if let Some(name) = name {
+        found.told.push(Told::Top(name))?;
+    }
+    Ok(())
+}
+
 fn add_top_in(alloc: Global, found: &mut Report, value: &Value) -> Result<bool, AllocError>
     ensures { IfOk result (λ fits. when fits found.new ≡ spec.with_top_in found.old (view value.now)) }
 {
-    if found.head.tells_cuts() {
-        add_top_key(alloc, found, value)
-    } else {
-        Ok(lacks(value, "top"))
+    let Some(name) = name_asked(alloc, found, value, "top")? else {
+        return Ok(false);
+    };
+    add_top(found, name)?;
+    Ok(true)
+}
+
+// Adds the row on the clock, where one is named.
+fn add_clock(found: &mut Report, name: Option<Name>) -> Result<(), AllocError>
+    ensures { OnOk result (found.new ≡ spec.with_clock found.old name) }
+{
+    if let Some(name) = name {
+        found.told.push(Told::Clock(name))?;
     }
+    Ok(())
+}
+
+fn add_clock_in(alloc: Global, found: &mut Report, value: &Value) -> Result<bool, AllocError>
+    ensures { IfOk result (λ fits. when fits found.new ≡ spec.with_clock_in found.old (view value.now)) }
+{
+    let Some(name) = name_asked(alloc, found, value, "clock")? else {
+        return Ok(false);
+    };
+    add_clock(found, name)?;
+    Ok(true)
 }
 
 // Adds the row of a reference of which cells are cut out; answers whether the value is one.
@@ -88,6 +130,9 @@ pub(crate) fn add_netlist(
     ensures { IfOk result (λ fits. when fits found.new ≡ spec.with_netlist_in found.old (view value.now)) }
 {
     if !add_top_in(alloc, found, value)? {
+        return Ok(false);
+    }
+    if !add_clock_in(alloc, found, value)? {
         return Ok(false);
     }
     add_cuts_in(alloc, found, value)

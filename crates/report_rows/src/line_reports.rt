@@ -8,7 +8,7 @@ ghost use Rattle.report_rows.specs.LineReports.{is_end, with_total, with_lines, 
 use crate::cuts::{is_word, number_at, pieces, rest_from, words};
 use crate::faults::ReportFault;
 use crate::heads::head_of;
-use crate::netlist_lines::{add_cut, add_top};
+use crate::netlist_lines::{add_clock, add_cut, add_top};
 use crate::pair_lines::add_pair_line;
 use crate::reports::Report;
 use crate::script_lines::{add_command, add_warning};
@@ -52,6 +52,8 @@ fn add_netlist_line(
 {
     if is_word(words, 0, b"top") {
         add_top(alloc, found, place, words)
+    } else if is_word(words, 0, b"clock") {
+        add_clock(alloc, found, place, words)
     } else if is_word(words, 0, b"cut") {
         add_cut(alloc, found, place, words)
     } else {

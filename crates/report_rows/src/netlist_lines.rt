@@ -6,7 +6,18 @@ ghost use Rattle.report_rows.specs.Tellings as spec;
 use crate::cuts::{is_word, joined, part, rest_from};
 use crate::reports::{Report, Told};
 use crate::told_lines::{add_told_at, count_at};
+use sdcv_base::Name;
 use std::alloc::{AllocError, Global};
+
+// The name after the first word of a line.
+fn name_of(alloc: Global, words: &[&[u8]]) -> Result<Option<Name>, AllocError>
+    ensures { IfOk result (λ name. name ≡ spec.name_of (texts words.now)) }
+{
+    if words.len() < 2 {
+        return Ok(None);
+    }
+    Ok(Some(joined(alloc, rest_from(words, 1))?))
+}
 
 /// Adds the row of the line on the top module; answers whether it is one.
 pub(crate) fn add_top(
@@ -17,11 +28,25 @@ pub(crate) fn add_top(
 ) -> Result<bool, AllocError>
     ensures { IfOk result (λ fits. when fits found.new ≡ spec.with_top (place + 2) found.old (texts words.now)) }
 {
-    if words.len() < 2 {
-        return Ok(false);
+    match name_of(alloc, words)? {
+        Some(name) => add_told_at(found, place, Told::Top(name)),
+        None => Ok(false),
     }
-    let name = joined(alloc, rest_from(words, 1))?;
-    add_told_at(found, place, Told::Top(name))
+}
+
+/// Adds the row of the line on the clock; answers whether it is one.
+pub(crate) fn add_clock(
+    alloc: Global,
+    found: &mut Report,
+    place: usize,
+    words: &[&[u8]],
+) -> Result<bool, AllocError>
+    ensures { IfOk result (λ fits. when fits found.new ≡ spec.with_clock (place + 2) found.old (texts words.now)) }
+{
+    match name_of(alloc, words)? {
+        Some(name) => add_told_at(found, place, Told::Clock(name)),
+        None => Ok(false),
+    }
 }
 
 // Whether a path may lead through the cells of a line.

@@ -15,6 +15,8 @@ pub enum Word {
 pub enum Told {
     /// The top module goes by this name.
     Top(Name),
+    /// The clock that is judged goes by this name.
+    Clock(Name),
     /// Cells of this reference are cut out, so many; a path may lead through them where the last says so.
     Cut(Name, u64, bool),
     /// Commands of this name are passed over, so many.

@@ -34,10 +34,11 @@ fn rank(row: &Told) -> u8
 {
     match row {
         Told::Top(_) => 0,
-        Told::Cut(..) => 1,
-        Told::Skipped(..) => 2,
-        Told::Unjudged(..) => 3,
-        Told::HoldSides(_) => 4,
+        Told::Clock(_) => 1,
+        Told::Cut(..) => 2,
+        Told::Skipped(..) => 3,
+        Told::Unjudged(..) => 4,
+        Told::HoldSides(_) => 5,
     }
 }
 
@@ -47,7 +48,7 @@ fn may_repeat(row: &Told) -> bool
 {
     match row {
         Told::Cut(..) | Told::Skipped(..) | Told::Unjudged(..) => true,
-        Told::Top(_) | Told::HoldSides(_) => false,
+        Told::Top(_) | Told::Clock(_) | Told::HoldSides(_) => false,
     }
 }
 
@@ -73,7 +74,7 @@ fn may_tell(head: &Head, row: &Told) -> bool
     ensures { result ≡ spec.may_tell head.now row.now }
 {
     match row {
-        Told::Top(_) | Told::Cut(..) => head.tells_cuts(),
+        Told::Top(_) | Told::Clock(_) | Told::Cut(..) => head.tells_cuts(),
         Told::Skipped(..) => true,
         Told::Unjudged(..) => head.asked.strict,
         Told::HoldSides(_) => head.tells_holds(),

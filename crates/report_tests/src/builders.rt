@@ -55,10 +55,11 @@ pub struct Pair(
     pub Found,
 );
 
-/// What is told of the netlist: the name of its top module, where it is asked for by it, and which cells are cut out, with how many
-/// and whether a path may lead through them.
+/// What is told of the netlist: the names of its top module and its clock, where they are asked for by them, and which cells are cut
+/// out, with how many and whether a path may lead through them.
 #[derive(Clone, Copy)]
 pub struct Cells(
+    pub Option<&'static str>,
     pub Option<&'static str>,
     pub &'static [(&'static str, u64, bool)],
 );
@@ -185,8 +186,8 @@ fn cuts_of(alloc: Global, rows: &[(&str, u64, bool)]) -> Result<Seq<CutCells>, A
     Ok(all)
 }
 
-fn top_of(alloc: Global, top: Option<&str>) -> Result<Option<Name>, AllocError> {
-    match top {
+fn name_of(alloc: Global, name: Option<&str>) -> Result<Option<Name>, AllocError> {
+    match name {
         Some(name) => Ok(Some(Name::new(alloc, name.as_bytes())?)),
         None => Ok(None),
     }
@@ -198,8 +199,9 @@ pub fn notices_of(alloc: Global, tells: &Tells) -> Result<Notices, AllocError> {
         None => None,
     };
     Ok(Notices {
-        top: top_of(alloc, tells.3.0)?,
-        cuts: cuts_of(alloc, tells.3.1)?,
+        top: name_of(alloc, tells.3.0)?,
+        clock: name_of(alloc, tells.3.1)?,
+        cuts: cuts_of(alloc, tells.3.2)?,
         skipped,
         unjudged: unjudged_of(alloc, tells.1)?,
         hold_commands: tells.2,

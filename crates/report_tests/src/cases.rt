@@ -36,7 +36,7 @@ const NO_RESET: RunOptions = RunOptions {
     ..DEFAULTS
 };
 
-const WHOLE: Cells = Cells(None, &[]);
+const WHOLE: Cells = Cells(None, None, &[]);
 
 const UNTOLD: Tells = Tells(None, &[], 0, WHOLE);
 
@@ -296,7 +296,7 @@ total 0 justified 0 refuted 0 undecided 0
 \"total\":{\"justified\":0,\"pairs\":0,\"refuted\":0,\"undecided\":0}}\n",
 };
 
-// Cells are cut out of a top module that is asked for by its name. What is free, and what is cut, leaves pairs undecided.
+// Cells are cut out of a top module that is asked for by its name, as its clock is. What is free, and what is cut, leaves pairs undecided.
 pub const CUTS: Case = Case {
     options: RunOptions {
         free: Some(1),
@@ -306,7 +306,11 @@ pub const CUTS: Case = Case {
         Some(&[("set_sense", 2)]),
         &[],
         0,
-        Cells(Some("chip"), &[("RAM", 1, false), ("T\u{7f}BUF", 2, true)]),
+        Cells(
+            Some("chip"),
+            Some("clk \u{7f}a"),
+            &[("RAM", 1, false), ("T\u{7f}BUF", 2, true)],
+        ),
     ),
     exceptions: &[Exception(2, Claims(False, Any, 4), &[Dropped("m/A", 1)])],
     pairs: &[
@@ -317,6 +321,7 @@ pub const CUTS: Case = Case {
     ],
     text: "sdcv 1 mode plain reset 1 depth 8 budget 20000 inv 1 free 1
 top chip
+clock clk ?a
 cut RAM 1
 cut T?BUF 2 open
 skipped set_sense 2
@@ -347,7 +352,7 @@ input 00
 end
 total 4 justified 0 refuted 1 undecided 3
 ",
-    json: "{\"budget\":20000,\"commands\":[{\"line\":2,\"number\":1,\"pairs\":4,\"warnings\":[\"dropped m/A 1\"],\"what\":\"false\"}],\
+    json: "{\"budget\":20000,\"clock\":\"clk ?a\",\"commands\":[{\"line\":2,\"number\":1,\"pairs\":4,\"warnings\":[\"dropped m/A 1\"],\"what\":\"false\"}],\
 \"cuts\":[{\"cells\":1,\"name\":\"RAM\",\"open\":false},{\"cells\":2,\"name\":\"T?BUF\",\"open\":true}],\
 \"depth\":8,\"free\":1,\"inv\":1,\"mode\":\"plain\",\"pairs\":[\
 {\"command\":1,\"end\":\"b\",\"kind\":\"false\",\"number\":1,\"start\":\"a\",\

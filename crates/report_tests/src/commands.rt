@@ -40,7 +40,7 @@ fn wide_text(alloc: Global, names: &Seq<Name>) -> Result<String, AllocError> {
     Ok(text)
 }
 
-// How a netlist is read: nothing where it is by the rules of each run, else the top module and the patterns.
+// How a netlist is read: nothing where it is by the rules of each run, else the top module, the clock and the patterns.
 fn netlist_text(alloc: Global, form: &NetlistForm) -> Result<String, AllocError> {
     match form {
         NetlistForm::Narrow => Ok(String::new(alloc)),
@@ -48,11 +48,18 @@ fn netlist_text(alloc: Global, form: &NetlistForm) -> Result<String, AllocError>
     }
 }
 
+// A word with a name, where there is one.
+fn named_text(alloc: Global, word: &str, name: &Option<Name>) -> Result<String, AllocError> {
+    match name {
+        Some(name) => format!(in alloc; " {word} <{name}>"),
+        None => Ok(String::new(alloc)),
+    }
+}
+
 fn cutting_text(alloc: Global, cutting: &Cutting) -> Result<String, AllocError> {
-    let mut text = match &cutting.top {
-        Some(name) => format!(in alloc; " top <{name}> free")?,
-        None => " free".to_string(alloc)?,
-    };
+    let top = named_text(alloc, "top", &cutting.top)?;
+    let clock = named_text(alloc, "clock", &cutting.clock)?;
+    let mut text = format!(in alloc; "{top}{clock} free")?;
     for pattern in cutting.free.as_slice() {
         let one = format!(in alloc; " <{pattern}>")?;
         text.push_str(&one)?;
@@ -278,6 +285,30 @@ const BY_PLACE: &[(&str, &str)] = &[
         "<v> <l> <s> plain lag 0 top <core> free <RAM> cycles 0 aiger <a> pair 2",
     ),
     (
+        "verify|v|l|s|--clock|ck|--out|c",
+        "<v> <l> <s> plain lag 0 clock <ck> free cycles 0 verify <c> json false depth 8 budget 20000 inv 1 assist <->",
+    ),
+    (
+        "check|v|l|s|c|--top|core|--clock|ck 2|--free|RAM",
+        "<v> <l> <s> plain lag 0 top <core> clock <ck 2> free <RAM> cycles 0 check <c>",
+    ),
+    (
+        "replay|v|l|s|r|1|--clock|ck",
+        "<v> <l> <s> plain lag 0 clock <ck> free cycles 0 replay <r> pair 1",
+    ),
+    (
+        "detect|v|l|s|--clock|ck|--out|f",
+        "<v> <l> <s> plain lag 0 clock <ck> free cycles 0 detect <f> depth 8 budget 20000 inv 1 bound 4",
+    ),
+    (
+        "mend|v|l|s|--out|m|--clock|ck|--strict",
+        "<v> <l> <s> plain lag 0 strict clock <ck> free wide cycles 0 mend <m> depth 8 budget 20000 inv 1 assist <->",
+    ),
+    (
+        "aiger|v|l|s|2|--out|a|--clock|ck",
+        "<v> <l> <s> plain lag 0 clock <ck> free cycles 0 aiger <a> pair 2",
+    ),
+    (
         "aiger|v|l|s|2|--strict|--out|a|--skip|a",
         "<v> <l> <s> plain lag 0 strict wide <a> cycles 0 aiger <a> pair 2",
     ),
@@ -387,6 +418,10 @@ const BY_CLAP: &[(&str, &str)] = &[
         "<v> <l> <s> plain lag 0 top <core> free <RAM> <SEQ> cycles 0 check <c>",
     ),
     (
+        "check|--clock=ck|v|l|s|c",
+        "<v> <l> <s> plain lag 0 clock <ck> free cycles 0 check <c>",
+    ),
+    (
         "detect|--top=core|v|l|s|--out=f",
         "<v> <l> <s> plain lag 0 top <core> free cycles 0 detect <f> depth 8 budget 20000 inv 1 bound 4",
     ),
@@ -475,6 +510,14 @@ const NONE: &[(&str, &str)] = &[
         "two lists of patterns",
     ),
     ("demo|7|20|--free|RAM", "cells of a generated design to cut"),
+    ("check|v|l|s|c|--clock", "no name of a clock"),
+    ("check|v|l|s|c|--clock|", "an empty name of a clock"),
+    (
+        "check|--clock=-ck|v|l|s|c",
+        "a clock that begins as an option",
+    ),
+    ("check|v|l|s|c|--clock|a|--clock|b", "two clocks"),
+    ("demo|7|20|--clock|clk", "the clock of a generated design"),
     ("check|v|l|s|c|--top", "no name of a top module"),
     ("check|v|l|s|c|--top|", "an empty name of a top module"),
     ("check|--top=|v|l|s|c", "an empty name, in one word"),

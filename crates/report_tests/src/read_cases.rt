@@ -95,6 +95,7 @@ total 1 justified 1 refuted 0 undecided 0
 /// A report of a netlist of which cells are cut out, with pairs that are left undecided by what is free and by what is cut.
 pub const CUTS: &str = "sdcv 1 mode plain reset 0 depth 8 budget 20000 inv 1 free 2
 top chip
+clock clk a
 cut RAM 1
 cut pad cell 2 open
 skipped set_sense 2
@@ -117,5 +118,5 @@ total 3 justified 0 refuted 0 undecided 3
 
 /// The same as JSON.
 pub const CUTS_JSON: &str =
-    r#"{"budget":20000,"commands":[{"line":1,"number":1,"pairs":3,"warnings":[],"what":"false"}],"cuts":[{"cells":1,"name":"RAM","open":false},{"cells":2,"name":"pad cell","open":true}],"depth":8,"free":2,"inv":1,"mode":"plain","pairs":[{"command":1,"end":"m/A[1]","kind":"false","number":1,"start":"a[0]","stimulus":{"inputs":["10","01"],"state":"-"},"verdict":"undecided","why":"free 0"},{"command":1,"end":"m/A[0]","kind":"false","number":2,"start":"a[1]","stimulus":{"inputs":["10","01"],"state":"-"},"verdict":"undecided","why":"free 0"},{"command":1,"end":"b","kind":"false","number":3,"start":"a[0]","stimulus":null,"verdict":"undecided","why":"cut"}],"reset":0,"skipped":[{"count":2,"name":"set_sense"}],"top":"chip","total":{"justified":0,"pairs":3,"refuted":0,"undecided":3}}
+    r#"{"budget":20000,"clock":"clk a","commands":[{"line":1,"number":1,"pairs":3,"warnings":[],"what":"false"}],"cuts":[{"cells":1,"name":"RAM","open":false},{"cells":2,"name":"pad cell","open":true}],"depth":8,"free":2,"inv":1,"mode":"plain","pairs":[{"command":1,"end":"m/A[1]","kind":"false","number":1,"start":"a[0]","stimulus":{"inputs":["10","01"],"state":"-"},"verdict":"undecided","why":"free 0"},{"command":1,"end":"m/A[0]","kind":"false","number":2,"start":"a[1]","stimulus":{"inputs":["10","01"],"state":"-"},"verdict":"undecided","why":"free 0"},{"command":1,"end":"b","kind":"false","number":3,"start":"a[0]","stimulus":null,"verdict":"undecided","why":"cut"}],"reset":0,"skipped":[{"count":2,"name":"set_sense"}],"top":"chip","total":{"justified":0,"pairs":3,"refuted":0,"undecided":3}}
 "#;

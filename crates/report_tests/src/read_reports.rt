@@ -43,6 +43,7 @@ const NONE: &[(&str, ReportFault)] = &[
     ("skipped a 1\nskipped b x\n", Line(3)),
     ("command 1 line 1 hold\nskipped set_sense 1\n", Line(3)),
     ("top chip\n", Line(2)),
+    ("clock ck\n", Line(2)),
     ("cut RAM 1\n", Line(2)),
     ("warning line 3 unjudged set_sense\n", Line(2)),
     ("note hold side not judged commands 1\n", Line(2)),
@@ -105,6 +106,10 @@ const NOT_STRICT: &[(&str, ReportFault)] = &[
 const NOT_CUT: &[(&str, ReportFault)] = &[
     ("top\n", Line(2)),
     ("top chip\ntop chip\n", Line(3)),
+    ("clock\n", Line(2)),
+    ("clock ck\nclock ck\n", Line(3)),
+    ("clock ck\ntop chip\n", Line(3)),
+    ("cut RAM 1\nclock ck\n", Line(3)),
     ("cut RAM\n", Line(2)),
     ("cut RAM 0\n", Line(2)),
     ("cut RAM open\n", Line(2)),
@@ -243,6 +248,14 @@ const NO_REPORTS: &[(&str, ReportFault)] = &[
         Json,
     ),
     (
+        r#"{"mode":"plain","reset":0,"clock":"ck","commands":[],"pairs":[],"total":{"justified":0,"pairs":0,"refuted":0,"undecided":0}}"#,
+        Json,
+    ),
+    (
+        r#"{"mode":"plain","reset":0,"free":0,"clock":1,"cuts":[],"commands":[],"pairs":[],"total":{"justified":0,"pairs":0,"refuted":0,"undecided":0}}"#,
+        Json,
+    ),
+    (
         r#"{"mode":"plain","reset":0,"free":0,"cuts":[{"cells":1,"name":"a"}],"commands":[],"pairs":[],"total":{"justified":0,"pairs":0,"refuted":0,"undecided":0}}"#,
         Json,
     ),
@@ -320,11 +333,12 @@ fn rows_have_what_is_told_beside_the_exceptions(rt: HostRuntime) -> Result<(), t
 
 // The rows of a report of cells that are cut out, by lines or as JSON.
 fn has_cuts(told: &[Told]) -> bool {
-    told.len() == 4
+    told.len() == 5
         && matches!(told.first(), Some(Told::Top(name)) if name.as_bytes() == b"chip".as_slice())
-        && matches!(told.get(1), Some(Told::Cut(cell, 1, false)) if cell.as_bytes() == b"RAM".as_slice())
-        && matches!(told.get(2), Some(Told::Cut(cell, 2, true)) if cell.as_bytes() == b"pad cell".as_slice())
-        && matches!(told.get(3), Some(Told::Skipped(_, 2)))
+        && matches!(told.get(1), Some(Told::Clock(name)) if name.as_bytes() == b"clk a".as_slice())
+        && matches!(told.get(2), Some(Told::Cut(cell, 1, false)) if cell.as_bytes() == b"RAM".as_slice())
+        && matches!(told.get(3), Some(Told::Cut(cell, 2, true)) if cell.as_bytes() == b"pad cell".as_slice())
+        && matches!(told.get(4), Some(Told::Skipped(_, 2)))
 }
 
 #[test]

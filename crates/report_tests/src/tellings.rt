@@ -61,6 +61,10 @@ const BEGINNINGS: &[(&str, &str)] = &[
         "sdcv: --top takes a name, which is not empty and has no - at its start\n",
     ),
     (
+        "check|v|l|s|c|--clock=",
+        "sdcv: --clock takes a name, which is not empty and has no - at its start\n",
+    ),
+    (
         "detect|v|l|s|--out|m|--strict",
         "error: unexpected argument '--strict' found\n",
     ),

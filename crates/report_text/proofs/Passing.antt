@@ -39,7 +39,7 @@ use Rattle.run_options.specs.declared.options.RunOptions.{RunOptions}
 use Rattle.report_text.specs.Words.{mode_text, lag_text, number_text, flag_text, header_text}
 use Rattle.report_text.specs.Words.{kind_text, edge_text, words_of, what_text, count_text, command_text, warning_text, warning_line}
 use Rattle.report_text.specs.Words.{verdict_word, proof_text, phase_text, cause_text, why_text, pair_text}
-use Rattle.report_text.specs.Notices.{top_text, top_texts, cut_text, skipped_text, skipped_texts, unjudged_text, hold_text, hold_texts}
+use Rattle.report_text.specs.Notices.{named_text, named_texts, cut_text, skipped_text, skipped_texts, unjudged_text, hold_text, hold_texts}
 use Rattle.report_text.specs.Notices.{netlist_texts, script_texts, notice_texts}
 use Rattle.report_text.specs.Reports.{command_texts, pair_texts, stimulus_texts}
 
@@ -138,8 +138,11 @@ passes_header number o =
     let strict = inline_flag (codes " strict") o.strict refl in
     simp (inline-append, inline_mode, inline_decimal, inline_lag, hold, assist, free, assumed, strict)
 
-passes_top : (number : ℕ) (name : List ℕ) → passes (title_of number) (top_text name) ≡ true
-passes_top number name = simp (inline_shown)
+passes_top : (number : ℕ) (name : List ℕ) → passes (title_of number) (named_text (codes "top") name) ≡ true
+passes_top number name = simp (inline-append, inline_shown)
+
+passes_clock : (number : ℕ) (name : List ℕ) → passes (title_of number) (named_text (codes "clock") name) ≡ true
+passes_clock number name = simp (inline-append, inline_shown)
 
 passes_cut : (number : ℕ) (c : CutCells) → passes (title_of number) (cut_text c) ≡ true
 passes_cut number c = let word = inline_flag (codes " open") c.open refl in simp (inline-append, inline_shown, inline_decimal, word)
@@ -183,16 +186,23 @@ passes_script number n =
     ∙ and_from (list_all passing (skipped_texts n.skipped)) (list_all passing (unjudged ++ holds)) (passes_all_skipped number n.skipped) last
 
 -- and those of what is told of a netlist
-passes_all_tops : (number : ℕ) (top : Option (List ℕ)) → list_all (passes (title_of number)) (top_texts top) ≡ true
-passes_all_tops number None = refl
-passes_all_tops number (Some name) = and_from (passes (title_of number) (top_text name)) true (passes_top number name) refl
+passes_named : (number : ℕ) (word : List ℕ) → ((name : List ℕ) → passes (title_of number) (named_text word name) ≡ true) → (name : Option (List ℕ))
+    → list_all (passes (title_of number)) (named_texts word name) ≡ true
+passes_named number word each None = refl
+passes_named number word each (Some name) = and_from (passes (title_of number) (named_text word name)) true (each name) refl
 
 passes_netlist : (number : ℕ) (n : Notices) → list_all (passes (title_of number)) (netlist_texts n) ≡ true
 passes_netlist number n =
     let passing = passes (title_of number) in
-    list_all-append passing (top_texts n.top) (map cut_text n.cuts)
-    ∙ and_from (list_all passing (top_texts n.top)) (list_all passing (map cut_text n.cuts)) (passes_all_tops number n.top)
-    (passes_all number cut_text (passes_cut number) n.cuts)
+    let top : List (List ℕ) = named_texts (codes "top") n.top in
+    let clock : List (List ℕ) = named_texts (codes "clock") n.clock in
+    let cuts : List (List ℕ) = map cut_text n.cuts in
+    let last : list_all passing (clock ++ cuts) ≡ true =
+    list_all-append passing clock cuts
+    ∙ and_from (list_all passing clock) (list_all passing cuts) (passes_named number (codes "clock") (passes_clock number) n.clock)
+    (passes_all number cut_text (passes_cut number) n.cuts) in
+    list_all-append passing top (clock ++ cuts)
+    ∙ and_from (list_all passing top) (list_all passing (clock ++ cuts)) (passes_named number (codes "top") (passes_top number) n.top) last
 
 -- the lines of all that is told
 pub passes_notices : (number : ℕ) (n : Notices) → list_all (passes (title_of number)) (notice_texts n) ≡ true

@@ -19,7 +19,7 @@ use Rattle.report_text.specs.Reports.{report_lines}
 use Rattle.report_text.specs.Signoff.{leaves_open}
 
 abbrev nothing : Notices
-nothing = record { top = None; cuts = []; skipped = None; unjudged = []; hold_commands = 0 }
+nothing = record { top = None; clock = None; cuts = []; skipped = None; unjudged = []; hold_commands = 0 }
 
 abbrev dont_use : Skipped
 dont_use = record { name = codes "set_dont_use"; count = 12 }
@@ -36,8 +36,8 @@ rams = record { cell = codes "RAM"; count = 3; «open» = false }
 abbrev pads : CutCells
 pads = record { cell = codes "TBUF"; count = 2; «open» = true }
 
-told_of_a_netlist : notice_texts (record nothing { top = Some (codes "chip"); cuts = rams ∷ pads ∷ [] })
-    ≡ codes "top chip" ∷ codes "cut RAM 3" ∷ codes "cut TBUF 2 open" ∷ []
+told_of_a_netlist : notice_texts (record nothing { top = Some (codes "chip"); clock = Some (codes "ck"); cuts = rams ∷ pads ∷ [] })
+    ≡ codes "top chip" ∷ codes "clock ck" ∷ codes "cut RAM 3" ∷ codes "cut TBUF 2 open" ∷ []
 unfolding digits
 told_of_a_netlist = refl
 

@@ -9,13 +9,13 @@ use Rattle.selected_types.specs.declared.notices.Notices.{Notices}
 use Rattle.witness_replay.specs.StimulusTexts.{line_of}
 use Rattle.report_text.specs.Words.{◌⁀◌, flag_text}
 
--- the top module is the one of this name, where it is asked for by it
-abbrev pub top_text : List ℕ → List ℕ
-top_text name = codes "top " ⁀ shown name
+-- the top module or the clock is the one of this name, where it is asked for by it
+abbrev pub named_text : List ℕ → List ℕ → List ℕ
+named_text word name = word ⁀ codes " " ⁀ shown name
 
-abbrev pub top_texts : Option (List ℕ) → List (List ℕ)
-top_texts None = []
-top_texts (Some name) = top_text name ∷ []
+abbrev pub named_texts : List ℕ → Option (List ℕ) → List (List ℕ)
+named_texts word None = []
+named_texts word (Some name) = named_text word name ∷ []
 
 -- so many cells of this reference are cut out; a path may lead through them where they are open
 abbrev pub cut_text : CutCells → List ℕ
@@ -44,9 +44,9 @@ hold_texts count = if count == 0 then [] else hold_text count ∷ []
 abbrev pub script_texts : Notices → List (List ℕ)
 script_texts n = skipped_texts n.skipped ++ (map unjudged_text n.unjudged ++ hold_texts n.hold_commands)
 
--- of a netlist: its top module, and the cells that are cut out, by reference
+-- of a netlist: its top module, its clock, and the cells that are cut out, by reference
 abbrev pub netlist_texts : Notices → List (List ℕ)
-netlist_texts n = top_texts n.top ++ map cut_text n.cuts
+netlist_texts n = named_texts (codes "top") n.top ++ (named_texts (codes "clock") n.clock ++ map cut_text n.cuts)
 
 -- all that is told: of the netlist, and then of the script
 abbrev pub notice_texts : Notices → List (List ℕ)

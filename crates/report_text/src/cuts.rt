@@ -1,4 +1,4 @@
-//! The lines of what is told of a netlist: its top module, and the cells that are cut out of it.
+//! The lines of what is told of a netlist: its top module, its clock, and the cells that are cut out of it.
 ghost use Rattle.std.specs.Prelude.{◌≡◌, ◌++◌, map, IfOk, OnOk, string_bytes};
 ghost use Rattle.witness_replay.specs.StimulusTexts.{line_of};
 ghost use Rattle.report_text.specs.Notices as spec;
@@ -10,10 +10,10 @@ use sdcv_base::{Name, Seq};
 use selected_types::{CutCells, Notices};
 use std::alloc::{AllocError, Global};
 
-fn top_text(alloc: Global, name: &Name) -> Result<String, AllocError>
-    ensures { IfOk result (λ text. string_bytes text ≡ spec.top_text name.now) }
+fn named_text(alloc: Global, word: &str, name: &Name) -> Result<String, AllocError>
+    ensures { IfOk result (λ text. string_bytes text ≡ spec.named_text word.now name.now) }
 {
-    format!(in alloc; "top {name}")
+    format!(in alloc; "{word} {name}")
 }
 
 fn cut_text(alloc: Global, cut: &CutCells) -> Result<String, AllocError>
@@ -25,12 +25,17 @@ fn cut_text(alloc: Global, cut: &CutCells) -> Result<String, AllocError>
     format!(in alloc; "cut {cell} {count}{open}")
 }
 
-// Adds the line of the top module, where it is asked for by its name.
-fn add_top(alloc: Global, top: &Option<Name>, lines: &mut Vec<Vec<u8>>) -> Result<(), AllocError>
-    ensures { OnOk result (bytes_of_lines lines.new.items ≡ bytes_of_lines lines.old.items ++ map line_of (spec.top_texts top.now)) }
+// Adds the line of the top module or the clock, where it is asked for by its name.
+fn add_named(
+    alloc: Global,
+    word: &str,
+    name: &Option<Name>,
+    lines: &mut Vec<Vec<u8>>,
+) -> Result<(), AllocError>
+    ensures { OnOk result (bytes_of_lines lines.new.items ≡ bytes_of_lines lines.old.items ++ map line_of (spec.named_texts word.now name.now)) }
 {
-    match top {
-        Some(name) => add_line(top_text(alloc, name)?, lines),
+    match name {
+        Some(name) => add_line(named_text(alloc, word, name)?, lines),
         None => Ok(()),
     }
 }
@@ -52,6 +57,7 @@ pub(crate) fn add_netlist(
 ) -> Result<(), AllocError>
     ensures { OnOk result (bytes_of_lines lines.new.items ≡ bytes_of_lines lines.old.items ++ map line_of (spec.netlist_texts notices.now)) }
 {
-    add_top(alloc, &notices.top, lines)?;
+    add_named(alloc, "top", &notices.top, lines)?;
+    add_named(alloc, "clock", &notices.clock, lines)?;
     add_cuts(alloc, &notices.cuts, lines)
 }

@@ -136,7 +136,8 @@ fn push_cell(text: &mut String, cell: &CellName) -> Result<(), AllocError> {
 pub fn design_text(alloc: Global, linked: &Linked) -> Result<String, AllocError> {
     let mut text = String::new(alloc);
     if let Some(clock) = &linked.names.clock {
-        write!(text, "clock {clock}\n")?;
+        let name = &clock.name;
+        write!(text, "clock {name}\n")?;
     }
     text.push_str("in")?;
     push_ports(&mut text, &linked.names.ins, &linked.design.inputs)?;

@@ -2,7 +2,6 @@
 ghost use Rattle.std.specs.Prelude.{◌≡◌, IfOk};
 ghost use Rattle.cell_types.specs.Libraries.{IsLawful as IsLawfulLibrary};
 ghost use Rattle.netlist_types.specs.Lawful.{IsLawful};
-ghost use Rattle.linked_types.specs.Narrow.{IsOnOneClock};
 
 use crate::designs::{design_text, names_text, ports_text};
 use crate::selecting::{library, push_refusal};
@@ -114,8 +113,7 @@ fn at_zero(alloc: Global, name: &str) -> Result<Seq<Setting>, AllocError> {
 }
 
 fn options(alloc: Global, words: &str) -> Result<LinkOptions, AllocError>
-    ensures resets { IfOk result (λ made. made.reset_len ≡ 1) }
-    ensures clocks { IfOk result IsOnOneClock }
+    ensures { IfOk result (λ made. made.reset_len ≡ 1) }
 {
     let clock = name_if_any(alloc, word_after(words, "clock"))?;
     let fixed = at_zero(alloc, word_after(words, "fixed"))?;

@@ -1,6 +1,7 @@
 -- The wave of a run that violates a claim.
 use Rattle.std.specs.Prelude.{◌≡◌, ℕ, List, [], ◌∷◌, length, flat_map, IsPermutation, Option, Some, None, codes}
 use Rattle.linked_types.specs.declared.names.Linked.{Linked}
+use Rattle.linked_types.specs.declared.names.PortName.{PortName}
 use Rattle.wave_signals.specs.Signals.{bits_of}
 use Rattle.wave_signals.specs.declared.signals.Signal.{Signal}
 use Rattle.named_runs.specs.NamedBits.{named_bits}
@@ -10,9 +11,9 @@ use Rattle.vcd_text.specs.declared.waves.Wave.{Wave}
 use Rattle.run_views.specs.declared.outcomes.Violation.{Violation}
 
 -- the clock is shown by its own name, and by `clock` where the design has none
-abbrev pub clock_name : Option (List ℕ) → List ℕ
+abbrev pub clock_name : Option PortName → List ℕ
 clock_name None = codes "clock"
-clock_name (Some name) = name
+clock_name (Some port) = port.name
 
 -- the cycle of the toggle, and the judged cycle
 abbrev pub marks : Violation → List Signal

@@ -2,7 +2,7 @@
 ghost use Rattle.std.specs.Prelude.{◌≡◌, ◌<◌, length, IfOk};
 ghost use Rattle.run_waves.specs.RunWaves as spec;
 
-use linked_types::Linked;
+use linked_types::{Linked, PortName};
 use named_runs::run_signals;
 use run_views::Violation;
 use sdcv_base::{Name, Seq};
@@ -11,11 +11,11 @@ use vcd_text::{Wave, mark, vcd_text};
 use wave_signals::Signal;
 
 /// The clock's name; a drawn clock has one even where the design has none.
-fn clock_name(alloc: Global, clock: &Option<Name>) -> Result<Name, AllocError>
+fn clock_name(alloc: Global, clock: &Option<PortName>) -> Result<Name, AllocError>
     ensures { IfOk result (λ name. name ≡ spec.clock_name clock.now) }
 {
     match clock {
-        Some(name) => name.copy(alloc),
+        Some(port) => port.name.copy(alloc),
         None => Name::new(alloc, b"clock"),
     }
 }

@@ -187,5 +187,5 @@ hold_sides_are_not_counted = refl
 
 -- a narrow script that is judged for no sign-off
 nothing_of_a_narrow_script : (script : Script) (s : Selected) → notices_of Narrow (judging true false) (codes "top") script s ≡
-    record { top = None; cuts = []; skipped = None; unjudged = []; hold_commands = 0 }
+    record { top = None; clock = None; cuts = []; skipped = None; unjudged = []; hold_commands = 0 }
 nothing_of_a_narrow_script script s = refl

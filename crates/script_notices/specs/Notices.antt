@@ -144,6 +144,7 @@ hold_count judging script = if judging.strict && not judging.hold then takers sc
 abbrev pub notices_of : ScriptForm → Judging → List ℕ → Script → Selected → Notices
 notices_of form judging top script s = record {
   top = None;
+  clock = None;
   cuts = [];
   skipped = skipped_of form script;
   unjudged = unjudged_of top judging script s;

@@ -30,6 +30,7 @@ pub fn notices(
 {
     Ok(Notices {
         top: None,
+        clock: None,
         cuts: Seq::new(alloc),
         skipped: skipped_of(alloc, terms.form, script)?,
         unjudged: unjudged(alloc, terms, script, selected)?,

@@ -5,10 +5,12 @@ use sdc_text::{Class, Command, Object, Query, Script, What};
 use sdcv_base::{Name, Seq, Setting};
 use std::alloc::{AllocError, Global};
 
-// A command of a script, by the patterns of its objects. `CellCase` has a pattern of cells, `AllCase` has `all_inputs`.
+// A command of a script, by the patterns of its objects. `Named` is a clock with a name, `CellCase` has a pattern of cells,
+// `AllCase` has `all_inputs`.
 #[derive(Clone, Copy)]
 enum Line {
     Clock(&'static [&'static str]),
+    Named(&'static str, &'static [&'static str]),
     Case(bool, &'static [&'static str]),
     CellCase(&'static str),
     AllCase(bool),
@@ -64,6 +66,29 @@ const CASES: &[(&[Line], &str)] = &[
     ),
 ];
 
+// Three clocks, one without a name, of which one is asked for by its name.
+const CLOCKS: &[Line] = &[
+    Line::Named("ck", &["clk"]),
+    Line::Named("wide", &["d"]),
+    Line::Clock(&["d[0]"]),
+    Line::Named("ck2", &["d[1]"]),
+    Line::Named("ck2", &["d[0]"]),
+    Line::Named("vio", &[]),
+];
+
+// The clock that is asked for, and its port or the fault.
+const ASKED: &[(&str, &str)] = &[
+    ("ck", "clk"),
+    ("d[0]", "d[0]"),
+    ("ck2", "lines 4 and 5: two clocks with a source"),
+    (
+        "wide",
+        "line 2: the source of a clock is not exactly one input port bit",
+    ),
+    ("vio", "no clock vio has a source"),
+    ("clk", "no clock clk has a source"),
+];
+
 fn object(alloc: Global, class: Class, pattern: &str) -> Result<Object, AllocError> {
     let pattern = Name::new(alloc, pattern.as_bytes())?;
     Ok(Object::Named(Query {
@@ -85,6 +110,10 @@ fn what(alloc: Global, line: Line) -> Result<What, AllocError> {
     Ok(match line {
         Line::Clock(patterns) => What::Clock {
             name: None,
+            source: objects(alloc, Class::Ports, patterns)?,
+        },
+        Line::Named(name, patterns) => What::Clock {
+            name: Some(Name::new(alloc, name.as_bytes())?),
             source: objects(alloc, Class::Ports, patterns)?,
         },
         Line::Case(value, patterns) => What::Case {
@@ -158,9 +187,10 @@ fn told(
     lines: &[Line],
     inputs: &Seq<PortName>,
     resets: &Seq<Setting>,
+    asked: &Option<Name>,
 ) -> Result<String, AllocError> {
     let script = script(alloc, lines)?;
-    match settings(alloc, &script, inputs, resets) {
+    match settings(alloc, &script, inputs, resets, asked) {
         Ok(settings) => shown(alloc, &settings),
         Err(fault) => format!(in alloc; "{fault}"),
     }
@@ -171,8 +201,20 @@ fn a_script_sets_what_it_says(rt: HostRuntime) -> Result<(), AllocError> {
     let inputs = inputs(rt.alloc())?;
     let resets = resets(rt.alloc())?;
     for (lines, want) in CASES {
-        let text = told(rt.alloc(), lines, &inputs, &resets)?;
+        let text = told(rt.alloc(), lines, &inputs, &resets, &None)?;
         same(&rt, want, text.as_str(), want);
+    }
+    Ok(())
+}
+
+#[test]
+fn a_clock_is_asked_for(rt: HostRuntime) -> Result<(), AllocError> {
+    let inputs = inputs(rt.alloc())?;
+    let resets = resets(rt.alloc())?;
+    for (name, want) in ASKED {
+        let asked = Some(Name::new(rt.alloc(), name.as_bytes())?);
+        let text = told(rt.alloc(), CLOCKS, &inputs, &resets, &asked)?;
+        same(&rt, name, text.as_str(), want);
     }
     Ok(())
 }

@@ -30,7 +30,7 @@ scene_of m = record {
   linked = m.designed.linked;
   inputs = m.settled.inputs;
   resets = m.reset.ports;
-  form = m.forms.script;
+  forms = m.forms;
   settings = m.settled.settings;
   judging = m.judging;
 }

@@ -86,7 +86,7 @@ fn mended_by(alloc: Global, mendable: &Mendable, findings: &Findings<'_>) -> Res
         linked: &mendable.designed.linked,
         inputs: &mendable.settled.inputs,
         resets: &mendable.reset.ports,
-        form: &mendable.forms.script,
+        forms: &mendable.forms,
         settings: &mendable.settled.settings,
         judging: mendable.judging,
     };

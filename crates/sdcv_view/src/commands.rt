@@ -5,8 +5,8 @@ use clap::{Arg, ArgAction, ArgMatches, Command, Error};
 use std::alloc::{AllocError, Global};
 use view_commands::{PairWords, ResetWords};
 
-/// The files of a design, what may be cut out of it, its top module, which commands of its constraints are passed over, and how it
-/// is reset.
+/// The files of a design, what may be cut out of it, its clock and its top module, which commands of its constraints are passed
+/// over, and how it is reset.
 #[derive(Clone, Copy)]
 pub struct DesignWords<'a> {
     pub netlist: &'a str,
@@ -14,6 +14,8 @@ pub struct DesignWords<'a> {
     pub constraints: &'a str,
     /// The list of `--free`.
     pub free: Option<&'a str>,
+    /// The name of `--clock`.
+    pub clock: Option<&'a str>,
     /// The name of `--top`.
     pub top: Option<&'a str>,
     /// The list of `--skip`.
@@ -119,6 +121,14 @@ const FREE: ArgRow = ArgRow {
     value: "LIST",
     rule: Rule::Text,
     sentence: "Cut out the cells of these references, by patterns parted by commas, where they can't be modelled",
+};
+
+const CLOCK: ArgRow = ArgRow {
+    id: "clock",
+    form: Form::Valued,
+    value: "NAME",
+    rule: Rule::Text,
+    sentence: "Judge the registers of the clock of this name, and cut out those of other clocks",
 };
 
 const TOP: ArgRow = ArgRow {
@@ -228,12 +238,24 @@ const ROWS: [CommandRow; 6] = [
     CommandRow {
         name: "bits",
         sentence: "Print which bit of a stimulus is which register or input",
-        args: &[V, L, S, FREE, TOP, SKIP, RESET, RESET_CYCLES],
+        args: &[V, L, S, FREE, CLOCK, TOP, SKIP, RESET, RESET_CYCLES],
     },
     CommandRow {
         name: "show",
         sentence: "Print the run of a refuted pair by cycles, and what of it is late",
-        args: &[V, L, S, FREE, TOP, SKIP, RESET, RESET_CYCLES, REPORT, PAIR],
+        args: &[
+            V,
+            L,
+            S,
+            FREE,
+            CLOCK,
+            TOP,
+            SKIP,
+            RESET,
+            RESET_CYCLES,
+            REPORT,
+            PAIR,
+        ],
     },
     CommandRow {
         name: "wave",
@@ -243,6 +265,7 @@ const ROWS: [CommandRow; 6] = [
             L,
             S,
             FREE,
+            CLOCK,
             TOP,
             SKIP,
             RESET,
@@ -316,6 +339,7 @@ fn design_of<'a>(matches: &ArgMatches<'a>) -> DesignWords<'a> {
         cells: given(matches, "L"),
         constraints: given(matches, "S"),
         free: matches.get_str("free"),
+        clock: matches.get_str("clock"),
         top: matches.get_str("top"),
         skip: matches.get_str("skip"),
         reset: ResetWords {

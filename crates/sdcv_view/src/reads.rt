@@ -37,7 +37,7 @@ pub struct RunTexts {
 /// How the texts of a design are read, where the lists and names of its words keep their rules.
 pub fn forms_of(alloc: Global, words: &DesignWords<'_>) -> Result<AskedForms, Ended> {
     Ok(AskedForms {
-        netlist: netlist_of(alloc, words.free, words.top)?,
+        netlist: netlist_of(alloc, words.free, words.clock, words.top)?,
         names: names_of(alloc, words.skip)?,
     })
 }

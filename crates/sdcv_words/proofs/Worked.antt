@@ -1,9 +1,9 @@
--- Values worked out by hand: lists of names that are passed over, lists of patterns, and names of top modules.
+-- Values worked out by hand: lists of names that are passed over, lists of patterns, and names of clocks and top modules.
 use Rattle.std.proofs.Common.{◌≡◌, refl, [], ◌∷◌, None, Some, false, true}
 use Rattle.std.specs.Prelude.{codes}
 use Rattle.run_options.specs.declared.forms.ScriptForm.TheVariants.{Narrow, Wide}
 use Rattle.run_options.specs.declared.netlists.NetlistForm.TheVariants as netlist
-use Rattle.sdcv_words.specs.Cuttings.{netlist_by, patterns_of, top_of}
+use Rattle.sdcv_words.specs.Cuttings.{name_of, netlist_by, patterns_of}
 use Rattle.sdcv_words.specs.Options.{form_by}
 use Rattle.sdcv_words.specs.Skips.{skips_of}
 
@@ -60,29 +60,40 @@ option_as_list : patterns_of (codes "--top") ≡ None
 unfolding patterns_of
 option_as_list = refl
 
--- a top module has a name
-empty_name : top_of (Some []) ≡ None
+-- a clock or a top module has a name
+empty_name : name_of (Some []) ≡ None
 empty_name = refl
 
-option_as_name : top_of (Some (codes "--free")) ≡ None
+option_as_name : name_of (Some (codes "--free")) ≡ None
 option_as_name = refl
 
--- a netlist is wide where either word stands, and without patterns where the top module alone is named
-netlist_narrow : netlist_by None None ≡ Some netlist.Narrow
+-- a netlist is wide where one of the words stands, and without patterns where a clock or the top module alone is named
+netlist_narrow : netlist_by None None None ≡ Some netlist.Narrow
 netlist_narrow = refl
 
-top_alone : netlist_by None (Some (codes "core")) ≡ Some (netlist.Wide (record { top = Some (codes "core"); free = [] }))
+top_alone : netlist_by None None (Some (codes "core")) ≡ Some (netlist.Wide (record { top = Some (codes "core"); free = []; clock = None }))
 top_alone = refl
 
-free_alone : netlist_by (Some (codes "RAM")) None ≡ Some (netlist.Wide (record { top = None; free = codes "RAM" ∷ [] }))
+clock_alone : netlist_by None (Some (codes "ck")) None ≡ Some (netlist.Wide (record { top = None; free = []; clock = Some (codes "ck") }))
+clock_alone = refl
+
+free_alone : netlist_by (Some (codes "RAM")) None None ≡ Some (netlist.Wide (record { top = None; free = codes "RAM" ∷ []; clock = None }))
 unfolding patterns_of
 free_alone = refl
 
--- either may break its rule
-wrong_list : netlist_by (Some (codes ",RAM")) (Some (codes "core")) ≡ None
+-- the name of a clock is not that of the top module
+clock_and_top : netlist_by None (Some (codes "ck")) (Some (codes "core"))
+    ≡ Some (netlist.Wide (record { top = Some (codes "core"); free = []; clock = Some (codes "ck") }))
+clock_and_top = refl
+
+-- each may break its rule
+wrong_list : netlist_by (Some (codes ",RAM")) None (Some (codes "core")) ≡ None
 unfolding patterns_of
 wrong_list = refl
 
-wrong_name : netlist_by (Some (codes "RAM")) (Some []) ≡ None
+wrong_clock : netlist_by None (Some []) (Some (codes "core")) ≡ None
+wrong_clock = refl
+
+wrong_name : netlist_by (Some (codes "RAM")) None (Some []) ≡ None
 unfolding patterns_of
 wrong_name = refl

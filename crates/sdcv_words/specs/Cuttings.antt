@@ -1,6 +1,6 @@
--- How the netlist is read: by a list of patterns of references that may be cut out, `PATTERN`, separated by commas, and by the name
--- of the top module.
-use Rattle.std.specs.Prelude.{ℕ, ◌==◌, ◌&&◌, not, Bool, List, [], Option, None, Some, if◌then◌else◌}
+-- How the netlist is read: by a list of patterns of references that may be cut out, `PATTERN`, separated by commas, by the name of the
+-- clock that is judged, and by that of the top module.
+use Rattle.std.specs.Prelude.{ℕ, ◌==◌, ◌&&◌, ◌||◌, not, Bool, List, [], Option, None, Some, is_some, if◌then◌else◌}
 use Rattle.std.specs.List.{list_all, slice_split}
 use Rattle.texts.specs.Reads.{◌>>=◌}
 use Rattle.run_options.specs.declared.netlists.NetlistForm.{NetlistForm}
@@ -22,20 +22,19 @@ abbrev pub free_of : Option (List ℕ) → Option (List (List ℕ))
 free_of None = Some []
 free_of (Some list) = patterns_of list
 
--- the name of the top module, if a word gives one
-abbrev pub top_of : Option (List ℕ) → Option (Option (List ℕ))
-top_of None = Some None
-top_of (Some name) = if is_value name then Some (Some name) else None
+-- the name of a clock or a module, if a word gives one
+abbrev pub name_of : Option (List ℕ) → Option (Option (List ℕ))
+name_of None = Some None
+name_of (Some name) = if is_value name then Some (Some name) else None
 
 -- wide, with these texts
-abbrev pub wide_by : Option (List ℕ) → Option (List ℕ) → Option NetlistForm
-wide_by list name =
+abbrev pub wide_by : Option (List ℕ) → Option (List ℕ) → Option (List ℕ) → Option NetlistForm
+wide_by list clock top =
     free_of list >>= λ free.
-    top_of name >>= λ top.
-    Some (Wide (record { top = top; free = free }))
+    name_of clock >>= λ clock.
+    name_of top >>= λ top.
+    Some (Wide (record { top = top; free = free; clock = clock }))
 
--- how the netlist is read: wide where either text stands
-abbrev pub netlist_by : Option (List ℕ) → Option (List ℕ) → Option NetlistForm
-netlist_by None None = Some Narrow
-netlist_by (Some list) name = wide_by (Some list) name
-netlist_by None (Some name) = wide_by None (Some name)
+-- how the netlist is read: wide where one of the texts stands
+abbrev pub netlist_by : Option (List ℕ) → Option (List ℕ) → Option (List ℕ) → Option NetlistForm
+netlist_by list clock top = if is_some list || (is_some clock || is_some top) then wide_by list clock top else Some Narrow

@@ -38,9 +38,9 @@ judging_of given lag = record {
   strict = stands given (codes "strict");
 }
 
--- how the netlist is read, by the list of patterns of what may be cut out, and the name of the top module
+-- how the netlist is read, by the list of patterns of what may be cut out, the name of the clock, and that of the top module
 abbrev pub netlist_of : List Given → Option NetlistForm
-netlist_of given = netlist_by (in_table given (codes "free")) (in_table given (codes "top"))
+netlist_of given = netlist_by (in_table given (codes "free")) (in_table given (codes "clock")) (in_table given (codes "top"))
 
 -- how the constraints are read, by the list of names that are passed over, and whether they are judged as for a sign-off
 abbrev pub form_by : Option (List ℕ) → Bool → Option ScriptForm

@@ -12,7 +12,7 @@ pub struct Texts<'a> {
 }
 
 /// How claims are judged, how the netlist and the constraints are read, and how runs begin. The names of no two reset ports are
-/// equal, and none is empty; nor is a pattern of what may be cut out, or the name of the top module.
+/// equal, and none is empty; nor is a pattern of what may be cut out, or the name of the clock or the top module.
 #[derive(Drop)]
 pub struct Options {
     pub judging: Judging,

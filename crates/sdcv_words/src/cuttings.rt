@@ -1,8 +1,8 @@
-//! How the netlist is read, by a list of patterns of references and the name of the top module.
+//! How the netlist is read, by a list of patterns of references, the name of the clock that is judged, and that of the top module.
 ghost use Rattle.std.specs.Prelude.{◌≡◌, ◌==◌, IfOk, Some, map};
 ghost use Rattle.std.specs.List.{list_all, slice_split};
 ghost use Rattle.std.specs.Option.{option_map};
-ghost use Rattle.sdcv_words.specs.Cuttings.{free_of, has_text, netlist_by, patterns_of, top_of, wide_by};
+ghost use Rattle.sdcv_words.specs.Cuttings.{free_of, has_text, name_of, netlist_by, patterns_of, wide_by};
 
 use crate::places::is_value;
 use crate::settings::parts;
@@ -52,9 +52,9 @@ fn free_of(alloc: Global, list: Option<&str>) -> Result<Option<Seq<Name>>, Alloc
     }
 }
 
-/// The name of the top module, if a text gives one and can stand for a value.
-pub fn top_of(alloc: Global, name: Option<&str>) -> Result<Option<Option<Name>>, AllocError>
-    ensures { IfOk result (λ found. found ≡ top_of (option_map (λ t. t.now) name.entry)) }
+/// The name of a clock or a module, if a text gives one and can stand for a value.
+pub fn name_of(alloc: Global, name: Option<&str>) -> Result<Option<Option<Name>>, AllocError>
+    ensures { IfOk result (λ found. found ≡ name_of (option_map (λ t. t.now) name.entry)) }
 {
     match name {
         Some(text) if is_value(text) => Ok(Some(Some(Name::new(alloc, text.as_bytes())?))),
@@ -67,29 +67,37 @@ pub fn top_of(alloc: Global, name: Option<&str>) -> Result<Option<Option<Name>>,
 fn wide_by(
     alloc: Global,
     list: Option<&str>,
-    name: Option<&str>,
+    clock: Option<&str>,
+    top: Option<&str>,
 ) -> Result<Option<NetlistForm>, AllocError>
-    ensures { IfOk result (λ found. found ≡ wide_by (option_map (λ t. t.now) list.entry) (option_map (λ t. t.now) name.entry)) }
+    ensures { IfOk result (λ found.
+        found ≡ wide_by (option_map (λ t. t.now) list.entry) (option_map (λ t. t.now) clock.entry) (option_map (λ t. t.now) top.entry)) }
 {
     let Some(free) = free_of(alloc, list)? else {
         return Ok(None);
     };
-    let Some(top) = top_of(alloc, name)? else {
+    let Some(clock) = name_of(alloc, clock)? else {
         return Ok(None);
     };
-    Ok(Some(NetlistForm::Wide(Cutting { top, free })))
+    let Some(top) = name_of(alloc, top)? else {
+        return Ok(None);
+    };
+    Ok(Some(NetlistForm::Wide(Cutting { top, free, clock })))
 }
 
-/// How the netlist is read: wide where a list of patterns or the name of a top module stands, if these keep their rules.
+/// How the netlist is read: wide where a list of patterns, or the name of a clock or a top module stands, if these keep their
+/// rules.
 pub fn netlist_by(
     alloc: Global,
     list: Option<&str>,
-    name: Option<&str>,
+    clock: Option<&str>,
+    top: Option<&str>,
 ) -> Result<Option<NetlistForm>, AllocError>
-    ensures { IfOk result (λ found. found ≡ netlist_by (option_map (λ t. t.now) list.entry) (option_map (λ t. t.now) name.entry)) }
+    ensures { IfOk result (λ found.
+        found ≡ netlist_by (option_map (λ t. t.now) list.entry) (option_map (λ t. t.now) clock.entry) (option_map (λ t. t.now) top.entry)) }
 {
-    match (list, name) {
-        (None, None) => Ok(Some(NetlistForm::Narrow)),
-        _ => wide_by(alloc, list, name),
+    match (list, clock, top) {
+        (None, None, None) => Ok(Some(NetlistForm::Narrow)),
+        _ => wide_by(alloc, list, clock, top),
     }
 }

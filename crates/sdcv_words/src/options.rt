@@ -44,11 +44,16 @@ fn judging_of(given: &[Given<'_>], lag: u8) -> Judging
     }
 }
 
-// How the netlist is read: wide where a list of patterns or the name of a top module stands.
+// How the netlist is read: wide where a list of patterns, or the name of a clock or a top module stands.
 fn netlist_of(alloc: Global, given: &[Given<'_>]) -> Result<Option<NetlistForm>, AllocError>
     ensures { IfOk result (λ found. found ≡ netlist_of (map seen_given given.now)) }
 {
-    netlist_by(alloc, text_of(given, "free"), text_of(given, "top"))
+    netlist_by(
+        alloc,
+        text_of(given, "free"),
+        text_of(given, "clock"),
+        text_of(given, "top"),
+    )
 }
 
 // How the constraints are read: wide where a list of names or the word for a sign-off stands.

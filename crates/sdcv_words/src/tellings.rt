@@ -1,5 +1,5 @@
 //! What is told of words that name no command.
-use crate::cuttings::{patterns_of, top_of};
+use crate::cuttings::{name_of, patterns_of};
 use crate::givens::text_of;
 use crate::numbers::number_in;
 use crate::places::row_of;
@@ -16,7 +16,7 @@ fn breaks(alloc: Global, rule: ValueRule, text: &str) -> Result<bool, AllocError
         ValueRule::Ports => Ok(settings_of(alloc, text)?.is_none()),
         ValueRule::Commands => Ok(skips_of(alloc, text)?.is_none()),
         ValueRule::Patterns => Ok(patterns_of(alloc, text)?.is_none()),
-        ValueRule::Name => Ok(top_of(alloc, Some(text))?.is_none()),
+        ValueRule::Name => Ok(name_of(alloc, Some(text))?.is_none()),
     }
 }
 

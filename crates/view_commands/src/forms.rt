@@ -10,18 +10,21 @@ use sdcv_base::{Name, Seq};
 use sdcv_words::{netlist_by, skips_of};
 use std::alloc::Global;
 
-/// How the netlist is read: wide where a list of patterns of references, which may be cut out, or the name of a top module stands.
+/// How the netlist is read: wide where a list of patterns of references, which may be cut out, or the name of a clock or a top
+/// module stands.
 pub fn netlist_of(
     alloc: Global,
     list: Option<&str>,
-    name: Option<&str>,
+    clock: Option<&str>,
+    top: Option<&str>,
 ) -> Result<NetlistForm, Stop>
-    ensures { IfOk result (λ form. netlist_by (option_map (λ t. t.now) list.entry) (option_map (λ t. t.now) name.entry) ≡ Some form) }
+    ensures { IfOk result (λ form. netlist_by (option_map (λ t. t.now) list.entry) (option_map (λ t. t.now) clock.entry) (option_map (λ t. t.now) top.entry)
+        ≡ Some form) }
 {
-    match netlist_by(alloc, list, name)? {
+    match netlist_by(alloc, list, clock, top)? {
         Some(form) => Ok(form),
         None => Err(Stop::Words(
-            "--free takes patterns of references, parted by commas and none of them empty, and --top a name",
+            "--free takes patterns of references, parted by commas and none of them empty, and --clock and --top a name",
         )),
     }
 }

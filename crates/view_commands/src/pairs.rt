@@ -82,7 +82,7 @@ fn check_form(alloc: Global, name: &str, head: &Head, wide: bool) -> Result<(), 
         ("with", "without")
     };
     Err(Stop::refused(format!(in alloc;
-        "{name} was made {then} --free or --top, these words are {now}: give them as then"
+        "{name} was made {then} --free, --clock or --top, these words are {now}: give them as then"
     )))
 }
 

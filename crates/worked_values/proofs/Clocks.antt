@@ -1,6 +1,7 @@
 -- Where a register or a clock gate stands on the clock tree.
 use Rattle.std.proofs.Common.{◌≡◌, ℕ, zero, suc, Bool, true, false, List, [], ◌∷◌, Some, None, refl, sym, arith, ap}
 use Rattle.std.specs.Prelude.{Contains}
+use Rattle.std.specs.List.{position}
 use Rattle.net_model.specs.Form.{PinForm, NotForm}
 use Rattle.net_model.specs.declared.netlist.Gate.{Gate}
 use Rattle.net_model.specs.declared.netlist.Reg.{Reg}
@@ -11,7 +12,7 @@ use Rattle.link_defs.specs.Circuits.{OnTree, Root, Buffered, Gated, clock_of}
 use Rattle.link_defs.specs.Above.{Under, Behind, IsAboveRow}
 use Rattle.link_defs.specs.Above.{Root as Root_under}
 use Rattle.link_design.specs.Made.{IsClocked}
-use Rattle.link_design.specs.Branches.{past_gate, root_branch}
+use Rattle.link_design.specs.Branches.{past_buffer, past_gate, root_branch}
 use Rattle.link_design.specs.Trees.{is_off, is_off_clock}
 
 -- nets 0 and 1 are on the clock tree
@@ -90,10 +91,10 @@ clock_is_not_inverted p side net inverted (Root here has) at = refl
 clock_is_not_inverted p side net inverted (Buffered from gates g even stands there on) at =
     let out : g.out ≡ 1 = ap (λ (x : Gate). x.out) (inverter_drives gates g (inverter_alone p side from gates stands).1 there) in
     absurd (omega (arith, out, at))
-clock_is_not_inverted p side net inverted (Gated from enables out before (zero, below, is) on) at = cc
-clock_is_not_inverted p side net inverted (Gated from enables out before (suc zero, below, is) on) at =
+clock_is_not_inverted p side net inverted (Gated from enables out (zero, below, is) on) at = cc
+clock_is_not_inverted p side net inverted (Gated from enables out (suc zero, below, is) on) at =
     absurd (omega (arith, side.drives from enables out is, at))
-clock_is_not_inverted p side net inverted (Gated from enables out before (suc (suc k), below, is) on) at = absurd (omega (arith, below))
+clock_is_not_inverted p side net inverted (Gated from enables out (suc (suc k), below, is) on) at = absurd (omega (arith, below))
 
 -- net 1 is on it after an inversion
 inverted_clock_is_inverted : (p : Part) → IsSide p → (net : ℕ) (inverted : Bool) → OnTree (on_inverted p) net inverted → net ≡ 1 → inverted ≡ true
@@ -106,10 +107,10 @@ inverted_clock_is_inverted p side net inverted (Buffered from gates g before sta
     let (from_clock, one) = inverter_alone p side from gates stands in
     let even = clock_is_not_inverted p side from before on from_clock in
     let func : g.func ≡ NotForm (PinForm 0) = ap (λ (x : Gate). x.func) (inverter_drives gates g one there) in rw (even, func) refl
-inverted_clock_is_inverted p side net inverted (Gated from enables out before (zero, below, is) on) at = cc
-inverted_clock_is_inverted p side net inverted (Gated from enables out before (suc zero, below, is) on) at =
+inverted_clock_is_inverted p side net inverted (Gated from enables out (zero, below, is) on) at = cc
+inverted_clock_is_inverted p side net inverted (Gated from enables out (suc zero, below, is) on) at =
     absurd (omega (arith, side.drives from enables out is, at))
-inverted_clock_is_inverted p side net inverted (Gated from enables out before (suc (suc k), below, is) on) at = absurd (omega (arith, below))
+inverted_clock_is_inverted p side net inverted (Gated from enables out (suc (suc k), below, is) on) at = absurd (omega (arith, below))
 
 -- a register on net 1
 abbrev register : Part
@@ -136,6 +137,37 @@ register_on_the_inverted_clock_is_refused clocked =
 gate_on_the_inverted_clock_is_refused : ¬ IsClocked (on_inverted gate)
 gate_on_the_inverted_clock_is_refused clocked =
     let e = inverted_clock_is_inverted gate gate_is_a_side 1 false (clocked.clocks 1 1 gate refl refl) refl in cc
+
+-- that clock gate carries on no clock: net 3 is not on the tree
+behind_gate_on_the_inverted_clock : (net : ℕ) (inverted : Bool) → OnTree (on_inverted gate) net inverted → net ≡ 3 → ⊥
+behind_gate_on_the_inverted_clock net inverted (Root here has) at = only (rw at at has)
+  where
+    only : Contains {X = ℕ} (0 ∷ []) 3 → ⊥
+    only (zero, below, is) = omega (arith, is)
+    only (suc k, below, is) = omega (arith, below)
+behind_gate_on_the_inverted_clock net inverted (Buffered from gates g even stands there on) at =
+    let one = (inverter_alone gate gate_is_a_side from gates stands).1 in
+    let out : g.out ≡ 1 = ap (λ (x : Gate). x.out) (inverter_drives gates g one there) in omega (arith, out, at)
+behind_gate_on_the_inverted_clock net inverted (Gated from enables out (zero, below, is) on) at = cc
+behind_gate_on_the_inverted_clock net inverted (Gated from enables out (suc zero, below, is) on) at =
+    let here : from ≡ 1 = (let e : part.Gate 1 (2 ∷ []) 3 ≡ part.Gate from enables out = is in cc) in
+    let e = inverted_clock_is_inverted gate gate_is_a_side from false on here in cc
+behind_gate_on_the_inverted_clock net inverted (Gated from enables out (suc (suc k), below, is) on) at = omega (arith, below)
+
+net_behind_gate_on_the_inverted_clock_is_off_the_tree : (inverted : Bool) → ¬ OnTree (on_inverted gate) 3 inverted
+net_behind_gate_on_the_inverted_clock_is_off_the_tree inverted on = behind_gate_on_the_inverted_clock 3 inverted on refl
+
+-- behind it and one more inverter a net is below the clock after two inversions, and lost
+net_behind_both_is_even : (past_buffer (past_gate (past_buffer root_branch (NotForm (PinForm 0))) 3) (NotForm (PinForm 0))).odd ≡ false
+net_behind_both_is_even = refl
+
+net_behind_both_is_lost : (past_buffer (past_gate (past_buffer root_branch (NotForm (PinForm 0))) 3) (NotForm (PinForm 0))).lost ≡ true
+net_behind_both_is_lost = refl
+
+-- so of a register there and that clock gate it is the clock gate that is refused, wherever the register stands
+clock_gate_is_refused_alone : position (is_off_clock (true ∷ true ∷ false ∷ true ∷ true ∷ []) (false ∷ true ∷ false ∷ true ∷ false ∷ []))
+    (part.Flop 4 flop ∷ part.Gate 1 (2 ∷ []) 3 ∷ part.Flop 4 flop ∷ []) ≡ Some 1
+clock_gate_is_refused_alone = refl
 
 -- two clock gates: the outer one drives net 4 with the clock of net 0, the inner one net 3
 abbrev gates : Circuit

@@ -25,3 +25,4 @@ pub mod Attributes
 pub mod Names
 pub mod Detections
 pub mod EarlySides
+pub mod TwoClocks
