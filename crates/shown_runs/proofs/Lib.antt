@@ -2,3 +2,6 @@ pub mod Walking
 pub mod LateNets
 pub mod Rests
 pub mod Starting
+pub mod InputRows
+pub mod Toggles
+mod Worked

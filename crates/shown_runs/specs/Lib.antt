@@ -5,6 +5,7 @@ pub mod LateCycles
 pub mod Tables
 pub mod Watches
 pub mod Lates
+pub mod DontCares
 pub mod Shown
 pub mod Rows
 pub mod Lines

@@ -10,6 +10,8 @@ use Rattle.wave_signals.specs.declared.signals.Signal.{Signal}
 use Rattle.wave_signals.specs.Labels.{label, digits, value_at}
 use Rattle.shown_runs.specs.Rows.{◌⁀◌, bit_text}
 use Rattle.shown_runs.specs.declared.headings.Heading.{Heading}
+use Rattle.shown_runs.specs.declared.headings.Told.{Told}
+use Rattle.shown_runs.specs.declared.headings.Told.TheVariants.{Refuted, Undecided}
 use Rattle.shown_runs.specs.declared.lates.Late.{Late}
 use Rattle.shown_runs.specs.declared.runs.ShownRun.{ShownRun}
 
@@ -17,11 +19,15 @@ use Rattle.shown_runs.specs.declared.runs.ShownRun.{ShownRun}
 abbrev pub claim_text : Heading → List ℕ
 claim_text h = shown h.kind ⁀ codes " " ⁀ shown h.start ⁀ codes " -> " ⁀ shown h.end
 
--- the pair, its exception, what is claimed, and where it is refuted
+abbrev pub told_text : Told → List ℕ
+told_text Refuted = codes "refuted"
+told_text Undecided = codes "undecided"
+
+-- the pair, its exception, what is claimed, what is told of it, and why
 unfoldable pub pair_text : Heading → List ℕ
 pair_text h =
     codes "pair " ⁀ decimal h.number ⁀ codes " command " ⁀ decimal h.command ⁀ codes " line " ⁀ decimal h.line ⁀ codes " " ⁀ claim_text h
-    ⁀ codes " refuted " ⁀ shown h.why
+    ⁀ codes " " ⁀ told_text h.told ⁀ codes " " ⁀ shown h.why
 
 -- where the start changes, and which capture is judged
 unfoldable pub change_text : ShownRun → List ℕ

@@ -1,6 +1,7 @@
 -- The text of a run that violates the claim of a pair.
 use Rattle.std.specs.Prelude.{◌≡◌, ℕ, List, [], ◌∷◌, ◌++◌, flat_map}
 use Rattle.net_model.specs.declared.claims.Claim.{Claim}
+use Rattle.net_model.specs.declared.cycles.Stimulus.{Stimulus}
 use Rattle.linked_types.specs.declared.names.Linked.{Linked}
 use Rattle.witness_replay.specs.StimulusTexts.{line_of}
 use Rattle.run_views.specs.declared.outcomes.Violation.{Violation}
@@ -26,8 +27,8 @@ show_lines h s = head_lines h s ++ (table_lines h s ++ (state_lines s.regs ++ ca
 abbrev pub show_text : Heading → ShownRun → List ℕ
 show_text h s = flat_map line_of (show_lines h s)
 
--- the text of what the run has
-pub record IsShowText (h : Heading) (l : Linked) (claim : Claim) (v : Violation) (text : List ℕ) : Type 0 where
+-- the text of what the run of the stimulus has
+pub record IsShowText (h : Heading) (l : Linked) (claim : Claim) (stimulus : Stimulus) (v : Violation) (text : List ℕ) : Type 0 where
   pub values : ShownRun
-  pub are_shown : IsShown l claim v values
+  pub are_shown : IsShown l claim stimulus v values
   pub is_text : text ≡ show_text h values

@@ -6,8 +6,16 @@ use crate::runs::ShownRun;
 use sdcv_base::Name;
 use std::alloc::{AllocError, Global};
 
-/// A refuted pair by its number and its exception, which has a number and a line: what is claimed of it, its start and its
-/// end, and where it is refuted (`offset 0`).
+/// What is told of a pair whose claim a run violates.
+#[derive(Clone, Copy)]
+pub enum Told {
+    Refuted,
+    /// The violation may rest on what is free.
+    Undecided,
+}
+
+/// A pair by its number and its exception, which has a number and a line: what is claimed of it, its start and its end, what is
+/// told of it, and why (`offset 0`, or of an undecided one `free 0`).
 #[derive(Drop)]
 pub struct Heading {
     pub number: u64,
@@ -16,7 +24,17 @@ pub struct Heading {
     pub kind: Name,
     pub start: Name,
     pub end: Name,
+    pub told: Told,
     pub why: Name,
+}
+
+fn told_text(told: Told) -> &'static str
+    ensures { result.now ≡ spec.told_text told }
+{
+    match told {
+        Told::Refuted => "refuted",
+        Told::Undecided => "undecided",
+    }
 }
 
 fn claim_text(alloc: Global, heading: &Heading) -> Result<String, AllocError>
@@ -37,8 +55,9 @@ pub(crate) fn pair_text(alloc: Global, heading: &Heading) -> Result<String, Allo
     let command = heading.command;
     let line = heading.line;
     let claim = claim_text(alloc, heading)?;
+    let told = told_text(heading.told);
     let why = &heading.why;
-    format!(in alloc; "pair {number} command {command} line {line} {claim} refuted {why}")
+    format!(in alloc; "pair {number} command {command} line {line} {claim} {told} {why}")
 }
 
 /// The line of the change and of the capture that is judged.

@@ -11,6 +11,7 @@
 #![tactic(auto)]
 
 mod captures;
+mod dont_cares;
 mod headings;
 mod late_cycles;
 mod late_layers;
@@ -26,5 +27,5 @@ mod states;
 mod tables;
 mod watches;
 
-pub use headings::Heading;
+pub use headings::{Heading, Told};
 pub use shows::show;

@@ -1,17 +1,17 @@
 //! The table of a run.
-ghost use Rattle.std.specs.Prelude.{◌≡◌, ◌++◌, IfOk, OnOk, map, string_bytes};
+ghost use Rattle.std.specs.Prelude.{◌≡◌, ◌+◌, ◌++◌, IfOk, OnOk, map, string_bytes};
 ghost use Rattle.std.specs.List.{range_with_len};
 ghost use Rattle.std.specs.Fmt.{decimal};
-ghost use Rattle.wave_signals.specs.Labels.{digits};
 ghost use Rattle.shown_runs.specs.Rows as spec;
 
+use crate::dont_cares::is_marked;
 use crate::headings::Heading;
 use crate::pieces::{bit_text, label_text};
 use crate::runs::ShownRun;
 use crate::tables::TableRow;
 use sdcv_base::{Name, Seq};
 use std::alloc::{AllocError, Global};
-use wave_signals::{Signal, push_digits};
+use wave_signals::{Signal, digit_at};
 
 fn name_of(text: String) -> Name
     ensures { result ≡ string_bytes text }
@@ -44,30 +44,76 @@ fn number_row(alloc: Global, cycles: usize) -> Result<TableRow, AllocError>
     })
 }
 
-fn signal_cell(alloc: Global, signal: &Signal, cycle: usize) -> Result<Name, AllocError>
-    ensures { IfOk result (λ cell. cell ≡ digits signal.now cycle) }
+/// The sum of two numbers. One that has no place in memory is want of memory.
+fn plus(first: usize, more: usize) -> Result<usize, AllocError>
+    ensures { IfOk result (λ sum. sum ≡ first + more) }
+{
+    first.checked_add(more).ok_or(AllocError)
+}
+
+/// Appends the digit of an input's bit in a cycle, or an `x` where that bit is a don't-care.
+fn push_digit(
+    text: &mut Vec<u8>,
+    marks: &Seq<Seq<bool>>,
+    cycle: usize,
+    input: usize,
+    values: &Seq<bool>,
+) -> Result<(), AllocError>
+    ensures { OnOk result (text.new.items ≡ text.old.items ++ spec.input_digit marks.now cycle input values.now) }
+{
+    if is_marked(marks, cycle, input) {
+        Ok(text.push(b'x')?)
+    } else {
+        Ok(text.push(digit_at(values, cycle))?)
+    }
+}
+
+fn input_cell(
+    alloc: Global,
+    marks: &Seq<Seq<bool>>,
+    input: usize,
+    signal: &Signal,
+    cycle: usize,
+) -> Result<Name, AllocError>
+    ensures { IfOk result (λ cell. cell ≡ spec.input_digits marks.now input signal.now cycle) }
 {
     let mut text = Vec::new(alloc);
-    push_digits(&mut text, signal, cycle)?;
+    for place in 0..signal.values.len() {
+        let number = plus(input, place)?;
+        let values = signal.values.item(place);
+        push_digit(&mut text, marks, cycle, number, values)?;
+    }
     Ok(Name::from_vec(text))
 }
 
-fn signal_cells(alloc: Global, signal: &Signal, cycles: usize) -> Result<Seq<Name>, AllocError>
-    ensures { IfOk result (λ cells. cells ≡ map (digits signal.now) (range_with_len 0 cycles)) }
+fn input_cells(
+    alloc: Global,
+    marks: &Seq<Seq<bool>>,
+    cycles: usize,
+    input: usize,
+    signal: &Signal,
+) -> Result<Seq<Name>, AllocError>
+    ensures { IfOk result (λ cells. cells ≡ map (spec.input_digits marks.now input signal.now) (range_with_len 0 cycles)) }
 {
     let mut cells = Seq::new(alloc);
     for cycle in 0..cycles {
-        cells.push(signal_cell(alloc, signal, cycle)?)?;
+        cells.push(input_cell(alloc, marks, input, signal, cycle)?)?;
     }
     Ok(cells)
 }
 
-fn signal_row(alloc: Global, cycles: usize, signal: &Signal) -> Result<TableRow, AllocError>
-    ensures { IfOk result (λ row. row ≡ spec.signal_row cycles signal.now) }
+fn input_row(
+    alloc: Global,
+    marks: &Seq<Seq<bool>>,
+    cycles: usize,
+    input: usize,
+    signal: &Signal,
+) -> Result<TableRow, AllocError>
+    ensures { IfOk result (λ row. row ≡ spec.input_row marks.now cycles input signal.now) }
 {
     Ok(TableRow {
         label: name_of(label_text(alloc, signal)?),
-        cells: signal_cells(alloc, signal, cycles)?,
+        cells: input_cells(alloc, marks, cycles, input, signal)?,
     })
 }
 
@@ -104,17 +150,20 @@ fn end_label(alloc: Global, heading: &Heading) -> Result<String, AllocError>
     format!(in alloc; "end {end}")
 }
 
-/// Adds the rows of signals.
-fn add_signals(
+/// Adds the rows of the inputs.
+fn add_inputs(
     alloc: Global,
+    marks: &Seq<Seq<bool>>,
     cycles: usize,
     signals: &[Signal],
     rows: &mut Seq<TableRow>,
 ) -> Result<(), AllocError>
-    ensures { OnOk result (rows.new ≡ rows.old ++ map (spec.signal_row cycles) signals.now) }
+    ensures { OnOk result (rows.new ≡ rows.old ++ spec.input_rows marks.now cycles 0 signals.now) }
 {
+    let mut input: usize = 0;
     for signal in signals {
-        rows.push(signal_row(alloc, cycles, signal)?)?;
+        rows.push(input_row(alloc, marks, cycles, input, signal)?)?;
+        input = plus(input, signal.values.len())?;
     }
     Ok(())
 }
@@ -161,7 +210,8 @@ pub(crate) fn rows_of(
 {
     let mut rows = Seq::new(alloc);
     rows.push(number_row(alloc, shown.cycles)?)?;
-    add_signals(alloc, shown.cycles, shown.inputs.as_slice(), &mut rows)?;
+    let inputs = shown.inputs.as_slice();
+    add_inputs(alloc, &shown.dont_cares, shown.cycles, inputs, &mut rows)?;
     add_ends(alloc, heading, shown, &mut rows)?;
     Ok(rows)
 }

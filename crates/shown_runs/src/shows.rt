@@ -2,6 +2,7 @@
 ghost use Rattle.std.specs.Prelude.{◌≡◌, ◌++◌, IfOk, OnOk};
 ghost use Rattle.net_model.specs.Netlist.{IsSound};
 ghost use Rattle.net_model.specs.Fits.{Fits};
+ghost use Rattle.net_model.specs.Stimuli.{IsLawful};
 ghost use Rattle.run_views.specs.Violations.{IsShowable};
 ghost use Rattle.shown_runs.specs.Shows as spec;
 ghost use Rattle.shown_runs.specs.Shows.{IsShowText};
@@ -14,7 +15,7 @@ use crate::runs::{ShownRun, shown_run};
 use crate::states::add_states;
 use crate::tables::add_table;
 use linked_types::Linked;
-use net_model::Claim;
+use net_model::{Claim, Stimulus};
 use run_views::Violation;
 use sdcv_base::{Name, Seq};
 use std::alloc::{AllocError, Global};
@@ -58,24 +59,26 @@ fn lines_of(alloc: Global, heading: &Heading, shown: &ShownRun) -> Result<Seq<Na
     Ok(lines)
 }
 
-/// The text of a run that violates the claim of a pair: the pair, where its start changes and which capture is judged; by
-/// cycles the inputs, the start, the end where it is a register, and the captures; the registers that are not 0 at first; the
-/// captures of the judged cycle and of the one before it, what would be captured with the start's old value, and where hazards
-/// count while the start settles; and a path that carries that value, where one is told. Of a claim of the early side the start's
-/// new value is tried, and the cycle before the judged one says nothing.
+/// The text of the run of a stimulus that violates the claim of a pair: the pair, where its start changes and which capture is
+/// judged; by cycles the inputs, with an `x` for each don't-care, the start, the end where it is a register, and the captures; the
+/// registers that are not 0 at first; the captures of the judged cycle and of the one before it, what would be captured with the
+/// start's old value, and where hazards count while the start settles; and a path that carries that value, where one is told. Of a
+/// claim of the early side the start's new value is tried, and the cycle before the judged one says nothing.
 pub fn show(
     alloc: Global,
     heading: &Heading,
     linked: &Linked,
     claim: &Claim,
+    stimulus: &Stimulus,
     violation: &Violation,
 ) -> Result<Vec<u8>, AllocError>
     requires sound { IsSound linked.now.design }
     requires fits { Fits linked.now.design claim.now }
+    requires lawful { IsLawful linked.now.design stimulus.now }
     requires showable { IsShowable linked.now.design violation.now }
-    ensures { IfOk result (λ text. IsShowText heading.now linked.now claim.now violation.now text.items) }
+    ensures { IfOk result (λ text. IsShowText heading.now linked.now claim.now stimulus.now violation.now text.items) }
 {
-    let shown = shown_run(alloc, linked, claim, violation)?;
+    let shown = shown_run(alloc, linked, claim, stimulus, violation)?;
     let lines = lines_of(alloc, heading, &shown)?;
     joined(alloc, lines.as_slice())
 }
