@@ -3,3 +3,4 @@ mod Decimals
 mod Parts
 mod ListSteps
 mod Worked
+mod WorkedDays

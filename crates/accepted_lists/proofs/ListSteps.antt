@@ -6,31 +6,31 @@ use Rattle.std.proofs.lemmas.List.{append-nil, append_assoc}
 use Rattle.report_rows.specs.Words.{when}
 use Rattle.accepted_lists.specs.Entries.{before_remark, word_of}
 use Rattle.accepted_lists.specs.Lists.{with_line, with_lines, then_lines}
-use Rattle.accepted_lists.specs.declared.lists.AcceptedList.{AcceptedList}
+use Rattle.accepted_lists.specs.declared.lists.ListLine.{ListLine}
 use Rattle.accepted_lists.specs.declared.lists.ListFault.TheVariants.{Line}
 
-with_lines-cons : (number : ℕ) (list : AcceptedList) (line : List ℕ) (others : List (List ℕ))
-    → with_lines number list (line ∷ others) ≡ then_lines number (with_line list line) (λ more. with_lines (number + 1) more others)
+with_lines-cons : (number : ℕ) (lines : List ListLine) (line : List ℕ) (others : List (List ℕ))
+    → with_lines number lines (line ∷ others) ≡ then_lines number (with_line number lines line) (λ more. with_lines (number + 1) more others)
 unfolding with_lines
-with_lines-cons number list line others = refl
+with_lines-cons number lines line others = refl
 
-pub with_lines-nil : (number : ℕ) (list : AcceptedList) → with_lines number list [] ≡ Ok list
+pub with_lines-nil : (number : ℕ) (lines : List ListLine) → with_lines number lines [] ≡ Ok lines
 unfolding with_lines
-with_lines-nil number list = refl
+with_lines-nil number lines = refl
 
 -- a line that fits is one more
-pub lines_more : (number : ℕ) (list new : AcceptedList) (line : List ℕ) (others : List (List ℕ)) (fits : Bool)
-    → when fits new ≡ with_line list line → fits ≡ true → with_lines number list (line ∷ others) ≡ with_lines (number + 1) new others
-lines_more number list new line others fits step fit =
-    with_lines-cons number list line others
+pub lines_more : (number : ℕ) (lines new : List ListLine) (line : List ℕ) (others : List (List ℕ)) (fits : Bool)
+    → when fits new ≡ with_line number lines line → fits ≡ true → with_lines number lines (line ∷ others) ≡ with_lines (number + 1) new others
+lines_more number lines new line others fits step fit =
+    with_lines-cons number lines line others
     ∙ ap (λ o. then_lines number o (λ more. with_lines (number + 1) more others)) (sym step)
     ∙ ap (λ b. then_lines number (when b new) (λ more. with_lines (number + 1) more others)) fit
 
 -- one that does not is the fault
-pub lines_stuck : (number : ℕ) (list new : AcceptedList) (line : List ℕ) (others : List (List ℕ)) (fits : Bool)
-    → when fits new ≡ with_line list line → fits ≡ false → with_lines number list (line ∷ others) ≡ Err (Line number)
-lines_stuck number list new line others fits step never =
-    with_lines-cons number list line others
+pub lines_stuck : (number : ℕ) (lines new : List ListLine) (line : List ℕ) (others : List (List ℕ)) (fits : Bool)
+    → when fits new ≡ with_line number lines line → fits ≡ false → with_lines number lines (line ∷ others) ≡ Err (Line number)
+lines_stuck number lines new line others fits step never =
+    with_lines-cons number lines line others
     ∙ ap (λ o. then_lines number o (λ more. with_lines (number + 1) more others)) (sym step)
     ∙ ap (λ b. then_lines number (when b new) (λ more. with_lines (number + 1) more others)) never
 

@@ -38,8 +38,8 @@ fn is_lag(wanted: Option<u64>, lag: u64) -> bool
     }
 }
 
-// Whether the report was made with the hazards and the lag that the entry asks for.
-fn is_of_mode(head: &Head, entry: &PairEntry) -> bool
+/// Whether the report was made with the hazards and the lag that the entry asks for.
+pub(crate) fn is_of_mode(head: &Head, entry: &PairEntry) -> bool
     ensures { result ≡ spec.is_of_mode head.now entry.now }
 {
     (!entry.hazard || head.hazard) && is_lag(entry.lag, head.lag)
@@ -75,8 +75,8 @@ fn added(head: &Head, entry: &PairEntry, other: &PairEntry) -> u64
     }
 }
 
-// How many pairs are left of so many, without those that the entries like this one may fit.
-fn left_of(head: &Head, entries: &[PairEntry], entry: &PairEntry, pairs: u64) -> u64
+/// How many pairs are left of so many, without those that the entries like this one may fit.
+pub(crate) fn left_of(head: &Head, entries: &[PairEntry], entry: &PairEntry, pairs: u64) -> u64
     ensures { result ≡ pairs - spec.granted head.now entries.now entry.now }
 {
     let mut left = pairs;
@@ -86,8 +86,8 @@ fn left_of(head: &Head, entries: &[PairEntry], entry: &PairEntry, pairs: u64) ->
     left
 }
 
-// How many pairs an entry fits.
-fn fitted(rows: &[PairRow], entry: &PairEntry) -> u64
+/// How many pairs an entry fits.
+pub(crate) fn fitted(rows: &[PairRow], entry: &PairEntry) -> u64
     ensures { result ≡ spec.fitted rows.now entry.now }
 {
     rows.iter().filter(|row| fits(entry, row)).count() as u64
@@ -113,8 +113,8 @@ fn is_live(report: &Report, entries: &[PairEntry], entry: &PairEntry) -> bool
     is_of_mode(&report.head, entry) && is_within(report, entries, entry)
 }
 
-// An equal entry.
-fn copy_entry(alloc: Global, entry: &PairEntry) -> Result<PairEntry, AllocError>
+/// An equal entry.
+pub(crate) fn copy_entry(alloc: Global, entry: &PairEntry) -> Result<PairEntry, AllocError>
     ensures { IfOk result (λ e. e ≡ entry.now) }
 {
     Ok(PairEntry {

@@ -44,7 +44,8 @@ pub(crate) fn number_at(words: &[&[u8]], place: usize) -> Option<u64>
     number_in(word_at(words, place))
 }
 
-fn number_in(word: &[u8]) -> Option<u64>
+/// The number that a word is.
+pub(crate) fn number_in(word: &[u8]) -> Option<u64>
     ensures { result ≡ spec.number_in word.now }
 {
     let value = read_decimal(word, u64::MAX)?;

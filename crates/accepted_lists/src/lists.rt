@@ -1,10 +1,33 @@
-//! An accepted list, and why a text is none.
+//! The lines of an accepted list, what is accepted on a day, and why a text is no list.
+use crate::days::Day;
 use crate::pair_entries::PairEntry;
 use sdcv_base::{Name, Seq};
 use std::alloc::{AllocError, AllocFailed};
 use thiserror::Error;
 
-/// What is accepted: the entries on pairs, and the notes by their words.
+/// What a line accepts: the pairs that an entry fits, or the notes of these words.
+#[derive(Drop)]
+pub enum Entry {
+    OnPairs(PairEntry),
+    OnNote(Name),
+}
+
+/// A line of a list: its number, from 1, and what it accepts, up to and with a last day where it says so.
+#[derive(Drop)]
+pub struct ListLine {
+    pub number: u64,
+    pub entry: Entry,
+    pub until: Option<Day>,
+}
+
+/// The last day of a line.
+#[derive(Clone, Copy)]
+pub struct LastDay {
+    pub line: u64,
+    pub last: Day,
+}
+
+/// What is accepted on a day: the entries on pairs, and the notes by their words.
 #[derive(Drop)]
 pub struct AcceptedList {
     pub pairs: Seq<PairEntry>,

@@ -41,8 +41,8 @@ pub(crate) fn is_note(words: &[&[u8]]) -> bool
     says_note(rest_from(words, place_length(words)))
 }
 
-// The words of a note without its place.
-fn said_in(alloc: Global, text: &[u8]) -> Result<Name, AllocError>
+/// The words of a note without its place.
+pub fn said_in(alloc: Global, text: &[u8]) -> Result<Name, AllocError>
     ensures { IfOk result (λ said. said ≡ said_in text.now) }
 {
     let words = cut(alloc, text)?;

@@ -3,3 +3,4 @@ mod GroupSteps
 mod Worked
 mod Ranking
 mod WorkedDifferences
+mod WorkedRemarks

@@ -2,6 +2,7 @@ pub mod Counts
 pub mod Stars
 pub mod Groups
 pub mod Findings
+pub mod Remarks
 pub mod Csv
 pub mod Firsts
 pub mod Marks

@@ -1,7 +1,0 @@
-use Rattle.std.proofs.Common.{◌≡◌, ◌+◌, map, drop}
-use Rattle.accepted_lists.specs.Lists.{with_lines}
-use Rattle.accepted_lists.proofs.reads.add_lines.Given as goal
-
-abbrev pub invariant-loop-place : goal.invariant-loop-place
-invariant-loop-place l =
-    with_lines 1 l.fn.list (map (λ t. t.now) l.lines) ≡ with_lines (l.place + 1) l.list (map (λ t. t.now) (drop l.place l.lines))
