@@ -3,7 +3,7 @@ use real_host::RealHost;
 use sdcv_base::{Host, HostFault, ReadFault};
 use std::alloc::{AllocError, Global};
 use std::fs::{File, Permissions};
-use std::io::{Read, Sink};
+use std::io::{ErrorKind, Read, Sink, Write};
 use std::os::fd::AsRawFd;
 use std::os::unix::fs::{PermissionsExt, symlink};
 use std::process::Abort;
@@ -147,6 +147,30 @@ fn a_failed_print_is_told(rt: HostRuntime) -> Result<(), Fail> {
     drop(host);
     assert!(rt; told.as_slice() == b"sdcv: standard output: can't be written\n".as_slice());
     Ok(())
+}
+
+/// The end of a pipe whose reader is gone.
+#[derive(Drop)]
+struct ClosedPipe;
+
+impl Write for ClosedPipe {
+    fn write(&mut self, _buf: &[u8]) -> io::Result<usize> {
+        Err(io::Error::from(ErrorKind::BrokenPipe))
+    }
+
+    fn flush(&mut self) -> io::Result<()> {
+        Ok(())
+    }
+}
+
+#[test]
+fn nothing_is_told_of_a_closed_pipe(rt: HostRuntime) {
+    let alloc = rt.alloc();
+    let mut told = Vec::new(alloc);
+    let mut host = RealHost::new(alloc, "sdcv", &rt, ClosedPipe, &mut told);
+    assert_eq!(rt; host.print(b"a line\n"), Err(HostFault::Failed));
+    drop(host);
+    assert!(rt; told.is_empty());
 }
 
 // Whether it is saved by a host that has read a file, and what is told of it.

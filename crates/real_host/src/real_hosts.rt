@@ -10,7 +10,7 @@ use crate::tellings::Failure;
 use sdcv_base::{Host, HostFault, ReadFault};
 use std::alloc::Global;
 use std::fs::File;
-use std::io::Write;
+use std::io::{ErrorKind, Write};
 use std::rt::Files;
 
 /// A host that tells only how often it failed. What it tells on standard error begins with the program's name.
@@ -41,15 +41,34 @@ impl<F: Files, W: Write, E: Write> RealHost<F, W, E> {
         }
     }
 
-    // A call failed: it is counted, where the count is not at its last value, and told. A line that can't be written is
-    // dropped.
-    fn fail(&mut self, failure: Failure<'_>)
+    // A call failed: it is counted, where the count is not at its last value.
+    fn count(&mut self)
         ensures count { CountsOne self.old.faults self.new.faults }
         ensures out { self.new.out ≡ self.old.out }
     {
         self.faults = self.faults.saturating_add(1);
+    }
+
+    // A call failed: it is counted and told. A line that can't be written is dropped.
+    fn fail(&mut self, failure: Failure<'_>)
+        ensures count { CountsOne self.old.faults self.new.faults }
+        ensures out { self.new.out ≡ self.old.out }
+    {
+        self.count();
         let program = self.program;
         let _ = writeln!(self.err, "{program}: {failure}");
+    }
+
+    // A print failed. Where the reader of a pipe is gone, as after `| head`, nothing is told.
+    fn fail_print(&mut self, kind: ErrorKind)
+        ensures count { CountsOne self.old.faults self.new.faults }
+        ensures out { self.new.out ≡ self.old.out }
+    {
+        if kind == ErrorKind::BrokenPipe {
+            self.count();
+        } else {
+            self.fail(Failure::Print);
+        }
     }
 }
 
@@ -104,8 +123,8 @@ impl<F: Files, W: Write, E: Write> Host for RealHost<F, W, E> {
     {
         match write_piece(&mut self.out, piece) {
             Ok(()) => Ok(()),
-            Err(_) => {
-                self.fail(Failure::Print);
+            Err(e) => {
+                self.fail_print(e.kind());
                 Err(HostFault::Failed)
             }
         }
