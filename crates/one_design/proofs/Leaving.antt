@@ -19,8 +19,8 @@ use Rattle.run_options.specs.declared.netlists.NetlistForm.{NetlistForm}
 use Rattle.run_options.specs.declared.netlists.NetlistForm.TheVariants.{Narrow, Wide}
 use Rattle.cut_source.specs.Cuttable.{Plan, plan, module_left}
 use Rattle.cut_source.specs.Items.{items_cut}
-use Rattle.cut_source.specs.Sources.{AreNamesBelow, IsBelow, IsCutCause, IsCutOf, IsTopOf, named_modules}
-use Rattle.design_stages.specs.Designs.{HasCuts, whole}
+use Rattle.cut_source.specs.Sources.{AreNamesBelow, IsCutCause, IsCutOf, IsTopOf, named_modules}
+use Rattle.design_stages.specs.Designs.{HasCuts}
 use Rattle.one_design.specs.Answers.{IsOneAnswer}
 
 -- tests that agree on what a list has keep the same of it
