@@ -6,6 +6,8 @@
 #![tactic(auto)]
 
 #[cfg(test)]
+mod accepted_gates;
+#[cfg(test)]
 mod answers;
 #[cfg(test)]
 mod builders;

@@ -1,25 +1,24 @@
-//! What each command reads, and what it prints or saves. A command answers its status.
+//! What each command reads, and what it prints or saves.
 ghost use Rattle.std.specs.Prelude.{◌≤◌};
 
 use crate::commands::{Asked, DesignWords, RunWords};
-use crate::ends::{Ended, or_ended};
+use crate::ends::{Answer, Ended, or_ended, quiet};
+use crate::gates::gate_answer;
 use crate::reads::{AskedForms, RunTexts, bytes_of, forms_of, run_texts, texts_of};
 use run_options::Reset;
 use sdcv_base::Host;
 use std::alloc::Global;
-use view_commands::{
-    Difference, Gate, NamedText, Stop, bits, diff, gate, gate_with, groups, reset_of, shown, waved,
-};
+use view_commands::{Difference, NamedText, Stop, bits, diff, groups, reset_of, shown, waved};
 
 /// Does what the words ask for.
-pub fn answer<H: Host>(alloc: Global, host: &mut H, asked: &Asked<'_>) -> Result<u8, Ended> {
+pub fn answer<H: Host>(alloc: Global, host: &mut H, asked: &Asked<'_>) -> Result<Answer, Ended> {
     match *asked {
-        Asked::Groups { report, csv } => print_groups(alloc, host, report, csv),
-        Asked::Gate { report, accepted } => print_gate(alloc, host, report, accepted),
-        Asked::Diff { old, new } => print_diff(alloc, host, old, new),
-        Asked::Bits(words) => print_bits(alloc, host, &words),
-        Asked::Show(words) => tell_run(alloc, host, &words, None),
-        Asked::Wave { run, out } => tell_run(alloc, host, &run, Some(out)),
+        Asked::Groups { report, csv } => quiet(alloc, print_groups(alloc, host, report, csv)),
+        Asked::Gate(words) => gate_answer(alloc, host, &words),
+        Asked::Diff { old, new } => quiet(alloc, print_diff(alloc, host, old, new)),
+        Asked::Bits(words) => quiet(alloc, print_bits(alloc, host, &words)),
+        Asked::Show(words) => quiet(alloc, tell_run(alloc, host, &words, None)),
+        Asked::Wave { run, out } => quiet(alloc, tell_run(alloc, host, &run, Some(out))),
     }
 }
 
@@ -51,56 +50,6 @@ fn saved<H: Host>(host: &mut H, out: &str, told: Result<Vec<u8>, Stop>) -> Resul
 fn print_groups<H: Host>(alloc: Global, host: &mut H, name: &str, csv: bool) -> Result<u8, Ended> {
     let report = bytes_of(alloc, host, name)?;
     printed(host, groups(alloc, name, &report, csv))
-}
-
-// What of a report stops a build.
-fn gate_of<H: Host>(alloc: Global, host: &mut H, name: &str) -> Result<Gate, Ended> {
-    let report = bytes_of(alloc, host, name)?;
-    or_ended(gate(alloc, name, &report))
-}
-
-// What of a report stops a build beside what the list in the file of that name accepts.
-fn open_gate_of<H: Host>(
-    alloc: Global,
-    host: &mut H,
-    name: &str,
-    accepted: &str,
-) -> Result<Gate, Ended> {
-    let report = bytes_of(alloc, host, name)?;
-    let list = bytes_of(alloc, host, accepted)?;
-    let report = NamedText {
-        name,
-        text: &report,
-    };
-    let list = NamedText {
-        name: accepted,
-        text: &list,
-    };
-    or_ended(gate_with(alloc, &report, &list))
-}
-
-fn any_gate_of<H: Host>(
-    alloc: Global,
-    host: &mut H,
-    name: &str,
-    accepted: Option<&str>,
-) -> Result<Gate, Ended> {
-    match accepted {
-        None => gate_of(alloc, host, name),
-        Some(accepted) => open_gate_of(alloc, host, name, accepted),
-    }
-}
-
-// Prints what stops a build; the status is 0 where nothing does, and else 1.
-fn print_gate<H: Host>(
-    alloc: Global,
-    host: &mut H,
-    name: &str,
-    accepted: Option<&str>,
-) -> Result<u8, Ended> {
-    let gate = any_gate_of(alloc, host, name, accepted)?;
-    host.print(&gate.text)?;
-    Ok(if gate.passes { 0 } else { 1 })
 }
 
 fn diff_of<H: Host>(
@@ -149,7 +98,7 @@ fn print_bits_with<H: Host>(
     printed(host, bits(alloc, &texts, reset))
 }
 
-// Tells the run of a refuted pair: prints it, or saves it as a value change dump under the name.
+// Tells the run that violates a pair: prints it, or saves it as a value change dump under the name.
 fn tell_run<H: Host>(
     alloc: Global,
     host: &mut H,

@@ -30,27 +30,23 @@ pub struct RunWords<'a> {
     pub pair: PairWords<'a>,
 }
 
+/// A report, the file of an accepted list, and the word of the day.
+#[derive(Clone, Copy)]
+pub struct GateWords<'a> {
+    pub report: &'a str,
+    pub accepted: Option<&'a str>,
+    pub today: Option<&'a str>,
+}
+
 /// What the words ask for.
 #[derive(Clone, Copy)]
 pub enum Asked<'a> {
-    Groups {
-        report: &'a str,
-        csv: bool,
-    },
-    Gate {
-        report: &'a str,
-        accepted: Option<&'a str>,
-    },
-    Diff {
-        old: &'a str,
-        new: &'a str,
-    },
+    Groups { report: &'a str, csv: bool },
+    Gate(GateWords<'a>),
+    Diff { old: &'a str, new: &'a str },
     Bits(DesignWords<'a>),
     Show(RunWords<'a>),
-    Wave {
-        run: RunWords<'a>,
-        out: &'a str,
-    },
+    Wave { run: RunWords<'a>, out: &'a str },
 }
 
 /// How an argument stands in the words.
@@ -192,7 +188,7 @@ const PAIR: ArgRow = ArgRow {
     form: Form::Place,
     value: "PAIR",
     rule: Rule::Number(1, u64::MAX),
-    sentence: "The number of a refuted pair",
+    sentence: "The number of a pair that is refuted or undecided free",
 };
 
 const ACCEPTED: ArgRow = ArgRow {
@@ -201,6 +197,14 @@ const ACCEPTED: ArgRow = ArgRow {
     value: "FILE",
     rule: Rule::Text,
     sentence: "Leave out the pairs and the notes that the list in FILE accepts",
+};
+
+const TODAY: ArgRow = ArgRow {
+    id: "today",
+    form: Form::Valued,
+    value: "DAY",
+    rule: Rule::Text,
+    sentence: "Pass over the entries of the list whose last day is before DAY, as 2027-06-30",
 };
 
 const CSV: ArgRow = ArgRow {
@@ -228,7 +232,7 @@ const ROWS: [CommandRow; 6] = [
     CommandRow {
         name: "gate",
         sentence: "Print what of a report stops a build; the status is 0 where nothing does, else 1",
-        args: &[REPORT, ACCEPTED],
+        args: &[REPORT, ACCEPTED, TODAY],
     },
     CommandRow {
         name: "diff",
@@ -242,7 +246,7 @@ const ROWS: [CommandRow; 6] = [
     },
     CommandRow {
         name: "show",
-        sentence: "Print the run of a refuted pair by cycles, and what of it is late",
+        sentence: "Print the run that violates a pair by cycles, and what of it is late",
         args: &[
             V,
             L,
@@ -259,7 +263,7 @@ const ROWS: [CommandRow; 6] = [
     },
     CommandRow {
         name: "wave",
-        sentence: "Save the run of a refuted pair as a value change dump",
+        sentence: "Save the run that violates a pair as a value change dump",
         args: &[
             V,
             L,
@@ -313,7 +317,7 @@ fn bare<'a>(alloc: Global) -> Result<Command<'a>, AllocError> {
     Command::new(alloc, "sdcv_view")
         .no_binary_name(true)
         .version(VERSION)
-        .about("Show a report of sdcv, the bits of a stimulus, and the run of a refuted pair")
+        .about("Show a report of sdcv, the bits of a stimulus, and the run that violates a pair")
         .arg_required_else_help(true)
         .subcommand_required(true)
         .bin_name("sdcv_view")
@@ -376,10 +380,11 @@ fn asked_of<'a>(name: &str, matches: &ArgMatches<'a>) -> Asked<'a> {
             run: run_of(matches),
             out: given(matches, "out"),
         },
-        _ => Asked::Gate {
+        _ => Asked::Gate(GateWords {
             report: given(matches, "REPORT"),
             accepted: matches.get_str("accepted"),
-        },
+            today: matches.get_str("today"),
+        }),
     }
 }
 
@@ -387,10 +392,11 @@ fn asked_of<'a>(name: &str, matches: &ArgMatches<'a>) -> Asked<'a> {
 fn asked_in<'a>(matches: &ArgMatches<'a>) -> Asked<'a> {
     match matches.subcommand() {
         Some((name, inner)) => asked_of(name, inner),
-        None => Asked::Gate {
+        None => Asked::Gate(GateWords {
             report: "",
             accepted: None,
-        },
+            today: None,
+        }),
     }
 }
 

@@ -1,8 +1,23 @@
-//! Why a run has no answer.
+//! How a run ends, and why it has no answer.
 use design_stages::Refusal;
-use sdcv_base::HostFault;
-use std::alloc::AllocError;
+use sdcv_base::{HostFault, Seq};
+use std::alloc::{AllocError, Global};
 use view_commands::Stop;
+
+/// How a run ends that has an answer: with a status, and with lines that are told beside the answer.
+#[derive(Drop)]
+pub struct Answer {
+    pub status: u8,
+    pub remarks: Seq<String>,
+}
+
+/// The end of a run that tells nothing beside its answer.
+pub fn quiet(alloc: Global, status: Result<u8, Ended>) -> Result<Answer, Ended> {
+    Ok(Answer {
+        status: status?,
+        remarks: Seq::new(alloc),
+    })
+}
 
 /// Why a run has no answer.
 #[derive(Drop)]

@@ -1,7 +1,7 @@
 //! The program that shows a report of `sdcv` from other sides. It proves and refutes nothing.
 //!
 //! `groups` tells the pairs of a report by groups, `gate` what of it stops a build, `diff` how it differs from an older one, `bits`
-//! which bit of a stimulus is which register or input; `show` tells the run of a refuted pair by cycles, and `wave` saves it as a
+//! which bit of a stimulus is which register or input; `show` tells the run that violates a pair by cycles, and `wave` saves it as a
 //! waveform. Texts are read from the files of the system, and an answer goes to standard output or to the file that is named;
 //! everything else is told on standard error. The status is 0, 1 where something stops the build or differs, 2 where the words are no
 //! command, 3 where a text is refused, 5 where the host fails, 6 where memory is wanted, and 9 where a word is not UTF-8.
@@ -10,12 +10,15 @@
 mod answers;
 mod commands;
 mod ends;
+mod gates;
 mod reads;
+#[cfg(test)]
+mod tests;
 mod version;
 
 use crate::answers::answer;
 use crate::commands::asked_by;
-use crate::ends::Ended;
+use crate::ends::{Answer, Ended};
 use real_host::RealHost;
 use std::io::ErrorKind;
 use std::process::ExitCode;
@@ -51,12 +54,20 @@ fn ended(rt: &HostRuntime, why: Ended) -> ExitCode {
     }
 }
 
+// The end of a run that has an answer.
+fn answered(rt: &HostRuntime, answer: &Answer) -> ExitCode {
+    for remark in answer.remarks.as_slice() {
+        let _ = eprintln!(rt; "sdcv_view: {remark}");
+    }
+    ExitCode::from(answer.status)
+}
+
 // What the words ask for, done; or what clap tells of them.
 fn ran(rt: &HostRuntime, words: &[String]) -> ExitCode {
     let mut host = RealHost::new(rt.alloc(), "sdcv_view", rt, rt.stdout(), rt.stderr());
     match asked_by(rt.alloc(), words) {
         Ok(asked) => match answer(rt.alloc(), &mut host, &asked) {
-            Ok(status) => ExitCode::from(status),
+            Ok(answer) => answered(rt, &answer),
             Err(why) => ended(rt, why),
         },
         Err(error) => {

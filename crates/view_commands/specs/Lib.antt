@@ -1,4 +1,9 @@
-pub mod Differences
 pub mod Forms
 pub mod Runs
 pub mod Stops
+pub mod Resets
+pub mod Lines
+pub mod Reports
+pub mod Differences
+pub mod Gates
+pub mod Bits

@@ -1,4 +1,4 @@
--- A refuted pair of a report, and its run in a design.
+-- A pair of a report, and the run in a design that violates its claim.
 use Rattle.std.specs.Prelude.{◌≡◌, ◌<◌, Some, length, slice_get}
 use Rattle.net_model.specs.Netlist.{IsSound}
 use Rattle.net_model.specs.Fits.{Fits}
@@ -7,11 +7,11 @@ use Rattle.net_model.specs.declared.cycles.Stimulus.{Stimulus}
 use Rattle.run_options.specs.Judging.{CanJudge}
 use Rattle.run_views.specs.Violations.{IsShowable, IsViolation}
 use Rattle.design_stages.specs.declared.designs.Designed.{Designed}
-use Rattle.view_commands.specs.declared.pairs.RefutedPair.{RefutedPair}
+use Rattle.view_commands.specs.declared.pairs.ViolatedPair.{ViolatedPair}
 use Rattle.view_commands.specs.declared.runs.PairRun.{PairRun}
 
 -- a pair of the report, and a claim that can be judged
-pub record IsRefutedPair (p : RefutedPair) : Type 0 where
+pub record IsViolatedPair (p : ViolatedPair) : Type 0 where
   pub in_report : p.asked.place < length p.report.pairs
   pub judging : CanJudge p.asked.judging
 

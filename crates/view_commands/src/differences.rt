@@ -1,5 +1,5 @@
 //! How a report differs from an older one.
-ghost use Rattle.std.specs.Prelude.{◌≡◌, IfOk};
+ghost use Rattle.std.specs.Prelude.{◌≡◌, IfOk, IfErr};
 ghost use Rattle.report_groups.specs.Differences.{differences_text};
 ghost use Rattle.view_commands.specs.Differences as spec;
 
@@ -26,10 +26,12 @@ fn told_difference(alloc: Global, old: &Report, new: &Report) -> Result<Differen
     Ok(Difference { text, status })
 }
 
-/// How a report differs from an older one, in lines. The status is 0 where there is no line, and else 1.
+/// How a report differs from an older one, in lines. The status is 0 where there is no line, and else 1. A fault of the older one
+/// comes first.
 pub fn diff(alloc: Global, old: &NamedText<'_>, new: &NamedText<'_>) -> Result<Difference, Stop>
     ensures text { IfOk result (λ d. spec.IsDifference old.now.text.now new.now.text.now d.text.items) }
     ensures status { IfOk result (λ d. d.status ≡ spec.status_of d.text.items) }
+    ensures err { IfErr result (spec.IsUntold old.now.name.now old.now.text.now new.now.name.now new.now.text.now) }
 {
     let olds = report_in(alloc, old.name, old.text)?;
     let news = report_in(alloc, new.name, new.text)?;

@@ -1,7 +1,7 @@
-//! A refuted pair of a report.
+//! A pair of a report whose claim a run violates.
 ghost use Rattle.std.specs.Prelude.{◌≡◌, ◌<◌, IfOk, Some, length, slice_get};
 ghost use Rattle.run_options.specs.Judging.{CanJudge};
-ghost use Rattle.view_commands.specs.Runs.{IsRefutedPair};
+ghost use Rattle.view_commands.specs.Runs.{IsViolatedPair};
 
 use crate::lines::stimulus_line;
 use crate::reports::ReadReport;
@@ -11,13 +11,14 @@ use net_model::Stimulus;
 use report_rows::{Head, PairRow, Report, Word, stimulus_of};
 use run_options::Judging;
 use sdcv_base::Seq;
+use shown_runs::Told;
 use std::alloc::Global;
 
-/// A refuted pair of a report with its stimulus, and how the claims of the report are judged.
+/// A pair of a report with the stimulus of a run that violates its claim, and how the claims of the report are judged.
 ///
-/// What always holds (`IsRefutedPair`): the pair is one of the report's, and its claim can be judged so.
+/// What always holds (`IsViolatedPair`): the pair is one of the report's, and its claim can be judged so.
 #[derive(Drop)]
-pub(crate) struct RefutedPair {
+pub(crate) struct ViolatedPair {
     pub report: Report,
     pub asked: AskedPair,
 }
@@ -29,10 +30,11 @@ pub(crate) struct Given {
     pub reset_len: usize,
 }
 
-/// A refuted pair: its place among those of its report, from 0, its stimulus, and how its claim is judged.
+/// A pair: its place among those of its report, from 0, what is told of it, its stimulus, and how its claim is judged.
 #[derive(Drop)]
 pub(crate) struct AskedPair {
     pub place: usize,
+    pub told: Told,
     pub stimulus: Stimulus,
     pub judging: Judging,
 }
@@ -59,16 +61,30 @@ fn place_of(alloc: Global, words: &PairWords<'_>, rows: &Seq<PairRow>) -> Result
     }
 }
 
-// The pair is refuted.
-fn check_refuted(alloc: Global, words: &PairWords<'_>, row: &PairRow) -> Result<(), Stop> {
-    if row.verdict == Word::Refuted {
-        return Ok(());
+// Which pairs of a report have a run.
+fn pairs_with_a_run(wide: bool) -> &'static str {
+    if wide {
+        "a pair that is refuted or undecided free"
+    } else {
+        "a refuted pair"
     }
+}
+
+// The pair has no run.
+fn no_run(alloc: Global, words: &PairWords<'_>, verdict: Word, wide: bool) -> Stop {
     let PairWords { report, pair } = *words;
-    let verdict = verdict_word(row.verdict);
-    Err(Stop::refused(format!(in alloc;
-        "{report}: pair {pair} is {verdict}, only a refuted pair has a run"
-    )))
+    let verdict = verdict_word(verdict);
+    let pairs = pairs_with_a_run(wide);
+    Stop::refused(format!(in alloc; "{report}: pair {pair} is {verdict}, only {pairs} has a run"))
+}
+
+// What is told of a pair that has a run: that it is refuted, or, where cells may be cut out, that it is undecided for what is free.
+fn told_of(alloc: Global, words: &PairWords<'_>, row: &PairRow, wide: bool) -> Result<Told, Stop> {
+    match row.verdict {
+        Word::Refuted => Ok(Told::Refuted),
+        Word::Undecided if wide && row.why.as_bytes().starts_with(b"free ") => Ok(Told::Undecided),
+        verdict => Err(no_run(alloc, words, verdict, wide)),
+    }
 }
 
 // The report was made over a netlist of this form.
@@ -153,25 +169,26 @@ fn asked_pair(
     check_reset(alloc, words.report, report, given.reset_len)?;
     let judging = judging_of(alloc, words.report, &report.head, given.wide)?;
     let place = place_of(alloc, words, &report.pairs)?;
-    check_refuted(alloc, words, report.pairs.item(place))?;
+    let told = told_of(alloc, words, report.pairs.item(place), given.wide)?;
     let stimulus = stimulus_in(alloc, words, text)?;
     Ok(AskedPair {
         place,
+        told,
         stimulus,
         judging,
     })
 }
 
 /// The pair that these words ask for, in a report that was made over such a design.
-pub(crate) fn refuted_pair(
+pub(crate) fn violated_pair(
     alloc: Global,
     words: &PairWords<'_>,
     read: ReadReport,
     given: Given,
-) -> Result<RefutedPair, Stop>
-    ensures { IfOk result IsRefutedPair }
+) -> Result<ViolatedPair, Stop>
+    ensures { IfOk result IsViolatedPair }
 {
     let ReadReport { text, report } = read;
     let asked = asked_pair(alloc, words, &text, &report, given)?;
-    Ok(RefutedPair { report, asked })
+    Ok(ViolatedPair { report, asked })
 }

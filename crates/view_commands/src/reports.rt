@@ -1,11 +1,11 @@
 //! What is told of a report alone.
-ghost use Rattle.std.specs.Prelude.{◌≡◌, IfOk};
+ghost use Rattle.std.specs.Prelude.{◌≡◌, IfOk, IfErr};
 ghost use Rattle.report_rows.specs.Reads.{IsReport};
+ghost use Rattle.view_commands.specs.Reports as spec;
 
-use crate::lines::{list_line, report_line};
-use crate::stops::{Stop, or_stop};
-use accepted_lists::{AcceptedList, read_list};
-use report_groups::{Gate, csv_text, groups_text};
+use crate::lines::report_stop;
+use crate::stops::Stop;
+use report_groups::{csv_text, groups_text};
 use report_rows::{Report, read_report};
 use std::alloc::{AllocError, Global};
 
@@ -27,45 +27,44 @@ impl ReadReport {
 
 /// The report that a text is. `name` is that of its file.
 pub(crate) fn report_in(alloc: Global, name: &str, text: &[u8]) -> Result<Report, Stop>
-    ensures { IfOk result (IsReport text.now) }
+    ensures ok { IfOk result (IsReport text.now) }
+    ensures err { IfErr result (spec.IsNoReport name.now text.now) }
 {
     match read_report(alloc, text) {
         Ok(report) => Ok(report),
-        Err(fault) => Err(Stop::refused(report_line(alloc, name, fault))),
+        Err(fault) => Err(report_stop(alloc, name, fault)),
     }
 }
 
 /// The report that a text is, with the text. `name` is that of its file.
-pub fn report_of(alloc: Global, name: &str, text: Vec<u8>) -> Result<ReadReport, Stop> {
+pub fn report_of(alloc: Global, name: &str, text: Vec<u8>) -> Result<ReadReport, Stop>
+    ensures text { IfOk result (λ read. read.text.items ≡ text.items) }
+    ensures report { IfOk result (λ read. IsReport text.items read.report) }
+    ensures err { IfErr result (spec.IsNoReport name.now text.items) }
+{
     let report = report_in(alloc, name, &text)?;
     Ok(ReadReport { text, report })
 }
 
 /// A report by groups, or the groups as comma-separated values. `name` is that of the report's file.
-pub fn groups(alloc: Global, name: &str, report: &[u8], csv: bool) -> Result<Vec<u8>, Stop> {
+pub fn groups(alloc: Global, name: &str, report: &[u8], csv: bool) -> Result<Vec<u8>, Stop>
+    ensures ok { IfOk result (λ text. spec.AreGroups report.now csv text.items) }
+    ensures err { IfErr result (spec.IsNoReport name.now report.now) }
+{
     let read = report_in(alloc, name, report)?;
-    or_stop(told(alloc, &read, csv))
+    match told(alloc, &read, csv) {
+        Ok(text) => Ok(text),
+        Err(_) => Err(Stop::Memory),
+    }
 }
 
-fn told(alloc: Global, report: &Report, csv: bool) -> Result<Vec<u8>, AllocError> {
+fn told(alloc: Global, report: &Report, csv: bool) -> Result<Vec<u8>, AllocError>
+    ensures { IfOk result (λ text. text.items ≡ spec.told_text csv report.now) }
+{
     if csv {
         csv_text(alloc, report)
     } else {
         groups_text(alloc, report)
-    }
-}
-
-/// What of a report stops a build. `name` is that of the report's file.
-pub fn gate(alloc: Global, name: &str, report: &[u8]) -> Result<Gate, Stop> {
-    let read = report_in(alloc, name, report)?;
-    or_stop(report_groups::gate(alloc, &read))
-}
-
-// The accepted list that a text is. `name` is that of its file.
-fn list_in(alloc: Global, name: &str, text: &[u8]) -> Result<AcceptedList, Stop> {
-    match read_list(alloc, text) {
-        Ok(list) => Ok(list),
-        Err(fault) => Err(Stop::refused(list_line(alloc, name, fault))),
     }
 }
 
@@ -74,15 +73,4 @@ fn list_in(alloc: Global, name: &str, text: &[u8]) -> Result<AcceptedList, Stop>
 pub struct NamedText<'a> {
     pub name: &'a str,
     pub text: &'a [u8],
-}
-
-/// What of a report stops a build beside what a list accepts. A fault of the report comes first.
-pub fn gate_with(
-    alloc: Global,
-    report: &NamedText<'_>,
-    accepted: &NamedText<'_>,
-) -> Result<Gate, Stop> {
-    let read = report_in(alloc, report.name, report.text)?;
-    let list = list_in(alloc, accepted.name, accepted.text)?;
-    or_stop(report_groups::gate_with(alloc, &list, read))
 }

@@ -1,5 +1,8 @@
 //! The reset that words give.
-ghost use Rattle.std.specs.Prelude.{◌≤◌, IfOk};
+ghost use Rattle.std.specs.Prelude.{◌≡◌, ◌≤◌, IfOk, Some};
+ghost use Rattle.std.specs.Option.{option_map};
+ghost use Rattle.sdcv_words.specs.Options.{resets_of};
+ghost use Rattle.view_commands.specs.Resets as spec;
 
 use crate::stops::Stop;
 use crate::words::ResetWords;
@@ -8,7 +11,9 @@ use sdcv_base::{Seq, Setting, read_decimal};
 use sdcv_words::settings_of;
 use std::alloc::Global;
 
-fn ports_of(alloc: Global, list: Option<&str>) -> Result<Seq<Setting>, Stop> {
+fn ports_of(alloc: Global, list: Option<&str>) -> Result<Seq<Setting>, Stop>
+    ensures { IfOk result (λ ports. resets_of (option_map (λ t. t.now) list.entry) ≡ Some ports) }
+{
     let Some(text) = list else {
         return Ok(Seq::new(alloc));
     };
@@ -20,7 +25,9 @@ fn ports_of(alloc: Global, list: Option<&str>) -> Result<Seq<Setting>, Stop> {
     }
 }
 
-fn cycles_of(words: &ResetWords<'_>) -> Result<u64, Stop> {
+fn cycles_of(words: &ResetWords<'_>) -> Result<u64, Stop>
+    ensures { IfOk result (spec.AreCycles words.now) }
+{
     let Some(digits) = words.cycles else {
         return Ok(if words.ports.is_some() { 1 } else { 0 });
     };
@@ -34,7 +41,8 @@ fn cycles_of(words: &ResetWords<'_>) -> Result<u64, Stop> {
 
 /// The reset of these words: one cycle where ports are listed and no number is given, and else none.
 pub fn reset_of(alloc: Global, words: &ResetWords<'_>) -> Result<Reset, Stop>
-    ensures { IfOk result (λ reset. reset.len ≤ 64) }
+    ensures reset { IfOk result (spec.IsReset words.now) }
+    ensures few { IfOk result (λ reset. reset.len ≤ 64) }
 {
     let ports = ports_of(alloc, words.ports)?;
     let cycles = cycles_of(words)?;

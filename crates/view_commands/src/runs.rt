@@ -1,13 +1,13 @@
-//! The run of a refuted pair, in the design of its texts.
+//! The run that violates the claim of a pair, in the design of its texts.
 ghost use Rattle.std.specs.Prelude.{◌≡◌, ◌<◌, length, IfOk};
 ghost use Rattle.net_model.specs.Netlist.{IsSound};
 ghost use Rattle.net_model.specs.Fits.{Fits};
 ghost use Rattle.run_views.specs.Violations.{IsShowable, IsViolation};
 ghost use Rattle.design_stages.specs.Designs.{CanBeJudged};
-ghost use Rattle.view_commands.specs.Runs.{IsPairRun, IsRefutedPair};
+ghost use Rattle.view_commands.specs.Runs.{IsPairRun, IsViolatedPair};
 
 use crate::lines::replay_line;
-use crate::pairs::RefutedPair;
+use crate::pairs::ViolatedPair;
 use crate::stops::Stop;
 use crate::words::PairWords;
 use design_stages::Designed;
@@ -18,7 +18,7 @@ use run_views::{Violation, violation};
 use selected_types::{PairLine, Selected};
 use std::alloc::{AllocError, Global};
 
-/// The run of a refuted pair in a design.
+/// The run that violates the claim of a pair, in a design.
 ///
 /// What holds where it was made (`IsPairRun`): the design is sound, the claim at the place fits it, and the run violates the
 /// claim.
@@ -149,10 +149,10 @@ fn violation_of(
 pub(crate) fn pair_run(
     alloc: Global,
     words: &PairWords<'_>,
-    pair: &RefutedPair,
+    pair: &ViolatedPair,
     designed: &Designed,
 ) -> Result<PairRun, Stop>
-    requires pair { IsRefutedPair pair.now }
+    requires pair { IsViolatedPair pair.now }
     requires design { CanBeJudged designed.now }
     ensures { IfOk result (IsPairRun designed.now pair.now.asked.stimulus) }
 {

@@ -1,5 +1,5 @@
 //! Why there is nothing to print or to save.
-ghost use Rattle.std.specs.Prelude.{◌≡◌};
+ghost use Rattle.std.specs.Prelude.{◌≡◌, IfOk, IfErr, Ok};
 ghost use Rattle.view_commands.specs.declared.stops.Stop.TheVariants.{Memory};
 ghost use Rattle.view_commands.specs.Stops.{status_of};
 
@@ -46,7 +46,10 @@ impl Stop {
 }
 
 /// What was made, where there was memory for it.
-pub(crate) fn or_stop<T>(made: Result<T, AllocError>) -> Result<T, Stop> {
+pub(crate) fn or_stop<T>(made: Result<T, AllocError>) -> Result<T, Stop>
+    ensures ok { IfOk result (λ value. made ≡ Ok value) }
+    ensures err { IfErr result (λ stop. stop ≡ Memory) }
+{
     match made {
         Ok(made) => Ok(made),
         Err(_) => Err(Stop::Memory),

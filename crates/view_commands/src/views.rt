@@ -1,10 +1,11 @@
-//! What is told of a design: the bits of a stimulus, and the run of a refuted pair as text and as a waveform.
-ghost use Rattle.std.specs.Prelude.{◌≤◌};
+//! What is told of a design: the bits of a stimulus, and the run that violates the claim of a pair as text and as a waveform.
+ghost use Rattle.std.specs.Prelude.{◌≤◌, IfOk};
 ghost use Rattle.design_stages.specs.Designs.{AreLawful, CanBeJudged};
 ghost use Rattle.run_views.specs.Violations.{IsShowable};
-ghost use Rattle.view_commands.specs.Runs.{IsPairRun, IsRefutedPair};
+ghost use Rattle.view_commands.specs.Bits.{AreBits};
+ghost use Rattle.view_commands.specs.Runs.{IsPairRun, IsViolatedPair};
 
-use crate::pairs::{Given, RefutedPair, refuted_pair};
+use crate::pairs::{AskedPair, Given, ViolatedPair, violated_pair};
 use crate::reports::ReadReport;
 use crate::runs::{PairRun, pair_run};
 use crate::stops::{Stop, or_stop};
@@ -19,7 +20,7 @@ use run_views::Violation;
 use run_waves::wave;
 use sdcv_base::Name;
 use selected_types::Notices;
-use shown_runs::{Heading, show};
+use shown_runs::{Heading, Told, show};
 use std::alloc::{AllocError, Global};
 
 /// How the run of a pair is told.
@@ -34,6 +35,7 @@ enum View {
 pub fn bits(alloc: Global, texts: &ReadTexts, reset: Reset) -> Result<Vec<u8>, Stop>
     requires lawful { AreLawful texts.now }
     requires reset { reset.len ≤ 64 }
+    ensures { IfOk result (λ text. AreBits texts.now reset text.items) }
 {
     let judging = Judging {
         hazard: false,
@@ -42,10 +44,13 @@ pub fn bits(alloc: Global, texts: &ReadTexts, reset: Reset) -> Result<Vec<u8>, S
         strict: false,
     };
     let designed = designed(alloc, texts, reset, judging)?;
-    or_stop(bits_text(alloc, &designed.linked))
+    match bits_text(alloc, &designed.linked) {
+        Ok(text) => Ok(text),
+        Err(_) => Err(Stop::Memory),
+    }
 }
 
-/// The run of a refuted pair of a report as text.
+/// The run of a pair of a report as text: of one that is refuted, or undecided for what is free.
 pub fn shown(
     alloc: Global,
     words: &PairWords<'_>,
@@ -59,7 +64,7 @@ pub fn shown(
     viewed(alloc, words, texts, reset, report, View::Text)
 }
 
-/// The run of a refuted pair of a report as a value change dump.
+/// That run as a value change dump.
 pub fn waved(
     alloc: Global,
     words: &PairWords<'_>,
@@ -89,7 +94,7 @@ fn viewed(
         wide: matches!(texts.forms.netlist, NetlistForm::Wide(_)),
         reset_len: reset.len,
     };
-    let pair = refuted_pair(alloc, words, report, given)?;
+    let pair = violated_pair(alloc, words, report, given)?;
     pair_view(alloc, words, texts, reset, &pair, view)
 }
 
@@ -99,12 +104,12 @@ fn pair_view(
     words: &PairWords<'_>,
     texts: &ReadTexts,
     reset: Reset,
-    pair: &RefutedPair,
+    pair: &ViolatedPair,
     view: View,
 ) -> Result<Vec<u8>, Stop>
     requires lawful { AreLawful texts.now }
     requires reset { reset.len ≤ 64 }
-    requires pair { IsRefutedPair pair.now }
+    requires pair { IsViolatedPair pair.now }
 {
     let designed = designed(alloc, texts, reset, pair.asked.judging)?;
     match view {
@@ -116,10 +121,10 @@ fn pair_view(
 fn shown_pair(
     alloc: Global,
     words: &PairWords<'_>,
-    pair: &RefutedPair,
+    pair: &ViolatedPair,
     designed: &Designed,
 ) -> Result<Vec<u8>, Stop>
-    requires pair { IsRefutedPair pair.now }
+    requires pair { IsViolatedPair pair.now }
     requires design { CanBeJudged designed.now }
 {
     let run = pair_run(alloc, words, pair, designed)?;
@@ -128,21 +133,29 @@ fn shown_pair(
 
 fn show_run(
     alloc: Global,
-    pair: &RefutedPair,
+    pair: &ViolatedPair,
     designed: &Designed,
     run: &PairRun,
 ) -> Result<Vec<u8>, AllocError>
-    requires pair { IsRefutedPair pair.now }
+    requires pair { IsViolatedPair pair.now }
     requires run { IsPairRun designed.now pair.now.asked.stimulus run.now }
 {
     let row = pair.report.pairs.item(pair.asked.place);
-    let heading = heading_of(alloc, row, run.line)?;
+    let AskedPair { told, stimulus, .. } = &pair.asked;
+    let heading = heading_of(alloc, row, *told, run.line)?;
     let claim = designed.selected.claims.item(run.place);
-    show(alloc, &heading, &designed.linked, claim, &run.violation)
+    show(
+        alloc,
+        &heading,
+        &designed.linked,
+        claim,
+        stimulus,
+        &run.violation,
+    )
 }
 
 // What the report says of the pair, with the line of its exception.
-fn heading_of(alloc: Global, row: &PairRow, line: u64) -> Result<Heading, AllocError> {
+fn heading_of(alloc: Global, row: &PairRow, told: Told, line: u64) -> Result<Heading, AllocError> {
     Ok(Heading {
         number: row.number,
         command: row.command,
@@ -150,6 +163,7 @@ fn heading_of(alloc: Global, row: &PairRow, line: u64) -> Result<Heading, AllocE
         kind: row.kind.copy(alloc)?,
         start: row.start.copy(alloc)?,
         end: row.end.copy(alloc)?,
+        told,
         why: row.why.copy(alloc)?,
     })
 }
@@ -157,11 +171,11 @@ fn heading_of(alloc: Global, row: &PairRow, line: u64) -> Result<Heading, AllocE
 fn waved_pair(
     alloc: Global,
     words: &PairWords<'_>,
-    pair: &RefutedPair,
+    pair: &ViolatedPair,
     designed: &Designed,
     source: &Source,
 ) -> Result<Vec<u8>, Stop>
-    requires pair { IsRefutedPair pair.now }
+    requires pair { IsViolatedPair pair.now }
     requires design { CanBeJudged designed.now }
 {
     let run = pair_run(alloc, words, pair, designed)?;
