@@ -1,0 +1,4 @@
+pub mod Ties
+pub mod Assumed
+pub mod Faults
+pub mod Runs
