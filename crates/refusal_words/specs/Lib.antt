@@ -1,0 +1,10 @@
+pub mod Causes
+pub mod Designs
+pub mod Fields
+pub mod Further
+pub mod Numbers
+pub mod Places
+pub mod Rows
+pub mod Sections
+pub mod Sources
+pub mod Tellings
