@@ -14,4 +14,6 @@ mod hosts;
 #[cfg(test)]
 mod orders;
 #[cfg(test)]
+mod rereads;
+#[cfg(test)]
 mod tables;

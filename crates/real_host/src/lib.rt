@@ -8,7 +8,9 @@
 mod pieces;
 mod read_paths;
 mod real_hosts;
+mod rereads;
 mod saves;
 mod tellings;
 
 pub use real_hosts::RealHost;
+pub use rereads::read_again;

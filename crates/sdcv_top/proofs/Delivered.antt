@@ -5,7 +5,7 @@ use Rattle.sdcv_base.specs.Hosts.{Files, grown, Prints}
 use Rattle.sdcv_words.specs.Commands.{Command}
 use Rattle.sdcv_top.specs.declared.rans.Ran.{Ran}
 use Rattle.run_ends.specs.Statuses.{status_after}
-use Rattle.sdcv_top.specs.Outcomes.{Outcome, usage}
+use Rattle.sdcv_top.specs.Outcomes.{Outcome, refusal_of, usage}
 use Rattle.sdcv_top.specs.Reads.{Asked, reads_of}
 use Rattle.sdcv_top.specs.Runs.{DueByReads, Calls, HasRunFor}
 use Rattle.sdcv_top.specs.Due.{IsDueFor}
@@ -15,11 +15,12 @@ use Rattle.sdcv_top.proofs.Steps.{grown-nil}
 -- the last call answered, and the run ends so
 pub delivers : (saved saved_now : Saved) (printed printed_now : Option (List ℕ)) (due : Outcome) (answered : Result Unit HostFault) (result : Ran)
     → Outputs saved saved_now printed printed_now due.saved due.printed answered → result.status ≡ status_after answered due.ending
-    → result.judged ≡ due.judged → result.detected ≡ due.detected → Delivers saved saved_now printed printed_now due result
-delivers saved saved_now printed printed_now due (Ok x) result outputs status judged detected =
-    record { judged = judged; detected = detected; told = inl (record { status = status; saved_is = outputs.0; printed_is = outputs.1 }) }
-delivers saved saved_now printed printed_now due (Err e) result outputs status judged detected =
-    record { judged = judged; detected = detected; told = inr (record { status = status; front = outputs }) }
+    → result.judged ≡ due.judged → result.detected ≡ due.detected → result.refused ≡ refusal_of due
+    → Delivers saved saved_now printed printed_now due result
+delivers saved saved_now printed printed_now due (Ok x) result outputs status judged detected refused =
+    record { judged = judged; detected = detected; refused_is = refused; told = inl (record { status = status; saved_is = outputs.0; printed_is = outputs.1 }) }
+delivers saved saved_now printed printed_now due (Err e) result outputs status judged detected refused =
+    record { judged = judged; detected = detected; refused_is = refused; told = inr (record { status = status; front = outputs }) }
 
 -- nothing was to be saved, and this was printed
 pub outputs_printed : (saved saved_now : Saved) (printed printed_now : Option (List ℕ)) (bytes : List ℕ) (answered : Result Unit HostFault)
@@ -51,6 +52,7 @@ has_run-due named files before mid now due result by_reads asked printed saved d
         printed = a.printed_is;
         judged = all.judged;
         detected = all.detected;
+        refused = all.refused_is;
       })
       | inr f ↦ inr (inl (record {
         due = due;
@@ -59,6 +61,7 @@ has_run-due named files before mid now due result by_reads asked printed saved d
         cut = f.front;
         judged = all.judged;
         detected = all.detected;
+        refused = all.refused_is;
       }))
     ]
 

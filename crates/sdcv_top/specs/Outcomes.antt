@@ -1,5 +1,5 @@
 -- What a run is to do in the end.
-use Rattle.std.specs.Prelude.{ℕ, List, [], ◌++◌, ◌∷◌, codes, Option, None}
+use Rattle.std.specs.Prelude.{ℕ, ◌-◌, List, [], ◌++◌, ◌∷◌, length, take, codes, Option, None, Some}
 use Rattle.judgements.specs.declared.judged.Judged.{Judged}
 use Rattle.mcp_detect.specs.declared.detections.Detected.{Detected}
 use Rattle.run_ends.specs.declared.statuses.Ending.{Ending}
@@ -16,6 +16,24 @@ pub record Outcome : Type 0 where
   pub printed : List ℕ
   pub judged : Option Judged
   pub detected : Option Detected
+
+-- a line without its newline
+abbrev pub line_of : List ℕ → List ℕ
+line_of line = take (length line - 1) line
+
+-- the line of a run that ends with a refused text or a rejected certificate, of what is printed then
+abbrev pub refusal_in : Ending → List ℕ → Option (List ℕ)
+refusal_in ending.Done printed = None
+refusal_in ending.Refuted printed = None
+refusal_in ending.Undecided printed = None
+refusal_in ending.Refused printed = Some (line_of printed)
+refusal_in ending.Words printed = None
+refusal_in ending.Rejected printed = Some (line_of printed)
+refusal_in ending.Holds printed = None
+
+-- the line that a run hands out, where it refuses or rejects
+abbrev pub refusal_of : Outcome → Option (List ℕ)
+refusal_of due = refusal_in due.ending due.printed
 
 -- the run prints this, and does nothing else
 abbrev pub prints : Ending → List ℕ → Outcome

@@ -12,7 +12,7 @@ use Rattle.sdcv_top.specs.declared.reads.Answer.TheVariants as answer
 use Rattle.run_ends.specs.declared.statuses.Status.{Status}
 use Rattle.run_ends.specs.declared.statuses.Status.TheVariants as ended
 use Rattle.run_ends.specs.Statuses.{status_of}
-use Rattle.sdcv_top.specs.Outcomes.{Outcome, refused}
+use Rattle.sdcv_top.specs.Outcomes.{Outcome, refusal_of, refused}
 use Rattle.sdcv_top.specs.Reads.{ReadOf, Got, Text, Longer, Asked, IsTold, is_builtin, text_of}
 use Rattle.netlist_types.specs.declared.sources.Source.{Source}
 use Rattle.cell_types.specs.declared.libraries.Library.{Library}
@@ -156,8 +156,9 @@ pub record DeliversFront (saved saved_now : Saved) (printed printed_now : Option
   pub status : how ≡ ended.HostFault
   pub front : IsFront saved saved_now printed printed_now due.saved due.printed
 
--- what is due was delivered so, and its verdicts and found pairs are handed out
+-- what is due was delivered so, and its verdicts, its found pairs and the line of its refusal are handed out
 pub record Delivers (saved saved_now : Saved) (printed printed_now : Option (List ℕ)) (due : Outcome) (result : Ran) : Type 0 where
   pub judged : result.judged ≡ due.judged
   pub detected : result.detected ≡ due.detected
+  pub refused_is : result.refused ≡ refusal_of due
   pub told : DeliversAll saved saved_now printed printed_now due result.status ⊎ DeliversFront saved saved_now printed printed_now due result.status

@@ -7,7 +7,7 @@ use Rattle.sdcv_top.specs.declared.rans.Ran.{Ran}
 use Rattle.run_ends.specs.Statuses.{status_of}
 use Rattle.sdcv_words.specs.Commands.{Command}
 use Rattle.sdcv_words.specs.Words.{command}
-use Rattle.sdcv_top.specs.Outcomes.{Outcome}
+use Rattle.sdcv_top.specs.Outcomes.{Outcome, refusal_of}
 use Rattle.sdcv_top.specs.Reads.{ReadOf, Got, Asked, AreTold, first_names, reads_of}
 use Rattle.sdcv_top.specs.Stages.{Due}
 use Rattle.sdcv_top.specs.Due.{IsDueFor}
@@ -45,6 +45,7 @@ pub record DidAll (named : Option Command) (files : Option Files) (before now : 
   pub printed : now.printed ≡ grown before.printed due.printed
   pub judged : result.judged ≡ due.judged
   pub detected : result.detected ≡ due.detected
+  pub refused : result.refused ≡ refusal_of due
 
 -- a host fault stopped the run while it saved or printed what was due
 pub record WasCutOff (named : Option Command) (files : Option Files) (before now : Calls) (result : Ran) : Type 0 where
@@ -54,6 +55,7 @@ pub record WasCutOff (named : Option Command) (files : Option Files) (before now
   pub cut : IsCut before now due
   pub judged : result.judged ≡ due.judged
   pub detected : result.detected ≡ due.detected
+  pub refused : result.refused ≡ refusal_of due
 
 -- the run stopped for a host fault or for want of memory before it saved or printed anything
 pub record DidNothing (named : Option Command) (before now : Calls) (result : Ran) : Type 0 where
@@ -63,6 +65,7 @@ pub record DidNothing (named : Option Command) (before now : Calls) (result : Ra
   pub printed : now.printed ≡ before.printed
   pub judged : result.judged ≡ None
   pub detected : result.detected ≡ None
+  pub refused : result.refused ≡ None
 
 -- what a run for a command, or for no command, did, and what it answered
 abbrev pub HasRunFor : Option Command → Option Files → Calls → Calls → Ran → Type 0

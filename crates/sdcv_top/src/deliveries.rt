@@ -1,18 +1,55 @@
-//! Saves and prints what is due. Nothing here takes memory.
-ghost use Rattle.std.specs.Prelude.{◌≡◌};
+//! Saves and prints what is due. Nothing that saves or prints takes memory.
+ghost use Rattle.std.specs.Prelude.{◌≡◌, IfOk};
 ghost use Rattle.sdcv_base.specs.Hosts.{Prints, Counts, grown};
 ghost use Rattle.judgements.specs.Reports.{joined};
-ghost use Rattle.sdcv_top.specs.Outcomes.{prints};
+ghost use Rattle.sdcv_top.specs.Outcomes.{line_of, prints, refusal_of, refused};
 ghost use Rattle.sdcv_top.specs.Plans.{saved_of, outcome_of, Delivers, Outputs};
 ghost use Rattle.sdcv_top.specs.Runs.{RunCounts};
 
 use crate::plans::{Plan, SavedFile};
 use crate::rans::Ran;
 use run_ends::{Ending, status_after};
-use sdcv_base::{Host, HostFault};
+use sdcv_base::{Host, HostFault, Name};
+use std::alloc::{AllocError, Global};
 
-/// Saves the file of a plan, prints its lines, and hands its verdicts or found pairs out.
-pub fn deliver<H: Host>(host: &mut H, plan: Plan<'_>) -> Ran
+// All lines as one text.
+fn text_of(alloc: Global, lines: &[Vec<u8>]) -> Result<Vec<u8>, AllocError>
+    ensures { IfOk result (λ text. text.items ≡ joined lines.now) }
+{
+    let mut text = Vec::new(alloc);
+    for line in lines {
+        text.extend_from_slice(line.as_slice())?;
+    }
+    Ok(text)
+}
+
+// A line without its newline.
+fn line_of(line: Vec<u8>) -> Name
+    ensures { result ≡ line_of line.items }
+{
+    let mut line = line;
+    let _newline = line.pop();
+    Name::from_vec(line)
+}
+
+/// The line that a plan refuses or rejects with.
+pub fn refusal_of(alloc: Global, plan: &Plan<'_>) -> Result<Option<Name>, AllocError>
+    ensures { IfOk result (λ line. line ≡ refusal_of (outcome_of plan.now)) }
+{
+    match plan.ending {
+        Ending::Refused => Ok(Some(line_of(text_of(alloc, &plan.lines)?))),
+        Ending::Rejected => Ok(Some(line_of(text_of(alloc, &plan.lines)?))),
+        Ending::Done => Ok(None),
+        Ending::Refuted => Ok(None),
+        Ending::Undecided => Ok(None),
+        Ending::Words => Ok(None),
+        Ending::Holds => Ok(None),
+    }
+}
+
+/// Saves the file of a plan, prints its lines, and hands its verdicts, its found pairs or the line of its refusal out.
+pub fn deliver<H: Host>(host: &mut H, plan: Plan<'_>, refused: Option<Name>) -> Ran
+    requires { refused ≡ refusal_of (outcome_of plan) }
     ensures delivered { Delivers (H.saved host.old) (H.saved host.new) (H.printed host.old) (H.printed host.new) (outcome_of plan.entry) result }
     ensures count { RunCounts (H.faults host.old) (H.faults host.new) result.status }
     ensures files { H.files host.new ≡ H.files host.old }
@@ -30,22 +67,41 @@ pub fn deliver<H: Host>(host: &mut H, plan: Plan<'_>) -> Ran
         status,
         judged,
         detected,
+        refused,
     }
 }
 
-/// Prints the one line of a run that is refused, or whose words name no command.
-pub fn deliver_line<H: Host>(host: &mut H, ending: Ending, line: &[u8]) -> Ran
-    ensures delivered { Delivers (H.saved host.old) (H.saved host.new) (H.printed host.old) (H.printed host.new) (prints ending line.now) result }
+/// Prints the one line of a run that is refused, and hands it out.
+pub fn deliver_refusal<H: Host>(host: &mut H, line: Vec<u8>) -> Ran
+    ensures delivered { Delivers (H.saved host.old) (H.saved host.new) (H.printed host.old) (H.printed host.new) (refused line.items) result }
     ensures count { RunCounts (H.faults host.old) (H.faults host.new) result.status }
     ensures files { H.files host.new ≡ H.files host.old }
     ensures asked { H.asked host.new ≡ H.asked host.old }
     ensures saved { H.saved host.new ≡ H.saved host.old }
 {
-    let status = status_after(host.print(line), ending);
+    let status = status_after(host.print(line.as_slice()), Ending::Refused);
     Ran {
         status,
         judged: None,
         detected: None,
+        refused: Some(line_of(line)),
+    }
+}
+
+/// Prints the one line of a run whose words name no command.
+pub fn deliver_usage<H: Host>(host: &mut H, line: &[u8]) -> Ran
+    ensures delivered { Delivers (H.saved host.old) (H.saved host.new) (H.printed host.old) (H.printed host.new) (prints Ending.Words line.now) result }
+    ensures count { RunCounts (H.faults host.old) (H.faults host.new) result.status }
+    ensures files { H.files host.new ≡ H.files host.old }
+    ensures asked { H.asked host.new ≡ H.asked host.old }
+    ensures saved { H.saved host.new ≡ H.saved host.old }
+{
+    let status = status_after(host.print(line), Ending::Words);
+    Ran {
+        status,
+        judged: None,
+        detected: None,
+        refused: None,
     }
 }
 

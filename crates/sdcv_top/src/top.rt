@@ -4,12 +4,12 @@ ghost use Rattle.sdcv_words.specs.Commands.{seen_command};
 ghost use Rattle.sdcv_words.specs.Ranges.{IsInRange};
 ghost use Rattle.sdcv_top.specs.Runs.{HasRun, HasRunFor, RunCounts};
 
-use crate::deliveries::{deliver, deliver_line};
+use crate::deliveries::{deliver, deliver_refusal, deliver_usage, refusal_of};
 use crate::plans::Stop;
 use crate::rans::Ran;
 use crate::stages::plan;
 use judgements::{Progress, Silent};
-use run_ends::{Ending, Status};
+use run_ends::Status;
 use sdcv_base::Host;
 use sdcv_words::{Command, command_of};
 use std::alloc::{AllocError, Global};
@@ -49,7 +49,7 @@ pub fn run_told<H: Host, P: Progress>(
 {
     match command_of(alloc, words) {
         Ok(Some(command)) => carried_out(alloc, host, command, progress),
-        Ok(None) => deliver_line(host, Ending::Words, USAGE),
+        Ok(None) => deliver_usage(host, USAGE),
         Err(AllocError) => Ran::stopped(Status::Memory),
     }
 }
@@ -71,8 +71,11 @@ fn carried_out<H: Host, P: Progress>(
     ensures files { H.files host.new ≡ H.files host.old }
 {
     match plan(alloc, host, command, progress) {
-        Ok(plan) => deliver(host, plan),
-        Err(Stop::Refused(line)) => deliver_line(host, Ending::Refused, &line),
+        Ok(plan) => match refusal_of(alloc, &plan) {
+            Ok(refused) => deliver(host, plan, refused),
+            Err(AllocError) => Ran::stopped(Status::Memory),
+        },
+        Err(Stop::Refused(line)) => deliver_refusal(host, line),
         Err(Stop::HostFault) => Ran::stopped(Status::HostFault),
         Err(Stop::Memory) => Ran::stopped(Status::Memory),
     }
