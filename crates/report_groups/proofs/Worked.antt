@@ -1,4 +1,4 @@
--- What is told of exceptions for hold sides and of their pairs, and of other commands, worked out by hand.
+-- What is told of exceptions for hold sides and of their pairs, and of other commands, and fields of records, worked out by hand.
 use Rattle.std.proofs.Common.{◌≡◌, [], ◌∷◌, false, refl}
 use Rattle.std.specs.Fmt.{digits}
 use Rattle.std.specs.Prelude.{codes}
@@ -6,6 +6,7 @@ use Rattle.report_rows.specs.declared.reports.PairRow.{PairRow}
 use Rattle.report_rows.specs.declared.reports.Said.TheVariants.{Does}
 use Rattle.report_rows.specs.declared.reports.Told.TheVariants.{Cut, Skipped, Unjudged, HoldSides}
 use Rattle.report_rows.specs.declared.reports.Word.TheVariants.{Refuted, Undecided}
+use Rattle.report_groups.specs.Csv.{field, still_text}
 use Rattle.report_groups.specs.Groups.{group_text}
 use Rattle.report_groups.specs.Findings.{said_texts, told_notes, passes}
 use Rattle.report_groups.specs.declared.findings.Finding.TheVariants.{Note, Pairs}
@@ -61,3 +62,18 @@ a_pair_that_what_is_free_may_violate_stops_a_build = refl
 it_is_told_by_its_cause : group_text (record { row = free_pair; pairs = 4 }) ≡ codes "a[*] -> b 4 undecided free 0 command 2 false hold rise first 5"
 unfolding digits
 it_is_told_by_its_cause = refl
+
+a_field_that_a_spreadsheet_may_run_has_a_mark : field (codes "=cmd") ≡ codes "'=cmd"
+a_field_that_a_spreadsheet_may_run_has_a_mark = refl
+
+another_sign_has_it_too : field (codes "-> x") ≡ codes "'-> x"
+another_sign_has_it_too = refl
+
+so_has_a_tab : still_text (9 ∷ []) ≡ 39 ∷ 9 ∷ []
+so_has_a_tab = refl
+
+a_sign_within_a_field_has_none : field (codes "a=b") ≡ codes "a=b"
+a_sign_within_a_field_has_none = refl
+
+no_text_has_none : field [] ≡ []
+no_text_has_none = refl

@@ -43,17 +43,58 @@ fn push_titles(alloc: Global, out: &mut Vec<u8>) -> Result<(), AllocError>
     push_record(alloc, out, &titles)
 }
 
+// A name as it is shown in a line.
+fn shown(alloc: Global, name: &Name) -> Result<String, AllocError>
+    ensures { IfOk result (λ text. string_bytes text ≡ shown name.now) }
+{
+    format!(in alloc; "{name}")
+}
+
+// Whether a spreadsheet may run a field that begins with this byte.
+fn is_mark(byte: u8) -> bool
+    ensures { result ≡ spec.is_mark byte }
+{
+    byte == b'=' || byte == b'+' || byte == b'-' || byte == b'@' || byte == b'\t'
+}
+
+fn may_run(text: &[u8]) -> bool
+    ensures { result ≡ spec.may_run text.now }
+{
+    match text.first() {
+        Some(byte) => is_mark(*byte),
+        None => false,
+    }
+}
+
+// A text with a `'` in front where a spreadsheet may run it.
+fn still_text(alloc: Global, text: String) -> Result<String, AllocError>
+    ensures { IfOk result (λ still. string_bytes still ≡ spec.still_text (string_bytes text)) }
+{
+    if may_run(text.as_bytes()) {
+        format!(in alloc; "'{text}")
+    } else {
+        Ok(text)
+    }
+}
+
+// A name as a field.
+fn field(alloc: Global, name: &Name) -> Result<String, AllocError>
+    ensures { IfOk result (λ text. string_bytes text ≡ spec.field name.now) }
+{
+    still_text(alloc, shown(alloc, name)?)
+}
+
 // Appends the record of a group.
 fn push_group(alloc: Global, out: &mut Vec<u8>, group: &Group) -> Result<(), AllocError>
     ensures { OnOk result (out.new.items ≡ out.old.items ++ spec.record_text (spec.fields_of group.now)) }
 {
     let row = &group.row;
     let command = row.command.to_string(alloc)?;
-    let kind = shown(alloc, &row.kind)?;
-    let start = shown(alloc, &row.start)?;
-    let end = shown(alloc, &row.end)?;
+    let kind = field(alloc, &row.kind)?;
+    let start = field(alloc, &row.start)?;
+    let end = field(alloc, &row.end)?;
     let pairs = group.pairs.to_string(alloc)?;
-    let why = shown(alloc, &row.why)?;
+    let why = field(alloc, &row.why)?;
     let first = row.number.to_string(alloc)?;
     let fields: [&[u8]; 8] = [
         command.as_bytes(),
@@ -68,15 +109,9 @@ fn push_group(alloc: Global, out: &mut Vec<u8>, group: &Group) -> Result<(), All
     push_record(alloc, out, &fields)
 }
 
-// A name as it is shown in a line.
-fn shown(alloc: Global, name: &Name) -> Result<String, AllocError>
-    ensures { IfOk result (λ text. string_bytes text ≡ shown name.now) }
-{
-    format!(in alloc; "{name}")
-}
-
 /// The groups of a report as comma-separated values (RFC 4180, with a newline after each record): a record of titles,
-/// `command,kind,start,end,pairs,verdict,why,first`, and one for each group, in the order of `groups_text`.
+/// `command,kind,start,end,pairs,verdict,why,first`, and one for each group, in the order of `groups_text`. A `'` stands in
+/// front of a field that a spreadsheet may run.
 pub fn csv_text(alloc: Global, report: &Report) -> Result<Vec<u8>, AllocError>
     ensures { IfOk result (λ text. text.items ≡ spec.csv_text (groups_of report.now.pairs)) }
 {

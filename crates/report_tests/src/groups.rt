@@ -116,7 +116,24 @@ const QUOTED_CSV: &str = "command,kind,start,end,pairs,verdict,why,first
 1,false,\"a,b\",\"\"\"c\"\"\",1,justified,fixed,1
 ";
 
-const SEPARATED: &[(&str, &str)] = &[(SAMPLER, SAMPLER_CSV), (QUOTED, QUOTED_CSV)];
+// What a spreadsheet may run has a `'` in front, within the quotes.
+const RUNNING: &str = "sdcv 1 mode plain reset 0 depth 8 budget 20000 inv 1
+command 1 line 1 false pairs 2
+pair 1 command 1 false =2+3 -> @b,c justified fixed
+pair 2 command 1 false -x -> a+b undecided depth 8
+total 2 justified 1 refuted 0 undecided 1
+";
+
+const RUNNING_CSV: &str = "command,kind,start,end,pairs,verdict,why,first
+1,false,'=2+3,\"'@b,c\",1,justified,fixed,1
+1,false,'-x,a+b,1,undecided,depth 8,2
+";
+
+const SEPARATED: &[(&str, &str)] = &[
+    (SAMPLER, SAMPLER_CSV),
+    (QUOTED, QUOTED_CSV),
+    (RUNNING, RUNNING_CSV),
+];
 
 fn csv(alloc: Global, report: &str) -> Result<Vec<u8>, ReportFault> {
     let read = read_report(alloc, report.as_bytes())?;
