@@ -3,5 +3,6 @@ pub mod LateNets
 pub mod Rests
 pub mod Starting
 pub mod InputRows
+pub mod Hexed
 pub mod Toggles
 mod Worked

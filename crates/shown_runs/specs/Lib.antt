@@ -7,6 +7,7 @@ pub mod Watches
 pub mod Lates
 pub mod DontCares
 pub mod Shown
+pub mod Values
 pub mod Rows
 pub mod Lines
 pub mod Shows

@@ -7,8 +7,9 @@ use Rattle.net_model.specs.Cycles.{bit_at}
 use Rattle.net_model.specs.declared.terns.Tern.{Tern}
 use Rattle.net_model.specs.declared.terns.Tern.TheVariants.{Zero, One, Unknown}
 use Rattle.wave_signals.specs.declared.signals.Signal.{Signal}
-use Rattle.wave_signals.specs.Labels.{label, digits, value_at}
-use Rattle.shown_runs.specs.Rows.{◌⁀◌, bit_text}
+use Rattle.wave_signals.specs.Labels.{digits, value_at}
+use Rattle.shown_runs.specs.Rows.{◌⁀◌, bit_text, name_text}
+use Rattle.shown_runs.specs.Values.{value_text}
 use Rattle.shown_runs.specs.declared.headings.Heading.{Heading}
 use Rattle.shown_runs.specs.declared.headings.Told.{Told}
 use Rattle.shown_runs.specs.declared.headings.Told.TheVariants.{Refuted, Undecided}
@@ -39,7 +40,7 @@ abbrev pub is_set : Signal → Bool
 is_set s = list_any (value_at 0) s.values
 
 unfoldable pub set_text : Signal → List ℕ
-set_text s = codes "register " ⁀ shown (label s) ⁀ codes "=" ⁀ digits s 0 ⁀ codes " in cycle 0"
+set_text s = codes "register " ⁀ name_text s ⁀ codes "=" ⁀ value_text (digits s 0) ⁀ codes " in cycle 0"
 
 abbrev pub set_lines : Signal → List (List ℕ)
 set_lines s = if is_set s then set_text s ∷ [] else []

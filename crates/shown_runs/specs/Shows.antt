@@ -6,7 +6,7 @@ use Rattle.linked_types.specs.declared.names.Linked.{Linked}
 use Rattle.witness_replay.specs.StimulusTexts.{line_of}
 use Rattle.run_views.specs.declared.outcomes.Violation.{Violation}
 use Rattle.shown_runs.specs.Tables.{table}
-use Rattle.shown_runs.specs.Rows.{rows}
+use Rattle.shown_runs.specs.Rows.{rows, zero_lines}
 use Rattle.shown_runs.specs.Lines.{pair_text, change_text, state_lines, capture_lines}
 use Rattle.shown_runs.specs.Shown.{IsShown}
 use Rattle.shown_runs.specs.declared.headings.Heading.{Heading}
@@ -16,9 +16,9 @@ use Rattle.shown_runs.specs.declared.runs.ShownRun.{ShownRun}
 abbrev pub head_lines : Heading → ShownRun → List (List ℕ)
 head_lines h s = pair_text h ∷ (change_text s ∷ ([] ∷ []))
 
--- the table, with a column for each cycle, and an empty line
+-- the table, with a column for each cycle, the inputs that are 0 throughout, and an empty line
 abbrev pub table_lines : Heading → ShownRun → List (List ℕ)
-table_lines h s = table s.cycles (rows h s) ++ ([] ∷ [])
+table_lines h s = table s.cycles (rows h s) ++ (zero_lines s ++ ([] ∷ []))
 
 -- the lines in their order
 abbrev pub show_lines : Heading → ShownRun → List (List ℕ)

@@ -25,7 +25,9 @@ mod shows;
 mod sources;
 mod states;
 mod tables;
+mod values;
 mod watches;
+mod zeros;
 
 pub use headings::{Heading, Told};
 pub use shows::show;

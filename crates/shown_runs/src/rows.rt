@@ -1,19 +1,21 @@
 //! The table of a run.
 ghost use Rattle.std.specs.Prelude.{◌≡◌, ◌+◌, ◌++◌, IfOk, OnOk, map, string_bytes};
-ghost use Rattle.std.specs.List.{range_with_len};
+ghost use Rattle.std.specs.List.{list_any, range_with_len};
 ghost use Rattle.std.specs.Fmt.{decimal};
 ghost use Rattle.shown_runs.specs.Rows as spec;
+ghost use Rattle.shown_runs.specs.Values.{value_text};
 
 use crate::dont_cares::is_marked;
 use crate::headings::Heading;
 use crate::pieces::{bit_text, label_text};
 use crate::runs::ShownRun;
 use crate::tables::TableRow;
+use crate::values::value_text;
 use sdcv_base::{Name, Seq};
 use std::alloc::{AllocError, Global};
 use wave_signals::{Signal, digit_at};
 
-fn name_of(text: String) -> Name
+pub(crate) fn name_of(text: String) -> Name
     ensures { result ≡ string_bytes text }
 {
     Name::from_vec(text.into_bytes())
@@ -45,7 +47,7 @@ fn number_row(alloc: Global, cycles: usize) -> Result<TableRow, AllocError>
 }
 
 /// The sum of two numbers. One that has no place in memory is want of memory.
-fn plus(first: usize, more: usize) -> Result<usize, AllocError>
+pub(crate) fn plus(first: usize, more: usize) -> Result<usize, AllocError>
     ensures { IfOk result (λ sum. sum ≡ first + more) }
 {
     first.checked_add(more).ok_or(AllocError)
@@ -86,14 +88,14 @@ fn input_cell(
     Ok(Name::from_vec(text))
 }
 
-fn input_cells(
+pub(crate) fn input_cells(
     alloc: Global,
     marks: &Seq<Seq<bool>>,
     cycles: usize,
     input: usize,
     signal: &Signal,
 ) -> Result<Seq<Name>, AllocError>
-    ensures { IfOk result (λ cells. cells ≡ map (spec.input_digits marks.now input signal.now) (range_with_len 0 cycles)) }
+    ensures { IfOk result (λ cells. cells ≡ spec.input_cells marks.now cycles input signal.now) }
 {
     let mut cells = Seq::new(alloc);
     for cycle in 0..cycles {
@@ -102,19 +104,65 @@ fn input_cells(
     Ok(cells)
 }
 
-fn input_row(
+/// Whether a digit of a cell is no `0`.
+fn is_set(cell: &Name) -> bool
+    ensures { result ≡ spec.is_set cell.now }
+{
+    cell.as_bytes().iter().any(|digit| *digit != b'0')
+}
+
+fn is_any_set(cells: &[Name]) -> bool
+    ensures { result ≡ list_any spec.is_set cells.now }
+{
+    cells.iter().any(|cell| is_set(cell))
+}
+
+pub(crate) fn is_zero(cells: &[Name]) -> bool
+    ensures { result ≡ spec.is_zero cells.now }
+{
+    !is_any_set(cells)
+}
+
+fn value_cells(alloc: Global, cells: &[Name]) -> Result<Seq<Name>, AllocError>
+    ensures { IfOk result (λ values. values ≡ map value_text cells.now) }
+{
+    let mut values = Seq::new(alloc);
+    for cell in cells {
+        values.push(value_text(alloc, cell.as_bytes())?)?;
+    }
+    Ok(values)
+}
+
+/// Adds the row of a signal with these digits, unless it is 0 throughout.
+fn add_values(
+    alloc: Global,
+    signal: &Signal,
+    cells: &[Name],
+    rows: &mut Seq<TableRow>,
+) -> Result<(), AllocError>
+    ensures { OnOk result (rows.new ≡ rows.old ++ spec.value_rows signal.now cells.now) }
+{
+    if !is_zero(cells) {
+        rows.push(TableRow {
+            label: name_of(label_text(alloc, signal)?),
+            cells: value_cells(alloc, cells)?,
+        })?;
+    }
+    Ok(())
+}
+
+fn add_input(
     alloc: Global,
     marks: &Seq<Seq<bool>>,
     cycles: usize,
     input: usize,
     signal: &Signal,
-) -> Result<TableRow, AllocError>
-    ensures { IfOk result (λ row. row ≡ spec.input_row marks.now cycles input signal.now) }
+    rows: &mut Seq<TableRow>,
+) -> Result<(), AllocError>
+    ensures { OnOk result (rows.new ≡ rows.old ++ spec.input_row marks.now cycles input signal.now) }
 {
-    Ok(TableRow {
-        label: name_of(label_text(alloc, signal)?),
-        cells: input_cells(alloc, marks, cycles, input, signal)?,
-    })
+    let cells = input_cells(alloc, marks, cycles, input, signal)?;
+    add_values(alloc, signal, cells.as_slice(), rows)
 }
 
 fn bit_cells(alloc: Global, bits: &[bool]) -> Result<Seq<Name>, AllocError>
@@ -150,7 +198,7 @@ fn end_label(alloc: Global, heading: &Heading) -> Result<String, AllocError>
     format!(in alloc; "end {end}")
 }
 
-/// Adds the rows of the inputs.
+/// Adds the rows of the inputs that are not 0 throughout.
 fn add_inputs(
     alloc: Global,
     marks: &Seq<Seq<bool>>,
@@ -158,11 +206,11 @@ fn add_inputs(
     signals: &[Signal],
     rows: &mut Seq<TableRow>,
 ) -> Result<(), AllocError>
-    ensures { OnOk result (rows.new ≡ rows.old ++ spec.input_rows marks.now cycles 0 signals.now) }
+    ensures { OnOk result (rows.new ≡ rows.old ++ spec.walked (spec.input_row marks.now cycles) 0 signals.now) }
 {
     let mut input: usize = 0;
     for signal in signals {
-        rows.push(input_row(alloc, marks, cycles, input, signal)?)?;
+        add_input(alloc, marks, cycles, input, signal, rows)?;
         input = plus(input, signal.values.len())?;
     }
     Ok(())
@@ -199,7 +247,7 @@ fn add_ends(
     Ok(())
 }
 
-/// The rows of the table: the numbers of the cycles, the inputs, the start, the end and the captures.
+/// The rows of the table: the numbers of the cycles, the inputs that are not 0 throughout, the start, the end and the captures.
 #[tactic(auto, unfolding(crate::specs::Rows::rows))]
 pub(crate) fn rows_of(
     alloc: Global,

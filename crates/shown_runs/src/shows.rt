@@ -14,6 +14,7 @@ use crate::rows::rows_of;
 use crate::runs::{ShownRun, shown_run};
 use crate::states::add_states;
 use crate::tables::add_table;
+use crate::zeros::add_zeros;
 use linked_types::Linked;
 use net_model::{Claim, Stimulus};
 use run_views::Violation;
@@ -34,7 +35,7 @@ fn add_head(
     add_text(lines, String::new(alloc))
 }
 
-/// Adds the table, and an empty line.
+/// Adds the table, the line of the inputs that are 0 throughout, and an empty one.
 fn add_rows(
     alloc: Global,
     heading: &Heading,
@@ -45,6 +46,7 @@ fn add_rows(
 {
     let rows = rows_of(alloc, heading, shown)?;
     add_table(alloc, shown.cycles, rows.as_slice(), lines)?;
+    add_zeros(alloc, shown, lines)?;
     add_text(lines, String::new(alloc))
 }
 
@@ -60,7 +62,7 @@ fn lines_of(alloc: Global, heading: &Heading, shown: &ShownRun) -> Result<Seq<Na
 }
 
 /// The text of the run of a stimulus that violates the claim of a pair: the pair, where its start changes and which capture is
-/// judged; by cycles the inputs, with an `x` for each don't-care, the start, the end where it is a register, and the captures; the
+/// judged; by cycles the inputs that are not 0 throughout, with an `x` for each don't-care, the start, the end where it is a register, and the captures; the
 /// registers that are not 0 at first; the captures of the judged cycle and of the one before it, what would be captured with the
 /// start's old value, and where hazards count while the start settles; and a path that carries that value, where one is told. Of a
 /// claim of the early side the start's new value is tried, and the cycle before the judged one says nothing.

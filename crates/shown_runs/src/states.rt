@@ -3,11 +3,13 @@ ghost use Rattle.std.specs.Prelude.{◌≡◌, ◌++◌, IfOk, OnOk, string_byte
 ghost use Rattle.std.specs.List.{list_any};
 ghost use Rattle.wave_signals.specs.Labels.{digits, value_at};
 ghost use Rattle.shown_runs.specs.Lines as spec;
+ghost use Rattle.shown_runs.specs.Values.{value_text};
 
 use crate::pieces::{add_text, label_text};
+use crate::values::value_text;
 use sdcv_base::{Name, Seq};
 use std::alloc::{AllocError, Global};
-use wave_signals::Signal;
+use wave_signals::{Signal, push_digits};
 
 fn first_bit(values: &Seq<bool>) -> bool
     ensures { result ≡ value_at 0 values.now }
@@ -32,31 +34,41 @@ fn is_any_set(signals: &[Signal]) -> bool
     signals.iter().any(|signal| is_set(signal))
 }
 
-/// The digits of a signal in the first cycle.
-fn digits_text(alloc: Global, signal: &Signal) -> Result<String, AllocError>
-    ensures { IfOk result (λ text. string_bytes text ≡ digits signal.now 0) }
+fn first_digits(alloc: Global, signal: &Signal) -> Result<Vec<u8>, AllocError>
+    ensures { IfOk result (λ text. text.items ≡ digits signal.now 0) }
 {
-    let mut text = String::new(alloc);
-    for values in signal.values.as_slice() {
-        text.push(if first_bit(values) { '1' } else { '0' })?;
-    }
+    let mut text = Vec::new(alloc);
+    push_digits(&mut text, signal, 0)?;
     Ok(text)
 }
 
+/// The value of a signal in the first cycle.
+fn first_value(alloc: Global, signal: &Signal) -> Result<Name, AllocError>
+    ensures { IfOk result (λ text. text ≡ value_text (digits signal.now 0)) }
+{
+    let digits = first_digits(alloc, signal)?;
+    value_text(alloc, &digits)
+}
+
 #[tactic(auto, unfolding(crate::specs::Lines::set_text))]
-fn set_text(alloc: Global, signal: &Signal) -> Result<String, AllocError>
-    ensures { IfOk result (λ text. string_bytes text ≡ spec.set_text signal.now) }
+fn set_text(alloc: Global, signal: &Signal) -> Result<Name, AllocError>
+    ensures { IfOk result (λ text. text ≡ spec.set_text signal.now) }
 {
     let label = label_text(alloc, signal)?;
-    let digits = digits_text(alloc, signal)?;
-    format!(in alloc; "register {label}={digits} in cycle 0")
+    let value = first_value(alloc, signal)?;
+    let mut text = Vec::from_slice(alloc, b"register ")?;
+    text.extend_from_slice(label.as_bytes())?;
+    text.push(b'=')?;
+    text.extend_from_slice(value.as_bytes())?;
+    text.extend_from_slice(b" in cycle 0")?;
+    Ok(Name::from_vec(text))
 }
 
 fn add_set(alloc: Global, signal: &Signal, lines: &mut Seq<Name>) -> Result<(), AllocError>
     ensures { OnOk result (lines.new ≡ lines.old ++ spec.set_lines signal.now) }
 {
     if is_set(signal) {
-        add_text(lines, set_text(alloc, signal)?)?;
+        lines.push(set_text(alloc, signal)?)?;
     }
     Ok(())
 }
