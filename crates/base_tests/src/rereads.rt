@@ -9,7 +9,7 @@ fn a_regular_file_is_read_again(rt: HostRuntime) -> Result<(), Fail> {
     let whole = read_again(rt.alloc(), &rt, "again.v", 6);
     let longer = read_again(rt.alloc(), &rt, "again.v", 5);
     fs::remove_file(&rt, "again.v")?;
-    assert!(rt; whole.is_some_and(|bytes| bytes.as_slice() == b"module"));
+    assert!(rt; whole.is_some_and(|bytes| bytes.as_slice() == b"module".as_slice()));
     assert!(rt; longer.is_none());
     Ok(())
 }
